@@ -1,0 +1,9 @@
+pub mod Text
+pub mod Mode
+pub mod VolumeId
+pub mod Status
+pub mod Call
+pub mod Reply
+pub mod Frame
+pub mod Capacity
+pub mod Limits

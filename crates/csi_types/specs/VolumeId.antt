@@ -1,0 +1,6 @@
+-- What numbers are a volume's id: 1 to 2^64 - 1.
+use Rattle.std.specs.Prelude.{ℕ, ◌<◌, ◌^◌}
+
+pub record IsVolumeId (number : ℕ) : Type 0 where
+  pub from_one : 0 < number
+  pub in_range : number < 2 ^ 64

@@ -1,0 +1,83 @@
+//! What a volume can do.
+ghost use Rattle.std.specs.Prelude.{◌≡◌, ◌≤◌, ◌↔◌, length, IsSome, IfSome, vec_len};
+
+use crate::mode::Mode;
+use crate::text::FsType;
+use std::marker::Model;
+
+/// How a volume is shown to a workload: `access_type` of CSI's `VolumeCapability`.
+#[derive(Clone, Debug, PartialEq, Eq, Drop)]
+pub enum Access {
+    /// As a raw device.
+    Block,
+    /// As a file system of this type, mounted.
+    Mount(FsType),
+}
+
+/// An access type and an access mode: `VolumeCapability` of CSI's spec.md, "CreateVolume".
+#[derive(Clone, Debug, PartialEq, Eq, Drop)]
+pub struct Capability {
+    pub access: Access,
+    pub mode: Mode,
+}
+
+/// From none to 8 capabilities, in order (this profile's own limit). A contract sees it as a list.
+#[derive(Clone, Debug, Drop)]
+pub struct CapabilityList {
+    items: Vec<Capability>,
+}
+
+impl Model for CapabilityList {
+    ghost use Rattle.std.specs.Prelude.{List, ◌≤◌, length};
+    ghost use Rattle.csi_types.specs.declared.capability.Capability.{Capability};
+
+    ghost Value = { List Capability };
+
+    ghost view = { λ list. list.items.items };
+
+    ghost invariant = { λ list. length list.items.items ≤ 8 };
+}
+
+impl CapabilityList {
+    /// The most capabilities that a list has.
+    pub const MAX_LEN: usize = 8;
+
+    /// A list of these capabilities, or `None` where there are more than 8. It takes no memory.
+    pub fn try_new(items: Vec<Capability>) -> Option<CapabilityList>
+        ensures some { IsSome result ↔ (vec_len items ≤ 8) }
+        ensures value { IfSome result (λ list. list ≡ items.items) }
+    {
+        if items.len() > CapabilityList::MAX_LEN {
+            return None;
+        }
+        Some(CapabilityList { items })
+    }
+
+    /// The capabilities in order.
+    pub fn as_slice(&self) -> &[Capability]
+        ensures value { result.now ≡ self.now }
+        ensures limit { length self.now ≤ 8 }
+    {
+        self.items.as_slice()
+    }
+}
+
+impl PartialEq for CapabilityList {
+    ghost use Rattle.std.specs.Cmp.Lexicographic.{pointwise, lists_per};
+    ghost use Rattle.csi_types.specs.contracts.capability.CapabilityPartialEq.TheImpl.Laws.{laws-law};
+
+    ghost eq = { pointwise ⟦<Capability as PartialEq>⟧.eq };
+
+    ghost laws = { lists_per laws-law };
+
+    fn eq(&self, other: &CapabilityList) -> bool {
+        self.as_slice() == other.as_slice()
+    }
+}
+
+impl Eq for CapabilityList {
+    ghost use Rattle.std.specs.Cmp.Lexicographic.{lists_equiv};
+    ghost use Rattle.csi_types.specs.contracts.capability.CapabilityEq.TheImpl.Laws.{laws-law};
+
+    ghost laws = { lists_equiv laws-law };
+}

@@ -1,0 +1,95 @@
+//! Frames: a call or a reply with its number and its party.
+ghost use Rattle.std.specs.Prelude.{◌≡◌, ◌↔◌, IsTrue, IsSome, IfSome};
+ghost use Rattle.csi_types.specs.Call.{kind_of, is_party_of};
+ghost use Rattle.csi_types.specs.Reply.{has_id_by_rule};
+
+use crate::call::{Call, Kind, Party};
+use crate::number::Number;
+use crate::reply::Reply;
+use std::marker::Model;
+
+/// A call, or the reply to a call of a kind.
+#[derive(Clone, Debug, PartialEq, Eq, Drop)]
+pub enum Body {
+    Call(Call),
+    Reply(Kind, Reply),
+}
+
+/// A call or a reply, with the number of the call and the plugin that it goes to or comes from. A
+/// contract sees its parts.
+#[derive(Clone, Debug, PartialEq, Eq, Drop)]
+pub struct Frame {
+    number: Number,
+    party: Party,
+    body: Body,
+}
+
+impl Model for Frame {
+    ghost use Rattle.csi_types.specs.Frame.{Frame as Parts, IsAllowed};
+
+    ghost Value = { Parts };
+
+    ghost view = { λ frame. record { number = frame.number; party = frame.party; body = frame.body } };
+
+    ghost invariant = { λ frame. IsAllowed frame.party frame.body };
+
+    ghost inverse = { λ parts. record { number = parts.number; party = parts.party; body = parts.body } };
+}
+
+impl Frame {
+    ghost use Rattle.csi_types.specs.Frame.{IsAllowed};
+
+    /// A call for a plugin, or `None` where calls of its kind aren't for that plugin. It takes no memory.
+    pub fn call(number: Number, party: Party, call: Call) -> Option<Frame>
+        ensures some { IsSome result ↔ IsTrue (is_party_of (kind_of call) party) }
+        ensures value { IfSome result (λ frame. frame ≡ record { number = number; party = party; body = Body.Call call }) }
+    {
+        if !call.kind().is_for(&party) {
+            return None;
+        }
+        Some(Frame {
+            number,
+            party,
+            body: Body::Call(call),
+        })
+    }
+
+    /// A reply of a plugin to a call of a kind. `None` where calls of that kind aren't for that plugin,
+    /// where the reply has an id and isn't an `Ok` to CreateVolume, and where it is one and has none.
+    /// It takes no memory.
+    pub fn reply(number: Number, party: Party, kind: Kind, reply: Reply) -> Option<Frame>
+        ensures some { IsSome result ↔ (IsTrue (is_party_of kind party) × IsTrue (has_id_by_rule kind reply)) }
+        ensures value { IfSome result (λ frame. frame ≡ record { number = number; party = party; body = Body.Reply kind reply }) }
+    {
+        if !kind.is_for(&party) || !reply.has_id_by_rule(kind) {
+            return None;
+        }
+        Some(Frame {
+            number,
+            party,
+            body: Body::Reply(kind, reply),
+        })
+    }
+
+    /// The number of the call.
+    pub fn number(&self) -> Number
+        ensures { result ≡ self.now.number }
+    {
+        self.number
+    }
+
+    /// The plugin that a call is for, or that sent a reply.
+    pub fn party(&self) -> &Party
+        ensures { result.now ≡ self.now.party }
+    {
+        &self.party
+    }
+
+    /// The call or the reply.
+    pub fn body(&self) -> &Body
+        ensures value { result.now ≡ self.now.body }
+        ensures allowed { IsAllowed self.now.party self.now.body }
+    {
+        &self.body
+    }
+}

@@ -1,0 +1,60 @@
+//! How a call ended.
+ghost use Rattle.std.specs.Prelude.{◌≡◌};
+ghost use Rattle.csi_types.specs.Status.{status_code, status_from_code};
+
+/// How a call ended: the status codes of gRPC, which CSI's spec.md, "Error Scheme", uses.
+#[derive(Clone, Copy, Debug, PartialEq, Eq)]
+pub enum Status {
+    Ok = 0,
+    Cancelled = 1,
+    Unknown = 2,
+    InvalidArgument = 3,
+    DeadlineExceeded = 4,
+    NotFound = 5,
+    AlreadyExists = 6,
+    PermissionDenied = 7,
+    ResourceExhausted = 8,
+    FailedPrecondition = 9,
+    Aborted = 10,
+    OutOfRange = 11,
+    Unimplemented = 12,
+    Internal = 13,
+    Unavailable = 14,
+    DataLoss = 15,
+    Unauthenticated = 16,
+}
+
+impl Status {
+    /// The status's code in gRPC.
+    pub fn code(self) -> u8
+        ensures { result ≡ status_code self }
+    {
+        self as u8
+    }
+
+    /// The status of a code, if it has one.
+    pub fn from_code(code: u8) -> Option<Status>
+        ensures { result ≡ status_from_code code }
+    {
+        match code {
+            0 => Some(Status::Ok),
+            1 => Some(Status::Cancelled),
+            2 => Some(Status::Unknown),
+            3 => Some(Status::InvalidArgument),
+            4 => Some(Status::DeadlineExceeded),
+            5 => Some(Status::NotFound),
+            6 => Some(Status::AlreadyExists),
+            7 => Some(Status::PermissionDenied),
+            8 => Some(Status::ResourceExhausted),
+            9 => Some(Status::FailedPrecondition),
+            10 => Some(Status::Aborted),
+            11 => Some(Status::OutOfRange),
+            12 => Some(Status::Unimplemented),
+            13 => Some(Status::Internal),
+            14 => Some(Status::Unavailable),
+            15 => Some(Status::DataLoss),
+            16 => Some(Status::Unauthenticated),
+            _ => None,
+        }
+    }
+}

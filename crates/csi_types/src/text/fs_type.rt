@@ -1,0 +1,66 @@
+//! A file system's type.
+ghost use Rattle.std.specs.Prelude.{◌≡◌, ◌<◌, ◌≤◌, ◌↔◌, [], length, IfOk, IsOk, IsErrOf, nat_eq};
+ghost use Rattle.std.specs.Cmp.Lexicographic.{pointwise, nat_list_eq_equiv};
+ghost use Rattle.std.specs.Cmp.{partial_equiv_from_equiv};
+ghost use Rattle.csi_types.specs.Text.{IsFsType};
+
+use super::{TextFault, copied};
+use std::alloc::Global;
+use std::marker::Model;
+
+/// The type of the file system that a mounted volume has: at most 128 bytes of UTF-8. An empty one
+/// leaves the choice to the plugin (`MountVolume.fs_type` of CSI's spec.md, "CreateVolume").
+#[derive(Clone, Debug, Drop)]
+pub struct FsType {
+    text: String,
+}
+
+impl Model for FsType {
+    ghost use Rattle.std.specs.Prelude.{ℕ, List};
+    ghost use Rattle.std.specs.String.{string_bytes};
+    ghost use Rattle.csi_types.specs.Text.{IsFsType};
+
+    ghost Value = { List ℕ };
+
+    ghost view = { λ fs_type. string_bytes fs_type.text };
+
+    ghost invariant = { λ fs_type. IsFsType (string_bytes fs_type.text) };
+}
+
+impl FsType {
+    /// The most bytes that an fs type has.
+    pub const MAX_LEN: usize = 128;
+
+    /// An fs type with this text. An empty one takes no memory. `Empty` is never answered.
+    pub fn try_new(alloc: Global, text: &str) -> Result<FsType, TextFault>
+        ensures ok { IfOk result (λ fs_type. fs_type ≡ text.now) }
+        ensures never_empty { IsErrOf result TextFault.Empty → ⊥ }
+        ensures too_long { IsErrOf result TextFault.TooLong ↔ (128 < length text.now) }
+        ensures empty_succeeds { text.now ≡ [] → IsOk result }
+    {
+        let text = copied(alloc, text, FsType::MAX_LEN)?;
+        Ok(FsType { text })
+    }
+
+    /// The fs type's text.
+    pub fn as_str(&self) -> &str
+        ensures value { result.now ≡ self.now }
+        ensures limits { IsFsType self.now }
+    {
+        self.text.as_str()
+    }
+}
+
+impl PartialEq for FsType {
+    ghost eq = { pointwise nat_eq };
+
+    ghost laws = { partial_equiv_from_equiv nat_list_eq_equiv };
+
+    fn eq(&self, other: &FsType) -> bool {
+        self.as_str() == other.as_str()
+    }
+}
+
+impl Eq for FsType {
+    ghost laws = { nat_list_eq_equiv };
+}

@@ -1,0 +1,68 @@
+//! A volume's name.
+ghost use Rattle.std.specs.Prelude.{◌≡◌, ◌<◌, ◌≤◌, ◌↔◌, [], length, IfOk, IsErrOf, nat_eq};
+ghost use Rattle.std.specs.Cmp.Lexicographic.{pointwise, nat_list_eq_equiv};
+ghost use Rattle.std.specs.Cmp.{partial_equiv_from_equiv};
+ghost use Rattle.csi_types.specs.Text.{IsName};
+
+use super::{TextFault, copied};
+use std::alloc::Global;
+use std::marker::Model;
+
+/// The name that the orchestrator gives a volume: 1 to 128 bytes of UTF-8 (CSI's spec.md,
+/// "CreateVolume"; every UTF-8 text within the limits is accepted).
+#[derive(Clone, Debug, Drop)]
+pub struct Name {
+    text: String,
+}
+
+impl Model for Name {
+    ghost use Rattle.std.specs.Prelude.{ℕ, List};
+    ghost use Rattle.std.specs.String.{string_bytes};
+    ghost use Rattle.csi_types.specs.Text.{IsName};
+
+    ghost Value = { List ℕ };
+
+    ghost view = { λ name. string_bytes name.text };
+
+    ghost invariant = { λ name. IsName (string_bytes name.text) };
+}
+
+impl Name {
+    /// The most bytes that a name has.
+    pub const MAX_LEN: usize = 128;
+
+    /// A name with this text.
+    pub fn try_new(alloc: Global, text: &str) -> Result<Name, TextFault>
+        ensures ok { IfOk result (λ name. name ≡ text.now) }
+        ensures empty { IsErrOf result TextFault.Empty ↔ (text.now ≡ []) }
+        ensures too_long { IsErrOf result TextFault.TooLong ↔ (128 < length text.now) }
+    {
+        if text.is_empty() {
+            return Err(TextFault::Empty);
+        }
+        let text = copied(alloc, text, Name::MAX_LEN)?;
+        Ok(Name { text })
+    }
+
+    /// The name's text.
+    pub fn as_str(&self) -> &str
+        ensures value { result.now ≡ self.now }
+        ensures limits { IsName self.now }
+    {
+        self.text.as_str()
+    }
+}
+
+impl PartialEq for Name {
+    ghost eq = { pointwise nat_eq };
+
+    ghost laws = { partial_equiv_from_equiv nat_list_eq_equiv };
+
+    fn eq(&self, other: &Name) -> bool {
+        self.as_str() == other.as_str()
+    }
+}
+
+impl Eq for Name {
+    ghost laws = { nat_list_eq_equiv };
+}

@@ -1,0 +1,68 @@
+//! A path at which a volume is published.
+ghost use Rattle.std.specs.Prelude.{◌≡◌, ◌<◌, ◌≤◌, ◌↔◌, [], length, IfOk, IsErrOf, nat_eq};
+ghost use Rattle.std.specs.Cmp.Lexicographic.{pointwise, nat_list_eq_equiv};
+ghost use Rattle.std.specs.Cmp.{partial_equiv_from_equiv};
+ghost use Rattle.csi_types.specs.Text.{IsTarget};
+
+use super::{TextFault, copied};
+use std::alloc::Global;
+use std::marker::Model;
+
+/// The path on a node at which a volume is published: 1 to 255 bytes of UTF-8 (`target_path` of CSI's
+/// spec.md, "NodePublishVolume"; the limit is this profile's own). That it is absolute is for the node to ask.
+#[derive(Clone, Debug, Drop)]
+pub struct Target {
+    text: String,
+}
+
+impl Model for Target {
+    ghost use Rattle.std.specs.Prelude.{ℕ, List};
+    ghost use Rattle.std.specs.String.{string_bytes};
+    ghost use Rattle.csi_types.specs.Text.{IsTarget};
+
+    ghost Value = { List ℕ };
+
+    ghost view = { λ target. string_bytes target.text };
+
+    ghost invariant = { λ target. IsTarget (string_bytes target.text) };
+}
+
+impl Target {
+    /// The most bytes that a target has.
+    pub const MAX_LEN: usize = 255;
+
+    /// A target with this text.
+    pub fn try_new(alloc: Global, text: &str) -> Result<Target, TextFault>
+        ensures ok { IfOk result (λ target. target ≡ text.now) }
+        ensures empty { IsErrOf result TextFault.Empty ↔ (text.now ≡ []) }
+        ensures too_long { IsErrOf result TextFault.TooLong ↔ (255 < length text.now) }
+    {
+        if text.is_empty() {
+            return Err(TextFault::Empty);
+        }
+        let text = copied(alloc, text, Target::MAX_LEN)?;
+        Ok(Target { text })
+    }
+
+    /// The target's text.
+    pub fn as_str(&self) -> &str
+        ensures value { result.now ≡ self.now }
+        ensures limits { IsTarget self.now }
+    {
+        self.text.as_str()
+    }
+}
+
+impl PartialEq for Target {
+    ghost eq = { pointwise nat_eq };
+
+    ghost laws = { partial_equiv_from_equiv nat_list_eq_equiv };
+
+    fn eq(&self, other: &Target) -> bool {
+        self.as_str() == other.as_str()
+    }
+}
+
+impl Eq for Target {
+    ghost laws = { nat_list_eq_equiv };
+}
