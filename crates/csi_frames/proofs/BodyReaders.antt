@@ -1,0 +1,277 @@
+-- The reader of a body agrees with the grammar, and what it reads is spelled so.
+use Rattle.std.proofs.Common.{◌≡◌, ℕ, ◌+◌, ◌^◌, ◌<◌, Bool, true, false, cond, List, [], ◌∷◌, ◌++◌, refl, sym, ap, subst, ◌∙◌}
+use Rattle.std.specs.Prelude.{◌==◌, not}
+use Rattle.std.proofs.lemmas.Bool.{eqb-true}
+use Rattle.std.proofs.lemmas.List.{append-nil}
+use Rattle.csi_types.specs.declared.number.Number.{Number}
+use Rattle.csi_types.specs.declared.call.Kind.{Kind}
+use Rattle.csi_types.specs.declared.call.Party.{Party}
+use Rattle.csi_types.specs.declared.call.Party.TheVariants.{Controller, Node}
+use Rattle.csi_types.specs.declared.frame.Body.{Body}
+use Rattle.csi_types.specs.declared.frame.Body.TheVariants as bodies
+use Rattle.csi_types.specs.Call.{kind_of, is_node_kind, is_party_of}
+use Rattle.csi_types.specs.Reply.{has_id_by_rule}
+use Rattle.csi_types.specs.Text.{IsText}
+use Rattle.csi_types.specs.Frame.{Frame, IsAllowed}
+use Rattle.csi_types.specs.Limits.{IsNumber, IsParty, IsBody, IsFrame}
+use Rattle.csi_frames.specs.declared.body_kind.BodyKind.{BodyKind}
+use Rattle.csi_frames.specs.declared.body_kind.BodyKind.TheVariants as body_kinds
+use Rattle.csi_frames.specs.declared.fault.FaultKind.TheVariants.{BadVersion, BadKind, BadParty}
+use Rattle.csi_frames.specs.Codes.{kind_in, is_body_kind, body_kind_of}
+use Rattle.csi_frames.specs.Spelling as spelling
+use Rattle.csi_frames.specs.Grammar.{Grammar, End, Byte, Word, Text, any, is_party_number, party_number, fields_grammar, party_grammar, numbered_grammar, body_grammar}
+use Rattle.csi_frames.specs.Reading.{head_at, number_at, party_at, fields_at, frame_at}
+use Rattle.csi_frames.proofs.Readers.{Agrees, Then, then, Given, gives, in_words, Either, either}
+use Rattle.csi_frames.proofs.FieldReaders.{IsByte, byte_agrees}
+use Rattle.csi_frames.proofs.Says.{Spelled, After, Made, after, makes, Always, code_agrees}
+use Rattle.csi_frames.proofs.Codes.{body_kind_number, body_kind_code}
+use Rattle.csi_frames.proofs.CapabilityReaders.{any_word_agrees, any_text_agrees}
+use Rattle.csi_frames.proofs.CallReaders.{SaysCall, call_agrees, join2}
+use Rattle.csi_frames.proofs.ReplyReaders.{SaysReply, reply_agrees}
+
+-- ---- version and kind
+
+abbrev head : BodyKind → List ℕ
+head kind = 1 ∷ body_kind_number kind ∷ []
+
+abbrev WasHead : BodyKind → List ℕ → Type 0
+WasHead = Then (IsByte (λ b. b == 1)) (λ version. Spelled Always (λ kind. body_kind_number kind ∷ []))
+
+head-there : (value : BodyKind) (bytes : List ℕ) → WasHead value bytes → Spelled Always head value bytes
+head-there value bytes s =
+    record {
+      fits = tt;
+      are = s.parts ∙ ap (λ (t : List ℕ). t ++ s.back) s.first.one ∙ ap (λ (n : ℕ). n ∷ s.back) (eqb-true _ _ s.first.is_allowed) ∙ ap (λ (t : List ℕ). 1 ∷ t) s.second.are;
+    }
+
+head-back : (value : BodyKind) (bytes : List ℕ) → Spelled Always head value bytes → WasHead value bytes
+head-back value bytes s =
+    record { before = 1; front = 1 ∷ []; back = body_kind_number value ∷ []; parts = s.are; first = record { is_allowed = refl; one = refl }; second = record { fits = tt; are = refl } }
+
+head_agrees : (next : BodyKind → Grammar) → Agrees head_at (Spelled Always head) (Byte (λ b. b == 1) BadVersion (λ _. Byte is_body_kind BadKind (λ b. next (body_kind_of b)))) next
+unfolding head_at
+head_agrees next =
+    in_words (Spelled Always head) head-there head-back
+    (then (byte_agrees (λ b. b == 1) BadVersion (λ _. Byte is_body_kind BadKind (λ b. next (body_kind_of b)))) (λ version. code_agrees is_body_kind BadKind body_kind_of body_kind_number next body_kind_code))
+
+-- ---- the number
+
+abbrev number : Number → List ℕ
+number n = spelling.word n.session ++ spelling.word n.call
+
+abbrev WasNumber : Number → List ℕ → Type 0
+WasNumber = After (λ session. session < 2 ^ 64) spelling.word (λ session. Made (λ call. call < 2 ^ 64) spelling.word (λ call. record { session = session; call = call }))
+
+number-there : (value : Number) (bytes : List ℕ) → WasNumber value bytes → Spelled IsNumber number value bytes
+number-there value bytes s =
+    subst (λ (v : Number). Spelled IsNumber number v bytes) (sym s.second.same)
+    (record { fits = record { session_fits = s.fits; call_fits = s.second.fits }; are = join2 bytes (spelling.word s.before) (spelling.word s.second.before) s.back s.parts s.second.are })
+
+number-back : (value : Number) (bytes : List ℕ) → Spelled IsNumber number value bytes → WasNumber value bytes
+number-back value bytes s =
+    record { before = value.session; fits = s.fits.session_fits; back = spelling.word value.call; parts = s.are; second = record { before = value.call; fits = s.fits.call_fits; same = refl; are = refl } }
+
+number_agrees : (next : Grammar) → Agrees number_at (Spelled IsNumber number) (Word any (λ _. Word any (λ _. next))) (λ _. next)
+unfolding number_at
+number_agrees next =
+    in_words (Spelled IsNumber number) number-there number-back
+    (after (any_word_agrees (λ _. Word any (λ _. next))) (λ session. makes (λ call. record { session = session; call = call }) (λ _. next) (any_word_agrees (λ _. next))))
+
+-- ---- the party
+
+pub record IsPartyOf (kind : BodyKind) (party : Party) : Type 0 where
+  pub fits : IsParty party
+  pub of_kind : is_party_of (kind_in kind) party ≡ true
+
+abbrev WasParty : BodyKind → Party → List ℕ → Type 0
+WasParty kind = Then (IsByte (is_party_number kind)) (λ b. Either (b == 0) (Given Controller) (Made (IsText 1 255) spelling.text Node))
+
+abbrev party_on : Bool → Party → Bool
+party_on node Controller = not node
+party_on node (Node id) = node
+
+-- what the party byte says of the kind
+record Fitting (node : Bool) (value : Party) (b : ℕ) (back : List ℕ) : Type 0 where
+  fits : IsParty value
+  of_kind : party_on node value ≡ true
+  are : b ∷ back ≡ spelling.party value
+
+fitting : (node : Bool) (value : Party) (back : List ℕ) → Either ((cond node 1 0) == 0) (Given Controller) (Made (IsText 1 255) spelling.text Node) value back → Fitting node value (cond node 1 0) back
+fitting true value back s =
+    subst (λ (v : Party). Fitting true v 1 back) (sym s.same) (record { fits = s.fits; of_kind = refl; are = ap (λ (t : List ℕ). 1 ∷ t) s.are })
+fitting false value back s =
+    subst (λ (v : Party). Fitting false v 0 back) (sym s.same) (record { fits = tt; of_kind = refl; are = ap (λ (t : List ℕ). 0 ∷ t) s.none })
+
+on_is : (kind : Kind) (party : Party) → party_on (is_node_kind kind) party ≡ is_party_of kind party
+on_is kind Controller = refl
+on_is kind (Node id) = refl
+
+party-there : (kind : BodyKind) (value : Party) (bytes : List ℕ) → WasParty kind value bytes → Spelled (IsPartyOf kind) spelling.party value bytes
+party-there kind value bytes s =
+    let node = is_node_kind (kind_in kind) in
+    let b-is : s.before ≡ cond node 1 0 = eqb-true _ _ s.first.is_allowed in
+    let f = fitting node value s.back (subst (λ (b : ℕ). Either (b == 0) (Given Controller) (Made (IsText 1 255) spelling.text Node) value s.back) b-is s.second) in
+    record {
+      fits = record { fits = f.fits; of_kind = sym (on_is (kind_in kind) value) ∙ f.of_kind };
+      are = s.parts ∙ ap (λ (t : List ℕ). t ++ s.back) s.first.one ∙ ap (λ (b : ℕ). b ∷ s.back) b-is ∙ f.are;
+    }
+
+party-number : (kind : Kind) (node : Bool) → is_node_kind kind ≡ node → (cond node 1 0 == party_number kind) ≡ true
+party-number kind true e = rw e refl
+party-number kind false e = rw e refl
+
+is_false : (b : Bool) → not b ≡ true → b ≡ false
+is_false true e = absurd cc
+is_false false e = refl
+
+party-back : (kind : BodyKind) (value : Party) (bytes : List ℕ) → Spelled (IsPartyOf kind) spelling.party value bytes → WasParty kind value bytes
+party-back kind Controller bytes s =
+    record {
+      before = 0;
+      front = 0 ∷ [];
+      back = [];
+      parts = s.are;
+      first = record { is_allowed = party-number (kind_in kind) false (is_false _ s.fits.of_kind); one = refl };
+      second = record { same = refl; none = refl };
+    }
+party-back kind (Node id) bytes s =
+    record {
+      before = 1;
+      front = 1 ∷ [];
+      back = spelling.text id;
+      parts = s.are;
+      first = record { is_allowed = party-number (kind_in kind) true s.fits.of_kind; one = refl };
+      second = record { before = id; fits = s.fits.fits; same = refl; are = refl };
+    }
+
+party_agrees : (kind : BodyKind) → Agrees (party_at kind) (Spelled (IsPartyOf kind) spelling.party) (party_grammar kind) (λ _. fields_grammar kind)
+unfolding party_at
+party_agrees kind =
+    let next : Grammar = fields_grammar kind in
+    in_words (Spelled (IsPartyOf kind) spelling.party) (party-there kind) (party-back kind)
+    (then (byte_agrees (is_party_number kind) BadParty (λ b. cond (b == 0) next (Text 1 255 (λ _. next))))
+    (λ b. either (b == 0) (gives {next = λ _. next} Controller) (makes Node (λ _. next) (any_text_agrees 1 255 (λ _. next)))))
+
+-- ---- the kind's fields
+
+abbrev pub IsBodyOf : BodyKind → Body → Type 0
+IsBodyOf (body_kinds.Call kind) (bodies.Call call) = kind_of call ≡ kind
+IsBodyOf (body_kinds.Call kind) (bodies.Reply k reply) = ⊥
+IsBodyOf (body_kinds.Reply kind) (bodies.Call call) = ⊥
+IsBodyOf (body_kinds.Reply kind) (bodies.Reply k reply) = (k ≡ kind) × (has_id_by_rule kind reply ≡ true)
+
+pub record FitsKind (kind : BodyKind) (body : Body) : Type 0 where
+  pub of_kind : IsBodyOf kind body
+  pub fits : IsBody body
+
+abbrev SaysFields : BodyKind → Body → List ℕ → Type 0
+SaysFields kind = Spelled (FitsKind kind) spelling.body_fields
+
+call-there : (kind : Kind) (value : Body) (bytes : List ℕ) → Then (SaysCall kind) (λ call. Given (bodies.Call call)) value bytes → SaysFields (body_kinds.Call kind) value bytes
+call-there kind value bytes s =
+    subst (λ (v : Body). SaysFields (body_kinds.Call kind) v bytes) (sym s.second.same)
+    (record { fits = record { of_kind = s.first.of_kind; fits = s.first.fits }; are = s.parts ∙ ap (λ (t : List ℕ). s.front ++ t) s.second.none ∙ append-nil s.front ∙ s.first.are })
+
+call-back : (kind : Kind) (value : Body) (bytes : List ℕ) → SaysFields (body_kinds.Call kind) value bytes → Then (SaysCall kind) (λ call. Given (bodies.Call call)) value bytes
+call-back kind (bodies.Call call) bytes s =
+    record { before = call; front = bytes; back = []; parts = sym (append-nil bytes); first = record { of_kind = s.fits.of_kind; fits = s.fits.fits; are = s.are }; second = record { same = refl; none = refl } }
+call-back kind (bodies.Reply k reply) bytes s = absurd s.fits.of_kind
+
+reply-there : (kind : Kind) (value : Body) (bytes : List ℕ) → Then (SaysReply kind) (λ reply. Given (bodies.Reply kind reply)) value bytes → SaysFields (body_kinds.Reply kind) value bytes
+reply-there kind value bytes s =
+    subst (λ (v : Body). SaysFields (body_kinds.Reply kind) v bytes) (sym s.second.same)
+    (record { fits = record { of_kind = (refl, s.first.rule); fits = s.first.fits }; are = s.parts ∙ ap (λ (t : List ℕ). s.front ++ t) s.second.none ∙ append-nil s.front ∙ s.first.are })
+
+reply-back : (kind : Kind) (value : Body) (bytes : List ℕ) → SaysFields (body_kinds.Reply kind) value bytes → Then (SaysReply kind) (λ reply. Given (bodies.Reply kind reply)) value bytes
+reply-back kind (bodies.Reply k reply) bytes s =
+    record {
+      before = reply;
+      front = bytes;
+      back = [];
+      parts = sym (append-nil bytes);
+      first = record { fits = s.fits.fits; rule = s.fits.of_kind.1; are = s.are };
+      second = record { same = ap (λ (k : Kind). bodies.Reply k reply) s.fits.of_kind.0; none = refl };
+    }
+reply-back kind (bodies.Call call) bytes s = absurd s.fits.of_kind
+
+fields_agree : (kind : BodyKind) → Agrees (fields_at kind) (SaysFields kind) (fields_grammar kind) (λ _. End)
+unfolding fields_at
+fields_agree (body_kinds.Call kind) =
+    in_words (SaysFields (body_kinds.Call kind)) (call-there kind) (call-back kind) (then (call_agrees kind) (λ call. gives {next = λ _. End} (bodies.Call call)))
+fields_agree (body_kinds.Reply kind) =
+    in_words (SaysFields (body_kinds.Reply kind)) (reply-there kind) (reply-back kind) (then (reply_agrees kind) (λ reply. gives {next = λ _. End} (bodies.Reply kind reply)))
+
+-- ---- the whole body
+
+abbrev WasFrame : Frame → List ℕ → Type 0
+WasFrame =
+    After Always head (λ kind. After IsNumber number (λ n. After (IsPartyOf kind) spelling.party (λ party. Made (FitsKind kind) spelling.body_fields (λ body. record { number = n; party = party; body = body }))))
+
+allowed-there : (kind : BodyKind) (party : Party) (body : Body) → is_party_of (kind_in kind) party ≡ true → IsBodyOf kind body → IsAllowed party body
+allowed-there (body_kinds.Call kind) party (bodies.Call call) p e = rw e p
+allowed-there (body_kinds.Call kind) party (bodies.Reply k reply) p e = absurd e
+allowed-there (body_kinds.Reply kind) party (bodies.Call call) p e = absurd e
+allowed-there (body_kinds.Reply kind) party (bodies.Reply k reply) p e = rw e.0 (p, e.1)
+
+number-there-of : (kind : BodyKind) (body : Body) → IsBodyOf kind body → body_kind_number kind ≡ spelling.body_kind body
+number-there-of (body_kinds.Call kind) (bodies.Call call) e = ap spelling.kind_number (sym e)
+number-there-of (body_kinds.Call kind) (bodies.Reply k reply) e = absurd e
+number-there-of (body_kinds.Reply kind) (bodies.Call call) e = absurd e
+number-there-of (body_kinds.Reply kind) (bodies.Reply k reply) e = ap (λ (k : Kind). 128 + spelling.kind_number k) (sym e.0)
+
+frame-there : (value : Frame) (bytes : List ℕ) → WasFrame value bytes → Spelled IsFrame spelling.frame_body value bytes
+unfolding spelling.frame_body
+frame-there value bytes s =
+    let s1 = s.second in let s2 = s1.second in let s3 = s2.second in
+    let kind = s.before in let n = s1.before in let party = s2.before in let body = s3.before in
+    subst (λ (v : Frame). Spelled IsFrame spelling.frame_body v bytes) (sym s3.same)
+    (record {
+      fits = record { number_fits = s1.fits; party_fits = s2.fits.fits; body_fits = s3.fits.fits; allowed = allowed-there kind party body s2.fits.of_kind s3.fits.of_kind };
+      are = s.parts ∙ ap (λ (t : List ℕ). head kind ++ t) (s1.parts ∙ ap (λ (t : List ℕ). number n ++ t) (s2.parts ∙ ap (λ (t : List ℕ). spelling.party party ++ t) s3.are))
+          ∙ ap (λ (k : ℕ). 1 ∷ k ∷ number n ++ (spelling.party party ++ spelling.body_fields body)) (number-there-of kind body s3.fits.of_kind);
+    })
+
+-- a body is of its own kind
+record OfItself (party : Party) (body : Body) : Type 0 where
+  kind : BodyKind
+  numbered : spelling.body_kind body ≡ body_kind_number kind
+  of_party : is_party_of (kind_in kind) party ≡ true
+  of_body : IsBodyOf kind body
+
+of_itself : (party : Party) (body : Body) → IsAllowed party body → OfItself party body
+of_itself party (bodies.Call call) a = record { kind = body_kinds.Call (kind_of call); numbered = refl; of_party = a; of_body = refl }
+of_itself party (bodies.Reply kind reply) a = record { kind = body_kinds.Reply kind; numbered = refl; of_party = a.0; of_body = (refl, a.1) }
+
+frame-back : (value : Frame) (bytes : List ℕ) → Spelled IsFrame spelling.frame_body value bytes → WasFrame value bytes
+unfolding spelling.frame_body
+frame-back value bytes s =
+    let o = of_itself value.party value.body s.fits.allowed in
+    let rest : List ℕ = number value.number ++ (spelling.party value.party ++ spelling.body_fields value.body) in
+    record {
+      before = o.kind;
+      fits = tt;
+      back = rest;
+      parts = s.are ∙ ap (λ (k : ℕ). 1 ∷ k ∷ rest) o.numbered;
+      second = record {
+        before = value.number;
+        fits = s.fits.number_fits;
+        back = spelling.party value.party ++ spelling.body_fields value.body;
+        parts = refl;
+        second = record {
+          before = value.party;
+          fits = record { fits = s.fits.party_fits; of_kind = o.of_party };
+          back = spelling.body_fields value.body;
+          parts = refl;
+          second = record { before = value.body; fits = record { of_kind = o.of_body; fits = s.fits.body_fits }; same = refl; are = refl };
+        };
+      };
+    }
+
+pub frame_agrees : Agrees frame_at (Spelled IsFrame spelling.frame_body) body_grammar (λ _. End)
+unfolding frame_at body_grammar
+frame_agrees =
+    in_words (Spelled IsFrame spelling.frame_body) frame-there frame-back
+    (after (head_agrees numbered_grammar)
+    (λ kind. after (number_agrees (party_grammar kind))
+    (λ n. after (party_agrees kind)
+    (λ party. makes (λ body. record { number = n; party = party; body = body }) (λ _. End) (fields_agree kind)))))

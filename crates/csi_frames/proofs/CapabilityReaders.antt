@@ -1,0 +1,145 @@
+-- The readers of capabilities agree with the grammar, and what they read is spelled so.
+use Rattle.std.proofs.Common.{◌≡◌, ℕ, zero, suc, Bool, true, cond, List, [], ◌∷◌, ◌++◌, length, refl, sym, ap, subst, ◌∙◌, arith}
+use Rattle.std.specs.Prelude.{◌==◌, nat_lt}
+use Rattle.std.specs.List.{flat_map, AllByRecursion}
+use Rattle.std.proofs.lemmas.Bool.{ltb-true, lt-ltb, leb-true}
+use Rattle.std.proofs.lemmas.List.Concat.{flat_map-cons}
+use Rattle.csi_types.specs.declared.mode.Mode.{Mode}
+use Rattle.csi_types.specs.declared.capability.Access.{Access}
+use Rattle.csi_types.specs.declared.capability.Access.TheVariants.{Block, Mount}
+use Rattle.csi_types.specs.declared.capability.Capability.{Capability}
+use Rattle.csi_types.specs.Mode.{mode_number}
+use Rattle.csi_types.specs.Text.{IsText}
+use Rattle.csi_types.specs.VolumeId.{IsVolumeId}
+use Rattle.csi_types.specs.Limits.{IsWord, IsAccess, IsCapability}
+use Rattle.csi_frames.specs.declared.fault.FaultKind.TheVariants.{BadMode, BadAccess, BadFlag}
+use Rattle.csi_frames.specs.Codes.{is_mode, mode_of}
+use Rattle.csi_frames.specs.Spelling as spelling
+use Rattle.csi_frames.specs.Grammar.{Grammar, End, Byte, Word, Text, any, at_most, mode_grammar, capability_grammar, capabilities_grammar}
+use Rattle.csi_frames.specs.Reading.{word_at, text_at, id_at, flag_at, access_at, mode_at, capability_at, capabilities_at}
+use Rattle.csi_frames.proofs.Readers.{Agrees, Then, then, Given, gives, in_words, Either, either}
+use Rattle.csi_frames.proofs.FieldReaders.{IsByte, byte_agrees, word_agrees, text_agrees}
+use Rattle.csi_frames.proofs.Says.{Spelled, After, Made, after, makes, Always, code_agrees}
+use Rattle.csi_frames.proofs.Codes.{mode_code, flag_code, flag_number}
+
+-- ---- words, texts, flags
+
+pub any_word_agrees : (next : ℕ → Grammar) → Agrees (word_at any) (Spelled IsWord spelling.word) (Word any next) next
+any_word_agrees next =
+    in_words (Spelled IsWord spelling.word) (λ n bytes s. record { fits = s.fits; are = s.eight }) (λ n bytes s. record { fits = s.fits; is_allowed = refl; eight = s.are }) (word_agrees any next)
+
+pub id_agrees : (next : ℕ → Grammar) → Agrees id_at (Spelled IsVolumeId spelling.word) (Word (nat_lt 0) next) next
+unfolding id_at
+id_agrees next =
+    in_words (Spelled IsVolumeId spelling.word)
+    (λ n bytes s. record { fits = record { from_one = ltb-true _ _ s.is_allowed; in_range = s.fits }; are = s.eight })
+    (λ n bytes s. record { fits = s.fits.in_range; is_allowed = lt-ltb _ _ s.fits.from_one; eight = s.are })
+    (word_agrees (nat_lt 0) next)
+
+pub any_text_agrees : (least most : ℕ) (next : List ℕ → Grammar) → Agrees (text_at least most) (Spelled (IsText least most) spelling.text) (Text least most next) next
+any_text_agrees least most next =
+    in_words (Spelled (IsText least most) spelling.text) (λ t bytes s. record { fits = s.fits; are = s.counted }) (λ t bytes s. record { fits = s.fits; counted = s.are }) (text_agrees least most next)
+
+pub flag_agrees : (next : Bool → Grammar) → Agrees flag_at (Spelled Always spelling.flag) (Byte (at_most 1) BadFlag (λ b. next (b == 1))) next
+unfolding flag_at
+flag_agrees next = code_agrees (at_most 1) BadFlag (λ b. b == 1) flag_number next flag_code
+
+pub mode_agrees : (next : Mode → Grammar) → Agrees mode_at (Spelled Always (λ mode. mode_number mode ∷ [])) (Byte is_mode BadMode (λ b. next (mode_of b))) next
+unfolding mode_at
+mode_agrees next = code_agrees is_mode BadMode mode_of mode_number next mode_code
+
+-- ---- capabilities
+
+abbrev WasAccess : ℕ → Access → List ℕ → Type 0
+WasAccess b = Either (b == 0) (Given Block) (Made (IsText 0 128) spelling.text Mount)
+
+access-there : (b : ℕ) → at_most 1 b ≡ true → (value : Access) (back : List ℕ) → WasAccess b value back → Spelled IsAccess spelling.access value (b ∷ back)
+access-there zero low value back s =
+    subst (λ (v : Access). Spelled IsAccess spelling.access v (0 ∷ back)) (sym s.same) (record { fits = tt; are = ap (λ (t : List ℕ). 0 ∷ t) s.none })
+access-there (suc zero) low value back s =
+    subst (λ (v : Access). Spelled IsAccess spelling.access v (1 ∷ back)) (sym s.same) (record { fits = s.fits; are = ap (λ (t : List ℕ). 1 ∷ t) s.are })
+access-there (suc (suc n)) low value back s = absurd (omega (arith, leb-true (suc (suc n)) 1 low))
+
+abbrev SaysAccess : Access → List ℕ → Type 0
+SaysAccess = Then (IsByte (at_most 1)) WasAccess
+
+access-back : (value : Access) (bytes : List ℕ) → Spelled IsAccess spelling.access value bytes → SaysAccess value bytes
+access-back Block bytes s =
+    record { before = 0; front = 0 ∷ []; back = []; parts = s.are; first = record { is_allowed = refl; one = refl }; second = record { same = refl; none = refl } }
+access-back (Mount fs_type) bytes s =
+    record { before = 1; front = 1 ∷ []; back = spelling.text fs_type; parts = s.are; first = record { is_allowed = refl; one = refl }; second = record { before = fs_type; fits = s.fits; same = refl; are = refl } }
+
+abbrev access_grammar : Grammar → Grammar
+access_grammar next = Byte (at_most 1) BadAccess (λ b. cond (b == 0) next (Text 0 128 (λ _. next)))
+
+access_agrees : (next : Grammar) → Agrees access_at (Spelled IsAccess spelling.access) (access_grammar next) (λ _. next)
+unfolding access_at
+access_agrees next =
+    in_words (Spelled IsAccess spelling.access)
+    (λ value bytes s. subst (Spelled IsAccess spelling.access value) (sym (s.parts ∙ ap (λ (t : List ℕ). t ++ s.back) s.first.one)) (access-there s.before s.first.is_allowed value s.back s.second))
+    access-back
+    (then (byte_agrees (at_most 1) BadAccess (λ b. cond (b == 0) next (Text 0 128 (λ _. next))))
+    (λ b. either (b == 0) (gives {next = λ _. next} Block) (makes Mount (λ _. next) (any_text_agrees 0 128 (λ _. next)))))
+
+abbrev SaysCapability : Capability → List ℕ → Type 0
+SaysCapability = After IsAccess spelling.access (λ access. Made Always (λ mode. mode_number mode ∷ []) (λ mode. record { access = access; mode = mode }))
+
+capability-there : (value : Capability) (bytes : List ℕ) → SaysCapability value bytes → Spelled IsCapability spelling.capability value bytes
+capability-there value bytes s =
+    subst (λ (v : Capability). Spelled IsCapability spelling.capability v bytes) (sym s.second.same)
+    (record { fits = s.fits; are = s.parts ∙ ap (λ (t : List ℕ). spelling.access s.before ++ t) s.second.are })
+
+capability-back : (value : Capability) (bytes : List ℕ) → Spelled IsCapability spelling.capability value bytes → SaysCapability value bytes
+capability-back value bytes s =
+    record { before = value.access; fits = s.fits; back = mode_number value.mode ∷ []; parts = s.are; second = record { before = value.mode; fits = tt; same = refl; are = refl } }
+
+pub capability_agrees : (next : Grammar) → Agrees capability_at (Spelled IsCapability spelling.capability) (capability_grammar next) (λ _. next)
+unfolding capability_at
+capability_agrees next =
+    in_words (Spelled IsCapability spelling.capability) capability-there capability-back
+    (after (access_agrees (mode_grammar next)) (λ access. makes (λ mode. record { access = access; mode = mode }) (λ _. next) (mode_agrees (λ _. next))))
+
+-- so many capabilities
+pub record AreCapabilities (count : ℕ) (capabilities : List Capability) : Type 0 where
+  pub counted : length capabilities ≡ count
+  pub each : AllByRecursion IsCapability capabilities
+
+abbrev SaysMore : ℕ → List Capability → List ℕ → Type 0
+SaysMore n = After IsCapability spelling.capability (λ first. Made (AreCapabilities n) (flat_map spelling.capability) (λ others. first ∷ others))
+
+abbrev SaysCapabilities : ℕ → List Capability → List ℕ → Type 0
+SaysCapabilities n = Spelled (AreCapabilities n) (flat_map spelling.capability)
+
+more-there : (n : ℕ) (value : List Capability) (bytes : List ℕ) → SaysMore n value bytes → SaysCapabilities (suc n) value bytes
+more-there n value bytes s =
+    subst (λ (v : List Capability). SaysCapabilities (suc n) v bytes) (sym s.second.same)
+    (record {
+      fits = record { counted = ap suc s.second.fits.counted; each = (s.fits, s.second.fits.each) };
+      are = s.parts ∙ ap (λ (t : List ℕ). spelling.capability s.before ++ t) s.second.are ∙ sym (flat_map-cons spelling.capability s.before s.second.before);
+    })
+
+more-back : (n : ℕ) (value : List Capability) (bytes : List ℕ) → SaysCapabilities (suc n) value bytes → SaysMore n value bytes
+more-back n [] bytes s = absurd (cc s.fits.counted)
+more-back n (first ∷ others) bytes s =
+    record {
+      before = first;
+      fits = s.fits.each.0;
+      back = flat_map spelling.capability others;
+      parts = s.are ∙ flat_map-cons spelling.capability first others;
+      second = record { before = others; fits = record { counted = omega (arith, s.fits.counted); each = s.fits.each.1 }; same = refl; are = refl };
+    }
+
+nil-there : (value : List Capability) (bytes : List ℕ) → Given [] value bytes → SaysCapabilities 0 value bytes
+nil-there value bytes s =
+    subst (λ (v : List Capability). SaysCapabilities 0 v bytes) (sym s.same) (record { fits = record { counted = refl; each = tt }; are = s.none })
+
+nil-back : (value : List Capability) (bytes : List ℕ) → SaysCapabilities 0 value bytes → Given [] value bytes
+nil-back [] bytes s = record { same = refl; none = s.are }
+nil-back (first ∷ others) bytes s = absurd (cc s.fits.counted)
+
+pub capabilities_agree : (n : ℕ) → Agrees (capabilities_at n) (SaysCapabilities n) (capabilities_grammar n) (λ _. End)
+unfolding capabilities_at
+capabilities_agree zero = in_words (SaysCapabilities 0) nil-there nil-back (gives {next = λ _. End} [])
+capabilities_agree (suc n) =
+    in_words (SaysCapabilities (suc n)) (more-there n) (more-back n)
+    (after (capability_agrees (capabilities_grammar n)) (λ first. makes (λ others. first ∷ others) (λ _. End) (capabilities_agree n)))

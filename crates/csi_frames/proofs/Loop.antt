@@ -1,0 +1,37 @@
+-- Reading capabilities one after another, as a loop does.
+use Rattle.std.proofs.Common.{◌≡◌, ℕ, suc, ◌-◌, ◌+◌, ◌≤◌, ◌<◌, List, [], ◌∷◌, ◌++◌, Result, Ok, Err, refl, sym, ap, ◌∙◌, append_assoc, arith}
+use Rattle.std.proofs.lemmas.List.{append-nil}
+use Rattle.csi_types.specs.declared.capability.Capability.{Capability}
+use Rattle.csi_frames.specs.declared.fields.Stop.{Stop}
+use Rattle.csi_frames.specs.Reading.{go_on, give, capability_at, capabilities_at}
+
+-- what was read before, and what is still read
+abbrev pub with_front : List Capability → Result (List Capability × List ℕ) Stop → Result (List Capability × List ℕ) Stop
+with_front front read = go_on read (λ others. give (front ++ others))
+
+regroup : (front : List Capability) (c : Capability) (read : Result (List Capability × List ℕ) Stop) → with_front front (go_on read (λ others. give (c ∷ others))) ≡ with_front (front ++ c ∷ []) read
+regroup front c (Ok x) = ap (λ (cs : List Capability). Ok (cs, x.1)) (simp append_assoc)
+regroup front c (Err stop) = refl
+
+pub goes_on : (front : List Capability) (count i : ℕ) (bytes : List ℕ) (c : Capability) (after : List ℕ) (total : Result (List Capability × List ℕ) Stop) → i < count → capability_at bytes ≡ Ok (c, after)
+    → with_front front (capabilities_at (count - i) bytes) ≡ total → with_front (front ++ c ∷ []) (capabilities_at (count - (i + 1)) after) ≡ total
+unfolding capabilities_at
+goes_on front count i bytes c after total lt h so_far =
+    let k : count - i ≡ suc (count - (i + 1)) = omega arith in
+    let one : with_front front (capabilities_at (count - i) bytes) ≡ with_front (front ++ c ∷ []) (capabilities_at (count - (i + 1)) after) = rw (k, h) (regroup front c (capabilities_at (count - (i + 1)) after)) in
+    sym one ∙ so_far
+
+pub ends : (stop : Stop) (front : List Capability) (count i : ℕ) (bytes : List ℕ) (total : Result (List Capability × List ℕ) Stop) → i < count → capability_at bytes ≡ Err stop
+    → with_front front (capabilities_at (count - i) bytes) ≡ total → total ≡ Err stop
+unfolding capabilities_at
+ends stop front count i bytes total lt h so_far =
+    let k : count - i ≡ suc (count - (i + 1)) = omega arith in
+    let one : with_front front (capabilities_at (count - i) bytes) ≡ Err stop = rw (k, h) refl in
+    sym so_far ∙ one
+
+pub is_done : (front : List Capability) (count i : ℕ) (bytes : List ℕ) (total : Result (List Capability × List ℕ) Stop) → count ≤ i → with_front front (capabilities_at (count - i) bytes) ≡ total → total ≡ Ok (front, bytes)
+unfolding capabilities_at
+is_done front count i bytes total le so_far =
+    let k : count - i ≡ 0 = omega arith in
+    let one : with_front front (capabilities_at (count - i) bytes) ≡ Ok (front, bytes) = rw k (ap (λ (cs : List Capability). Ok (cs, bytes)) (append-nil front)) in
+    sym so_far ∙ one

@@ -1,0 +1,13 @@
+use Rattle.std.proofs.Common.{take}
+use Rattle.std.specs.List.{flat_map, AllByRecursion}
+use Rattle.csi_types.specs.Limits.{IsCapability}
+use Rattle.csi_frames.specs.Appends.{Appends}
+use Rattle.csi_frames.specs.Spelling.{capability}
+use Rattle.csi_frames.proofs.encoding.put_capabilities.Given as goal
+
+abbrev pub invariant-loop-one : goal.invariant-loop-one
+invariant-loop-one l =
+    record {
+      so_far : Appends l.initial.out l.out (flat_map capability (take l.one-index l.from));
+      each : AllByRecursion IsCapability (take l.one-index l.from);
+    }

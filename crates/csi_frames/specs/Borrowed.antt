@@ -1,0 +1,58 @@
+-- What a frame that borrows its texts stands for: the frame that has copies of them.
+use Rattle.std.specs.Prelude.{List, map}
+use Rattle.csi_types.specs.declared.capability.Access.{Access}
+use Rattle.csi_types.specs.declared.capability.Access.TheVariants as accesses
+use Rattle.csi_types.specs.declared.capability.Capability.{Capability}
+use Rattle.csi_types.specs.declared.call.Party.{Party}
+use Rattle.csi_types.specs.declared.call.Party.TheVariants as parties
+use Rattle.csi_types.specs.declared.call.Call.{Call}
+use Rattle.csi_types.specs.declared.call.Call.TheVariants as calls
+use Rattle.csi_types.specs.declared.reply.Reply.{Reply}
+use Rattle.csi_types.specs.declared.frame.Body.{Body}
+use Rattle.csi_types.specs.declared.frame.Body.TheVariants as bodies
+use Rattle.csi_types.specs.Frame.{Frame}
+use Rattle.csi_frames.specs.declared.borrowed.AccessRef.{AccessRef}
+use Rattle.csi_frames.specs.declared.borrowed.AccessRef.TheVariants.{Block, Mount}
+use Rattle.csi_frames.specs.declared.borrowed.CapabilityRef.{CapabilityRef}
+use Rattle.csi_frames.specs.declared.borrowed.PartyRef.{PartyRef}
+use Rattle.csi_frames.specs.declared.borrowed.PartyRef.TheVariants.{Controller, Node}
+use Rattle.csi_frames.specs.declared.borrowed.CallRef.{CallRef}
+use Rattle.csi_frames.specs.declared.borrowed.CallRef.TheVariants.{CreateVolume, DeleteVolume, ControllerPublishVolume, ControllerUnpublishVolume, NodeStageVolume, NodeUnstageVolume, NodePublishVolume, NodeUnpublishVolume}
+use Rattle.csi_frames.specs.declared.borrowed.ReplyRef.{ReplyRef}
+use Rattle.csi_frames.specs.declared.borrowed.BodyRef.{BodyRef}
+use Rattle.csi_frames.specs.declared.borrowed.BodyRef.TheVariants as refs
+use Rattle.csi_frames.specs.declared.borrowed.FrameRef.{FrameRef}
+
+abbrev pub owned_access : AccessRef → Access
+owned_access Block = accesses.Block
+owned_access (Mount fs_type) = accesses.Mount fs_type.now
+
+abbrev pub owned_capability : CapabilityRef → Capability
+owned_capability c = record { access = owned_access c.access; mode = c.mode }
+
+abbrev pub owned_capabilities : List CapabilityRef → List Capability
+owned_capabilities cs = map owned_capability cs
+
+abbrev pub owned_party : PartyRef → Party
+owned_party Controller = parties.Controller
+owned_party (Node id) = parties.Node id.now
+
+abbrev pub owned_call : CallRef → Call
+owned_call (CreateVolume name required limit capabilities) = calls.CreateVolume name.now required limit (owned_capabilities capabilities.items)
+owned_call (DeleteVolume id) = calls.DeleteVolume id
+owned_call (ControllerPublishVolume id node c readonly) = calls.ControllerPublishVolume id node.now (owned_capability c) readonly
+owned_call (ControllerUnpublishVolume id node) = calls.ControllerUnpublishVolume id node.now
+owned_call (NodeStageVolume id c) = calls.NodeStageVolume id (owned_capability c)
+owned_call (NodeUnstageVolume id) = calls.NodeUnstageVolume id
+owned_call (NodePublishVolume id target c readonly) = calls.NodePublishVolume id target.now (owned_capability c) readonly
+owned_call (NodeUnpublishVolume id target) = calls.NodeUnpublishVolume id target.now
+
+abbrev pub owned_reply : ReplyRef → Reply
+owned_reply reply = record { status = reply.status; id = reply.id; detail = reply.detail.now }
+
+abbrev pub owned_body : BodyRef → Body
+owned_body (refs.Call call) = bodies.Call (owned_call call)
+owned_body (refs.Reply kind reply) = bodies.Reply kind (owned_reply reply)
+
+abbrev pub owned : FrameRef → Frame
+owned frame = record { number = frame.number; party = owned_party frame.party; body = owned_body frame.body }

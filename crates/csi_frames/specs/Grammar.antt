@@ -1,0 +1,122 @@
+-- The fields of a body, one after another. Which field comes next may depend on the values before it. This
+-- profile's own.
+use Rattle.std.specs.Prelude.{◌≡◌, ℕ, zero, suc, ◌==◌, ◌&&◌, nat_lt, nat_le, Bool, true, not, if◌then◌else◌, List, [], ◌∷◌, ◌++◌, length, take, Option, Some, None}
+use Rattle.std.specs.Str.{is_utf8}
+use Rattle.byteorder.specs.Endian.{big_number}
+use Rattle.csi_types.specs.declared.status.Status.{Status}
+use Rattle.csi_types.specs.declared.call.Kind.{Kind}
+use Rattle.csi_types.specs.declared.call.Kind.TheVariants as kinds
+use Rattle.csi_types.specs.Call.{is_node_kind}
+use Rattle.csi_types.specs.Reply.{is_create, is_ok_status}
+use Rattle.csi_frames.specs.Codes.{is_mode, is_status, status_of, kind_in, is_body_kind, body_kind_of}
+use Rattle.csi_frames.specs.declared.body_kind.BodyKind.{BodyKind}
+use Rattle.csi_frames.specs.declared.body_kind.BodyKind.TheVariants.{Call, Reply}
+use Rattle.csi_frames.specs.declared.fault.FaultKind.{FaultKind}
+use Rattle.csi_frames.specs.declared.fault.FaultKind.TheVariants.{BadVersion, BadKind, BadParty, BadText, BadMode, BadAccess, BadFlag, BadStatus, BadId, BadCount, LengthDiffers}
+
+-- Nothing more, or a field and what comes after each of its values. A byte has a fault of its own for a
+-- value that isn't allowed. A word has eight bytes, the fault of one that isn't allowed is BadId. A text has a
+-- length byte, and that many bytes of UTF-8, no fewer and no more than so many.
+pub data Grammar : Type 0 where
+  End : Grammar
+  Byte : (allowed : ℕ → Bool) (fault : FaultKind) (next : ℕ → Grammar) → Grammar
+  Word : (allowed : ℕ → Bool) (next : ℕ → Grammar) → Grammar
+  Text : (least most : ℕ) (next : List ℕ → Grammar) → Grammar
+
+abbrev pub any : ℕ → Bool
+any n = true
+
+abbrev pub at_most : ℕ → ℕ → Bool
+at_most most n = nat_le n most
+
+-- ---- capabilities: 0 for block, or 1 for mount and the fs type; and the mode
+
+abbrev pub mode_grammar : Grammar → Grammar
+mode_grammar next = Byte is_mode BadMode (λ _. next)
+
+abbrev pub capability_grammar : Grammar → Grammar
+capability_grammar next =
+    Byte (at_most 1) BadAccess (λ access. if access == 0 then mode_grammar next else Text 0 128 (λ _. mode_grammar next))
+
+abbrev pub capabilities_grammar : ℕ → Grammar
+capabilities_grammar zero = End
+capabilities_grammar (suc n) = capability_grammar (capabilities_grammar n)
+
+-- ---- calls and replies
+
+-- in a call an id isn't 0
+abbrev pub id_grammar : Grammar → Grammar
+id_grammar next = Word (nat_lt 0) (λ _. next)
+
+abbrev pub flag_grammar : Grammar
+flag_grammar = Byte (at_most 1) BadFlag (λ _. End)
+
+unfoldable pub call_grammar : Kind → Grammar
+call_grammar kinds.CreateVolume = Text 1 128 (λ _. Word any (λ _. Word any (λ _. Byte (at_most 8) BadCount capabilities_grammar)))
+call_grammar kinds.DeleteVolume = id_grammar End
+call_grammar kinds.ControllerPublishVolume = id_grammar (Text 1 255 (λ _. capability_grammar flag_grammar))
+call_grammar kinds.ControllerUnpublishVolume = id_grammar (Text 1 255 (λ _. End))
+call_grammar kinds.NodeStageVolume = id_grammar (capability_grammar End)
+call_grammar kinds.NodeUnstageVolume = id_grammar End
+call_grammar kinds.NodePublishVolume = id_grammar (Text 1 255 (λ _. capability_grammar flag_grammar))
+call_grammar kinds.NodeUnpublishVolume = id_grammar (Text 1 255 (λ _. End))
+
+-- in a reply the id isn't 0 exactly where the kind is CreateVolume and the status is Ok
+abbrev pub is_reply_id : Kind → Status → ℕ → Bool
+is_reply_id kind status id = if is_create kind && is_ok_status status then nat_lt 0 id else id == 0
+
+unfoldable pub reply_grammar : Kind → Grammar
+reply_grammar kind =
+    Byte is_status BadStatus (λ status. Word (is_reply_id kind (status_of status)) (λ _. Text 0 255 (λ _. End)))
+
+abbrev pub fields_grammar : BodyKind → Grammar
+fields_grammar (Call kind) = call_grammar kind
+fields_grammar (Reply kind) = reply_grammar kind
+
+-- ---- the party: 0 for the controller's kinds, and 1 and the node's id for a node's
+
+abbrev pub party_number : Kind → ℕ
+party_number kind = if is_node_kind kind then 1 else 0
+
+abbrev pub is_party_number : BodyKind → ℕ → Bool
+is_party_number kind n = n == party_number (kind_in kind)
+
+abbrev pub party_grammar : BodyKind → Grammar
+party_grammar kind =
+    Byte (is_party_number kind) BadParty (λ n. if n == 0 then fields_grammar kind else Text 1 255 (λ _. fields_grammar kind))
+
+-- ---- a body: version 1, the kind, the session and the call, the party, and the kind's fields
+
+abbrev pub numbered_grammar : BodyKind → Grammar
+numbered_grammar kind = Word any (λ _. Word any (λ _. party_grammar kind))
+
+unfoldable pub body_grammar : Grammar
+body_grammar =
+    Byte (λ version. version == 1) BadVersion (λ _. Byte is_body_kind BadKind (λ kind. numbered_grammar (body_kind_of kind)))
+
+-- ---- what bytes do in a grammar
+
+-- The bytes are values of the first fields, each allowed, one after another; after them comes the rest.
+pub data Leads : Grammar → List ℕ → Grammar → Type 0 where
+  nothing : (g : Grammar) → Leads g [] g
+  byte : (allowed : ℕ → Bool) (fault : FaultKind) (next : ℕ → Grammar) (b : ℕ) (more : List ℕ) (rest : Grammar) → allowed b ≡ true → Leads (next b) more rest → Leads (Byte allowed fault next) (b ∷ more) rest
+  word : (allowed : ℕ → Bool) (next : ℕ → Grammar) (eight more : List ℕ) (rest : Grammar) → length eight ≡ 8 → allowed (big_number 8 eight) ≡ true → Leads (next (big_number 8 eight)) more rest → Leads (Word allowed next) (eight ++ more) rest
+  text : (least most : ℕ) (next : List ℕ → Grammar) (bytes more : List ℕ) (rest : Grammar) → nat_le least (length bytes) ≡ true → nat_le (length bytes) most ≡ true → is_utf8 bytes ≡ true → Leads (next bytes) more rest → Leads (Text least most next) (length bytes ∷ bytes ++ more) rest
+
+-- Why no allowed value of the first field begins these bytes; none where one does. Of a text the length byte
+-- is judged first, then whether its bytes are there, then whether they are UTF-8.
+abbrev pub refusal : Grammar → List ℕ → Option FaultKind
+refusal End [] = None
+refusal End (b ∷ bytes) = Some LengthDiffers
+refusal (Byte allowed fault next) [] = Some LengthDiffers
+refusal (Byte allowed fault next) (b ∷ bytes) = if allowed b then None else Some fault
+refusal (Word allowed next) bytes =
+    if nat_lt (length bytes) 8 then Some LengthDiffers
+    else if allowed (big_number 8 bytes) then None
+    else Some BadId
+refusal (Text least most next) [] = Some LengthDiffers
+refusal (Text least most next) (n ∷ bytes) =
+    if not (nat_le least n && nat_le n most) then Some BadText
+    else if nat_lt (length bytes) n then Some LengthDiffers
+    else if is_utf8 (take n bytes) then None
+    else Some BadText

@@ -1,0 +1,13 @@
+pub mod Spelling
+pub mod FaultKind
+pub mod Codes
+pub mod Grammar
+pub mod Fault
+pub mod Stream
+pub mod Reading
+pub mod Borrowed
+pub mod Gives
+pub mod Texts
+pub mod Decoding
+pub mod Appends
+pub mod Bytes

@@ -1,0 +1,225 @@
+-- How a body is read, from left to right: what the decoder's private functions answer. Who reads the public
+-- contracts need not read this; it is joined to the spelling and to the grammar in proofs/.
+use Rattle.std.specs.Prelude.{ℕ, zero, suc, ◌+◌, ◌-◌, ◌==◌, ◌&&◌, nat_lt, nat_le, Bool, not, if◌then◌else◌, List, [], ◌∷◌, length, take, drop, Option, Some, None, Result, Ok, Err}
+use Rattle.std.specs.Str.{is_utf8}
+use Rattle.byteorder.specs.Endian.{big_number}
+use Rattle.csi_types.specs.declared.number.Number.{Number}
+use Rattle.csi_types.specs.declared.mode.Mode.{Mode}
+use Rattle.csi_types.specs.declared.capability.Access.{Access}
+use Rattle.csi_types.specs.declared.capability.Access.TheVariants.{Block, Mount}
+use Rattle.csi_types.specs.declared.capability.Capability.{Capability}
+use Rattle.csi_types.specs.declared.status.Status.{Status}
+use Rattle.csi_types.specs.declared.call.Kind.{Kind}
+use Rattle.csi_types.specs.declared.call.Kind.TheVariants as kinds
+use Rattle.csi_types.specs.declared.call.Party.{Party}
+use Rattle.csi_types.specs.declared.call.Party.TheVariants.{Controller, Node}
+use Rattle.csi_types.specs.declared.call.Call.{Call}
+use Rattle.csi_types.specs.declared.call.Call.TheVariants as calls
+use Rattle.csi_types.specs.declared.reply.Reply.{Reply}
+use Rattle.csi_types.specs.declared.frame.Body.{Body}
+use Rattle.csi_types.specs.declared.frame.Body.TheVariants as bodies
+use Rattle.csi_types.specs.Frame.{Frame}
+use Rattle.csi_frames.specs.declared.fault.FaultKind.{FaultKind}
+use Rattle.csi_frames.specs.declared.fault.FaultKind.TheVariants.{Short, TooLong, BadVersion, BadKind, BadParty, BadText, BadMode, BadAccess, BadFlag, BadStatus, BadId, BadCount, LengthDiffers}
+use Rattle.csi_frames.specs.declared.fault.FrameFault.{FrameFault}
+use Rattle.csi_frames.specs.declared.body_kind.BodyKind.{BodyKind}
+use Rattle.csi_frames.specs.declared.body_kind.BodyKind.TheVariants as body_kinds
+use Rattle.csi_frames.specs.declared.fields.Stop.{Stop}
+use Rattle.csi_frames.specs.Codes.{is_mode, mode_of, is_status, status_of, is_body_kind, body_kind_of}
+use Rattle.csi_frames.specs.Grammar.{any, at_most, is_reply_id, is_party_number}
+
+-- a value and the bytes after it, or where reading stopped
+abbrev pub Reader : Type 0 → Type 0
+Reader A = List ℕ → Result (A × List ℕ) Stop
+
+abbrev pub go_on : {A B : Type 0} → Result (A × List ℕ) Stop → (A → Reader B) → Result (B × List ℕ) Stop
+go_on (Ok read) next = next read.0 read.1
+go_on (Err stop) next = Err stop
+
+infixl 10 ◌>>=◌
+abbrev pub ◌>>=◌ : {A B : Type 0} → Reader A → (A → Reader B) → Reader B
+(reader >>= next) bytes = go_on (reader bytes) next
+
+abbrev pub give : {A : Type 0} → A → Reader A
+give value bytes = Ok (value, bytes)
+
+-- the fault of the field that begins these bytes
+abbrev pub stopped : {A : Type 0} → FaultKind → List ℕ → Result A Stop
+stopped kind bytes = Err (record { kind = kind; left = length bytes })
+
+-- ---- fields
+
+unfoldable pub byte_at : (ℕ → Bool) → FaultKind → Reader ℕ
+byte_at allowed fault [] = stopped LengthDiffers []
+byte_at allowed fault (b ∷ bytes) = if allowed b then Ok (b, bytes) else stopped fault (b ∷ bytes)
+
+unfoldable pub word_at : (ℕ → Bool) → Reader ℕ
+word_at allowed bytes =
+    if nat_lt (length bytes) 8 then stopped LengthDiffers bytes
+    else if allowed (big_number 8 bytes) then Ok (big_number 8 bytes, drop 8 bytes)
+    else stopped BadId bytes
+
+unfoldable pub text_at : ℕ → ℕ → Reader (List ℕ)
+text_at least most [] = stopped LengthDiffers []
+text_at least most (n ∷ bytes) =
+    if not (nat_le least n && nat_le n most) then stopped BadText (n ∷ bytes)
+    else if nat_lt (length bytes) n then stopped LengthDiffers (n ∷ bytes)
+    else if is_utf8 (take n bytes) then Ok (take n bytes, drop n bytes)
+    else stopped BadText (n ∷ bytes)
+
+unfoldable pub id_at : Reader ℕ
+id_at = word_at (nat_lt 0)
+
+unfoldable pub flag_at : Reader Bool
+flag_at = do
+  b ← byte_at (at_most 1) BadFlag
+  give (b == 1)
+
+unfoldable pub access_at : Reader Access
+access_at = do
+  b ← byte_at (at_most 1) BadAccess
+  if b == 0 then give Block else do
+    fs_type ← text_at 0 128
+    give (Mount fs_type)
+
+unfoldable pub mode_at : Reader Mode
+mode_at = do
+  b ← byte_at is_mode BadMode
+  give (mode_of b)
+
+unfoldable pub capability_at : Reader Capability
+capability_at = do
+  access ← access_at
+  mode ← mode_at
+  give (record { access = access; mode = mode })
+
+unfoldable pub capabilities_at : ℕ → Reader (List Capability)
+capabilities_at zero = give []
+capabilities_at (suc n) = do
+  first ← capability_at
+  others ← capabilities_at n
+  give (first ∷ others)
+
+-- ---- calls and replies
+
+unfoldable pub create_at : Reader Call
+create_at = do
+  name ← text_at 1 128
+  required ← word_at any
+  limit ← word_at any
+  count ← byte_at (at_most 8) BadCount
+  capabilities ← capabilities_at count
+  give (calls.CreateVolume name required limit capabilities)
+
+unfoldable pub call_at : Kind → Reader Call
+call_at kinds.CreateVolume = create_at
+call_at kinds.DeleteVolume = do
+  id ← id_at
+  give (calls.DeleteVolume id)
+call_at kinds.ControllerPublishVolume = do
+  id ← id_at
+  node ← text_at 1 255
+  capability ← capability_at
+  readonly ← flag_at
+  give (calls.ControllerPublishVolume id node capability readonly)
+call_at kinds.ControllerUnpublishVolume = do
+  id ← id_at
+  node ← text_at 1 255
+  give (calls.ControllerUnpublishVolume id node)
+call_at kinds.NodeStageVolume = do
+  id ← id_at
+  capability ← capability_at
+  give (calls.NodeStageVolume id capability)
+call_at kinds.NodeUnstageVolume = do
+  id ← id_at
+  give (calls.NodeUnstageVolume id)
+call_at kinds.NodePublishVolume = do
+  id ← id_at
+  target ← text_at 1 255
+  capability ← capability_at
+  readonly ← flag_at
+  give (calls.NodePublishVolume id target capability readonly)
+call_at kinds.NodeUnpublishVolume = do
+  id ← id_at
+  target ← text_at 1 255
+  give (calls.NodeUnpublishVolume id target)
+
+-- 0 stands for no id
+abbrev pub reply_id_of : ℕ → Option ℕ
+reply_id_of n = if n == 0 then None else Some n
+
+unfoldable pub status_at : Reader Status
+status_at = do
+  b ← byte_at is_status BadStatus
+  give (status_of b)
+
+unfoldable pub reply_id_at : Kind → Status → Reader (Option ℕ)
+reply_id_at kind status = do
+  n ← word_at (is_reply_id kind status)
+  give (reply_id_of n)
+
+unfoldable pub reply_at : Kind → Reader Reply
+reply_at kind = do
+  status ← status_at
+  id ← reply_id_at kind status
+  detail ← text_at 0 255
+  give (record { status = status; id = id; detail = detail })
+
+unfoldable pub fields_at : BodyKind → Reader Body
+fields_at (body_kinds.Call kind) = do
+  call ← call_at kind
+  give (bodies.Call call)
+fields_at (body_kinds.Reply kind) = do
+  reply ← reply_at kind
+  give (bodies.Reply kind reply)
+
+-- ---- a body
+
+unfoldable pub party_at : BodyKind → Reader Party
+party_at kind = do
+  b ← byte_at (is_party_number kind) BadParty
+  if b == 0 then give Controller else do
+    id ← text_at 1 255
+    give (Node id)
+
+unfoldable pub number_at : Reader Number
+number_at = do
+  session ← word_at any
+  call ← word_at any
+  give (record { session = session; call = call })
+
+unfoldable pub head_at : Reader BodyKind
+head_at = do
+  version ← byte_at (λ b. b == 1) BadVersion
+  kind ← byte_at is_body_kind BadKind
+  give (body_kind_of kind)
+
+unfoldable pub frame_at : Reader Frame
+frame_at = do
+  kind ← head_at
+  number ← number_at
+  party ← party_at kind
+  body ← fields_at kind
+  give (record { number = number; party = party; body = body })
+
+-- all of the bytes
+abbrev pub all_of : Result (Frame × List ℕ) Stop → Result Frame Stop
+all_of (Ok (frame, [])) = Ok frame
+all_of (Ok (frame, b ∷ bytes)) = stopped LengthDiffers (b ∷ bytes)
+all_of (Err stop) = Err stop
+
+-- ---- a frame at the front of bytes, with the count of its bytes, or the first fault
+
+abbrev pub fault : {A : Type 0} → FaultKind → ℕ → Result A FrameFault
+fault kind place = Err (record { kind = kind; place = place })
+
+abbrev pub placed : ℕ → Result Frame Stop → Result (Frame × ℕ) FrameFault
+placed size (Ok frame) = Ok (frame, size)
+placed size (Err stop) = fault stop.kind (size - stop.left)
+
+unfoldable pub first_frame : List ℕ → Result (Frame × ℕ) FrameFault
+first_frame bytes =
+    if nat_lt (length bytes) 4 then fault Short (length bytes)
+    else if nat_lt 1280 (big_number 4 bytes) then fault TooLong 0
+    else if nat_lt (length bytes) (4 + big_number 4 bytes) then fault Short (length bytes)
+    else placed (4 + big_number 4 bytes) (all_of (frame_at (take (big_number 4 bytes) (drop 4 bytes))))

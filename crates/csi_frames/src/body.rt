@@ -1,0 +1,134 @@
+//! A whole body, and the frame at the front of bytes.
+ghost use Rattle.std.specs.Prelude.{◌≡◌, ◌≤◌, IfErr, length};
+ghost use Rattle.csi_frames.specs.Borrowed.{owned, owned_party, owned_body};
+ghost use Rattle.csi_frames.specs.Gives.{Gives, Answers};
+ghost use Rattle.csi_frames.specs.Reading.{party_at, number_at, head_at, fields_at, frame_at, all_of, first_frame};
+
+use crate::body_kind::BodyKind;
+use crate::borrowed::{BodyRef, FrameRef, PartyRef};
+use crate::calls::{call_at, reply_at};
+use crate::fault::{FaultKind, FrameFault};
+use crate::fields::{Fields, Stop};
+use byteorder::{BigEndian, ByteOrder};
+use csi_types::Number;
+
+// The version, which is 1, and the kind.
+#[tactic(auto, unfolding(crate::specs::Reading::byte_at, crate::specs::Reading::head_at))]
+fn head_at(fields: &mut Fields<'_>) -> Result<BodyKind, Stop>
+    ensures { Gives (λ kind. kind) result fields.new (head_at fields.old.bytes.now) }
+{
+    let bad_version = fields.stop(FaultKind::BadVersion);
+    if fields.byte(255, FaultKind::BadVersion)? != 1 {
+        return Err(bad_version);
+    }
+    let bad_kind = fields.stop(FaultKind::BadKind);
+    let byte = fields.byte(255, FaultKind::BadKind)?;
+    BodyKind::from_number(byte).ok_or(bad_kind)
+}
+
+#[tactic(auto, unfolding(crate::specs::Reading::number_at))]
+fn number_at(fields: &mut Fields<'_>) -> Result<Number, Stop>
+    ensures { Gives (λ number. number) result fields.new (number_at fields.old.bytes.now) }
+{
+    let session = fields.word()?;
+    let call = fields.word()?;
+    Ok(Number { session, call })
+}
+
+// The party: 0 for the controller's kinds, and 1 and the node's id for a node's.
+#[tactic(auto, unfolding(crate::specs::Reading::byte_at, crate::specs::Reading::party_at))]
+fn party_at<'a>(fields: &mut Fields<'a>, kind: BodyKind) -> Result<PartyRef<'a>, Stop>
+    ensures { Gives owned_party result fields.new (party_at kind fields.old.bytes.now) }
+{
+    let bad = fields.stop(FaultKind::BadParty);
+    let byte = fields.byte(255, FaultKind::BadParty)?;
+    if byte != kind.party_number() {
+        return Err(bad);
+    }
+    if byte == 0 {
+        return Ok(PartyRef::Controller);
+    }
+    let id = fields.text(1, 255)?;
+    Ok(PartyRef::Node(id))
+}
+
+#[tactic(auto, unfolding(crate::specs::Reading::fields_at))]
+fn fields_at<'a>(fields: &mut Fields<'a>, kind: BodyKind) -> Result<BodyRef<'a>, Stop>
+    ensures { Gives owned_body result fields.new (fields_at kind fields.old.bytes.now) }
+{
+    match kind {
+        BodyKind::Call(kind) => match call_at(fields, kind) {
+            Ok(call) => Ok(BodyRef::Call(call)),
+            Err(stop) => Err(stop),
+        },
+        BodyKind::Reply(kind) => match reply_at(fields, kind) {
+            Ok(reply) => Ok(BodyRef::Reply(kind, reply)),
+            Err(stop) => Err(stop),
+        },
+    }
+}
+
+#[tactic(auto, unfolding(crate::specs::Reading::frame_at))]
+fn frame_at<'a>(fields: &mut Fields<'a>) -> Result<FrameRef<'a>, Stop>
+    ensures { Gives owned result fields.new (frame_at fields.old.bytes.now) }
+{
+    let kind = head_at(fields)?;
+    let number = number_at(fields)?;
+    let party = party_at(fields, kind)?;
+    match fields_at(fields, kind) {
+        Ok(body) => Ok(FrameRef {
+            number,
+            party,
+            body,
+        }),
+        Err(stop) => Err(stop),
+    }
+}
+
+/// The frame whose body these bytes are, all of them.
+fn whole_body(bytes: &[u8]) -> Result<FrameRef<'_>, Stop>
+    ensures read { Answers owned result (all_of (frame_at bytes.now)) }
+    ensures within { IfErr result (λ stop. stop.left ≤ length bytes.now) }
+{
+    let mut fields = Fields { bytes };
+    match frame_at(&mut fields) {
+        Ok(frame) if fields.bytes.is_empty() => Ok(frame),
+        Ok(_) => Err(fields.stop(FaultKind::LengthDiffers)),
+        Err(stop) => Err(stop),
+    }
+}
+
+/// The most bytes that a body has.
+const MAX_BODY: usize = 1280;
+
+/// The frame at the front of the bytes and how many bytes it takes, or the first fault. It takes no memory.
+#[tactic(auto, unfolding(crate::specs::Reading::first_frame))]
+pub(crate) fn first_frame(bytes: &[u8]) -> Result<(FrameRef<'_>, usize), FrameFault>
+    ensures { Answers (λ x. (owned x.0, x.1)) result (first_frame bytes.now) }
+{
+    let short = FrameFault {
+        kind: FaultKind::Short,
+        place: bytes.len(),
+    };
+    if bytes.len() < 4 {
+        return Err(short);
+    }
+    let length = BigEndian::read_u32(bytes) as usize;
+    if length > MAX_BODY {
+        return Err(FrameFault {
+            kind: FaultKind::TooLong,
+            place: 0,
+        });
+    }
+    let size = 4 + length;
+    if bytes.len() < size {
+        return Err(short);
+    }
+    match whole_body(&bytes[4..size]) {
+        Ok(frame) => Ok((frame, size)),
+        Err(stop) => Err(FrameFault {
+            kind: stop.kind,
+            place: size - stop.left,
+        }),
+    }
+}

@@ -1,0 +1,168 @@
+//! Capabilities, calls and replies, read from the bytes of a body.
+ghost use Rattle.std.specs.Prelude.{◌≡◌, ◌≤◌};
+ghost use Rattle.csi_frames.specs.Borrowed.{owned_access, owned_capability, owned_capabilities, owned_call, owned_reply};
+ghost use Rattle.csi_frames.specs.Gives.{Gives};
+ghost use Rattle.csi_frames.specs.Reading.{access_at, mode_at, capability_at, capabilities_at, create_at, call_at, status_at, reply_id_at, reply_at};
+
+use crate::borrowed::{AccessRef, CallRef, CapabilityRef, ReplyRef};
+use crate::fault::FaultKind;
+use crate::fields::{Fields, Stop};
+use arrayvec::ArrayVec;
+use csi_types::{Kind, Mode, Status, VolumeId};
+
+#[tactic(auto, unfolding(crate::specs::Reading::access_at))]
+fn access_at<'a>(fields: &mut Fields<'a>) -> Result<AccessRef<'a>, Stop>
+    ensures { Gives owned_access result fields.new (access_at fields.old.bytes.now) }
+{
+    let byte = fields.byte(1, FaultKind::BadAccess)?;
+    if byte == 0 {
+        return Ok(AccessRef::Block);
+    }
+    let fs_type = fields.text(0, 128)?;
+    Ok(AccessRef::Mount(fs_type))
+}
+
+#[tactic(auto, unfolding(crate::specs::Reading::byte_at, crate::specs::Reading::mode_at))]
+fn mode_at(fields: &mut Fields<'_>) -> Result<Mode, Stop>
+    ensures { Gives (λ mode. mode) result fields.new (mode_at fields.old.bytes.now) }
+{
+    let bad = fields.stop(FaultKind::BadMode);
+    let byte = fields.byte(255, FaultKind::BadMode)?;
+    Mode::from_number(byte).ok_or(bad)
+}
+
+#[tactic(auto, unfolding(crate::specs::Reading::capability_at))]
+fn capability_at<'a>(fields: &mut Fields<'a>) -> Result<CapabilityRef<'a>, Stop>
+    ensures { Gives owned_capability result fields.new (capability_at fields.old.bytes.now) }
+{
+    let access = access_at(fields)?;
+    let mode = mode_at(fields)?;
+    Ok(CapabilityRef { access, mode })
+}
+
+// As many capabilities as `count` says.
+fn capabilities_at<'a>(
+    fields: &mut Fields<'a>,
+    count: u8,
+) -> Result<ArrayVec<CapabilityRef<'a>, 8>, Stop>
+    requires { count ≤ 8 }
+    ensures { Gives (λ list. owned_capabilities list.items) result fields.new (capabilities_at count fields.old.bytes.now) }
+{
+    let mut list = ArrayVec::new();
+    for _ in 0..count {
+        let capability = capability_at(fields)?;
+        list.push(capability);
+    }
+    Ok(list)
+}
+
+#[tactic(auto, unfolding(crate::specs::Reading::create_at))]
+fn create_at<'a>(fields: &mut Fields<'a>) -> Result<CallRef<'a>, Stop>
+    ensures { Gives owned_call result fields.new (create_at fields.old.bytes.now) }
+{
+    let name = fields.text(1, 128)?;
+    let required = fields.word()?;
+    let limit = fields.word()?;
+    let count = fields.byte(8, FaultKind::BadCount)?;
+    let capabilities = capabilities_at(fields, count)?;
+    Ok(CallRef::CreateVolume {
+        name,
+        required,
+        limit,
+        capabilities,
+    })
+}
+
+#[tactic(auto, unfolding(crate::specs::Reading::call_at))]
+pub(crate) fn call_at<'a>(fields: &mut Fields<'a>, kind: Kind) -> Result<CallRef<'a>, Stop>
+    ensures { Gives owned_call result fields.new (call_at kind fields.old.bytes.now) }
+{
+    match kind {
+        Kind::CreateVolume => create_at(fields),
+        Kind::DeleteVolume => {
+            let id = fields.id()?;
+            Ok(CallRef::DeleteVolume { id })
+        }
+        Kind::ControllerPublishVolume => {
+            let id = fields.id()?;
+            let node = fields.text(1, 255)?;
+            let capability = capability_at(fields)?;
+            let readonly = fields.flag()?;
+            Ok(CallRef::ControllerPublishVolume {
+                id,
+                node,
+                capability,
+                readonly,
+            })
+        }
+        Kind::ControllerUnpublishVolume => {
+            let id = fields.id()?;
+            let node = fields.text(1, 255)?;
+            Ok(CallRef::ControllerUnpublishVolume { id, node })
+        }
+        Kind::NodeStageVolume => {
+            let id = fields.id()?;
+            let capability = capability_at(fields)?;
+            Ok(CallRef::NodeStageVolume { id, capability })
+        }
+        Kind::NodeUnstageVolume => {
+            let id = fields.id()?;
+            Ok(CallRef::NodeUnstageVolume { id })
+        }
+        Kind::NodePublishVolume => {
+            let id = fields.id()?;
+            let target = fields.text(1, 255)?;
+            let capability = capability_at(fields)?;
+            let readonly = fields.flag()?;
+            Ok(CallRef::NodePublishVolume {
+                id,
+                target,
+                capability,
+                readonly,
+            })
+        }
+        Kind::NodeUnpublishVolume => {
+            let id = fields.id()?;
+            let target = fields.text(1, 255)?;
+            Ok(CallRef::NodeUnpublishVolume { id, target })
+        }
+    }
+}
+
+#[tactic(auto, unfolding(crate::specs::Reading::byte_at, crate::specs::Reading::status_at))]
+fn status_at(fields: &mut Fields<'_>) -> Result<Status, Stop>
+    ensures { Gives (λ status. status) result fields.new (status_at fields.old.bytes.now) }
+{
+    let bad = fields.stop(FaultKind::BadStatus);
+    let byte = fields.byte(255, FaultKind::BadStatus)?;
+    Status::from_code(byte).ok_or(bad)
+}
+
+// The id of a reply: 0, for none, but in an `Ok` to CreateVolume, where it isn't 0.
+#[tactic(auto, unfolding(crate::specs::Reading::word_at, crate::specs::Reading::reply_id_at))]
+fn reply_id_at(
+    fields: &mut Fields<'_>,
+    kind: Kind,
+    status: Status,
+) -> Result<Option<VolumeId>, Stop>
+    ensures { Gives (λ id. id) result fields.new (reply_id_at kind status fields.old.bytes.now) }
+{
+    let bad = fields.stop(FaultKind::BadId);
+    let number = fields.word()?;
+    let id = VolumeId::try_new(number);
+    let must = kind == Kind::CreateVolume && status == Status::Ok;
+    if id.is_some() != must {
+        return Err(bad);
+    }
+    Ok(id)
+}
+
+#[tactic(auto, unfolding(crate::specs::Reading::reply_at))]
+pub(crate) fn reply_at<'a>(fields: &mut Fields<'a>, kind: Kind) -> Result<ReplyRef<'a>, Stop>
+    ensures { Gives owned_reply result fields.new (reply_at kind fields.old.bytes.now) }
+{
+    let status = status_at(fields)?;
+    let id = reply_id_at(fields, kind, status)?;
+    let detail = fields.text(0, 255)?;
+    Ok(ReplyRef { status, id, detail })
+}

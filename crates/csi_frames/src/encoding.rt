@@ -1,0 +1,315 @@
+//! Frames written as bytes.
+ghost use Rattle.std.specs.Prelude.{◌≡◌, ◌≤◌, ◌<◌, ◌+◌, ◌++◌, ◌^◌, [], ◌∷◌, length, OnOk, OnErr, IsOk, vec_len, vec_capacity};
+ghost use Rattle.std.specs.List.{flat_map, AllByRecursion};
+ghost use Rattle.byteorder.specs.Endian.{big_bytes};
+ghost use Rattle.csi_types.specs.VolumeId.{IsVolumeId};
+ghost use Rattle.csi_types.specs.Limits.{IsAccess, IsCapability, IsCapabilityList, IsParty, IsCall, IsReply, IsBody, IsFrame, IsWord};
+ghost use Rattle.csi_frames.specs.Appends.{Appends, HasRoom};
+ghost use Rattle.csi_frames.specs.Spelling.{word, text, flag, access, capability, party, reply_id, call_fields, reply_fields, body_fields, body_kind, frame_body, spelling, Spells};
+
+use crate::body_kind::kind_number;
+use byteorder::{BigEndian, ByteOrder};
+use csi_types::{Access, Body, Call, Capability, Frame, NoMemory, Party, Reply, VolumeId};
+
+/// Bytes behind what a vector has, which must have room for them.
+fn put(out: &mut Vec<u8>, bytes: &[u8])
+    requires { HasRoom out.old (length bytes.now) }
+    ensures { Appends out.old out.new bytes.now }
+{
+    out.extend_from_slice(bytes).unwrap();
+}
+
+fn put_byte(out: &mut Vec<u8>, byte: u8)
+    requires { HasRoom out.old 1 }
+    ensures { Appends out.old out.new (byte ∷ []) }
+{
+    out.push(byte).unwrap();
+}
+
+fn put_word(out: &mut Vec<u8>, number: u64)
+    requires { HasRoom out.old 8 }
+    ensures { Appends out.old out.new (word number) }
+{
+    let mut eight = [0; 8];
+    BigEndian::write_u64(&mut eight, number);
+    put(out, &eight);
+}
+
+// A text of at most 255 bytes.
+fn put_text(out: &mut Vec<u8>, from: &str)
+    requires short { length from.now ≤ 255 }
+    requires room { HasRoom out.old (length (text from.now)) }
+    ensures { Appends out.old out.new (text from.now) }
+{
+    put_byte(out, from.len() as u8);
+    put(out, from.as_bytes());
+}
+
+// ---- how many bytes there are to be
+
+fn access_len(from: &Access) -> usize
+    ensures len { result ≡ length (access from.now) }
+    ensures small { result ≤ 130 }
+{
+    match from {
+        Access::Block => 1,
+        Access::Mount(fs_type) => 2 + fs_type.as_str().len(),
+    }
+}
+
+fn capability_len(from: &Capability) -> usize
+    ensures len { result ≡ length (capability from.now) }
+    ensures small { result ≤ 131 }
+{
+    access_len(&from.access) + 1
+}
+
+fn capabilities_len(from: &[Capability]) -> usize
+    requires { length from.now ≤ 8 }
+    ensures len { result ≡ length (flat_map capability from.now) }
+    ensures small { result ≤ 1048 }
+{
+    let mut total = 0;
+    for one in from {
+        total += capability_len(one);
+    }
+    total
+}
+
+fn call_len(from: &Call) -> usize
+    ensures len { result ≡ length (call_fields from.now) }
+    ensures small { result ≤ 1194 }
+{
+    match from {
+        Call::CreateVolume {
+            name,
+            capabilities,
+            ..
+        } => 18 + name.as_str().len() + capabilities_len(capabilities.as_slice()),
+        Call::DeleteVolume { .. } | Call::NodeUnstageVolume { .. } => 8,
+        Call::ControllerPublishVolume {
+            node,
+            capability,
+            ..
+        } => 10 + node.as_str().len() + capability_len(capability),
+        Call::ControllerUnpublishVolume { node, .. } => 9 + node.as_str().len(),
+        Call::NodeStageVolume { capability, .. } => 8 + capability_len(capability),
+        Call::NodePublishVolume {
+            target,
+            capability,
+            ..
+        } => 10 + target.as_str().len() + capability_len(capability),
+        Call::NodeUnpublishVolume { target, .. } => 9 + target.as_str().len(),
+    }
+}
+
+fn body_len(from: &Body) -> usize
+    ensures len { result ≡ length (body_fields from.now) }
+    ensures small { result ≤ 1194 }
+{
+    match from {
+        Body::Call(call) => call_len(call),
+        Body::Reply(_, reply) => 10 + reply.detail.as_str().len(),
+    }
+}
+
+fn party_len(from: &Party) -> usize
+    ensures len { result ≡ length (party from.now) }
+    ensures small { result ≤ 257 }
+{
+    match from {
+        Party::Controller => 1,
+        Party::Node(id) => 2 + id.as_str().len(),
+    }
+}
+
+// ---- the bytes themselves. Each function has room for what it writes, and so takes no memory. Reading a
+// value shows that it is within its limits.
+
+fn put_access(out: &mut Vec<u8>, from: &Access)
+    requires { HasRoom out.old (length (access from.now)) }
+    ensures appends { Appends out.old out.new (access from.now) }
+    ensures fits { IsAccess from.now }
+{
+    match from {
+        Access::Block => put_byte(out, 0),
+        Access::Mount(fs_type) => {
+            put_byte(out, 1);
+            put_text(out, fs_type.as_str());
+        }
+    }
+}
+
+fn put_capability(out: &mut Vec<u8>, from: &Capability)
+    requires { HasRoom out.old (length (capability from.now)) }
+    ensures appends { Appends out.old out.new (capability from.now) }
+    ensures fits { IsCapability from.now }
+{
+    put_access(out, &from.access);
+    put_byte(out, from.mode.number());
+}
+
+fn put_capabilities(out: &mut Vec<u8>, from: &[Capability])
+    requires { HasRoom out.old (length (flat_map capability from.now)) }
+    ensures appends { Appends out.old out.new (flat_map capability from.now) }
+    ensures fits { AllByRecursion IsCapability from.now }
+{
+    for one in from {
+        put_capability(out, one);
+    }
+}
+
+fn put_flag(out: &mut Vec<u8>, readonly: bool)
+    requires { HasRoom out.old 1 }
+    ensures { Appends out.old out.new (flag readonly) }
+{
+    put_byte(out, if readonly { 1 } else { 0 });
+}
+
+fn put_id(out: &mut Vec<u8>, id: VolumeId)
+    requires { HasRoom out.old 8 }
+    ensures appends { Appends out.old out.new (word id) }
+    ensures fits { IsVolumeId id }
+{
+    put_word(out, id.number());
+}
+
+fn put_call(out: &mut Vec<u8>, from: &Call)
+    requires { HasRoom out.old (length (call_fields from.now)) }
+    ensures appends { Appends out.old out.new (call_fields from.now) }
+    ensures fits { IsCall from.now }
+{
+    match from {
+        Call::CreateVolume {
+            name,
+            required,
+            limit,
+            capabilities,
+        } => {
+            let capabilities = capabilities.as_slice();
+            put_text(out, name.as_str());
+            put_word(out, *required);
+            put_word(out, *limit);
+            put_byte(out, capabilities.len() as u8);
+            put_capabilities(out, capabilities);
+        }
+        Call::DeleteVolume { id } | Call::NodeUnstageVolume { id } => put_id(out, *id),
+        Call::ControllerPublishVolume {
+            id,
+            node,
+            capability,
+            readonly,
+        } => {
+            put_id(out, *id);
+            put_text(out, node.as_str());
+            put_capability(out, capability);
+            put_flag(out, *readonly);
+        }
+        Call::ControllerUnpublishVolume { id, node } => {
+            put_id(out, *id);
+            put_text(out, node.as_str());
+        }
+        Call::NodeStageVolume { id, capability } => {
+            put_id(out, *id);
+            put_capability(out, capability);
+        }
+        Call::NodePublishVolume {
+            id,
+            target,
+            capability,
+            readonly,
+        } => {
+            put_id(out, *id);
+            put_text(out, target.as_str());
+            put_capability(out, capability);
+            put_flag(out, *readonly);
+        }
+        Call::NodeUnpublishVolume { id, target } => {
+            put_id(out, *id);
+            put_text(out, target.as_str());
+        }
+    }
+}
+
+fn put_reply(out: &mut Vec<u8>, from: &Reply)
+    requires { HasRoom out.old (length (reply_fields from.now)) }
+    ensures appends { Appends out.old out.new (reply_fields from.now) }
+    ensures fits { IsReply from.now }
+{
+    put_byte(out, from.status.code());
+    match from.id {
+        Some(id) => put_id(out, id),
+        None => put_word(out, 0),
+    }
+    put_text(out, from.detail.as_str());
+}
+
+fn put_party(out: &mut Vec<u8>, from: &Party)
+    requires { HasRoom out.old (length (party from.now)) }
+    ensures appends { Appends out.old out.new (party from.now) }
+    ensures fits { IsParty from.now }
+{
+    match from {
+        Party::Controller => put_byte(out, 0),
+        Party::Node(id) => {
+            put_byte(out, 1);
+            put_text(out, id.as_str());
+        }
+    }
+}
+
+fn put_body(out: &mut Vec<u8>, from: &Body)
+    requires { HasRoom out.old (length (body_fields from.now)) }
+    ensures appends { Appends out.old out.new (body_fields from.now) }
+    ensures fits { IsBody from.now }
+{
+    match from {
+        Body::Call(call) => put_call(out, call),
+        Body::Reply(_, reply) => put_reply(out, reply),
+    }
+}
+
+/// The kind byte of a body: a reply has its call's number and 128.
+fn kind_byte(from: &Body) -> u8
+    ensures { result ≡ body_kind from.now }
+{
+    match from {
+        Body::Call(call) => kind_number(call.kind()),
+        Body::Reply(kind, _) => 128 + kind_number(*kind),
+    }
+}
+
+// The frame with its body's length, which has been counted.
+#[tactic(auto, unfolding(crate::specs::Spelling::frame_body, crate::specs::Spelling::spelling))]
+fn put_frame(out: &mut Vec<u8>, frame: &Frame, size: u32)
+    requires counted { size ≡ length (frame_body frame.now) }
+    requires room { HasRoom out.old (4 + size) }
+    ensures appends { Appends out.old out.new (spelling frame.now) }
+    ensures fits { IsFrame frame.now }
+{
+    let mut four = [0; 4];
+    BigEndian::write_u32(&mut four, size);
+    put(out, &four);
+    put_byte(out, 1);
+    put_byte(out, kind_byte(frame.body()));
+    let number = frame.number();
+    put_word(out, number.session);
+    put_word(out, number.call);
+    put_party(out, frame.party());
+    put_body(out, frame.body());
+}
+
+/// Appends the bytes that spell the frame. It takes no memory but the vector's own, which is asked for
+/// first: with spare capacity for the frame it succeeds, and a refusal leaves the vector's bytes as they
+/// were. This profile's own.
+pub fn encode(frame: &Frame, out: &mut Vec<u8>) -> Result<(), NoMemory>
+    ensures appends { OnOk result (out.new.items ≡ out.old.items ++ spelling frame.now) }
+    ensures spells { OnOk result (Spells frame.now (spelling frame.now)) }
+    ensures err { OnErr result (out.new.items ≡ out.old.items) }
+    ensures spare { vec_len out.old + length (spelling frame.now) ≤ vec_capacity out.old → IsOk result }
+{
+    let size = 18 + party_len(frame.party()) + body_len(frame.body());
+    out.reserve(4 + size)?;
+    put_frame(out, frame, size as u32);
+    Ok(())
+}

@@ -1,0 +1,210 @@
+//! Copies of what a borrowed frame stands for.
+ghost use Rattle.std.specs.Prelude.{◌≡◌, ◌≤◌, [], length, IfOk, IsOk};
+ghost use Rattle.csi_types.specs.Text.{IsName, IsFsType, IsNodeId, IsTarget, IsDetail};
+ghost use Rattle.csi_types.specs.Limits.{IsAccess, IsCapability, IsCapabilityList, IsParty, IsCall, IsReply, IsBody, IsFrame};
+ghost use Rattle.csi_frames.specs.Borrowed.{owned_access, owned_capability, owned_capabilities, owned_party, owned_call, owned_reply, owned_body, owned};
+ghost use Rattle.csi_frames.specs.Texts.{AreEmpty, access_texts, capability_texts, party_texts, call_texts, body_texts, IsTextless};
+
+use crate::borrowed::{AccessRef, BodyRef, CallRef, CapabilityRef, FrameRef, PartyRef, ReplyRef};
+use csi_types::{
+    Access, Body, Call, Capability, CapabilityList, Detail, Frame, FsType, Name, NoMemory, NodeId,
+    Party, Reply, Target, TextFault,
+};
+use std::alloc::Global;
+
+// A text that was read is within its limits, so that a copy of it can only want memory.
+fn only_memory(fault: TextFault) -> NoMemory
+    requires { fault ≡ TextFault.NoMemory }
+{
+    match fault {
+        TextFault::NoMemory => NoMemory,
+        TextFault::Empty | TextFault::TooLong => unreachable!(),
+    }
+}
+
+fn name(alloc: Global, text: &str) -> Result<Name, NoMemory>
+    requires { IsName text.now }
+    ensures { IfOk result (λ name. name ≡ text.now) }
+{
+    match Name::try_new(alloc, text) {
+        Ok(name) => Ok(name),
+        Err(fault) => Err(only_memory(fault)),
+    }
+}
+
+fn node_id(alloc: Global, text: &str) -> Result<NodeId, NoMemory>
+    requires { IsNodeId text.now }
+    ensures { IfOk result (λ id. id ≡ text.now) }
+{
+    match NodeId::try_new(alloc, text) {
+        Ok(id) => Ok(id),
+        Err(fault) => Err(only_memory(fault)),
+    }
+}
+
+fn target(alloc: Global, text: &str) -> Result<Target, NoMemory>
+    requires { IsTarget text.now }
+    ensures { IfOk result (λ target. target ≡ text.now) }
+{
+    match Target::try_new(alloc, text) {
+        Ok(target) => Ok(target),
+        Err(fault) => Err(only_memory(fault)),
+    }
+}
+
+fn fs_type(alloc: Global, text: &str) -> Result<FsType, NoMemory>
+    requires { IsFsType text.now }
+    ensures value { IfOk result (λ fs_type. fs_type ≡ text.now) }
+    ensures empty { text.now ≡ [] → IsOk result }
+{
+    match FsType::try_new(alloc, text) {
+        Ok(fs_type) => Ok(fs_type),
+        Err(fault) => Err(only_memory(fault)),
+    }
+}
+
+fn detail(alloc: Global, text: &str) -> Result<Detail, NoMemory>
+    requires { IsDetail text.now }
+    ensures value { IfOk result (λ detail. detail ≡ text.now) }
+    ensures empty { text.now ≡ [] → IsOk result }
+{
+    match Detail::try_new(alloc, text) {
+        Ok(detail) => Ok(detail),
+        Err(fault) => Err(only_memory(fault)),
+    }
+}
+
+fn access(alloc: Global, from: &AccessRef<'_>) -> Result<Access, NoMemory>
+    requires { IsAccess (owned_access from.now) }
+    ensures value { IfOk result (λ access. access ≡ owned_access from.now) }
+    ensures textless { AreEmpty (access_texts (owned_access from.now)) → IsOk result }
+{
+    match from {
+        AccessRef::Block => Ok(Access::Block),
+        AccessRef::Mount(text) => Ok(Access::Mount(fs_type(alloc, text)?)),
+    }
+}
+
+fn capability(alloc: Global, from: &CapabilityRef<'_>) -> Result<Capability, NoMemory>
+    requires { IsCapability (owned_capability from.now) }
+    ensures value { IfOk result (λ capability. capability ≡ owned_capability from.now) }
+    ensures textless { AreEmpty (capability_texts (owned_capability from.now)) → IsOk result }
+{
+    Ok(Capability {
+        access: access(alloc, &from.access)?,
+        mode: from.mode,
+    })
+}
+
+fn capabilities(alloc: Global, from: &[CapabilityRef<'_>]) -> Result<CapabilityList, NoMemory>
+    requires { IsCapabilityList (owned_capabilities from.now) }
+    ensures { IfOk result (λ list. list ≡ owned_capabilities from.now) }
+{
+    let mut items = Vec::with_capacity(alloc, from.len())?;
+    for one in from {
+        items.push(capability(alloc, one)?)?;
+    }
+    Ok(CapabilityList::try_new(items).unwrap())
+}
+
+fn party(alloc: Global, from: &PartyRef<'_>) -> Result<Party, NoMemory>
+    requires { IsParty (owned_party from.now) }
+    ensures value { IfOk result (λ party. party ≡ owned_party from.now) }
+    ensures textless { AreEmpty (party_texts (owned_party from.now)) → IsOk result }
+{
+    match from {
+        PartyRef::Controller => Ok(Party::Controller),
+        PartyRef::Node(id) => Ok(Party::Node(node_id(alloc, id)?)),
+    }
+}
+
+fn call(alloc: Global, from: &CallRef<'_>) -> Result<Call, NoMemory>
+    requires { IsCall (owned_call from.now) }
+    ensures value { IfOk result (λ call. call ≡ owned_call from.now) }
+    ensures textless { AreEmpty (call_texts (owned_call from.now)) → IsOk result }
+{
+    Ok(match from {
+        CallRef::CreateVolume {
+            name: text,
+            required,
+            limit,
+            capabilities: list,
+        } => Call::CreateVolume {
+            name: name(alloc, text)?,
+            required: *required,
+            limit: *limit,
+            capabilities: capabilities(alloc, list)?,
+        },
+        CallRef::DeleteVolume { id } => Call::DeleteVolume { id: *id },
+        CallRef::ControllerPublishVolume {
+            id,
+            node,
+            capability: usage,
+            readonly,
+        } => Call::ControllerPublishVolume {
+            id: *id,
+            node: node_id(alloc, node)?,
+            capability: capability(alloc, usage)?,
+            readonly: *readonly,
+        },
+        CallRef::ControllerUnpublishVolume { id, node } => Call::ControllerUnpublishVolume {
+            id: *id,
+            node: node_id(alloc, node)?,
+        },
+        CallRef::NodeStageVolume {
+            id,
+            capability: usage,
+        } => Call::NodeStageVolume {
+            id: *id,
+            capability: capability(alloc, usage)?,
+        },
+        CallRef::NodeUnstageVolume { id } => Call::NodeUnstageVolume { id: *id },
+        CallRef::NodePublishVolume {
+            id,
+            target: text,
+            capability: usage,
+            readonly,
+        } => Call::NodePublishVolume {
+            id: *id,
+            target: target(alloc, text)?,
+            capability: capability(alloc, usage)?,
+            readonly: *readonly,
+        },
+        CallRef::NodeUnpublishVolume { id, target: text } => Call::NodeUnpublishVolume {
+            id: *id,
+            target: target(alloc, text)?,
+        },
+    })
+}
+
+fn body(alloc: Global, from: &BodyRef<'_>) -> Result<Body, NoMemory>
+    requires { IsBody (owned_body from.now) }
+    ensures value { IfOk result (λ body. body ≡ owned_body from.now) }
+    ensures textless { AreEmpty (body_texts (owned_body from.now)) → IsOk result }
+{
+    match from {
+        BodyRef::Call(from) => Ok(Body::Call(call(alloc, from)?)),
+        BodyRef::Reply(kind, from) => {
+            let detail = detail(alloc, from.detail)?;
+            let reply = Reply {
+                status: from.status,
+                id: from.id,
+                detail,
+            };
+            Ok(Body::Reply(*kind, reply))
+        }
+    }
+}
+
+/// The frame that this one stands for, with texts of its own. Where there are none it takes no memory.
+pub(crate) fn frame(alloc: Global, from: &FrameRef<'_>) -> Result<Frame, NoMemory>
+    requires { IsFrame (owned from.now) }
+    ensures value { IfOk result (λ frame. frame ≡ owned from.now) }
+    ensures textless { IsTextless (owned from.now) → IsOk result }
+{
+    let party = party(alloc, &from.party)?;
+    match body(alloc, &from.body)? {
+        Body::Call(call) => Ok(Frame::call(from.number, party, call).unwrap()),
+        Body::Reply(kind, reply) => Ok(Frame::reply(from.number, party, kind, reply).unwrap()),
+    }
+}
