@@ -7,3 +7,11 @@ pub mod Reply
 pub mod Frame
 pub mod Capacity
 pub mod Limits
+pub mod Same
+pub mod Sharing
+pub mod Number
+pub mod Holding
+pub mod Fence
+pub mod Config
+pub mod Rows
+pub mod Replies

@@ -1,6 +1,6 @@
 -- The limits within which the parts of a frame lie. This profile's own, but that a volume has capabilities
 -- and a capacity range (CSI's spec.md, "CreateVolume").
-use Rattle.std.specs.Prelude.{ℕ, ◌<◌, ◌≤◌, ◌^◌, List, length, Option, Some, None, IfSome}
+use Rattle.std.specs.Prelude.{ℕ, ◌<◌, ◌≤◌, ◌^◌, List, length, IfSome}
 use Rattle.std.specs.List.{AllByRecursion}
 use Rattle.csi_types.specs.declared.number.Number.{Number}
 use Rattle.csi_types.specs.declared.capability.Access.{Access}

@@ -1,0 +1,8 @@
+pub mod ControllerState
+pub mod ControllerTable
+pub mod Fence
+pub mod ControllerSteps
+pub mod ControllerCore
+pub mod Replay
+pub mod Answering
+pub mod Ending

@@ -1,0 +1,41 @@
+use super::parse;
+use crate::commands::FileCommand;
+use crate::ending::Ending;
+use std::alloc::{AllocError, Global};
+use std::process::Abort;
+use std::test::Fail;
+
+fn words(alloc: Global, texts: &[&str]) -> Result<Vec<String>, AllocError> {
+    let mut words = Vec::new(alloc);
+    for text in texts {
+        words.push(String::from_str(alloc, text)?)?;
+    }
+    Ok(words)
+}
+
+#[test]
+fn a_command_and_its_file_are_read(rt: HostRuntime) -> Result<(), Fail> {
+    let words = words(rt.alloc(), &["csi-replay", "show", "a.frames"])?;
+    let (command, path) = parse(rt.alloc(), words.as_slice()).ok().ok_or("a command")?;
+    assert_eq!(rt; command, FileCommand::Show);
+    assert_eq!(rt; path, "a.frames");
+    Ok(())
+}
+
+fn is_refused(rt: &(impl Abort + AllocGlobal), texts: &[&str]) -> Result<(), Fail> {
+    let words = words(rt.alloc(), texts)?;
+    let parsed = parse(rt.alloc(), words.as_slice());
+    assert!(rt; parsed.is_err_and(|ending| ending == Ending::Usage));
+    Ok(())
+}
+
+#[test]
+fn other_words_are_refused(rt: HostRuntime) -> Result<(), Fail> {
+    is_refused(&rt, &["csi-replay"])?;
+    is_refused(&rt, &["csi-replay", "answer"])?;
+    is_refused(&rt, &["csi-replay", "answer", "a", "b"])?;
+    is_refused(&rt, &["csi-replay", "reply", "a"])?;
+    is_refused(&rt, &["csi-replay", "--help"])?;
+    is_refused(&rt, &["csi-replay", "help"])?;
+    is_refused(&rt, &["csi-replay", "answer", "--help"])
+}

@@ -1,0 +1,32 @@
+-- Which holdings of a volume can be held together: CSI's spec.md, "ControllerPublishVolume" (a volume
+-- published at several nodes, and the access modes that allow it).
+use Rattle.std.specs.Prelude.{◌≡◌, ◌≢◌, ◌⊎◌, Bool, not, ◌==◌, ◌&&◌, if◌then◌else◌, IsTrue}
+use Rattle.csi_types.specs.declared.holding.Holding.{Holding}
+use Rattle.csi_types.specs.Same.{same_text, same_flag, same_capability}
+use Rattle.csi_types.specs.Sharing.{is_multi_node, are_two_writers}
+
+-- both write, and one of the two modes has a single writer
+abbrev pub is_second_writer : Holding → Holding → Bool
+is_second_writer a b = are_two_writers a.capability.mode a.readonly b.capability.mode b.readonly
+
+-- two holdings at different nodes, each in a mode for several nodes, and no second writer
+pub record AreShared (a b : Holding) : Type 0 where
+  pub apart : a.node ≢ b.node
+  pub first_shared : IsTrue (is_multi_node a.capability.mode)
+  pub second_shared : IsTrue (is_multi_node b.capability.mode)
+  pub no_second_writer : IsTrue (not (is_second_writer a b))
+
+-- the two are one holding, or are shared
+abbrev pub CanHoldBoth : Holding → Holding → Type 0
+CanHoldBoth a b = (a ≡ b) ⊎ AreShared a b
+
+-- the two are one holding
+abbrev pub same_holding : Holding → Holding → Bool
+same_holding a b =
+    (a.volume == b.volume) && same_text a.node b.node && same_capability a.capability b.capability && same_flag a.readonly b.readonly
+
+-- the test of `CanHoldBoth`, which the tables ask
+abbrev pub is_compatible : Holding → Holding → Bool
+is_compatible a b =
+    if same_text a.node b.node then same_holding a b
+    else is_multi_node a.capability.mode && is_multi_node b.capability.mode && not (is_second_writer a b)

@@ -1,0 +1,122 @@
+//! A controller's configuration.
+ghost use Rattle.std.specs.Prelude.{◌≡◌, ◌↔◌, IsOk, IfOk, IfErr, Some, None};
+ghost use Rattle.csi_types.specs.Config.{config_fault, has_node as node_listed, has_same_node as node_repeated, has_bad_slots as slots_exceeded};
+
+use crate::text::NodeId;
+use std::alloc::Global;
+use std::marker::Model;
+use thiserror::Error;
+
+/// A node at which volumes can be published, and how many it takes.
+#[derive(Clone, Debug, PartialEq, Eq, Drop)]
+pub struct NodeSlots {
+    pub id: NodeId,
+    pub slots: u64,
+}
+
+/// What is wrong with a configuration: the first of these that holds.
+#[derive(Clone, Copy, Debug, PartialEq, Eq, Error)]
+pub enum ConfigFault {
+    /// The greatest capacity is 0 or above 2^63 - 1.
+    #[error("the greatest capacity is out of range")]
+    BadGreatest,
+    /// There are more than 64 nodes.
+    #[error("too many nodes")]
+    TooManyNodes,
+    /// Two nodes have one id.
+    #[error("two nodes have one id")]
+    SameNode,
+    /// A node has more than 4,096 slots.
+    #[error("a node has too many slots")]
+    BadSlots,
+    /// An allocation was refused.
+    #[error("out of memory")]
+    NoMemory,
+}
+
+/// What a controller can give (this profile's own): the greatest capacity of a volume, and up to 64 nodes,
+/// each with up to 4,096 slots. A contract sees its parts.
+#[derive(Clone, Debug, Drop)]
+pub struct Config {
+    greatest: u64,
+    nodes: Vec<NodeSlots>,
+}
+
+impl Model for Config {
+    ghost use Rattle.std.specs.Prelude.{◌≡◌, None};
+    ghost use Rattle.csi_types.specs.Config.{Config as Parts, config_fault};
+
+    ghost Value = { Parts };
+
+    ghost view = { λ config. record { greatest = config.greatest; nodes = config.nodes.items } };
+
+    ghost invariant = { λ config. config_fault config.greatest config.nodes.items ≡ None };
+}
+
+impl Config {
+    /// A configuration with this greatest capacity in bytes and these nodes, or the first fault that it
+    /// has. It takes no memory today, and so doesn't answer `NoMemory`.
+    pub fn try_new(
+        _alloc: Global,
+        greatest: u64,
+        nodes: Vec<NodeSlots>,
+    ) -> Result<Config, ConfigFault>
+        ensures ok { IsOk result ↔ (config_fault greatest nodes.items ≡ None) }
+        ensures value { IfOk result (λ config. config ≡ record { greatest = greatest; nodes = nodes.items }) }
+        ensures fault { IfErr result (λ fault. config_fault greatest nodes.items ≡ Some fault) }
+    {
+        if greatest == 0 || greatest > crate::capacity::MAX_CAPACITY {
+            return Err(ConfigFault::BadGreatest);
+        }
+        if nodes.len() > 64 {
+            return Err(ConfigFault::TooManyNodes);
+        }
+        if has_same_node(&nodes) {
+            return Err(ConfigFault::SameNode);
+        }
+        if has_bad_slots(&nodes) {
+            return Err(ConfigFault::BadSlots);
+        }
+        Ok(Config { greatest, nodes })
+    }
+
+    /// The greatest capacity of a volume, in bytes.
+    pub fn greatest(&self) -> u64
+        ensures { result ≡ self.now.greatest }
+    {
+        self.greatest
+    }
+
+    /// The nodes in order.
+    pub fn nodes(&self) -> &[NodeSlots]
+        ensures { result.now ≡ self.now.nodes }
+    {
+        self.nodes.as_slice()
+    }
+}
+
+// Whether a node of this id is in the list.
+fn has_node(id: &NodeId, nodes: &[NodeSlots]) -> bool
+    ensures { result ≡ node_listed id.now nodes.now }
+{
+    nodes.iter().any(|node| *id == node.id)
+}
+
+// Whether two nodes of the list have one id.
+fn has_same_node(nodes: &[NodeSlots]) -> bool
+    ensures { result ≡ node_repeated nodes.now }
+{
+    for (place, node) in nodes.iter().enumerate() {
+        if has_node(&node.id, &nodes[place + 1..]) {
+            return true;
+        }
+    }
+    false
+}
+
+// Whether a node of the list has more than 4,096 slots.
+fn has_bad_slots(nodes: &[NodeSlots]) -> bool
+    ensures { result ≡ slots_exceeded nodes.now }
+{
+    nodes.iter().any(|node| node.slots > 4096)
+}
