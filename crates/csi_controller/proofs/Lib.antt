@@ -1,0 +1,3 @@
+pub mod Orderly
+pub mod Facts
+pub mod TableLaw

@@ -1,0 +1,184 @@
+-- The laws of the controller's table, from what is so of each of its outcomes.
+use Rattle.std.proofs.Common.{◌≡◌, ◌⊎◌, ◌≤◌, ℕ, List, [], ◌∷◌, map, Bool, true, false, cond, not, refl, sym, ◌∙◌, ap, subst}
+use Rattle.std.specs.Prelude.{Option, Some, None, option_map, ◌==◌, ◌&&◌, ◌||◌, nat_le, nat_lt, length, codes, ◌^◌, IsTrue}
+use Rattle.std.specs.List.{AllByRecursion}
+use Rattle.csi_types.proofs.Lists.{find-map, find-passes, filter-map, map-map}
+use Rattle.csi_types.specs.declared.capability.Capability.{Capability}
+use Rattle.csi_types.specs.declared.holding.Holding.{Holding}
+use Rattle.csi_types.specs.declared.number.Number.{Number}
+use Rattle.csi_types.specs.declared.call.Call.{Call}
+use Rattle.csi_types.specs.declared.call.Call.TheVariants as calls
+use Rattle.csi_types.specs.declared.call.Party.TheVariants.{Controller}
+use Rattle.csi_types.specs.declared.fence.Verdict.TheVariants.{Fresh}
+use Rattle.csi_types.specs.declared.status.Status.TheVariants.{InvalidArgument, OutOfRange, ResourceExhausted}
+use Rattle.csi_types.specs.declared.reply.Reply.{Reply}
+use Rattle.csi_types.specs.Call.{kind_of}
+use Rattle.csi_types.specs.Capacity.{is_bad_range, is_empty_range, wanted}
+use Rattle.csi_types.specs.Config.{Config}
+use Rattle.csi_types.specs.Fence.{Kept, verdict_of}
+use Rattle.csi_types.specs.Number.{IsBefore}
+use Rattle.csi_types.specs.Replies.{ok_reply_with, call_frame, reply_frame}
+use Rattle.csi_types.specs.Same.{same_text, has_capability}
+use Rattle.csi_controller.specs.State.{Volume, ControllerState, volume_named, live_volume, is_row_for, row_for}
+use Rattle.csi_controller.specs.Table.{Outcome, Change, Stays, Makes, refused, create_named, delete, publish, controller_row, changed}
+use Rattle.csi_controller.specs.Fenced.{Fenced, fenced, fenced_call, kept_for, kept_in, keep, carried_out}
+use Rattle.csi_controller.specs.Laws.{IsLetThrough, IsSameApart, IsDone, IsMadeAs, IsIdempotent, LeavesOthers, IsLawful, reply_at, state_after, keeping}
+use Rattle.csi_controller.proofs.Orderly.{IsOrderly, kept_same}
+use Rattle.csi_controller.proofs.Facts.{IsReady, row_facts}
+
+-- what is kept changes no volume's row, and no answer of the table
+same_row : (call : Call) (v w : Volume) → w.id ≡ v.id → w.name ≡ v.name → is_row_for call w ≡ is_row_for call v
+same_row (calls.CreateVolume name required limit capabilities) v w id named = ap (λ n. same_text n name) named
+same_row (calls.DeleteVolume id') v w id named = ap (λ n. n == id') id
+same_row (calls.ControllerPublishVolume id' node capability readonly) v w id named = ap (λ n. n == id') id
+same_row (calls.ControllerUnpublishVolume id' node) v w id named = ap (λ n. n == id') id
+same_row (calls.NodeStageVolume id' capability) v w id named = ap (λ n. n == id') id
+same_row (calls.NodeUnstageVolume id') v w id named = ap (λ n. n == id') id
+same_row (calls.NodePublishVolume id' target capability readonly) v w id named = ap (λ n. n == id') id
+same_row (calls.NodeUnpublishVolume id' target) v w id named = ap (λ n. n == id') id
+
+kept_in-row : (call : Call) (kept : Kept) (v : Volume) → is_row_for call (kept_in call kept v) ≡ is_row_for call v
+kept_in-row call kept v = same_row call v (kept_in call kept v) (ap (λ (w : Volume). w.id) (kept_same call kept kept v)) (ap (λ (w : Volume). w.name) (kept_same call kept kept v))
+
+length-map : (f : Volume → Volume) (xs : List Volume) → length (map f xs) ≡ length xs
+length-map f [] = refl
+length-map f (x ∷ xs) = let rest = length-map f xs in cc
+
+volume_named-keep : (call : Call) (kept : Kept) (state : ControllerState) (name : List ℕ) → volume_named name (keep call kept state) ≡ option_map (kept_in call kept) (volume_named name state)
+volume_named-keep call kept state name =
+    find-map (λ (v : Volume). same_text v.name name) (kept_in call kept) state.volumes (λ v. ap (λ (w : Volume). same_text w.name name) (kept_same call kept kept v))
+
+live_volume-keep : (call : Call) (kept : Kept) (state : ControllerState) (id : ℕ) → live_volume id (keep call kept state) ≡ option_map (kept_in call kept) (live_volume id state)
+live_volume-keep call kept state id =
+    find-map (λ (v : Volume). (v.id == id) && v.is_live) (kept_in call kept) state.volumes (λ v. ap (λ (w : Volume). (w.id == id) && w.is_live) (kept_same call kept kept v))
+
+create_named-keep : (config : Config) (call : Call) (kept : Kept) (state : ControllerState) (name : List ℕ) (required limit : ℕ) (capabilities : List Capability) (o : Option Volume)
+    → create_named config (keep call kept state) name required limit capabilities (option_map (kept_in call kept) o) ≡ create_named config state name required limit capabilities o
+create_named-keep config call kept state name required limit capabilities (Some v) =
+    ap (λ (w : Volume). create_named config state name required limit capabilities (Some w)) (kept_same call kept kept v)
+create_named-keep config call kept state name required limit capabilities None =
+    ap (λ (n : ℕ). cond (nat_lt config.greatest (wanted required limit)) (refused OutOfRange (codes "range"))
+    (cond (nat_le 4096 n || nat_le (2 ^ 64) state.next_id) (refused ResourceExhausted (codes "volumes"))
+    (record { reply = ok_reply_with state.next_id; change = Makes name (wanted required limit) capabilities })))
+    (length-map (kept_in call kept) state.volumes)
+
+delete-keep : (call : Call) (kept : Kept) (state : ControllerState) (id : ℕ) (o : Option Volume) → delete (keep call kept state) id (option_map (kept_in call kept) o) ≡ delete state id o
+delete-keep call kept state id None = refl
+delete-keep call kept state id (Some v) = refl
+
+publish-keep : (config : Config) (call : Call) (kept : Kept) (state : ControllerState) (holding : Holding) (o : Option Volume)
+    → publish config (keep call kept state) holding (option_map (kept_in call kept) o) ≡ publish config state holding o
+publish-keep config call kept state holding None = refl
+publish-keep config call kept state holding (Some v) = ap (λ (w : Volume). publish config state holding (Some w)) (kept_same call kept kept v)
+
+row-keep : (config : Config) (by : Call) (kept : Kept) (state : ControllerState) (call : Call) → controller_row config (keep by kept state) call ≡ controller_row config state call
+row-keep config by kept state (calls.CreateVolume name required limit []) = refl
+row-keep config by kept state (calls.CreateVolume name required limit (first ∷ others)) =
+    ap (λ (o : Outcome). cond (is_bad_range required limit) (refused InvalidArgument (codes "capacity")) (cond (is_empty_range required limit) (refused OutOfRange (codes "range")) o))
+    (ap (create_named config (keep by kept state) name required limit (first ∷ others)) (volume_named-keep by kept state name)
+    ∙ create_named-keep config by kept state name required limit (first ∷ others) (volume_named name state))
+row-keep config by kept state (calls.DeleteVolume id) =
+    ap (delete (keep by kept state) id) (live_volume-keep by kept state id) ∙ delete-keep by kept state id (live_volume id state)
+row-keep config by kept state (calls.ControllerPublishVolume id node capability readonly) =
+    let holding : Holding = record { volume = id; node = node; capability = capability; readonly = readonly } in
+    ap (publish config (keep by kept state) holding) (live_volume-keep by kept state id) ∙ publish-keep config by kept state holding (live_volume id state)
+row-keep config by kept state (calls.ControllerUnpublishVolume id node) = refl
+row-keep config by kept state (calls.NodeStageVolume id capability) = refl
+row-keep config by kept state (calls.NodeUnstageVolume id) = refl
+row-keep config by kept state (calls.NodePublishVolume id target capability readonly) = refl
+row-keep config by kept state (calls.NodeUnpublishVolume id target) = refl
+
+-- what is done stays done
+made-keep : (by : Call) (kept : Kept) (state : ControllerState) (id : Option ℕ) (name : List ℕ) (required limit : ℕ) (capabilities : List Capability)
+    → IsMadeAs state id name required limit capabilities → IsMadeAs (keep by kept state) id name required limit capabilities
+made-keep by kept state id name required limit capabilities made =
+    let v : Volume = made.volume in
+    let w : Volume = kept_in by kept v in
+    let same = kept_same by kept kept v in
+    let same_id : w.id ≡ v.id = ap (λ (u : Volume). u.id) same in
+    record {
+      volume = w;
+      is_live = subst (λ n. live_volume n (keep by kept state) ≡ Some w) (sym same_id) (live_volume-keep by kept state v.id ∙ ap (option_map (kept_in by kept)) made.is_live);
+      has_id = made.has_id ∙ ap Some (sym same_id);
+      has_name = ap (λ (u : Volume). u.name) same ∙ made.has_name;
+      not_below = subst (λ (u : Volume). required ≤ u.capacity) (sym same) made.not_below;
+      not_above = subst (λ (u : Volume). (limit ≡ 0) ⊎ (u.capacity ≤ limit)) (sym same) made.not_above;
+      has_each = subst (λ (u : Volume). AllByRecursion (λ capability. IsTrue (has_capability u.capabilities capability)) capabilities) (sym same) made.has_each;
+    }
+
+done-keep : (by : Call) (kept : Kept) (state : ControllerState) (reply : Reply) (call : Call) → IsDone state reply call → IsDone (keep by kept state) reply call
+done-keep by kept state reply (calls.CreateVolume name required limit capabilities) h = made-keep by kept state reply.id name required limit capabilities h
+done-keep by kept state reply (calls.DeleteVolume id) h = live_volume-keep by kept state id ∙ ap (option_map (kept_in by kept)) h
+done-keep by kept state reply (calls.ControllerPublishVolume id node capability readonly) h = h
+done-keep by kept state reply (calls.ControllerUnpublishVolume id node) h = h
+done-keep by kept state reply (calls.NodeStageVolume id capability) h = absurd h
+done-keep by kept state reply (calls.NodeUnstageVolume id) h = absurd h
+done-keep by kept state reply (calls.NodePublishVolume id target capability readonly) h = absurd h
+done-keep by kept state reply (calls.NodeUnpublishVolume id target) h = absurd h
+
+-- nothing but what is kept differs
+same_keep : (call : Call) (kept : Kept) (state : ControllerState) → IsSameApart state (keep call kept state)
+same_keep call kept state k = ap (λ (volumes : List Volume). record state { volumes = volumes }) (sym (map-map (keeping k) (kept_in call kept) state.volumes (kept_same call kept k)))
+
+-- the fence
+let_through : (config : Config) (state : ControllerState) (number : Number) (call : Call) (kept : Option Kept) → verdict_of (option_map (λ k. k.number) kept) number ≡ Fresh
+    → fenced_call config state number call kept ≡ carried_out state number call (controller_row config state call)
+let_through config state number call None h = refl
+let_through config state number call (Some kept) h = rw h refl
+
+is_carried_out : (config : Config) (state : ControllerState) (number : Number) (call : Call) → IsLetThrough state number call
+    → fenced config state (call_frame number Controller call) ≡ carried_out state number call (controller_row config state call)
+is_carried_out config state number call h = let_through config state number call (kept_for call state) h
+
+fresh : (last later : Number) → IsBefore last later → verdict_of (Some last) later ≡ Fresh
+fresh last later h = rw h refl
+
+-- the row of a call, where there is one, keeps the call
+later_through : (call : Call) (kept : Kept) (later : Number) (o : Option Volume) (f : (v : Volume) → o ≡ Some v → (kept_in call kept v).kept ≡ kept) → IsBefore kept.number later
+    → verdict_of (option_map (λ (k : Kept). k.number) (option_map (λ (v : Volume). v.kept) (option_map (kept_in call kept) o))) later ≡ Fresh
+later_through call kept later None f before = refl
+later_through call kept later (Some v) f before =
+    ap (λ (k : Kept). verdict_of (Some k.number) later) (f v refl) ∙ fresh kept.number later before
+
+is_later_through : (call : Call) (kept : Kept) (state : ControllerState) (later : Number) → IsBefore kept.number later → IsLetThrough (keep call kept state) later call
+is_later_through call kept state later before =
+    let found = find-map (is_row_for call) (kept_in call kept) state.volumes (kept_in-row call kept) in
+    ap (λ (o : Option Volume). verdict_of (option_map (λ (k : Kept). k.number) (option_map (λ (v : Volume). v.kept) o)) later) found
+    ∙ later_through call kept later (row_for call state) (λ v is. let own : is_row_for call v ≡ true = find-passes (is_row_for call) state.volumes v is in rw own refl) before
+
+-- a call that is ready, once more
+once_more : (config : Config) (next : ControllerState) (kept : Kept) (later : Number) (call : Call) (reply : Reply) → IsBefore kept.number later → IsReady config next call reply
+    → ((fenced config (keep call kept next) (call_frame later Controller call)).reply ≡ Some (reply_frame later Controller (kind_of call) reply))
+    × IsSameApart (keep call kept next) (fenced config (keep call kept next) (call_frame later Controller call)).state
+once_more config next kept later call reply before ready =
+    let after : ControllerState = keep call kept next in
+    let row : controller_row config after call ≡ record { reply = reply; change = Stays } = row-keep config call kept next call ∙ ready.again in
+    let e : fenced config after (call_frame later Controller call) ≡ carried_out after later call (record { reply = reply; change = Stays }) =
+    is_carried_out config after later call (is_later_through call kept next later before) ∙ ap (carried_out after later call) row in
+    (ap (λ (f : Fenced). f.reply) e, subst (λ (f : Fenced). IsSameApart after f.state) (sym e) (same_keep call (record { number = later; kind = kind_of call; reply = reply }) after))
+
+not_true : (b : Bool) → not b ≡ true → b ≡ false
+not_true true h = cc
+not_true false h = refl
+
+kept_in-other : (call : Call) (kept : Kept) (v : Volume) → not (is_row_for call v) ≡ true → kept_in call kept v ≡ v
+kept_in-other call kept v h = let other : is_row_for call v ≡ false = not_true (is_row_for call v) h in rw other refl
+
+pub is_lawful : (config : Config) (state : ControllerState) (number : Number) (call : Call) → IsOrderly state → IsLetThrough state number call → IsLawful config state number call
+is_lawful config state number call orderly through =
+    let outcome : Outcome = controller_row config state call in
+    let kept : Kept = record { number = number; kind = kind_of call; reply = outcome.reply } in
+    let next : ControllerState = changed state kept outcome.change in
+    let e : state_after config state number call ≡ keep call kept next = ap (λ (f : Fenced). f.state) (is_carried_out config state number call through) in
+    let facts = row_facts config state call orderly in
+    record {
+      refused = λ h. subst (IsSameApart state) (sym e) (subst (λ (c : Change). IsSameApart state (keep call kept (changed state kept c))) (sym (facts.stays h)) (same_keep call kept state));
+      done = λ h. subst (λ (after : ControllerState). IsDone after (reply_at config state call) call) (sym e) (done-keep call kept next (reply_at config state call) call ((facts.ready h kept).is_done));
+      again = λ h. subst (λ (after : ControllerState). IsIdempotent config after (reply_at config state call) number call) (sym e)
+          (λ later session before. once_more config next kept later call (reply_at config state call) before (facts.ready h kept));
+      others = subst (λ (after : ControllerState). LeavesOthers state after call) (sym e)
+          (record {
+            volumes = filter-map (λ (v : Volume). not (is_row_for call v)) (kept_in call kept) next.volumes (λ v. ap not (kept_in-row call kept v)) (kept_in-other call kept) ∙ (facts.others kept).volumes;
+            holdings = (facts.others kept).holdings;
+          });
+    }

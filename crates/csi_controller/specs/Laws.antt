@@ -1,0 +1,104 @@
+-- Laws that the controller's table keeps, in the words of CSI's spec.md ("idempotent" calls, and what each
+-- call ensures), apart from what is kept of the last call.
+use Rattle.std.specs.Prelude.{◌≡◌, ◌≢◌, ◌⊎◌, ◌≤◌, ℕ, ◌==◌, List, map, filter, Bool, true, not, Option, Some, None, option_map, IsTrue}
+use Rattle.std.specs.List.{AllByRecursion}
+use Rattle.csi_types.specs.declared.capability.Capability.{Capability}
+use Rattle.csi_types.specs.declared.holding.Holding.{Holding}
+use Rattle.csi_types.specs.declared.number.Number.{Number}
+use Rattle.csi_types.specs.declared.call.Call.{Call}
+use Rattle.csi_types.specs.declared.call.Call.TheVariants as calls
+use Rattle.csi_types.specs.declared.call.Party.TheVariants.{Controller}
+use Rattle.csi_types.specs.declared.status.Status.TheVariants.{Ok}
+use Rattle.csi_types.specs.declared.fence.Verdict.TheVariants.{Fresh}
+use Rattle.csi_types.specs.declared.reply.Reply.{Reply}
+use Rattle.csi_types.specs.Call.{kind_of}
+use Rattle.csi_types.specs.Config.{Config}
+use Rattle.csi_types.specs.Fence.{Kept, verdict_of}
+use Rattle.csi_types.specs.Frame.{Frame}
+use Rattle.csi_types.specs.Number.{IsBefore}
+use Rattle.csi_types.specs.Replies.{call_frame, reply_frame}
+use Rattle.csi_types.specs.Same.{has_capability}
+use Rattle.csi_controller.specs.State.{Volume, ControllerState, empty_controller, live_volume, holding_at, is_row_for}
+use Rattle.csi_controller.specs.Table.{controller_row}
+use Rattle.csi_controller.specs.Fenced.{fenced, kept_for, after_frames}
+
+-- the table's reply to a call, and the state after it
+abbrev pub reply_at : Config → ControllerState → Call → Reply
+reply_at config state call = (controller_row config state call).reply
+
+-- the state after a frame with the call
+abbrev pub state_after : Config → ControllerState → Number → Call → ControllerState
+state_after config state number call = (fenced config state (call_frame number Controller call)).state
+
+-- the fence lets the call through to the table
+abbrev pub IsLetThrough : ControllerState → Number → Call → Type 0
+IsLetThrough state number call = verdict_of (option_map (λ kept. kept.number) (kept_for call state)) number ≡ Fresh
+
+-- the volume, with this kept
+abbrev pub keeping : Kept → Volume → Volume
+keeping kept volume = record volume { kept = kept }
+
+-- the two differ in nothing but what is kept of the last calls
+abbrev pub IsSameApart : ControllerState → ControllerState → Type 0
+IsSameApart old new =
+    (kept : Kept) → record old { volumes = map (keeping kept) old.volumes } ≡ record new { volumes = map (keeping kept) new.volumes }
+
+-- a live volume with this id, as CreateVolume was asked for it
+pub record IsMadeAs (state : ControllerState) (id : Option ℕ) (name : List ℕ) (required limit : ℕ) (capabilities : List Capability) : Type 0 where
+  pub volume : Volume
+  pub is_live : live_volume volume.id state ≡ Some volume
+  pub has_id : id ≡ Some volume.id
+  pub has_name : volume.name ≡ name
+  pub not_below : required ≤ volume.capacity
+  pub not_above : (limit ≡ 0) ⊎ (volume.capacity ≤ limit)
+  pub has_each : AllByRecursion (λ capability. IsTrue (has_capability volume.capabilities capability)) capabilities
+
+-- after status 0 what the call does holds, and what it undoes doesn't
+abbrev pub IsDone : ControllerState → Reply → Call → Type 0
+IsDone state reply (calls.CreateVolume name required limit capabilities) = IsMadeAs state reply.id name required limit capabilities
+IsDone state reply (calls.DeleteVolume id) = live_volume id state ≡ None
+IsDone state reply (calls.ControllerPublishVolume id node capability readonly) =
+    let holding : Holding = record { volume = id; node = node; capability = capability; readonly = readonly } in
+    holding_at id node state ≡ Some holding
+IsDone state reply (calls.ControllerUnpublishVolume id node) = holding_at id node state ≡ None
+IsDone state reply (calls.NodeStageVolume id capability) = ⊥
+IsDone state reply (calls.NodeUnstageVolume id) = ⊥
+IsDone state reply (calls.NodePublishVolume id target capability readonly) = ⊥
+IsDone state reply (calls.NodeUnpublishVolume id target) = ⊥
+
+-- the call again, under a later number of its session, gets the same reply and changes nothing
+abbrev pub IsIdempotent : Config → ControllerState → Reply → Number → Call → Type 0
+IsIdempotent config state reply number call =
+    (later : Number) → later.session ≡ number.session → IsBefore number later
+    → ((fenced config state (call_frame later Controller call)).reply ≡ Some (reply_frame later Controller (kind_of call) reply))
+    × IsSameApart state (fenced config state (call_frame later Controller call)).state
+
+-- a holding of another volume than the call's
+abbrev pub is_of_another : Call → Holding → Bool
+is_of_another (calls.CreateVolume name required limit capabilities) holding = true
+is_of_another (calls.DeleteVolume id) holding = not (holding.volume == id)
+is_of_another (calls.ControllerPublishVolume id node capability readonly) holding = not (holding.volume == id)
+is_of_another (calls.ControllerUnpublishVolume id node) holding = not (holding.volume == id)
+is_of_another (calls.NodeStageVolume id capability) holding = true
+is_of_another (calls.NodeUnstageVolume id) holding = true
+is_of_another (calls.NodePublishVolume id target capability readonly) holding = true
+is_of_another (calls.NodeUnpublishVolume id target) holding = true
+
+-- the other volumes and their holdings are as they were
+pub record LeavesOthers (old new : ControllerState) (call : Call) : Type 0 where
+  pub volumes : filter (λ volume. not (is_row_for call volume)) new.volumes ≡ filter (λ volume. not (is_row_for call volume)) old.volumes
+  pub holdings : filter (is_of_another call) new.holdings ≡ filter (is_of_another call) old.holdings
+
+-- what is so of one call that the table answers
+pub record IsLawful (config : Config) (state : ControllerState) (number : Number) (call : Call) : Type 0 where
+  pub refused : (reply_at config state call).status ≢ Ok → IsSameApart state (state_after config state number call)
+  pub done : (reply_at config state call).status ≡ Ok → IsDone (state_after config state number call) (reply_at config state call) call
+  pub again : (reply_at config state call).status ≡ Ok → IsIdempotent config (state_after config state number call) (reply_at config state call) number call
+  pub others : LeavesOthers state (state_after config state number call) call
+
+-- the laws, for every state that frames reach and every call that the table answers there
+abbrev pub ControllerTableLaw : Type 0
+ControllerTableLaw =
+    (config : Config) (frames : List Frame) (number : Number) (call : Call)
+    → IsLetThrough (after_frames config empty_controller frames) number call
+    → IsLawful config (after_frames config empty_controller frames) number call

@@ -1,0 +1,202 @@
+-- The laws of the node's table, from what is so of each of its outcomes.
+use Rattle.std.proofs.Common.{◌≡◌, ℕ, List, Bool, true, false, cond, not, refl, sym, ◌∙◌, ap, subst}
+use Rattle.std.specs.Prelude.{Option, Some, None, option_map, is_none, find, filter, ◌==◌, codes}
+use Rattle.std.proofs.lemmas.Bool.{eq-eqb}
+use Rattle.csi_types.proofs.Equality.{same_text-tells}
+use Rattle.csi_types.specs.declared.number.Number.{Number}
+use Rattle.csi_types.specs.declared.call.Call.{Call}
+use Rattle.csi_types.specs.declared.call.Party.TheVariants.{Node}
+use Rattle.csi_types.specs.declared.fence.Verdict.TheVariants.{Fresh}
+use Rattle.csi_types.specs.declared.status.Status.TheVariants.{Ok, ResourceExhausted}
+use Rattle.csi_types.specs.declared.reply.Reply.{Reply}
+use Rattle.csi_types.specs.Call.{kind_of}
+use Rattle.csi_types.specs.Fence.{Kept, verdict_of}
+use Rattle.csi_types.specs.Number.{IsBefore}
+use Rattle.csi_types.specs.Replies.{ok_reply, call_frame, reply_frame}
+use Rattle.csi_types.specs.Same.{same_text}
+use Rattle.csi_node.specs.State.{NodeState, Answered, row_with_id, row_of_volume, row_for, volume_of}
+use Rattle.csi_node.specs.Table.{Outcome, Change, Stays, Stages, Unstages, Publishes, Unpublishes, refused, lifecycle_row, node_row, has_no_room, changed}
+use Rattle.csi_node.specs.Fenced.{Fenced, fenced, fenced_call, kept_for, kept_in, kept_rows, keep, carried_out}
+use Rattle.csi_node.specs.Laws.{IsLetThrough, IsSameApart, IsDone, IsIdempotent, LeavesOthers, IsLawful, is_another, reply_at, state_after}
+use Rattle.csi_types.proofs.Lists.{find-append_one, filter-append_one, filter-map, find-map, find-passes}
+use Rattle.csi_node.proofs.Facts.{IsReady, lifecycle_facts, ready_met, ready_kept, ready_volume, ready_done}
+
+-- what is kept of a call that the table carries out, and what the node does then
+abbrev kept_of : NodeState → Number → Call → Kept
+kept_of state number call = record { number = number; kind = kind_of call; reply = (lifecycle_row state call).reply }
+
+abbrev state_then : NodeState → Number → Call → NodeState
+state_then state number call = keep (volume_of call) (kept_of state number call) (changed state (lifecycle_row state call).change)
+
+abbrev done_then : List ℕ → NodeState → Number → Call → Fenced
+done_then node state number call =
+    record { reply = Some (reply_frame number (Node node) (kind_of call) (lifecycle_row state call).reply); state = state_then state number call }
+
+let_through : (node : List ℕ) (state : NodeState) (number : Number) (call : Call) (kept : Option Kept) → verdict_of (option_map (λ k. k.number) kept) number ≡ Fresh
+    → fenced_call node state number call kept ≡ carried_out node state number call (node_row state call)
+let_through node state number call None h = refl
+let_through node state number call (Some kept) h = rw h refl
+
+is_carried_out : (node : List ℕ) (state : NodeState) (number : Number) (call : Call) → IsLetThrough state number call
+    → fenced node state (call_frame number (Node node) call) ≡ carried_out node state number call (node_row state call)
+is_carried_out node state number call h =
+    let self : same_text node node ≡ true = (same_text-tells node node).1 refl in
+    rw self (let_through node state number call (kept_for call state) h)
+
+-- with room, or without it
+with_room : (node : List ℕ) (state : NodeState) (number : Number) (call : Call) → has_no_room state call ≡ false
+    → carried_out node state number call (node_row state call) ≡ done_then node state number call
+with_room node state number call h = simp h
+
+row_with_room : (state : NodeState) (call : Call) → has_no_room state call ≡ false → node_row state call ≡ lifecycle_row state call
+row_with_room state call h = rw h refl
+
+row_without : (state : NodeState) (call : Call) → has_no_room state call ≡ true → node_row state call ≡ refused ResourceExhausted (codes "rows")
+row_without state call h = rw h refl
+
+state_without : (node : List ℕ) (state : NodeState) (number : Number) (call : Call) (outcome : Outcome) → has_no_room state call ≡ true → (carried_out node state number call outcome).state ≡ state
+state_without node state number call outcome h = rw h refl
+
+-- what is kept changes the rows alone
+keep-staged : (volume : Option ℕ) (kept : Kept) (state : NodeState) → (keep volume kept state).staged ≡ state.staged
+keep-staged None kept state = refl
+keep-staged (Some id) kept state = refl
+
+keep-published : (volume : Option ℕ) (kept : Kept) (state : NodeState) → (keep volume kept state).published ≡ state.published
+keep-published None kept state = refl
+keep-published (Some id) kept state = refl
+
+changed-rows : (state : NodeState) (change : Change) → (changed state change).rows ≡ state.rows
+changed-rows state Stays = refl
+changed-rows state (Stages staged) = refl
+changed-rows state (Unstages id) = refl
+changed-rows state (Publishes published) = refl
+changed-rows state (Unpublishes id target) = refl
+
+-- the rows of other volumes
+kept_in-id : (id : ℕ) (kept : Kept) (row : Answered) → (kept_in id kept row).id ≡ row.id
+kept_in-id id kept row = by (row.id == id)
+  where
+    by : (b : Bool) → (cond b (record row { kept = kept }) row).id ≡ row.id
+    by true = refl
+    by false = refl
+
+not_true : (b : Bool) → not b ≡ true → b ≡ false
+not_true true h = cc
+not_true false h = refl
+
+kept_in-other : (id : ℕ) (kept : Kept) (row : Answered) → not (row.id == id) ≡ true → kept_in id kept row ≡ row
+kept_in-other id kept row h = let other : (row.id == id) ≡ false = not_true (row.id == id) h in rw other refl
+
+other_rows : (id : ℕ) (kept : Kept) (rows : List Answered) (o : Option Answered)
+    → filter (λ (row : Answered). not (row.id == id)) (kept_rows id kept rows o) ≡ filter (λ (row : Answered). not (row.id == id)) rows
+other_rows id kept rows None =
+    let self : (id == id) ≡ true = eq-eqb id id refl in
+    filter-append_one (λ (row : Answered). not (row.id == id)) rows (record { id = id; kept = kept }) (rw self refl)
+other_rows id kept rows (Some row) =
+    filter-map (λ (row : Answered). not (row.id == id)) (kept_in id kept) rows (λ row. ap (λ n. not (n == id)) (kept_in-id id kept row)) (kept_in-other id kept)
+
+keep-others : (volume : Option ℕ) (kept : Kept) (state : NodeState)
+    → filter (λ row. is_another volume row.id) (keep volume kept state).rows ≡ filter (λ row. is_another volume row.id) state.rows
+keep-others None kept state = refl
+keep-others (Some id) kept state = other_rows id kept state.rows (row_with_id id state)
+
+-- the row of the call's volume keeps the call
+row_kept : (id : ℕ) (kept : Kept) (rows : List Answered) (o : Option Answered) → find (λ (row : Answered). row.id == id) rows ≡ o
+    → option_map (λ (row : Answered). row.kept) (find (λ (row : Answered). row.id == id) (kept_rows id kept rows o)) ≡ Some kept
+row_kept id kept rows None h =
+    let self : (id == id) ≡ true = eq-eqb id id refl in
+    ap (option_map (λ (row : Answered). row.kept)) (find-append_one (λ (row : Answered). row.id == id) rows (record { id = id; kept = kept }) self h)
+row_kept id kept rows (Some row) h =
+    let moved = find-map (λ (row : Answered). row.id == id) (kept_in id kept) rows (λ row. ap (λ n. n == id) (kept_in-id id kept row)) in
+    let own : (row.id == id) ≡ true = find-passes (λ (row : Answered). row.id == id) rows row h in
+    let here : (kept_in id kept row).kept ≡ kept = rw own refl in
+    ap (option_map (λ (row : Answered). row.kept)) (moved ∙ ap (option_map (kept_in id kept)) h) ∙ ap Some here
+
+volume_kept : (volume : Option ℕ) (id : ℕ) (kept : Kept) (state : NodeState) → volume ≡ Some id
+    → option_map (λ (row : Answered). row.kept) (row_of_volume volume (keep volume kept state)) ≡ Some kept
+volume_kept None id kept state h = cc
+volume_kept (Some other) id kept state h = row_kept other kept state.rows (row_with_id other state) refl
+
+found_then : {X Y : Type 0} (f : X → Y) (o : Option X) (y : Y) → option_map f o ≡ Some y → is_none o ≡ false
+found_then f None y h = cc
+found_then f (Some x) y h = refl
+
+-- where the row keeps an earlier number, the call is let through, and there is room
+fresh : (last later : Number) → IsBefore last later → verdict_of (Some last) later ≡ Fresh
+fresh last later h = rw h refl
+
+ready_state : (volume : Option ℕ) (kept : Kept) (state : NodeState) (call : Call) → IsReady state call → IsReady (keep volume kept state) call
+ready_state None kept state call h = h
+ready_state (Some id) kept state call h = ready_kept state (kept_rows id kept state.rows (row_with_id id state)) call h
+
+-- a call that is ready, once more
+once_more : (node : List ℕ) (after : NodeState) (last later : Number) (call : Call) (kept : Kept) → kept_for call after ≡ Some kept → IsBefore kept.number later → IsReady after call
+    → ((fenced node after (call_frame later (Node node) call)).reply ≡ Some (reply_frame later (Node node) (kind_of call) ok_reply))
+    × IsSameApart after (fenced node after (call_frame later (Node node) call)).state
+once_more node after last later call kept is before ready =
+    let through : IsLetThrough after later call = ap (λ (o : Option Kept). verdict_of (option_map (λ (k : Kept). k.number) o) later) is ∙ fresh kept.number later before in
+    let found : is_none (row_for call after) ≡ false = found_then (λ (row : Answered). row.kept) (row_for call after) kept is in
+    let room : has_no_room after call ≡ false = rw found refl in
+    let e = is_carried_out node after later call through ∙ with_room node after later call room in
+    let again = ready_met after call ready in (
+      ap (λ (f : Fenced). f.reply) e ∙ ap (λ (r : Reply). Some (reply_frame later (Node node) (kind_of call) r)) again.is_ok,
+      subst (λ (f : Fenced). IsSameApart after f.state) (sym e)
+          (record {
+            staged = sym (keep-staged (volume_of call) (kept_of after later call) (changed after (lifecycle_row after call).change) ∙ again.staged);
+            published = sym (keep-published (volume_of call) (kept_of after later call) (changed after (lifecycle_row after call).change) ∙ again.published);
+          }),
+    )
+
+exhausted : ResourceExhausted ≡ Ok → ⊥
+exhausted h = cc
+
+without_room : (node : List ℕ) (state : NodeState) (number : Number) (call : Call) → has_no_room state call ≡ true → IsLetThrough state number call → IsLawful node state number call
+without_room node state number call full through =
+    let e : state_after node state number call ≡ state = ap (λ (f : Fenced). f.state) (is_carried_out node state number call through) ∙ state_without node state number call (node_row state call) full in
+    let status : (reply_at state call).status ≡ ResourceExhausted = ap (λ (o : Outcome). o.reply.status) (row_without state call full) in
+    record {
+      refused = λ h. subst (IsSameApart state) (sym e) (record { staged = refl; published = refl });
+      done = λ h. absurd (exhausted (sym status ∙ h));
+      again = λ h. absurd (exhausted (sym status ∙ h));
+      others = subst (λ (after : NodeState). LeavesOthers state after call) (sym e) (record { rows = refl; staged = refl; published = refl });
+    }
+
+having_room : (node : List ℕ) (state : NodeState) (number : Number) (call : Call) → has_no_room state call ≡ false → IsLetThrough state number call → IsLawful node state number call
+having_room node state number call room through =
+    let e : state_after node state number call ≡ state_then state number call = ap (λ (f : Fenced). f.state) (is_carried_out node state number call through ∙ with_room node state number call room) in
+    let row : node_row state call ≡ lifecycle_row state call = row_with_room state call room in
+    let status : (reply_at state call).status ≡ (lifecycle_row state call).reply.status = ap (λ (o : Outcome). o.reply.status) row in
+    let facts = lifecycle_facts state call in
+    let next : NodeState = changed state (lifecycle_row state call).change in
+    let kept : Kept = kept_of state number call in
+    record {
+      refused = λ h. subst (IsSameApart state) (sym e) (let stays = facts.stays (λ k. h (status ∙ k)) in
+          record {
+            staged = sym (keep-staged (volume_of call) kept next ∙ ap (λ (c : Change). (changed state c).staged) stays);
+            published = sym (keep-published (volume_of call) kept next ∙ ap (λ (c : Change). (changed state c).published) stays);
+          });
+      done = λ h. subst (λ (after : NodeState). IsDone after call) (sym e) (ready_done (state_then state number call) call (ready_state (volume_of call) kept next call (facts.ready (sym status ∙ h))));
+      again = λ h.
+          let ready = facts.ready (sym status ∙ h) in
+          let volume = ready_volume next call ready in
+          let is : kept_for call (state_then state number call) ≡ Some kept = volume_kept (volume_of call) volume.0 kept next volume.1 in
+          let plain : reply_at state call ≡ ok_reply = ap (λ (o : Outcome). o.reply) row ∙ facts.plain (sym status ∙ h) in
+          subst (λ (reply : Reply). IsIdempotent node (state_after node state number call) reply number call) (sym plain)
+          (subst (λ (after : NodeState). IsIdempotent node after ok_reply number call) (sym e)
+          (λ later session before. once_more node (state_then state number call) number later call kept is before (ready_state (volume_of call) kept next call ready)));
+      others = subst (λ (after : NodeState). LeavesOthers state after call) (sym e)
+          (record {
+            rows = keep-others (volume_of call) kept next ∙ ap (filter (λ (row : Answered). is_another (volume_of call) row.id)) (changed-rows state (lifecycle_row state call).change);
+            staged = ap (filter (λ s. is_another (volume_of call) s.volume)) (keep-staged (volume_of call) kept next) ∙ facts.others.staged;
+            published = ap (filter (λ p. is_another (volume_of call) p.volume)) (keep-published (volume_of call) kept next) ∙ facts.others.published;
+          });
+    }
+
+by_room : (node : List ℕ) (state : NodeState) (number : Number) (call : Call) (b : Bool) → has_no_room state call ≡ b → IsLetThrough state number call → IsLawful node state number call
+by_room node state number call true h through = without_room node state number call h through
+by_room node state number call false h through = having_room node state number call h through
+
+-- in every state
+pub is_lawful : (node : List ℕ) (state : NodeState) (number : Number) (call : Call) → IsLetThrough state number call → IsLawful node state number call
+is_lawful node state number call through = by_room node state number call (has_no_room state call) refl through

@@ -1,0 +1,9 @@
+//! The laws of the node's table.
+ghost use Rattle.csi_node.specs.Laws.{NodeTableLaw};
+
+/// A law, and nothing that runs: in every state that frames lead to, and for every call that the table
+/// answers there, a refusal changes nothing, a success brings about what the call asks, the same call again
+/// is met, and other volumes stay as they are (CSI's spec.md, "NodeStageVolume" to "NodeUnpublishVolume").
+pub fn table_law()
+    ensures { NodeTableLaw }
+{}

@@ -1,0 +1,39 @@
+//! Worked rows of the node's table and fence, and the law of a full node. Each function proves a statement,
+//! and does nothing.
+ghost use Rattle.csi_node.specs.Rows.{OneTargetRow, TwoTargetsRow, ManyTargetsRow, LateStageRow, KeptRefusalRow, OtherNodeRow, FullNodeRefuses, EmptyIsShown, LawsTellPublish};
+
+fn one_target()
+    ensures { OneTargetRow }
+{}
+
+fn two_targets()
+    ensures { TwoTargetsRow }
+{}
+
+fn many_targets()
+    ensures { ManyTargetsRow }
+{}
+
+fn late_stage()
+    ensures { LateStageRow }
+{}
+
+fn kept_refusal()
+    ensures { KeptRefusalRow }
+{}
+
+fn other_node()
+    ensures { OtherNodeRow }
+{}
+
+fn full_node()
+    ensures { FullNodeRefuses }
+{}
+
+fn empty()
+    ensures { EmptyIsShown }
+{}
+
+fn publish_by_the_laws()
+    ensures { LawsTellPublish }
+{}

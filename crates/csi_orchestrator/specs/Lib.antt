@@ -1,0 +1,11 @@
+pub mod Thing
+pub mod History
+pub mod Readings
+pub mod WellFormed
+pub mod Guards
+pub mod Due
+pub mod Commands
+pub mod Moves
+pub mod Agrees
+pub mod Laws
+pub mod Rows

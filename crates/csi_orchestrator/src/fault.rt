@@ -1,0 +1,65 @@
+//! Why an orchestrator refuses.
+use csi_types::Frame;
+use thiserror::Error;
+
+/// Why a command is refused. A refusal leaves the orchestrator as it was.
+#[derive(Clone, Copy, Debug, PartialEq, Eq, Error)]
+pub enum OrchFault {
+    /// The name has a row with an id or a goal.
+    #[error("the name is used")]
+    NameUsed,
+    /// The name has no row.
+    #[error("no such volume")]
+    NoSuchVolume,
+    /// The volume isn't known to be made.
+    #[error("the volume isn't created")]
+    NotCreated,
+    /// The row has a goal.
+    #[error("the volume is busy")]
+    Busy,
+    /// The node isn't in the orchestrator's list.
+    #[error("no such node")]
+    NoSuchNode,
+    /// The capability isn't one that the volume was created with.
+    #[error("the volume hasn't this capability")]
+    NotCapable,
+    /// The volume may be attached at another node, and one of the two modes is for one node.
+    #[error("the volume is held at another node")]
+    HeldElsewhere,
+    /// The volume may be attached at another node, both write, and one of the two modes has one writer.
+    #[error("the volume has a writer at another node")]
+    WriterElsewhere,
+    /// The volume may be attached at this node otherwise.
+    #[error("the volume is held otherwise")]
+    HeldOtherwise,
+    /// The mode allows one target, and another target of the node may be published.
+    #[error("another target is taken")]
+    TargetTaken,
+    /// Nothing may be published at the target.
+    #[error("no such target")]
+    NoSuchTarget,
+    /// The volume may be attached at a node.
+    #[error("the volume is in use")]
+    InUse,
+    /// The row has no goal.
+    #[error("nothing to wait for")]
+    Idle,
+    /// The next call or session would have a number above 2^64 - 1.
+    #[error("the numbers are spent")]
+    NumbersSpent,
+    /// There are 4,096 rows, or 16 other targets of the node.
+    #[error("no room")]
+    Full,
+    /// An allocation was refused.
+    #[error("out of memory")]
+    NoMemory,
+}
+
+/// What became of a reply.
+#[derive(Clone, Debug, PartialEq, Eq, Drop)]
+pub enum Heard {
+    /// It isn't the reply to an open call. Nothing changed.
+    Ignored,
+    /// It closed its call; this is the next call to send, if there is one.
+    Taken(Option<Frame>),
+}

@@ -1,0 +1,6 @@
+//! Laws of what an orchestrator does. Each function proves a statement, and does nothing.
+ghost use Rattle.csi_orchestrator.specs.Laws.{MovesKeepForm};
+
+fn moves_keep_form()
+    ensures { MovesKeepForm }
+{}

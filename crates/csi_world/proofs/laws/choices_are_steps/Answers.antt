@@ -1,0 +1,6 @@
+-- The choice is the step's.
+use Rattle.std.proofs.Common.{refl}
+use Rattle.csi_world.proofs.laws.choices_are_steps.Goals as goal
+
+pub returns : goal.returns
+returns c config world choice may = record { choice = choice; may = may; becomes = refl }

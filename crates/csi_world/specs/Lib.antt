@@ -1,0 +1,6 @@
+pub mod World
+pub mod Step
+pub mod Safe
+pub mod After
+pub mod Laws
+pub mod Rows
