@@ -14,7 +14,7 @@ use Rattle.csi_types.specs.Limits.{IsWord, IsCapability, IsCall}
 use Rattle.csi_frames.specs.declared.fault.FaultKind.TheVariants.{BadCount}
 use Rattle.csi_frames.specs.Spelling as spelling
 use Rattle.csi_frames.specs.Grammar.{End, Byte, Word, Text, any, at_most, capability_grammar, capabilities_grammar, flag_grammar, call_grammar}
-use Rattle.csi_frames.specs.Reading.{create_at, call_at}
+use Rattle.csi_frames.specs.Reading.{create_at, id_alone_at, id_and_text_at, stage_at, publish_at, call_at}
 use Rattle.csi_frames.proofs.Readers.{Agrees, Then, then, in_words}
 use Rattle.csi_frames.proofs.FieldReaders.{IsByte, byte_agrees}
 use Rattle.csi_frames.proofs.Says.{After, Made, after, makes, Always}
@@ -223,7 +223,7 @@ node_publish-back _ bytes s = absurd (cc s.of_kind)
 -- each kind
 
 pub call_agrees : (kind : Kind) → Agrees (call_at kind) (SaysCall kind) (call_grammar kind) (λ _. End)
-unfolding call_at call_grammar
+unfolding call_at id_alone_at id_and_text_at stage_at publish_at call_grammar
 call_agrees kinds.CreateVolume = create_agrees
 call_agrees kinds.DeleteVolume =
     in_words (SaysCall kinds.DeleteVolume) delete-there delete-back (makes (λ id. calls.DeleteVolume id) (λ _. End) (id_agrees (λ _. End)))

@@ -111,38 +111,42 @@ create_at = do
   capabilities ← capabilities_at count
   give (calls.CreateVolume name required limit capabilities)
 
-unfoldable pub call_at : Kind → Reader Call
-call_at kinds.CreateVolume = create_at
-call_at kinds.DeleteVolume = do
+-- the fields of the other calls: an id; an id and a text, of a node or a target; an id and how the volume is to be used;
+-- and all of these
+unfoldable pub id_alone_at : (ℕ → Call) → Reader Call
+id_alone_at make = do
   id ← id_at
-  give (calls.DeleteVolume id)
-call_at kinds.ControllerPublishVolume = do
+  give (make id)
+
+unfoldable pub id_and_text_at : (ℕ → List ℕ → Call) → Reader Call
+id_and_text_at make = do
   id ← id_at
-  node ← text_at 1 255
-  capability ← capability_at
-  readonly ← flag_at
-  give (calls.ControllerPublishVolume id node capability readonly)
-call_at kinds.ControllerUnpublishVolume = do
-  id ← id_at
-  node ← text_at 1 255
-  give (calls.ControllerUnpublishVolume id node)
-call_at kinds.NodeStageVolume = do
+  text ← text_at 1 255
+  give (make id text)
+
+unfoldable pub stage_at : Reader Call
+stage_at = do
   id ← id_at
   capability ← capability_at
   give (calls.NodeStageVolume id capability)
-call_at kinds.NodeUnstageVolume = do
+
+unfoldable pub publish_at : (ℕ → List ℕ → Capability → Bool → Call) → Reader Call
+publish_at make = do
   id ← id_at
-  give (calls.NodeUnstageVolume id)
-call_at kinds.NodePublishVolume = do
-  id ← id_at
-  target ← text_at 1 255
+  text ← text_at 1 255
   capability ← capability_at
   readonly ← flag_at
-  give (calls.NodePublishVolume id target capability readonly)
-call_at kinds.NodeUnpublishVolume = do
-  id ← id_at
-  target ← text_at 1 255
-  give (calls.NodeUnpublishVolume id target)
+  give (make id text capability readonly)
+
+unfoldable pub call_at : Kind → Reader Call
+call_at kinds.CreateVolume = create_at
+call_at kinds.DeleteVolume = id_alone_at (λ id. calls.DeleteVolume id)
+call_at kinds.ControllerPublishVolume = publish_at (λ id node capability readonly. calls.ControllerPublishVolume id node capability readonly)
+call_at kinds.ControllerUnpublishVolume = id_and_text_at (λ id node. calls.ControllerUnpublishVolume id node)
+call_at kinds.NodeStageVolume = stage_at
+call_at kinds.NodeUnstageVolume = id_alone_at (λ id. calls.NodeUnstageVolume id)
+call_at kinds.NodePublishVolume = publish_at (λ id target capability readonly. calls.NodePublishVolume id target capability readonly)
+call_at kinds.NodeUnpublishVolume = id_and_text_at (λ id target. calls.NodeUnpublishVolume id target)
 
 -- 0 stands for no id
 abbrev pub reply_id_of : ℕ → Option ℕ

@@ -73,7 +73,7 @@ fn create_at<'a>(fields: &mut Fields<'a>) -> Result<CallRef<'a>, Stop>
     })
 }
 
-#[tactic(auto, unfolding(crate::specs::Reading::call_at))]
+#[tactic(auto, unfolding(crate::specs::Reading::call_at, crate::specs::Reading::id_alone_at, crate::specs::Reading::id_and_text_at, crate::specs::Reading::stage_at, crate::specs::Reading::publish_at))]
 pub(crate) fn call_at<'a>(fields: &mut Fields<'a>, kind: Kind) -> Result<CallRef<'a>, Stop>
     ensures { Gives owned_call result fields.new (call_at kind fields.old.bytes.now) }
 {
