@@ -9,8 +9,13 @@ use Rattle.csi_types.specs.declared.capability.Access.{Access}
 use Rattle.csi_types.specs.declared.capability.Access.TheVariants.{Block, Mount}
 use Rattle.csi_types.specs.declared.capability.Capability.{Capability}
 use Rattle.csi_types.specs.declared.holding.Holding.{Holding}
+use Rattle.csi_types.specs.declared.number.Number.{Number}
+use Rattle.csi_types.specs.declared.call.Kind.{Kind}
+use Rattle.csi_types.specs.declared.call.Kind.TheVariants as kinds
+use Rattle.csi_types.specs.declared.call.Party.{Party}
+use Rattle.csi_types.specs.declared.call.Party.TheVariants.{Controller, Node}
 use Rattle.csi_types.specs.Mode.{mode_number}
-use Rattle.csi_types.specs.Same.{same_text, same_flag, same_access, same_capability}
+use Rattle.csi_types.specs.Same.{same_text, same_flag, same_access, same_capability, same_number, kind_number, same_kind, same_party}
 use Rattle.csi_types.specs.Holding.{same_holding}
 
 pub same_text-tells : (a b : List ℕ) → IsTrue (same_text a b) ↔ (a ≡ b)
@@ -76,3 +81,47 @@ same_holding-self a =
 pub same_holding-tells : (a b : Holding) → IsTrue (same_holding a b) ↔ (a ≡ b)
 same_holding-tells a b =
     (same_holding-then a b, λ e. subst (λ x. same_holding a x ≡ true) e (same_holding-self a))
+
+same_number-then : (a b : Number) → same_number a b ≡ true → a ≡ b
+same_number-then a b h =
+    let parts = and_parts (a.session == b.session) (a.call == b.call) h in
+    let session = eqb-true a.session b.session parts.0 in
+    let call = eqb-true a.call b.call parts.1 in
+    λ i. record { session = session i; call = call i }
+
+same_number-self : (a : Number) → same_number a a ≡ true
+same_number-self a =
+    and_from (a.session == a.session) (a.call == a.call) (eq-eqb a.session a.session refl) (eq-eqb a.call a.call refl)
+
+pub same_number-tells : (a b : Number) → IsTrue (same_number a b) ↔ (a ≡ b)
+same_number-tells a b =
+    (same_number-then a b, λ e. subst (λ x. same_number a x ≡ true) e (same_number-self a))
+
+kind_number-then : (a b : Kind) → kind_number a ≡ kind_number b → a ≡ b
+kind_number-then kinds.CreateVolume kinds.CreateVolume h = refl
+kind_number-then kinds.DeleteVolume kinds.DeleteVolume h = refl
+kind_number-then kinds.ControllerPublishVolume kinds.ControllerPublishVolume h = refl
+kind_number-then kinds.ControllerUnpublishVolume kinds.ControllerUnpublishVolume h = refl
+kind_number-then kinds.NodeStageVolume kinds.NodeStageVolume h = refl
+kind_number-then kinds.NodeUnstageVolume kinds.NodeUnstageVolume h = refl
+kind_number-then kinds.NodePublishVolume kinds.NodePublishVolume h = refl
+kind_number-then kinds.NodeUnpublishVolume kinds.NodeUnpublishVolume h = refl
+kind_number-then a b h = cc
+
+pub same_kind-tells : (a b : Kind) → IsTrue (same_kind a b) ↔ (a ≡ b)
+same_kind-tells a b =
+    (λ h. kind_number-then a b (eqb-true (kind_number a) (kind_number b) h), λ e. eq-eqb (kind_number a) (kind_number b) (ap kind_number e))
+
+same_party-then : (a b : Party) → same_party a b ≡ true → a ≡ b
+same_party-then Controller Controller h = refl
+same_party-then Controller (Node id) h = absurd (false≢true h)
+same_party-then (Node id) Controller h = absurd (false≢true h)
+same_party-then (Node id) (Node other) h = ap Node ((same_text-tells id other).0 h)
+
+same_party-self : (a : Party) → same_party a a ≡ true
+same_party-self Controller = refl
+same_party-self (Node id) = (same_text-tells id id).1 refl
+
+pub same_party-tells : (a b : Party) → IsTrue (same_party a b) ↔ (a ≡ b)
+same_party-tells a b =
+    (same_party-then a b, λ e. subst (λ x. same_party a x ≡ true) e (same_party-self a))

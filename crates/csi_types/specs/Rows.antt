@@ -3,12 +3,14 @@ use Rattle.std.specs.Prelude.{◌≡◌, ◌↔◌, ℕ, true, false, List, IsTr
 use Rattle.csi_types.specs.declared.number.Number.{Number}
 use Rattle.csi_types.specs.declared.capability.Capability.{Capability}
 use Rattle.csi_types.specs.declared.holding.Holding.{Holding}
+use Rattle.csi_types.specs.declared.call.Kind.{Kind}
+use Rattle.csi_types.specs.declared.call.Party.{Party}
 use Rattle.csi_types.specs.declared.status.Status.TheVariants.{InvalidArgument, OutOfRange}
 use Rattle.csi_types.specs.declared.fence.Verdict.TheVariants.{Stale, Repeated, Fresh}
 use Rattle.csi_types.specs.Capacity.{grant_of}
 use Rattle.csi_types.specs.Number.{is_before}
 use Rattle.csi_types.specs.Fence.{verdict_of}
-use Rattle.csi_types.specs.Same.{same_text, same_capability}
+use Rattle.csi_types.specs.Same.{same_text, same_capability, same_number, same_kind, same_party}
 use Rattle.csi_types.specs.Holding.{same_holding}
 
 -- the call of this number in this session
@@ -41,4 +43,7 @@ pub record VerdictRows : Type 0 where
 pub record TestsTellEquality : Type 0 where
   pub texts : (a b : List ℕ) → IsTrue (same_text a b) ↔ (a ≡ b)
   pub capabilities : (a b : Capability) → IsTrue (same_capability a b) ↔ (a ≡ b)
+  pub numbers : (a b : Number) → IsTrue (same_number a b) ↔ (a ≡ b)
+  pub kinds : (a b : Kind) → IsTrue (same_kind a b) ↔ (a ≡ b)
+  pub parties : (a b : Party) → IsTrue (same_party a b) ↔ (a ≡ b)
   pub holdings : (a b : Holding) → IsTrue (same_holding a b) ↔ (a ≡ b)

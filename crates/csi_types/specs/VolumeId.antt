@@ -1,4 +1,4 @@
--- What numbers are a volume's id: 1 to 2^64 - 1.
+-- What numbers are a volume's id: 1 to 2^64 - 1. This profile's own: CSI's ids are any text.
 use Rattle.std.specs.Prelude.{ℕ, ◌<◌, ◌^◌}
 
 pub record IsVolumeId (number : ℕ) : Type 0 where

@@ -7,14 +7,14 @@ use std::alloc::Global;
 use std::marker::Model;
 use thiserror::Error;
 
-/// A node at which volumes can be published, and how many it takes.
+/// A node at which volumes can be published, and how many it takes at once (this profile's own).
 #[derive(Clone, Debug, PartialEq, Eq, Drop)]
 pub struct NodeSlots {
     pub id: NodeId,
     pub slots: u64,
 }
 
-/// What is wrong with a configuration: the first of these that holds.
+/// What is wrong with a configuration: the first of these that holds (this profile's own).
 #[derive(Clone, Copy, Debug, PartialEq, Eq, Error)]
 pub enum ConfigFault {
     /// The greatest capacity is 0 or above 2^63 - 1.
@@ -54,6 +54,12 @@ impl Model for Config {
 }
 
 impl Config {
+    /// The most nodes that a configuration has.
+    pub const MAX_NODES: usize = 64;
+
+    /// The most slots that a node of a configuration has.
+    pub const MAX_SLOTS: u64 = 4096;
+
     /// A configuration with this greatest capacity in bytes and these nodes, or the first fault that it
     /// has. It takes no memory today, and so doesn't answer `NoMemory`.
     pub fn try_new(
@@ -68,7 +74,7 @@ impl Config {
         if greatest == 0 || greatest > crate::capacity::MAX_CAPACITY {
             return Err(ConfigFault::BadGreatest);
         }
-        if nodes.len() > 64 {
+        if nodes.len() > Config::MAX_NODES {
             return Err(ConfigFault::TooManyNodes);
         }
         if has_same_node(&nodes) {
@@ -118,5 +124,5 @@ fn has_same_node(nodes: &[NodeSlots]) -> bool
 fn has_bad_slots(nodes: &[NodeSlots]) -> bool
     ensures { result ≡ slots_exceeded nodes.now }
 {
-    nodes.iter().any(|node| node.slots > 4096)
+    nodes.iter().any(|node| node.slots > Config::MAX_SLOTS)
 }

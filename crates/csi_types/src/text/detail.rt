@@ -1,4 +1,4 @@
-//! A file system's type.
+//! What a reply says beside its status.
 ghost use Rattle.std.specs.Prelude.{◌≡◌, ◌<◌, ◌≤◌, ◌↔◌, [], length, IfOk, IsOk, IsErrOf, nat_eq};
 ghost use Rattle.std.specs.Cmp.Lexicographic.{pointwise, nat_list_eq_equiv};
 ghost use Rattle.std.specs.Cmp.{partial_equiv_from_equiv};
@@ -8,8 +8,8 @@ use super::{TextFault, copied};
 use std::alloc::Global;
 use std::marker::Model;
 
-/// The type of the file system that a mounted volume has: at most 255 bytes of UTF-8. An empty one
-/// leaves the choice to the plugin (`MountVolume.detail` of CSI's spec.md, "CreateVolume").
+/// What a reply says beside its status: at most 255 bytes of UTF-8, empty where the status says all
+/// (this profile's own; CSI leaves a human-readable message to the RPC library).
 #[derive(Clone, Debug, Drop)]
 pub struct Detail {
     text: String,
@@ -31,7 +31,8 @@ impl Detail {
     /// The most bytes that a detail has.
     pub const MAX_LEN: usize = 255;
 
-    /// A detail with this text. An empty one takes no memory. `Empty` is never answered.
+    /// A detail with this text: `TooLong` where it has more than 255 bytes, `NoMemory` where a growth is
+    /// refused. `Empty` is never answered, and an empty text takes no memory.
     pub fn try_new(alloc: Global, text: &str) -> Result<Detail, TextFault>
         ensures ok { IfOk result (λ detail. detail ≡ text.now) }
         ensures never_empty { IsErrOf result TextFault.Empty → ⊥ }

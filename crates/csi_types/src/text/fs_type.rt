@@ -31,7 +31,8 @@ impl FsType {
     /// The most bytes that an fs type has.
     pub const MAX_LEN: usize = 128;
 
-    /// An fs type with this text. An empty one takes no memory. `Empty` is never answered.
+    /// An fs type with this text: `TooLong` where it has more than 128 bytes, `NoMemory` where a growth is
+    /// refused. `Empty` is never answered, and an empty text takes no memory.
     pub fn try_new(alloc: Global, text: &str) -> Result<FsType, TextFault>
         ensures ok { IfOk result (λ fs_type. fs_type ≡ text.now) }
         ensures never_empty { IsErrOf result TextFault.Empty → ⊥ }

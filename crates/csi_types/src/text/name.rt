@@ -31,7 +31,8 @@ impl Name {
     /// The most bytes that a name has.
     pub const MAX_LEN: usize = 128;
 
-    /// A name with this text.
+    /// A name with this text: `Empty` where it has no bytes, `TooLong` where it has more than 128, and
+    /// `NoMemory` where a growth is refused.
     pub fn try_new(alloc: Global, text: &str) -> Result<Name, TextFault>
         ensures ok { IfOk result (λ name. name ≡ text.now) }
         ensures empty { IsErrOf result TextFault.Empty ↔ (text.now ≡ []) }

@@ -31,7 +31,8 @@ impl NodeId {
     /// The most bytes that a node id has.
     pub const MAX_LEN: usize = 255;
 
-    /// A node id with this text.
+    /// A node id with this text: `Empty` where it has no bytes, `TooLong` where it has more than 255, and
+    /// `NoMemory` where a growth is refused.
     pub fn try_new(alloc: Global, text: &str) -> Result<NodeId, TextFault>
         ensures ok { IfOk result (λ node_id. node_id ≡ text.now) }
         ensures empty { IsErrOf result TextFault.Empty ↔ (text.now ≡ []) }

@@ -31,7 +31,8 @@ impl Target {
     /// The most bytes that a target has.
     pub const MAX_LEN: usize = 255;
 
-    /// A target with this text.
+    /// A target with this text: `Empty` where it has no bytes, `TooLong` where it has more than 255, and
+    /// `NoMemory` where a growth is refused.
     pub fn try_new(alloc: Global, text: &str) -> Result<Target, TextFault>
         ensures ok { IfOk result (λ target. target ≡ text.now) }
         ensures empty { IsErrOf result TextFault.Empty ↔ (text.now ≡ []) }
