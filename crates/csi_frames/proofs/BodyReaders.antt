@@ -24,6 +24,7 @@ use Rattle.csi_frames.specs.Reading.{head_at, number_at, party_at, fields_at, fr
 use Rattle.csi_frames.proofs.Readers.{Agrees, Then, then, Given, gives, in_words, Either, either}
 use Rattle.csi_frames.proofs.FieldReaders.{IsByte, byte_agrees}
 use Rattle.csi_frames.proofs.Says.{Spelled, After, Made, after, makes, Always, code_agrees}
+use Rattle.csi_types.specs.Same.{kind_number}
 use Rattle.csi_frames.proofs.Codes.{body_kind_number, body_kind_code}
 use Rattle.csi_frames.proofs.CapabilityReaders.{any_word_agrees, any_text_agrees}
 use Rattle.csi_frames.proofs.CallReaders.{SaysCall, call_agrees, join2}
@@ -214,10 +215,10 @@ allowed-there (body_kinds.Reply kind) party (bodies.Call call) p e = absurd e
 allowed-there (body_kinds.Reply kind) party (bodies.Reply k reply) p e = rw e.0 (p, e.1)
 
 number-there-of : (kind : BodyKind) (body : Body) → IsBodyOf kind body → body_kind_number kind ≡ spelling.body_kind body
-number-there-of (body_kinds.Call kind) (bodies.Call call) e = ap spelling.kind_number (sym e)
+number-there-of (body_kinds.Call kind) (bodies.Call call) e = ap kind_number (sym e)
 number-there-of (body_kinds.Call kind) (bodies.Reply k reply) e = absurd e
 number-there-of (body_kinds.Reply kind) (bodies.Call call) e = absurd e
-number-there-of (body_kinds.Reply kind) (bodies.Reply k reply) e = ap (λ (k : Kind). 128 + spelling.kind_number k) (sym e.0)
+number-there-of (body_kinds.Reply kind) (bodies.Reply k reply) e = ap (λ (k : Kind). 128 + kind_number k) (sym e.0)
 
 frame-there : (value : Frame) (bytes : List ℕ) → WasFrame value bytes → Spelled IsFrame spelling.frame_body value bytes
 unfolding spelling.frame_body

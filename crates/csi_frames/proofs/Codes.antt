@@ -14,7 +14,7 @@ use Rattle.csi_frames.specs.declared.body_kind.BodyKind.{BodyKind}
 use Rattle.csi_frames.specs.declared.body_kind.BodyKind.TheVariants.{Call, Reply}
 use Rattle.csi_frames.specs.Codes.{is_mode, mode_of, is_status, status_of, kind_from_number, is_body_kind, body_kind_of}
 use Rattle.csi_frames.specs.Grammar.{at_most}
-use Rattle.csi_frames.specs.Spelling.{kind_number}
+use Rattle.csi_types.specs.Same.{kind_number}
 use Rattle.csi_frames.proofs.Says.{IsCode}
 
 mode-back : (b : ℕ) → is_mode b ≡ true → mode_number (mode_of b) ≡ b

@@ -6,8 +6,6 @@ use Rattle.byteorder.specs.Endian.{big_bytes}
 use Rattle.csi_types.specs.declared.capability.Access.{Access}
 use Rattle.csi_types.specs.declared.capability.Access.TheVariants.{Block, Mount}
 use Rattle.csi_types.specs.declared.capability.Capability.{Capability}
-use Rattle.csi_types.specs.declared.call.Kind.{Kind}
-use Rattle.csi_types.specs.declared.call.Kind.TheVariants as kinds
 use Rattle.csi_types.specs.declared.call.Party.{Party}
 use Rattle.csi_types.specs.declared.call.Party.TheVariants.{Controller, Node}
 use Rattle.csi_types.specs.declared.call.Call.{Call}
@@ -18,6 +16,7 @@ use Rattle.csi_types.specs.declared.frame.Body.TheVariants as bodies
 use Rattle.csi_types.specs.Mode.{mode_number}
 use Rattle.csi_types.specs.Status.{status_code}
 use Rattle.csi_types.specs.Call.{kind_of}
+use Rattle.csi_types.specs.Same.{kind_number}
 use Rattle.csi_types.specs.Frame.{Frame}
 use Rattle.csi_types.specs.Limits.{IsFrame}
 
@@ -48,16 +47,6 @@ party (Node id) = 1 ∷ text id
 abbrev pub reply_id : Option ℕ → List ℕ
 reply_id None = word 0
 reply_id (Some id) = word id
-
-abbrev pub kind_number : Kind → ℕ
-kind_number kinds.CreateVolume = 1
-kind_number kinds.DeleteVolume = 2
-kind_number kinds.ControllerPublishVolume = 3
-kind_number kinds.ControllerUnpublishVolume = 4
-kind_number kinds.NodeStageVolume = 5
-kind_number kinds.NodeUnstageVolume = 6
-kind_number kinds.NodePublishVolume = 7
-kind_number kinds.NodeUnpublishVolume = 8
 
 -- a call has its kind's number, and a reply that number and 128
 abbrev pub body_kind : Body → ℕ

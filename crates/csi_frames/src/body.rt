@@ -10,7 +10,7 @@ use crate::calls::{call_at, reply_at};
 use crate::fault::{FaultKind, FrameFault};
 use crate::fields::{Fields, Stop};
 use byteorder::{BigEndian, ByteOrder};
-use csi_types::Number;
+use csi_types::{NodeId, Number};
 
 // The version, which is 1, and the kind.
 #[tactic(auto, unfolding(crate::specs::Reading::byte_at, crate::specs::Reading::head_at))]
@@ -18,11 +18,11 @@ fn head_at(fields: &mut Fields<'_>) -> Result<BodyKind, Stop>
     ensures { Gives (λ kind. kind) result fields.new (head_at fields.old.bytes.now) }
 {
     let bad_version = fields.stop(FaultKind::BadVersion);
-    if fields.byte(255, FaultKind::BadVersion)? != 1 {
+    if fields.any_byte()? != 1 {
         return Err(bad_version);
     }
     let bad_kind = fields.stop(FaultKind::BadKind);
-    let byte = fields.byte(255, FaultKind::BadKind)?;
+    let byte = fields.any_byte()?;
     BodyKind::from_number(byte).ok_or(bad_kind)
 }
 
@@ -41,14 +41,14 @@ fn party_at<'a>(fields: &mut Fields<'a>, kind: BodyKind) -> Result<PartyRef<'a>,
     ensures { Gives owned_party result fields.new (party_at kind fields.old.bytes.now) }
 {
     let bad = fields.stop(FaultKind::BadParty);
-    let byte = fields.byte(255, FaultKind::BadParty)?;
+    let byte = fields.any_byte()?;
     if byte != kind.party_number() {
         return Err(bad);
     }
     if byte == 0 {
         return Ok(PartyRef::Controller);
     }
-    let id = fields.text(1, 255)?;
+    let id = fields.text(1, NodeId::MAX_LEN)?;
     Ok(PartyRef::Node(id))
 }
 

@@ -2,7 +2,7 @@
 ghost use Rattle.std.specs.Prelude.{◌≡◌};
 ghost use Rattle.csi_frames.specs.Codes.{body_kind_from_number, kind_from_number, kind_in};
 ghost use Rattle.csi_frames.specs.Grammar.{party_number};
-ghost use Rattle.csi_frames.specs.Spelling.{kind_number};
+ghost use Rattle.csi_types.specs.Same.{kind_number};
 
 use csi_types::Kind;
 

@@ -15,6 +15,7 @@ pub(crate) struct CapabilityRef<'a> {
     pub mode: Mode,
 }
 
+// For the places of an `ArrayVec` that no capability has been put in; nothing reads one.
 impl Default for CapabilityRef<'_> {
     fn default() -> Self {
         CapabilityRef {

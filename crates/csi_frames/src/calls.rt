@@ -8,7 +8,7 @@ use crate::borrowed::{AccessRef, CallRef, CapabilityRef, ReplyRef};
 use crate::fault::FaultKind;
 use crate::fields::{Fields, Stop};
 use arrayvec::ArrayVec;
-use csi_types::{Kind, Mode, Status, VolumeId};
+use csi_types::{Detail, FsType, Kind, Mode, Name, NodeId, Status, Target, VolumeId};
 
 #[tactic(auto, unfolding(crate::specs::Reading::access_at))]
 fn access_at<'a>(fields: &mut Fields<'a>) -> Result<AccessRef<'a>, Stop>
@@ -18,7 +18,7 @@ fn access_at<'a>(fields: &mut Fields<'a>) -> Result<AccessRef<'a>, Stop>
     if byte == 0 {
         return Ok(AccessRef::Block);
     }
-    let fs_type = fields.text(0, 128)?;
+    let fs_type = fields.text(0, FsType::MAX_LEN)?;
     Ok(AccessRef::Mount(fs_type))
 }
 
@@ -27,7 +27,7 @@ fn mode_at(fields: &mut Fields<'_>) -> Result<Mode, Stop>
     ensures { Gives (λ mode. mode) result fields.new (mode_at fields.old.bytes.now) }
 {
     let bad = fields.stop(FaultKind::BadMode);
-    let byte = fields.byte(255, FaultKind::BadMode)?;
+    let byte = fields.any_byte()?;
     Mode::from_number(byte).ok_or(bad)
 }
 
@@ -60,7 +60,7 @@ fn capabilities_at<'a>(
 fn create_at<'a>(fields: &mut Fields<'a>) -> Result<CallRef<'a>, Stop>
     ensures { Gives owned_call result fields.new (create_at fields.old.bytes.now) }
 {
-    let name = fields.text(1, 128)?;
+    let name = fields.text(1, Name::MAX_LEN)?;
     let required = fields.word()?;
     let limit = fields.word()?;
     let count = fields.byte(8, FaultKind::BadCount)?;
@@ -73,7 +73,39 @@ fn create_at<'a>(fields: &mut Fields<'a>) -> Result<CallRef<'a>, Stop>
     })
 }
 
-#[tactic(auto, unfolding(crate::specs::Reading::call_at, crate::specs::Reading::id_alone_at, crate::specs::Reading::id_and_text_at, crate::specs::Reading::stage_at, crate::specs::Reading::publish_at))]
+#[tactic(auto, unfolding(crate::specs::Reading::call_at, crate::specs::Reading::publish_at))]
+fn controller_publish_at<'a>(fields: &mut Fields<'a>) -> Result<CallRef<'a>, Stop>
+    ensures { Gives owned_call result fields.new (call_at Kind.ControllerPublishVolume fields.old.bytes.now) }
+{
+    let id = fields.id()?;
+    let node = fields.text(1, NodeId::MAX_LEN)?;
+    let capability = capability_at(fields)?;
+    let readonly = fields.flag()?;
+    Ok(CallRef::ControllerPublishVolume {
+        id,
+        node,
+        capability,
+        readonly,
+    })
+}
+
+#[tactic(auto, unfolding(crate::specs::Reading::call_at, crate::specs::Reading::publish_at))]
+fn node_publish_at<'a>(fields: &mut Fields<'a>) -> Result<CallRef<'a>, Stop>
+    ensures { Gives owned_call result fields.new (call_at Kind.NodePublishVolume fields.old.bytes.now) }
+{
+    let id = fields.id()?;
+    let target = fields.text(1, Target::MAX_LEN)?;
+    let capability = capability_at(fields)?;
+    let readonly = fields.flag()?;
+    Ok(CallRef::NodePublishVolume {
+        id,
+        target,
+        capability,
+        readonly,
+    })
+}
+
+#[tactic(auto, unfolding(crate::specs::Reading::call_at, crate::specs::Reading::id_alone_at, crate::specs::Reading::id_and_text_at, crate::specs::Reading::stage_at))]
 pub(crate) fn call_at<'a>(fields: &mut Fields<'a>, kind: Kind) -> Result<CallRef<'a>, Stop>
     ensures { Gives owned_call result fields.new (call_at kind fields.old.bytes.now) }
 {
@@ -83,21 +115,10 @@ pub(crate) fn call_at<'a>(fields: &mut Fields<'a>, kind: Kind) -> Result<CallRef
             let id = fields.id()?;
             Ok(CallRef::DeleteVolume { id })
         }
-        Kind::ControllerPublishVolume => {
-            let id = fields.id()?;
-            let node = fields.text(1, 255)?;
-            let capability = capability_at(fields)?;
-            let readonly = fields.flag()?;
-            Ok(CallRef::ControllerPublishVolume {
-                id,
-                node,
-                capability,
-                readonly,
-            })
-        }
+        Kind::ControllerPublishVolume => controller_publish_at(fields),
         Kind::ControllerUnpublishVolume => {
             let id = fields.id()?;
-            let node = fields.text(1, 255)?;
+            let node = fields.text(1, NodeId::MAX_LEN)?;
             Ok(CallRef::ControllerUnpublishVolume { id, node })
         }
         Kind::NodeStageVolume => {
@@ -109,21 +130,10 @@ pub(crate) fn call_at<'a>(fields: &mut Fields<'a>, kind: Kind) -> Result<CallRef
             let id = fields.id()?;
             Ok(CallRef::NodeUnstageVolume { id })
         }
-        Kind::NodePublishVolume => {
-            let id = fields.id()?;
-            let target = fields.text(1, 255)?;
-            let capability = capability_at(fields)?;
-            let readonly = fields.flag()?;
-            Ok(CallRef::NodePublishVolume {
-                id,
-                target,
-                capability,
-                readonly,
-            })
-        }
+        Kind::NodePublishVolume => node_publish_at(fields),
         Kind::NodeUnpublishVolume => {
             let id = fields.id()?;
-            let target = fields.text(1, 255)?;
+            let target = fields.text(1, Target::MAX_LEN)?;
             Ok(CallRef::NodeUnpublishVolume { id, target })
         }
     }
@@ -134,7 +144,7 @@ fn status_at(fields: &mut Fields<'_>) -> Result<Status, Stop>
     ensures { Gives (λ status. status) result fields.new (status_at fields.old.bytes.now) }
 {
     let bad = fields.stop(FaultKind::BadStatus);
-    let byte = fields.byte(255, FaultKind::BadStatus)?;
+    let byte = fields.any_byte()?;
     Status::from_code(byte).ok_or(bad)
 }
 
@@ -163,6 +173,6 @@ pub(crate) fn reply_at<'a>(fields: &mut Fields<'a>, kind: Kind) -> Result<ReplyR
 {
     let status = status_at(fields)?;
     let id = reply_id_at(fields, kind, status)?;
-    let detail = fields.text(0, 255)?;
+    let detail = fields.text(0, Detail::MAX_LEN)?;
     Ok(ReplyRef { status, id, detail })
 }

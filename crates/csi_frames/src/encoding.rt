@@ -45,7 +45,15 @@ fn put_text(out: &mut Vec<u8>, from: &str)
     put(out, from.as_bytes());
 }
 
-// ---- how many bytes there are to be
+// ---- how many bytes there are to be: 8 for each number, 1 for each byte
+
+fn text_len(from: &str) -> usize
+    requires { length from.now ≤ 255 }
+    ensures len { result ≡ length (text from.now) }
+    ensures small { result ≤ 256 }
+{
+    1 + from.len()
+}
 
 fn access_len(from: &Access) -> usize
     ensures len { result ≡ length (access from.now) }
@@ -53,7 +61,7 @@ fn access_len(from: &Access) -> usize
 {
     match from {
         Access::Block => 1,
-        Access::Mount(fs_type) => 2 + fs_type.as_str().len(),
+        Access::Mount(fs_type) => 1 + text_len(fs_type.as_str()),
     }
 }
 
@@ -85,21 +93,21 @@ fn call_len(from: &Call) -> usize
             name,
             capabilities,
             ..
-        } => 18 + name.as_str().len() + capabilities_len(capabilities.as_slice()),
+        } => text_len(name.as_str()) + 8 + 8 + 1 + capabilities_len(capabilities.as_slice()),
         Call::DeleteVolume { .. } | Call::NodeUnstageVolume { .. } => 8,
         Call::ControllerPublishVolume {
             node,
             capability,
             ..
-        } => 10 + node.as_str().len() + capability_len(capability),
-        Call::ControllerUnpublishVolume { node, .. } => 9 + node.as_str().len(),
+        } => 8 + text_len(node.as_str()) + capability_len(capability) + 1,
+        Call::ControllerUnpublishVolume { node, .. } => 8 + text_len(node.as_str()),
         Call::NodeStageVolume { capability, .. } => 8 + capability_len(capability),
         Call::NodePublishVolume {
             target,
             capability,
             ..
-        } => 10 + target.as_str().len() + capability_len(capability),
-        Call::NodeUnpublishVolume { target, .. } => 9 + target.as_str().len(),
+        } => 8 + text_len(target.as_str()) + capability_len(capability) + 1,
+        Call::NodeUnpublishVolume { target, .. } => 8 + text_len(target.as_str()),
     }
 }
 
@@ -109,7 +117,7 @@ fn body_len(from: &Body) -> usize
 {
     match from {
         Body::Call(call) => call_len(call),
-        Body::Reply(_, reply) => 10 + reply.detail.as_str().len(),
+        Body::Reply(_, reply) => 1 + 8 + text_len(reply.detail.as_str()),
     }
 }
 
@@ -119,7 +127,7 @@ fn party_len(from: &Party) -> usize
 {
     match from {
         Party::Controller => 1,
-        Party::Node(id) => 2 + id.as_str().len(),
+        Party::Node(id) => 1 + text_len(id.as_str()),
     }
 }
 
@@ -174,6 +182,20 @@ fn put_id(out: &mut Vec<u8>, id: VolumeId)
     put_word(out, id.number());
 }
 
+// A volume, the node or the target that it goes to, and how it is to be used there.
+fn put_publish(out: &mut Vec<u8>, id: VolumeId, to: &str, usage: &Capability, readonly: bool)
+    requires short { length to.now ≤ 255 }
+    requires room { HasRoom out.old (length (word id ++ text to.now ++ capability usage.now ++ flag readonly)) }
+    ensures appends { Appends out.old out.new (word id ++ text to.now ++ capability usage.now ++ flag readonly) }
+    ensures id_fits { IsVolumeId id }
+    ensures usage_fits { IsCapability usage.now }
+{
+    put_id(out, id);
+    put_text(out, to);
+    put_capability(out, usage);
+    put_flag(out, readonly);
+}
+
 fn put_call(out: &mut Vec<u8>, from: &Call)
     requires { HasRoom out.old (length (call_fields from.now)) }
     ensures appends { Appends out.old out.new (call_fields from.now) }
@@ -199,12 +221,7 @@ fn put_call(out: &mut Vec<u8>, from: &Call)
             node,
             capability,
             readonly,
-        } => {
-            put_id(out, *id);
-            put_text(out, node.as_str());
-            put_capability(out, capability);
-            put_flag(out, *readonly);
-        }
+        } => put_publish(out, *id, node.as_str(), capability, *readonly),
         Call::ControllerUnpublishVolume { id, node } => {
             put_id(out, *id);
             put_text(out, node.as_str());
@@ -218,12 +235,7 @@ fn put_call(out: &mut Vec<u8>, from: &Call)
             target,
             capability,
             readonly,
-        } => {
-            put_id(out, *id);
-            put_text(out, target.as_str());
-            put_capability(out, capability);
-            put_flag(out, *readonly);
-        }
+        } => put_publish(out, *id, target.as_str(), capability, *readonly),
         Call::NodeUnpublishVolume { id, target } => {
             put_id(out, *id);
             put_text(out, target.as_str());
@@ -308,7 +320,8 @@ pub fn encode(frame: &Frame, out: &mut Vec<u8>) -> Result<(), NoMemory>
     ensures err { OnErr result (out.new.items ≡ out.old.items) }
     ensures spare { vec_len out.old + length (spelling frame.now) ≤ vec_capacity out.old → IsOk result }
 {
-    let size = 18 + party_len(frame.party()) + body_len(frame.body());
+    // The version, the kind and the two parts of the number come before the party.
+    let size = 1 + 1 + 8 + 8 + party_len(frame.party()) + body_len(frame.body());
     out.reserve(4 + size)?;
     put_frame(out, frame, size as u32);
     Ok(())

@@ -46,8 +46,10 @@ impl FaultKind {
     }
 }
 
-/// The first fault of bytes that don't begin with a frame. The place is that of the field at fault,
-/// counted from the frame's first byte; for `Short` it is the count of all bytes, and for `NoMemory` 0.
+/// The first fault of bytes that don't begin with a frame, and its place, counted from the first byte:
+/// where the field at fault begins; for `TooLong` 0, where the length is; for `Short` the count of all
+/// bytes; for `LengthDiffers` where the field begins that the body has no room for, or the first byte that
+/// no field takes; and for `NoMemory` 0. This profile's own.
 #[derive(Clone, Copy, Debug, PartialEq, Eq, Error)]
 #[error("{kind}, at byte {place}")]
 pub struct FrameFault {

@@ -36,6 +36,18 @@ impl<'a> Fields<'a> {
         }
     }
 
+    /// A byte, whatever it is.
+    #[tactic(auto, unfolding(crate::specs::Reading::byte_at))]
+    pub fn any_byte(&mut self) -> Result<u8, Stop>
+        ensures { Gives (λ n. n) result self.new (byte_at any FaultKind.LengthDiffers self.old.bytes.now) }
+    {
+        let [byte, rest @ ..] = self.bytes else {
+            return Err(self.stop(FaultKind::LengthDiffers));
+        };
+        self.bytes = rest;
+        Ok(*byte)
+    }
+
     /// A byte of at most `most`.
     #[tactic(auto, unfolding(crate::specs::Reading::byte_at))]
     pub fn byte(&mut self, most: u8, fault: FaultKind) -> Result<u8, Stop>

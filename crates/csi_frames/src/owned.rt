@@ -26,30 +26,21 @@ fn name(alloc: Global, text: &str) -> Result<Name, NoMemory>
     requires { IsName text.now }
     ensures { IfOk result (λ name. name ≡ text.now) }
 {
-    match Name::try_new(alloc, text) {
-        Ok(name) => Ok(name),
-        Err(fault) => Err(only_memory(fault)),
-    }
+    Name::try_new(alloc, text).map_err(only_memory)
 }
 
 fn node_id(alloc: Global, text: &str) -> Result<NodeId, NoMemory>
     requires { IsNodeId text.now }
     ensures { IfOk result (λ id. id ≡ text.now) }
 {
-    match NodeId::try_new(alloc, text) {
-        Ok(id) => Ok(id),
-        Err(fault) => Err(only_memory(fault)),
-    }
+    NodeId::try_new(alloc, text).map_err(only_memory)
 }
 
 fn target(alloc: Global, text: &str) -> Result<Target, NoMemory>
     requires { IsTarget text.now }
     ensures { IfOk result (λ target. target ≡ text.now) }
 {
-    match Target::try_new(alloc, text) {
-        Ok(target) => Ok(target),
-        Err(fault) => Err(only_memory(fault)),
-    }
+    Target::try_new(alloc, text).map_err(only_memory)
 }
 
 fn fs_type(alloc: Global, text: &str) -> Result<FsType, NoMemory>
@@ -57,10 +48,7 @@ fn fs_type(alloc: Global, text: &str) -> Result<FsType, NoMemory>
     ensures value { IfOk result (λ fs_type. fs_type ≡ text.now) }
     ensures empty { text.now ≡ [] → IsOk result }
 {
-    match FsType::try_new(alloc, text) {
-        Ok(fs_type) => Ok(fs_type),
-        Err(fault) => Err(only_memory(fault)),
-    }
+    FsType::try_new(alloc, text).map_err(only_memory)
 }
 
 fn detail(alloc: Global, text: &str) -> Result<Detail, NoMemory>
@@ -68,10 +56,7 @@ fn detail(alloc: Global, text: &str) -> Result<Detail, NoMemory>
     ensures value { IfOk result (λ detail. detail ≡ text.now) }
     ensures empty { text.now ≡ [] → IsOk result }
 {
-    match Detail::try_new(alloc, text) {
-        Ok(detail) => Ok(detail),
-        Err(fault) => Err(only_memory(fault)),
-    }
+    Detail::try_new(alloc, text).map_err(only_memory)
 }
 
 fn access(alloc: Global, from: &AccessRef<'_>) -> Result<Access, NoMemory>
