@@ -1,0 +1,4 @@
+pub mod Among
+pub mod NodeSafety
+pub mod ControllerSafety
+pub mod PluginSafety

@@ -1,5 +1,5 @@
 //! Laws of worlds. Each function proves a statement, and does nothing.
-ghost use Rattle.csi_world.specs.Laws.{ChoicesAreSteps, EmptyIsSafe, RunsFollow, PluginsFollow, TableLaw};
+ghost use Rattle.csi_world.specs.Laws.{ChoicesAreSteps, EmptyIsSafe, RunsFollow, PluginSafetyLaw, PluginsFollow, TableLaw};
 
 fn choices_are_steps()
     ensures { ChoicesAreSteps }
@@ -27,3 +27,12 @@ pub fn table_law()
     csi_controller::table_law();
     csi_node::table_law();
 }
+
+/// A law, and nothing that runs: in every world that any orchestrator and any network lead to, two holdings of
+/// one volume are at different nodes, neither of them in a mode for one node, and no two write where one of
+/// their modes has a single writer; what is published at a node is staged there in the same capability; and
+/// what is attached wasn't deleted. It holds whatever calls the orchestrator sends, and whichever frames are
+/// lost, late, repeated or out of order (CSI's spec.md, "CreateVolume", `AccessMode`, and "Volume Lifecycle").
+pub fn safety_law()
+    ensures { PluginSafetyLaw }
+{}

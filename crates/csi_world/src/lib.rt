@@ -7,4 +7,4 @@ mod laws;
 mod rows;
 
 pub use event::{Event, Outcome};
-pub use laws::table_law;
+pub use laws::{safety_law, table_law};
