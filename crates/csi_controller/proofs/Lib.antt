@@ -1,3 +1,4 @@
 pub mod Orderly
 pub mod Facts
 pub mod TableLaw
+pub mod Safety

@@ -1,9 +1,18 @@
 //! The laws of the controller's table.
 ghost use Rattle.csi_controller.specs.Laws.{ControllerTableLaw};
+ghost use Rattle.csi_controller.specs.Safe.{ControllerSafetyLaw};
 
 /// A law, and nothing that runs: in every state that frames lead to, and for every call that the table
 /// answers there, a refusal changes nothing, a success brings about what the call asks, the same call again
 /// is met, and other volumes stay as they are (CSI's spec.md, "CreateVolume" to "ControllerUnpublishVolume").
 pub fn table_law()
     ensures { ControllerTableLaw }
+{}
+
+/// A law, and nothing that runs: in every state that frames lead to, whichever they are, two holdings of one
+/// volume are at different nodes, neither of them in a mode for one node, and no two write where one of their
+/// modes has a single writer; and what is attached wasn't deleted (CSI's spec.md, "CreateVolume",
+/// `AccessMode`, and "Volume Lifecycle").
+pub fn safety_law()
+    ensures { ControllerSafetyLaw }
 {}

@@ -6,5 +6,5 @@ mod laws;
 mod row;
 mod rows;
 
-pub use laws::table_law;
+pub use laws::{safety_law, table_law};
 pub use row::{ControllerRow, NodeHolding};

@@ -4,3 +4,4 @@ pub mod Fenced
 pub mod Shown
 pub mod Laws
 pub mod Rows
+pub mod Safe

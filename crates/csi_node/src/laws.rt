@@ -1,9 +1,17 @@
 //! The laws of the node's table.
 ghost use Rattle.csi_node.specs.Laws.{NodeTableLaw};
+ghost use Rattle.csi_node.specs.Safe.{NodeSafetyLaw};
 
 /// A law, and nothing that runs: in every state that frames lead to, and for every call that the table
 /// answers there, a refusal changes nothing, a success brings about what the call asks, the same call again
 /// is met, and other volumes stay as they are (CSI's spec.md, "NodeStageVolume" to "NodeUnpublishVolume").
 pub fn table_law()
     ensures { NodeTableLaw }
+{}
+
+/// A law, and nothing that runs: in every state that frames lead to, whichever they are, what is published is
+/// staged in the same capability, and a volume in a mode that allows one target is published at one at most
+/// (CSI's spec.md, "Volume Lifecycle", and "NodePublishVolume" on several targets).
+pub fn safety_law()
+    ensures { NodeSafetyLaw }
 {}

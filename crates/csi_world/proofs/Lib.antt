@@ -1,4 +1,1 @@
-pub mod Among
-pub mod NodeSafety
-pub mod ControllerSafety
 pub mod PluginSafety

@@ -1,35 +1,22 @@
 -- What it means that a world is safe: CSI's spec.md, "CreateVolume" (`AccessMode`) for the first clause, and "Volume
 -- Lifecycle" for the others.
-use Rattle.std.specs.Prelude.{◌≡◌, ◌≢◌, ◌⊎◌, ℕ, List, [], ◌∷◌, find, Bool, true, false, ◌&&◌, Option, Some, None, is_some, IsTrue, IsSome}
-use Rattle.std.specs.List.{AllByRecursion}
+use Rattle.std.specs.Prelude.{◌≡◌, ℕ, List, find, Bool, true, false, ◌&&◌, Option, Some, None, is_some, IsSome}
 use Rattle.csi_types.specs.declared.capability.Capability.{Capability}
 use Rattle.csi_types.specs.declared.holding.Holding.{Holding}
+use Rattle.csi_types.specs.Lists.{IsAmong, EachTwo}
 use Rattle.csi_types.specs.Same.{same_text}
-use Rattle.csi_types.specs.Sharing.{is_single_node, is_single_writer, writes}
+use Rattle.csi_controller.specs.Safe.{AreExclusive}
 use Rattle.csi_controller.specs.State.{Volume, ControllerState, volume_named, live_volume, holding_at}
 use Rattle.csi_node.specs.State.{StagedVolume, PublishedVolume, NodeState, staged_of, published_at}
 use Rattle.csi_orchestrator.specs.declared.thing.Thing.{Thing}
 use Rattle.csi_orchestrator.specs.declared.thing.Thing.TheVariants.{Exists, Attached, Staged, Published}
 use Rattle.csi_orchestrator.specs.declared.thing.Known.TheVariants.{Yes, No}
 use Rattle.csi_orchestrator.specs.Readings.{known}
-use Rattle.csi_world.specs.World.{NodeAt, World, IsAmong, node_state}
-
--- each value and each one after it
-abbrev pub EachTwo : {X : Type 0} → (X → X → Type 0) → List X → Type 0
-EachTwo R [] = Unit {0}
-EachTwo R (x ∷ xs) = AllByRecursion (R x) xs × EachTwo R xs
-
--- different nodes, neither in a mode for one node, and two writers only where neither mode has a single one
-pub record AreApart (a b : Holding) : Type 0 where
-  pub nodes : a.node ≢ b.node
-  pub first_shared : is_single_node a.capability.mode ≡ false
-  pub second_shared : is_single_node b.capability.mode ≡ false
-  pub one_writer : IsTrue (is_single_writer a.capability.mode) ⊎ IsTrue (is_single_writer b.capability.mode)
-      → IsTrue (writes a.capability.mode a.readonly) → IsTrue (writes b.capability.mode b.readonly) → ⊥
+use Rattle.csi_world.specs.World.{NodeAt, World, node_state}
 
 -- any two holdings of one volume are apart
 abbrev pub IsExclusive : World → Type 0
-IsExclusive world = EachTwo (λ a b. a.volume ≡ b.volume → AreApart a b) world.controller.holdings
+IsExclusive world = EachTwo AreExclusive world.controller.holdings
 
 -- the volume is attached at the node, with this capability
 pub record IsAttachedAs (world : World) (id : ℕ) (node : List ℕ) (capability : Capability) : Type 0 where

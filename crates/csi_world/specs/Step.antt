@@ -8,6 +8,7 @@ use Rattle.csi_types.specs.declared.reply.Reply.{Reply}
 use Rattle.csi_types.specs.Call.{kind_of}
 use Rattle.csi_types.specs.Config.{Config}
 use Rattle.csi_types.specs.Frame.{Frame}
+use Rattle.csi_types.specs.Lists.{IsAmong}
 use Rattle.csi_types.specs.Replies.{call_frame, reply_frame}
 use Rattle.csi_controller.specs.Fenced as controller
 use Rattle.csi_node.specs.State.{NodeState}
@@ -17,7 +18,7 @@ use Rattle.csi_orchestrator.specs.History.{Goal, Started, Sent, Accepted, Closed
 use Rattle.csi_orchestrator.specs.Readings.{open_call, last_number}
 use Rattle.csi_orchestrator.specs.WellFormed.{IsNext, IsOpen}
 use Rattle.csi_orchestrator.specs.Guards.{MayIssue}
-use Rattle.csi_world.specs.World.{World, IsAmong, node_state, with_node, with_frame, with_history}
+use Rattle.csi_world.specs.World.{World, node_state, with_node, with_frame, with_history}
 
 -- what the orchestrator or a plugin chooses to do: it sends a call, gives one up, takes a reply to one, notes
 -- what is wanted, starts a session; a plugin answers a frame

@@ -1,5 +1,5 @@
 -- A world: an orchestrator, a controller, its nodes, and every frame that was ever sent. This profile's own.
-use Rattle.std.specs.Prelude.{◌≡◌, ◌⊎◌, ℕ, List, [], ◌∷◌, ◌++◌, map, find, Option, Some, None, option_map, if◌then◌else◌}
+use Rattle.std.specs.Prelude.{ℕ, List, [], ◌∷◌, ◌++◌, map, find, Option, Some, None, option_map, if◌then◌else◌}
 use Rattle.csi_types.specs.declared.config.NodeSlots.{NodeSlots}
 use Rattle.csi_types.specs.Config.{Config}
 use Rattle.csi_types.specs.Frame.{Frame}
@@ -28,11 +28,6 @@ new_node node = record { id = node.id; state = empty_node }
 -- nothing was sent, and nobody did anything
 abbrev pub empty_world : Config → World
 empty_world config = record { frames = []; controller = empty_controller; nodes = map new_node config.nodes; history = new_history }
-
--- the value is in the list
-abbrev pub IsAmong : {X : Type 0} → X → List X → Type 0
-IsAmong x [] = ⊥
-IsAmong x (y ∷ ys) = (x ≡ y) ⊎ IsAmong x ys
 
 -- what the node of an id knows, if there is one
 abbrev pub node_state : List ℕ → World → Option NodeState

@@ -5,7 +5,8 @@ use Rattle.std.specs.Prelude.{IsSome}
 use Rattle.csi_controller.specs.State.{live_volume}
 use Rattle.csi_node.specs.State.{StagedVolume, PublishedVolume}
 use Rattle.csi_orchestrator.specs.declared.thing.Known.TheVariants.{Yes, No}
-use Rattle.csi_world.specs.World.{NodeAt, IsAmong}
+use Rattle.csi_types.specs.Lists.{IsAmong}
+use Rattle.csi_world.specs.World.{NodeAt}
 use Rattle.csi_world.specs.Safe.{IsAttachedAs}
 use Rattle.csi_world.specs.Rows.{using, world_of, n1, block}
 use Rattle.csi_world.proofs.rows.use_is_safe.Goals as goal

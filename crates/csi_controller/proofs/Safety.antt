@@ -20,27 +20,20 @@ use Rattle.csi_types.specs.Capacity.{is_bad_range, is_empty_range, wanted}
 use Rattle.csi_types.specs.Config.{Config, has_node}
 use Rattle.csi_types.specs.Fence.{Kept, verdict_of}
 use Rattle.csi_types.specs.Frame.{Frame}
-use Rattle.csi_types.specs.Holding.{same_holding, is_compatible, is_second_writer}
+use Rattle.csi_types.specs.Holding.{same_holding, is_compatible, is_second_writer, AreApart}
 use Rattle.csi_types.specs.Replies.{ok_reply_with}
 use Rattle.csi_types.specs.Same.{same_text, has_capability}
 use Rattle.csi_types.specs.Sharing.{is_single_node, is_multi_node, is_single_writer, writes}
-use Rattle.csi_controller.specs.State.{Volume, ControllerState, volume_named, live_volume, holdings_of, is_held_at, holding_at, is_row_for}
+use Rattle.csi_controller.specs.State.{Volume, ControllerState, empty_controller, volume_named, live_volume, holdings_of, is_held_at, holding_at, is_row_for}
 use Rattle.csi_controller.specs.Table.{Outcome, Change, Stays, Makes, Attaches, refused, met, done, serves, create_named, create, delete_live, delete, is_full, attach, publish_held, publish, unpublish, controller_row, ended, changed}
-use Rattle.csi_controller.specs.Fenced.{kept_in, keep, kept_for, carried_out, judged, fenced_call, fenced_parts, fenced}
-use Rattle.csi_world.specs.World.{IsAmong}
-use Rattle.csi_world.specs.Safe.{EachTwo, AreApart}
-use Rattle.csi_world.proofs.Among.{among-either, among-filter, in_filter, none_passes, none_kept, two-append, two-filter}
-
-abbrev pub AreExclusive : Holding → Holding → Type 0
-AreExclusive a b = a.volume ≡ b.volume → AreApart a b
-
-pub record IsExclusiveState (state : ControllerState) : Type 0 where
-  pub exclusive : EachTwo AreExclusive state.holdings
-  pub live : (h : Holding) → IsAmong h state.holdings → IsSome (live_volume h.volume state)
+use Rattle.csi_controller.specs.Fenced.{kept_in, keep, kept_for, carried_out, judged, fenced_call, fenced_parts, fenced, after_frames}
+use Rattle.csi_types.specs.Lists.{IsAmong}
+use Rattle.csi_controller.specs.Safe.{AreExclusive, IsExclusive}
+use Rattle.csi_types.proofs.Among.{among-either, among-filter, in_filter, none_passes, none_kept, two-append, two-filter}
 
 -- a change keeps that
 abbrev Keeps : ControllerState → Change → Type 0
-Keeps state change = (kept : Kept) → IsExclusiveState state → IsExclusiveState (changed state kept change)
+Keeps state change = (kept : Kept) → IsExclusive state → IsExclusive (changed state kept change)
 
 by_if : (state : ControllerState) (b : Bool) (x y : Outcome) → (b ≡ true → Keeps state x.change) → (b ≡ false → Keeps state y.change) → Keeps state (cond b x y).change
 by_if state true x y f g = f refl
@@ -62,8 +55,8 @@ makes_keeps state name capacity capabilities kept safe =
     let volume : Volume = record { id = state.next_id; name = name; capacity = capacity; capabilities = capabilities; is_live = true; kept = kept } in
     record {
       exclusive = safe.exclusive;
-      live = λ h among. ap is_some (find-append (λ (v : Volume). (v.id == h.volume) && v.is_live) state.volumes volume)
-          ∙ or_else-is_some (live_volume h.volume state) _ (safe.live h among);
+      attached_while_live = λ h among. ap is_some (find-append (λ (v : Volume). (v.id == h.volume) && v.is_live) state.volumes volume)
+          ∙ or_else-is_some (live_volume h.volume state) _ (safe.attached_while_live h among);
     }
 
 create_named_keeps : (config : Config) (state : ControllerState) (name : List ℕ) (required limit : ℕ) (capabilities : List Capability) (o : Option Volume) → Keeps state (create_named config state name required limit capabilities o).change
@@ -112,10 +105,10 @@ delete_live_keeps : (state : ControllerState) (id : ℕ) (held : List Holding) �
 delete_live_keeps state id (first ∷ others) is = stays state
 delete_live_keeps state id [] is = λ kept safe. record {
   exclusive = safe.exclusive;
-  live = λ h among.
+  attached_while_live = λ h among.
       let other : (h.volume == id) ≡ false = none_kept (λ (k : Holding). k.volume == id) state.holdings h is among in
       ap is_some (find-map (λ (v : Volume). (v.id == h.volume) && v.is_live) (ended id) state.volumes (λ v. ended_test id h.volume v other))
-      ∙ is_some-map (ended id) (live_volume h.volume state) ∙ safe.live h among;
+      ∙ is_some-map (ended id) (live_volume h.volume state) ∙ safe.attached_while_live h among;
 }
 
 delete_keeps : (state : ControllerState) (id : ℕ) (o : Option Volume) → Keeps state (delete state id o).change
@@ -188,11 +181,11 @@ attaches_keeps state holding volume live none can kept safe = record {
       let listed = in_filter (λ (h : Holding). h.volume == holding.volume) state.holdings old among of_volume in
       let fits = none_passes (λ (other : Holding). not (is_compatible holding other)) (holdings_of holding.volume state) old can listed in
       apart holding old nodes (not_one (is_compatible holding old) fits));
-  live = λ h among. is_live h safe (among-either state.holdings holding h among);
+  attached_while_live = λ h among. is_live h safe (among-either state.holdings holding h among);
 }
   where
-    is_live : (h : Holding) → IsExclusiveState state → IsAmong h state.holdings ⊎ (h ≡ holding) → IsSome (live_volume h.volume state)
-    is_live h safe (inl there) = safe.live h there
+    is_live : (h : Holding) → IsExclusive state → IsAmong h state.holdings ⊎ (h ≡ holding) → IsSome (live_volume h.volume state)
+    is_live h safe (inl there) = safe.attached_while_live h there
     is_live h safe (inr e) = subst (λ (k : Holding). IsSome (live_volume k.volume state)) (sym e) (ap is_some live)
 
 attach_keeps : (config : Config) (state : ControllerState) (holding : Holding) (volume : Volume) (o : Option Holding) → live_volume holding.volume state ≡ Some volume
@@ -220,7 +213,7 @@ unpublish_keeps : (state : ControllerState) (id : ℕ) (node : List ℕ) (o : Op
 unpublish_keeps state id node None = stays state
 unpublish_keeps state id node (Some held) = λ kept safe. record {
   exclusive = two-filter AreExclusive (λ (h : Holding). not (is_held_at id node h)) state.holdings safe.exclusive;
-  live = λ h among. safe.live h (among-filter (λ (k : Holding). not (is_held_at id node k)) state.holdings h among);
+  attached_while_live = λ h among. safe.attached_while_live h (among-filter (λ (k : Holding). not (is_held_at id node k)) state.holdings h among);
 }
 
 row_keeps : (config : Config) (state : ControllerState) (call : Call) → Keeps state (controller_row config state call).change
@@ -242,29 +235,36 @@ kept_test call kept n volume = by (is_row_for call volume)
     by true = refl
     by false = refl
 
-keep_keeps : (call : Call) (kept : Kept) (state : ControllerState) → IsExclusiveState state → IsExclusiveState (keep call kept state)
+keep_keeps : (call : Call) (kept : Kept) (state : ControllerState) → IsExclusive state → IsExclusive (keep call kept state)
 keep_keeps call kept state safe = record {
   exclusive = safe.exclusive;
-  live = λ h among. ap is_some (find-map (λ (v : Volume). (v.id == h.volume) && v.is_live) (kept_in call kept) state.volumes (kept_test call kept h.volume))
-      ∙ is_some-map (kept_in call kept) (live_volume h.volume state) ∙ safe.live h among;
+  attached_while_live = λ h among. ap is_some (find-map (λ (v : Volume). (v.id == h.volume) && v.is_live) (kept_in call kept) state.volumes (kept_test call kept h.volume))
+      ∙ is_some-map (kept_in call kept) (live_volume h.volume state) ∙ safe.attached_while_live h among;
 }
 
-carried_keeps : (config : Config) (state : ControllerState) (number : Number) (call : Call) → IsExclusiveState state → IsExclusiveState (carried_out state number call (controller_row config state call)).state
+carried_keeps : (config : Config) (state : ControllerState) (number : Number) (call : Call) → IsExclusive state → IsExclusive (carried_out state number call (controller_row config state call)).state
 carried_keeps config state number call safe = keep_keeps call _ (changed state _ (controller_row config state call).change) (row_keeps config state call _ safe)
 
-judged_keeps : (config : Config) (state : ControllerState) (number : Number) (call : Call) (kept : Kept) (verdict : Verdict) → IsExclusiveState state → IsExclusiveState (judged config state number call kept verdict).state
+judged_keeps : (config : Config) (state : ControllerState) (number : Number) (call : Call) (kept : Kept) (verdict : Verdict) → IsExclusive state → IsExclusive (judged config state number call kept verdict).state
 judged_keeps config state number call kept Stale safe = safe
 judged_keeps config state number call kept Repeated safe = safe
 judged_keeps config state number call kept Fresh safe = carried_keeps config state number call safe
 
-call_keeps : (config : Config) (state : ControllerState) (number : Number) (call : Call) (kept : Option Kept) → IsExclusiveState state → IsExclusiveState (fenced_call config state number call kept).state
+call_keeps : (config : Config) (state : ControllerState) (number : Number) (call : Call) (kept : Option Kept) → IsExclusive state → IsExclusive (fenced_call config state number call kept).state
 call_keeps config state number call None safe = carried_keeps config state number call safe
 call_keeps config state number call (Some kept) safe = judged_keeps config state number call kept (verdict_of (Some kept.number) number) safe
 
-parts_keep : (config : Config) (state : ControllerState) (number : Number) (party : Party) (body : Body) → IsExclusiveState state → IsExclusiveState (fenced_parts config state number party body).state
+parts_keep : (config : Config) (state : ControllerState) (number : Number) (party : Party) (body : Body) → IsExclusive state → IsExclusive (fenced_parts config state number party body).state
 parts_keep config state number (Node id) body safe = safe
 parts_keep config state number Controller (bodies.Reply kind reply) safe = safe
 parts_keep config state number Controller (bodies.Call call) safe = call_keeps config state number call (kept_for call state) safe
 
-pub fenced_keeps : (config : Config) (state : ControllerState) (frame : Frame) → IsExclusiveState state → IsExclusiveState (fenced config state frame).state
+pub fenced_keeps : (config : Config) (state : ControllerState) (frame : Frame) → IsExclusive state → IsExclusive (fenced config state frame).state
 fenced_keeps config state frame safe = parts_keep config state frame.number frame.party frame.body safe
+
+pub frames_keep : (config : Config) (state : ControllerState) (frames : List Frame) → IsExclusive state → IsExclusive (after_frames config state frames)
+frames_keep config state [] safe = safe
+frames_keep config state (frame ∷ frames) safe = frames_keep config (fenced config state frame).state frames (fenced_keeps config state frame safe)
+
+pub empty_exclusive : IsExclusive empty_controller
+empty_exclusive = record { exclusive = tt; attached_while_live = λ h among. absurd among }

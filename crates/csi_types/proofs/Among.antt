@@ -1,9 +1,8 @@
 -- What is among a list, after an element was added, changed or taken out.
-use Rattle.std.proofs.Common.{◌≡◌, ◌⊎◌, List, [], ◌∷◌, ◌++◌, Bool, true, false, cond, refl, sym, subst, inl, inr}
+use Rattle.std.proofs.Common.{◌≡◌, ◌⊎◌, List, [], ◌∷◌, ◌++◌, Bool, true, false, cond, refl, sym, ap, ◌∙◌, subst, inl, inr}
 use Rattle.std.specs.Prelude.{Option, Some, None, find, filter}
 use Rattle.std.specs.List.{AllByRecursion}
-use Rattle.csi_world.specs.World.{IsAmong}
-use Rattle.csi_world.specs.Safe.{EachTwo}
+use Rattle.csi_types.specs.Lists.{IsAmong, EachTwo}
 
 pub each_of : {X : Type 0} (P : X → Type 0) (xs : List X) (x : X) → AllByRecursion P xs → IsAmong x xs → P x
 each_of P [] x all among = absurd among
@@ -121,3 +120,19 @@ pub two-filter : {X : Type 0} (R : X → X → Type 0) (p : X → Bool) (xs : Li
 two-filter R p [] two = tt
 two-filter R p (x ∷ xs) two =
     two_cond R (p x) x (filter p xs) (all_of (R x) (filter p xs) (λ z among. each_of (R x) xs z two.0 (among-filter p xs z among))) (two-filter R p xs two.1)
+
+kept_first : {X : Type 0} (p q : X → Bool) (y : X) (rest : List X) (found : Option X) (b : Bool) → q y ≡ b → (p y ≡ true → b ≡ true) → find p rest ≡ found → find p (cond b (y ∷ rest) rest) ≡ cond (p y) (Some y) found
+kept_first p q y rest found true e f h = ap (cond (p y) (Some y)) h
+kept_first p q y rest found false e f h = h ∙ by (p y) f
+  where
+    clash : false ≡ true → ⊥
+    clash h = cc
+
+    by : (t : Bool) → (t ≡ true → false ≡ true) → found ≡ cond t (Some y) found
+    by false g = refl
+    by true g = absurd (clash (g refl))
+
+-- a search finds the same where all that pass it are kept
+pub find-filter : {X : Type 0} (p q : X → Bool) (xs : List X) → ((x : X) → p x ≡ true → q x ≡ true) → find p (filter q xs) ≡ find p xs
+find-filter p q [] f = refl
+find-filter p q (y ∷ ys) f = kept_first p q y (filter q ys) (find p ys) (q y) refl (f y) (find-filter p q ys f)

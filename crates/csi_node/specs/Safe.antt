@@ -1,0 +1,22 @@
+-- What a node keeps by itself, whatever frames come: CSI's spec.md, "Volume Lifecycle", and "NodePublishVolume" on
+-- several targets.
+use Rattle.std.specs.Prelude.{◌≡◌, ℕ, false, List, Some}
+use Rattle.csi_types.specs.Frame.{Frame}
+use Rattle.csi_types.specs.Lists.{IsAmong, EachTwo}
+use Rattle.csi_types.specs.Sharing.{allows_one_target}
+use Rattle.csi_node.specs.State.{NodeState, PublishedVolume, empty_node, staged_of}
+use Rattle.csi_node.specs.Fenced.{after_frames}
+
+-- at two targets, if they are of one volume, neither is in a mode that allows one target
+pub record AllowTwo (a b : PublishedVolume) : Type 0 where
+  pub first : a.volume ≡ b.volume → allows_one_target a.capability.mode ≡ false
+  pub second : a.volume ≡ b.volume → allows_one_target b.capability.mode ≡ false
+
+-- what is published is staged in its capability, and a mode that allows one target has at most one
+pub record IsPublishedRight (state : NodeState) : Type 0 where
+  pub staged : (published : PublishedVolume) → IsAmong published state.published → staged_of published.volume state ≡ Some published.capability
+  pub targets : EachTwo AllowTwo state.published
+
+-- in every state that frames lead to, at every node
+abbrev pub NodeSafetyLaw : Type 0
+NodeSafetyLaw = (node : List ℕ) (frames : List Frame) → IsPublishedRight (after_frames node empty_node frames)
