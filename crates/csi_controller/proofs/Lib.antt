@@ -1,4 +1,4 @@
 pub mod Orderly
 pub mod Facts
 pub mod TableLaw
-pub mod Safety
+pub mod SafeStates

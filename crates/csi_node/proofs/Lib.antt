@@ -1,3 +1,3 @@
 pub mod Facts
 pub mod TableLaw
-pub mod Safety
+pub mod SafeStates

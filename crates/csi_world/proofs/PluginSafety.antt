@@ -19,9 +19,9 @@ use Rattle.csi_world.specs.World.{NodeAt, World, new_node, empty_world, node_sta
 use Rattle.csi_world.specs.Step.{Choice, Sends, Closes, Takes, Notes, Starts, Answers, MayChooseAll, answered_by_node, answered_by, chosen, chosen_all}
 use Rattle.csi_world.specs.Laws.{PluginsAreSafe}
 use Rattle.csi_types.proofs.Among.{each_of, among-find}
-use Rattle.csi_node.proofs.Safety as nodes
+use Rattle.csi_node.proofs.SafeStates as nodes
 use Rattle.csi_node.specs.Safe.{IsPublishedRight}
-use Rattle.csi_controller.proofs.Safety as controllers
+use Rattle.csi_controller.proofs.SafeStates as controllers
 use Rattle.csi_controller.specs.Safe.{IsExclusive}
 
 abbrev IsRight : NodeAt → Type 0
