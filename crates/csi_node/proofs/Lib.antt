@@ -1,3 +1,14 @@
 pub mod Facts
+pub mod Lists
+pub mod OneRow
+pub mod RowChanges
+pub mod StateChanges
+pub mod Steps
+pub mod Answering
+pub mod Places
+pub mod Rules
+pub mod Calls
+pub mod Frames
+pub mod Safety
 pub mod TableLaw
 pub mod SafeStates

@@ -2,6 +2,11 @@ pub mod State
 pub mod Table
 pub mod Fenced
 pub mod Shown
+pub mod OneRow
+pub mod Lines
+pub mod Record
+pub mod Views
+pub mod Safety
 pub mod Laws
 pub mod Rows
 pub mod Safe

@@ -2,9 +2,27 @@
 //! call, and what it keeps.
 #![tactic(auto)]
 
+mod answers;
+mod changes;
+mod copies;
+mod entries;
+mod fault;
 mod laws;
+mod line;
+mod lines;
+mod node;
+mod record;
 mod row;
 mod rows;
+mod step;
+mod views;
 
+pub use entries::{Published, Staged};
+pub use fault::CoreFault;
 pub use laws::{safety_law, table_law};
+pub use node::Node;
+pub use record::NodeRecord;
 pub use row::{NodeRow, NodeTarget};
+
+#[cfg(test)]
+mod tests;

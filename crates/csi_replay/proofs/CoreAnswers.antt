@@ -13,9 +13,10 @@ use Rattle.csi_types.specs.Frame.{Frame}
 use Rattle.csi_replay.specs.declared.controller.row.Row.{Row}
 use Rattle.csi_replay.specs.declared.controller.Controller.{Controller}
 use Rattle.csi_replay.specs.ControllerState.{Volume, ControllerState}
-use Rattle.csi_replay.specs.ControllerTable.{Outcome, is_same_text, create_row, delete_row, given, reply_of}
+use Rattle.csi_types.specs.Same.{same_text}
+use Rattle.csi_replay.specs.ControllerTable.{Outcome, create_row, delete_row, given, reply_of}
 use Rattle.csi_replay.specs.ControllerTable.Change.{Nothing, Makes}
-use Rattle.csi_replay.specs.Fence.{verdict}
+use Rattle.csi_types.specs.Fence.{verdict_of}
 use Rattle.csi_replay.specs.ControllerSteps.{Answered, past_fence, carried_out, reply_frame, kept_of, changed}
 use Rattle.csi_replay.specs.ControllerCore.{volume_shown, config_of, state_of, next_shown, Shows, IsUnchanged, Gives, row_answered, same, ended}
 use Rattle.csi_replay.proofs.TableLines.{create_row-there}
@@ -23,37 +24,37 @@ use Rattle.csi_replay.proofs.Rows.{told-there, told-deleted, Gives-row, with_row
 
 -- a create, by the volume that has the name
 abbrev pub create_by : Controller → Number → List ℕ → ℕ → ℕ → List Capability → Option Volume → Answered
-create_by core number name required limit wished named =
-    past_fence (state_of core) number (CreateVolume name required limit wished) named (create_row (config_of core) (state_of core) named name required limit wished)
+create_by core number name required limit requested named =
+    past_fence (state_of core) number (CreateVolume name required limit requested) named (create_row (config_of core) (state_of core) named name required limit requested)
 
-pub create-there : (core : Controller) (number : Number) (name : List ℕ) (required limit : ℕ) (wished : List Capability) (place : ℕ) (row new : Row) (frame : Frame) → Some place ≡ position (λ r. is_same_text r.name name) core.rows.items → row ≡ get_or core.rows.items place row → row_answered number CreateKind (create_row (config_of core) (state_of core) (Some (volume_shown row)) name required limit wished).reply same (volume_shown row) (verdict row.kept.number number) ≡ record { frame = frame; volume = volume_shown new } → Gives core (with_row core place new) frame (create_by core number name required limit wished (Some (volume_shown row)))
-create-there core number name required limit wished place row new frame at is by_row =
-    let outcome : Outcome = create_row (config_of core) (state_of core) (Some (volume_shown row)) name required limit wished in
+pub create-there : (core : Controller) (number : Number) (name : List ℕ) (required limit : ℕ) (requested : List Capability) (place : ℕ) (row new : Row) (frame : Frame) → Some place ≡ position (λ r. same_text r.name name) core.rows.items → row ≡ get_or core.rows.items place row → row_answered number CreateKind (create_row (config_of core) (state_of core) (Some (volume_shown row)) name required limit requested).reply same (volume_shown row) (verdict_of (Some row.kept.number) number) ≡ record { frame = frame; volume = volume_shown new } → Gives core (with_row core place new) frame (create_by core number name required limit requested (Some (volume_shown row)))
+create-there core number name required limit requested place row new frame at is by_row =
+    let outcome : Outcome = create_row (config_of core) (state_of core) (Some (volume_shown row)) name required limit requested in
     Gives-row core place new frame _ _
-    (told-there core number (CreateVolume name required limit wished) outcome place row (sym at) is (create_row-there (config_of core) (state_of core) (volume_shown row) name required limit wished) (verdict row.kept.number number))
+    (told-there core number (CreateVolume name required limit requested) outcome place row (sym at) is (create_row-there (config_of core) (state_of core) (volume_shown row) name required limit requested) (verdict_of (Some row.kept.number) number))
     by_row
 
 -- the name is new, and the create is refused
-pub create-refused : (core : Controller) (number : Number) (name : List ℕ) (required limit : ℕ) (wished : List Capability) (reply : Reply) → create_row (config_of core) (state_of core) None name required limit wished ≡ record { reply = reply; change = Nothing } → Gives core core (reply_frame (kept_of number CreateKind reply)) (create_by core number name required limit wished None)
-create-refused core number name required limit wished reply line =
-    let call : Call = CreateVolume name required limit wished in
-    let whole : create_by core number name required limit wished None ≡ carried_out (state_of core) number call None (record { reply = reply; change = Nothing }) = ap (carried_out (state_of core) number call None) line in
+pub create-refused : (core : Controller) (number : Number) (name : List ℕ) (required limit : ℕ) (requested : List Capability) (reply : Reply) → create_row (config_of core) (state_of core) None name required limit requested ≡ record { reply = reply; change = Nothing } → Gives core core (reply_frame (kept_of number CreateKind reply)) (create_by core number name required limit requested None)
+create-refused core number name required limit requested reply line =
+    let call : Call = CreateVolume name required limit requested in
+    let whole : create_by core number name required limit requested None ≡ carried_out (state_of core) number call None (record { reply = reply; change = Nothing }) = ap (carried_out (state_of core) number call None) line in
     record { reply = ap (λ a. a.reply) whole; state = sym (ap (λ a. a.state) whole); greatest = refl }
 
 -- the name is new, and a volume is made
-pub create-made : (core new : Controller) (number : Number) (name : List ℕ) (required limit capacity id : ℕ) (wished : List Capability) → create_row (config_of core) (state_of core) None name required limit wished ≡ given id (Makes name capacity wished) → state_of new ≡ changed (state_of core) (kept_of number CreateKind (reply_of Ok (Some id) [])) (Makes name capacity wished) → new.greatest ≡ core.greatest → Gives core new (reply_frame (kept_of number CreateKind (reply_of Ok (Some id) []))) (create_by core number name required limit wished None)
-create-made core new number name required limit capacity id wished line made greatest =
-    let call : Call = CreateVolume name required limit wished in
-    let whole : create_by core number name required limit wished None ≡ carried_out (state_of core) number call None (given id (Makes name capacity wished)) = ap (carried_out (state_of core) number call None) line in
+pub create-made : (core new : Controller) (number : Number) (name : List ℕ) (required limit capacity id : ℕ) (requested : List Capability) → create_row (config_of core) (state_of core) None name required limit requested ≡ given id (Makes name capacity requested) → state_of new ≡ changed (state_of core) (kept_of number CreateKind (reply_of Ok (Some id) [])) (Makes name capacity requested) → new.greatest ≡ core.greatest → Gives core new (reply_frame (kept_of number CreateKind (reply_of Ok (Some id) []))) (create_by core number name required limit requested None)
+create-made core new number name required limit capacity id requested line made greatest =
+    let call : Call = CreateVolume name required limit requested in
+    let whole : create_by core number name required limit requested None ≡ carried_out (state_of core) number call None (given id (Makes name capacity requested)) = ap (carried_out (state_of core) number call None) line in
     record { reply = ap (λ a. a.reply) whole; state = made ∙ sym (ap (λ a. a.state) whole); greatest = greatest }
 
 -- a delete, by the volume that has the id
 abbrev pub delete_by : Controller → Number → ℕ → Option Volume → Answered
 delete_by core number id found = past_fence (state_of core) number (DeleteVolume id) found (delete_row (state_of core) found id)
 
-pub delete-there : (core : Controller) (number : Number) (id : ℕ) (place : ℕ) (row new : Row) (frame : Frame) → Some place ≡ position (λ r. r.id == id) core.rows.items → row ≡ get_or core.rows.items place row → row_answered number DeleteKind (reply_of Ok None []) ended (volume_shown row) (verdict row.kept.number number) ≡ record { frame = frame; volume = volume_shown new } → Gives core (with_row core place new) frame (delete_by core number id (Some (volume_shown row)))
+pub delete-there : (core : Controller) (number : Number) (id : ℕ) (place : ℕ) (row new : Row) (frame : Frame) → Some place ≡ position (λ r. r.id == id) core.rows.items → row ≡ get_or core.rows.items place row → row_answered number DeleteKind (reply_of Ok None []) ended (volume_shown row) (verdict_of (Some row.kept.number) number) ≡ record { frame = frame; volume = volume_shown new } → Gives core (with_row core place new) frame (delete_by core number id (Some (volume_shown row)))
 delete-there core number id place row new frame at is by_row =
-    Gives-row core place new frame _ _ (told-deleted core number id place row (sym at) is (verdict row.kept.number number)) by_row
+    Gives-row core place new frame _ _ (told-deleted core number id place row (sym at) is (verdict_of (Some row.kept.number) number)) by_row
 
 -- the same, of whichever volume the definition finds
 pub Gives-at : (core new : Controller) (frame : Frame) (answered : Option Volume → Answered) (found there : Option Volume) → found ≡ there → Gives core new frame (answered there) → Gives core new frame (answered found)

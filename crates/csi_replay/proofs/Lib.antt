@@ -5,4 +5,5 @@ pub mod Rows
 pub mod CoreAnswers
 pub mod FaultPlaces
 pub mod Streams
+pub mod Taken
 pub mod Progress

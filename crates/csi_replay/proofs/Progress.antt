@@ -1,15 +1,12 @@
 -- How far a stream was answered.
-use Rattle.std.proofs.Common.{◌≡◌, ◌∙◌, sym, ap, subst, refl, ℕ, ◌+◌, ◌<◌, ◌≤◌, List, [], ◌∷◌, ◌++◌, length, take, drop, arith, length-append, length-drop, append_assoc}
-use Rattle.std.specs.List.{flat_map, AllByRecursion}
+use Rattle.std.proofs.Common.{◌≡◌, ◌∙◌, sym, ap, subst, refl, ℕ, ◌+◌, ◌<◌, ◌≤◌, List, [], ◌∷◌, ◌++◌, length, take, drop, arith, length-append, append_assoc}
+use Rattle.std.specs.List.{flat_map}
 use Rattle.std.specs.Option.{option_to_list}
-use Rattle.std.proofs.lemmas.List.{append-nil, drop-drop}
+use Rattle.std.proofs.lemmas.List.{append-nil}
 use Rattle.std.proofs.lemmas.List.Concat.{flat_map-append}
 use Rattle.std.proofs.Math.Seq.{take-append_seam}
-use Rattle.std.proofs.Math.ListN.{drop_of_length-le}
 use Rattle.csi_types.specs.Frame.{Frame}
-use Rattle.csi_types.specs.Limits.{IsFrame}
 use Rattle.csi_frames.specs.Spelling.{spelling}
-use Rattle.csi_frames.specs.Fault.{IsFaulty}
 use Rattle.csi_frames.specs.Stream.{FramesOf}
 use Rattle.csi_frames.specs.Bytes.{AreBytes}
 use Rattle.csi_replay.specs.declared.controller.Controller.{Controller}
@@ -18,16 +15,14 @@ use Rattle.csi_replay.specs.declared.answers.AnswerFault.TheVariants as faults
 use Rattle.csi_replay.specs.ControllerState.{ControllerState, empty_controller}
 use Rattle.csi_replay.specs.ControllerSteps.{fenced}
 use Rattle.csi_replay.specs.ControllerCore.{Shows, config_of}
-use Rattle.csi_replay.specs.Replay.{replay_config, replies_from, state_after, answered, AnswersAll, Fails}
+use Rattle.csi_replay.specs.Replay.{replay_config, replies_from, state_after, answered, AnswersAll, Fails, IsFaultOf}
 use Rattle.csi_replay.specs.Answering.{Advances, StopsAt}
-use Rattle.csi_replay.proofs.Streams.{never_both, AreBytes-drop, IsFront, front_of, all_read, splits_at, count_is, none_in_nothing}
+use Rattle.csi_replay.proofs.Streams.{IsFront}
+use Rattle.csi_replay.proofs.Taken.{Taken, nothing_taken, taken_more, front, taken_all, stopped_at}
 
 pub record Progress (input old : List ℕ) (place count : ℕ) (core : Controller) (out : List ℕ) : Type 0 where
   pub done : List Frame
-  pub each : AllByRecursion IsFrame done
-  pub within : place ≤ length input
-  pub taken : input ≡ flat_map spelling done ++ drop place input
-  pub here : place ≡ length (flat_map spelling done)
+  pub read : Taken input done place
   pub counted : count ≡ length done
   pub shows : Shows core (state_after empty_controller done)
   pub config : config_of core ≡ replay_config
@@ -40,10 +35,7 @@ answered-none = refl
 pub start : (input old : List ℕ) (core : Controller) → Shows core empty_controller → config_of core ≡ replay_config → Progress input old 0 0 core old
 start input old core shows config = record {
   done = [];
-  each = tt;
-  within = omega arith;
-  taken = refl;
-  here = refl;
+  read = nothing_taken input;
   counted = refl;
   shows = shows;
   config = config;
@@ -64,27 +56,12 @@ answered-push : (frames : List Frame) (frame : Frame) → answered (frames ++ fr
 unfolding answered
 answered-push frames frame = ap (flat_map spelling) (replies_from-push empty_controller frames frame) ∙ flat_map-append spelling (replies_from empty_controller frames) _
 
-each-push : (frames : List Frame) (frame : Frame) → AllByRecursion IsFrame frames → IsFrame frame → AllByRecursion IsFrame (frames ++ frame ∷ [])
-each-push [] frame each fits = (fits, tt)
-each-push (f ∷ frames) frame each fits = (each.0, each-push frames frame each.1 fits)
-
-spellings-push : (frames : List Frame) (frame : Frame) → flat_map spelling (frames ++ frame ∷ []) ≡ flat_map spelling frames ++ spelling frame
-spellings-push frames frame = flat_map-append spelling frames (frame ∷ []) ∙ ap (λ more. flat_map spelling frames ++ more) (append-nil (spelling frame))
-
 pub more : (input old : List ℕ) (place count n : ℕ) (core core' : Controller) (out out' : List ℕ) (p : Progress input old place count core out) → Advances (drop place input) n (state_after empty_controller p.done) core' out out' → config_of core' ≡ replay_config → Progress input old (place + n) (count + 1) core' out'
 more input old place count n core core' out out' p advance config =
     let frame : Frame = advance.frame in
-    let is : n ≡ length (spelling frame) = count_is (drop place input) frame n advance.begins in
     record {
       done = p.done ++ frame ∷ [];
-      each = each-push p.done frame p.each advance.begins.spelled.fits;
-      within = omega (arith, p.within, advance.begins.within, length-drop {A = ℕ});
-      taken =
-          p.taken
-          ∙ ap (λ bytes. flat_map spelling p.done ++ bytes) (splits_at (drop place input) frame n advance.begins ∙ ap (λ bytes. spelling frame ++ bytes) (drop-drop n place input))
-          ∙ sym (append_assoc (flat_map spelling p.done) (spelling frame) (drop (place + n) input))
-          ∙ ap (λ front. front ++ drop (place + n) input) (sym (spellings-push p.done frame));
-      here = omega (arith, p.here, is, ap length (spellings-push p.done frame), length-append (flat_map spelling p.done) (spelling frame));
+      read = taken_more input p.done place n frame p.read advance.begins;
       counted = omega (arith, p.counted, length-append p.done (frame ∷ []));
       shows = subst (Shows core') (sym (state_after-push empty_controller p.done frame)) advance.answered.shows;
       config = config;
@@ -95,35 +72,21 @@ more input old place count n core core' out out' p advance config =
           ∙ ap (λ bytes. old ++ bytes) (sym (answered-push p.done frame));
     }
 
-front : (input old : List ℕ) (place count : ℕ) (core : Controller) (out : List ℕ) (p : Progress input old place count core out) (frames : List Frame) (rest : List ℕ) → FramesOf input frames rest → AreBytes input → IsFront p.done frames (drop place input) rest
-front input old place count core out p frames rest of are = front_of p.done frames (drop place input) rest p.each of.each of.longest (sym p.taken ∙ of.whole) (subst AreBytes p.taken are)
-
 pub all_answered : (input old : List ℕ) (place count : ℕ) (core : Controller) (out : List ℕ) → Progress input old place count core out → AreBytes input → length input ≤ place → (frames : List Frame) (rest : List ℕ) → FramesOf input frames rest → AnswersAll frames rest old out count
 all_answered input old place count core out p are end frames rest of =
-    let nothing : length (drop place input) ≤ 0 = omega (arith, length-drop {A = ℕ}, end) in
-    let read : (frames ≡ p.done) × (rest ≡ drop place input) =
-    all_read p.done frames (drop place input) rest (front input old place count core out p frames rest of are) (none_in_nothing (drop place input) nothing) in
+    let read : (frames ≡ p.done) × (rest ≡ []) = taken_all input p.done place p.read are end frames rest of in
     record {
-      whole = read.1 ∙ drop_of_length-le input end;
+      whole = read.1;
       counted = p.counted ∙ ap length (sym read.0);
       appended = p.appended ∙ ap (λ fs. old ++ answered fs) (sym read.0);
     }
 
 pub stopped : (input old : List ℕ) (place count : ℕ) (core : Controller) (out : List ℕ) → Progress input old place count core out → AreBytes input → place < length input → (fault : AnswerFault) → StopsAt input place fault → (frames : List Frame) (rest : List ℕ) → FramesOf input frames rest → Fails frames rest old out fault
 stopped input old place count core out p are before (faults.Frame kind stream_place) stop frames rest of =
-    let read : (frames ≡ p.done) × (rest ≡ drop place input) =
-    all_read p.done frames (drop place input) rest (front input old place count core out p frames rest of are)
-    (λ frame n begins. never_both (drop place input) frame n kind stop.0 (AreBytes-drop place input are) begins stop.1) in (
-      record {
-        at = stop.0;
-        something = λ nothing. omega (arith, ap length (sym read.1 ∙ nothing), length-drop place input, before);
-        faulty = subst (λ bytes. IsFaulty bytes kind stop.0) (sym read.1) stop.1;
-        here = omega (arith, stop.2, p.here, ap (λ fs. length (flat_map spelling fs)) read.0);
-      },
-      p.appended ∙ ap (λ fs. old ++ answered fs) (sym read.0),
-    )
+    let read : (frames ≡ p.done) × IsFaultOf frames rest kind stream_place = stopped_at input p.done place p.read are before kind stream_place stop frames rest of in
+    (read.1, p.appended ∙ ap (λ fs. old ++ answered fs) (sym read.0))
 stopped input old place count core out p are before faults.NoMemory stop frames rest of =
-    let f : IsFront p.done frames (drop place input) rest = front input old place count core out p frames rest of are in
+    let f : IsFront p.done frames (drop place input) rest = front input p.done place p.read frames rest of are in
     record {
       count = length p.done;
       within = omega (arith, ap length f.frames_are, length-append p.done f.later);

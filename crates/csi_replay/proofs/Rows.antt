@@ -11,14 +11,15 @@ use Rattle.csi_types.specs.Frame.{Frame}
 use Rattle.csi_types.specs.Call.{kind_of}
 use Rattle.csi_replay.specs.declared.controller.row.Row.{Row}
 use Rattle.csi_replay.specs.declared.controller.Controller.{Controller}
-use Rattle.csi_replay.specs.ControllerState.{Kept, Volume, ControllerState}
+use Rattle.csi_replay.specs.ControllerState.{Volume, ControllerState}
 use Rattle.csi_types.specs.declared.call.Call.TheVariants.{DeleteVolume}
 use Rattle.csi_types.specs.declared.call.Kind.TheVariants.{DeleteVolume as DeleteKind}
 use Rattle.csi_types.specs.declared.status.Status.TheVariants.{Ok}
 use Rattle.csi_replay.specs.ControllerTable.{Outcome, is_about, volume_of, delete_row, done, reply_of}
 use Rattle.csi_replay.specs.ControllerTable.Change.{Nothing, Ends}
-use Rattle.csi_replay.specs.Fence.{Verdict, verdict}
-use Rattle.csi_replay.specs.Fence.Verdict.{Stale, Repeated, Fresh}
+use Rattle.csi_types.specs.Fence.{Kept}
+use Rattle.csi_types.specs.declared.fence.Verdict.{Verdict}
+use Rattle.csi_types.specs.declared.fence.Verdict.TheVariants.{Stale, Repeated, Fresh}
 use Rattle.csi_replay.specs.ControllerSteps.{update_first, keeping, by_verdict, changed, Answered, kept_of, reply_frame, stale}
 use Rattle.csi_replay.specs.ControllerCore.{volume_shown, state_of, Gives, RowAnswered, row_answered, same, ended}
 use Rattle.csi_replay.proofs.FirstItem.{find-map, find-map-None, update_first-map, update_first-twice}

@@ -10,6 +10,6 @@ either true x y first second = first
 either false x y first second = second
 
 -- a create of a name that has a row changes nothing
-pub create_row-there : (config : Config) (state : ControllerState) (volume : Volume) (name : List ℕ) (required limit : ℕ) (wished : List Capability) → (create_row config state (Some volume) name required limit wished).change ≡ Nothing
-create_row-there config state volume name required limit wished =
+pub create_row-there : (config : Config) (state : ControllerState) (volume : Volume) (name : List ℕ) (required limit : ℕ) (requested : List Capability) → (create_row config state (Some volume) name required limit requested).change ≡ Nothing
+create_row-there config state volume name required limit requested =
     search either

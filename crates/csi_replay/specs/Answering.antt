@@ -13,6 +13,11 @@ use Rattle.csi_replay.specs.ControllerSteps.{fenced}
 use Rattle.csi_replay.specs.ControllerCore.{Shows}
 use Rattle.csi_replay.specs.Replay.{replay_config}
 
+-- the bytes begin with a frame of n bytes
+pub record Takes (bytes : List ℕ) (n : ℕ) : Type 0 where
+  pub frame : Frame
+  pub begins : BeginsWith bytes frame n
+
 -- the core answered the frame, and the reply was appended
 pub record IsAnswered (frame : Frame) (state : ControllerState) (core : Controller) (old new : List ℕ) : Type 0 where
   pub shows : Shows core (fenced replay_config state frame).state

@@ -7,10 +7,11 @@ use Rattle.csi_types.specs.Frame.{Frame}
 use Rattle.csi_replay.specs.declared.controller.answer.Answer.{Answer}
 use Rattle.csi_replay.specs.declared.controller.row.Row.{Row}
 use Rattle.csi_replay.specs.declared.controller.Controller.{Controller}
-use Rattle.csi_replay.specs.ControllerState.{Config, Kept, Volume, ControllerState}
+use Rattle.csi_types.specs.Fence.{Kept}
+use Rattle.csi_replay.specs.ControllerState.{Config, Volume, ControllerState}
 use Rattle.csi_replay.specs.ControllerTable.{reply_of}
-use Rattle.csi_replay.specs.Fence.{Verdict}
-use Rattle.csi_replay.specs.Fence.Verdict.{Stale, Repeated, Fresh}
+use Rattle.csi_types.specs.declared.fence.Verdict.{Verdict}
+use Rattle.csi_types.specs.declared.fence.Verdict.TheVariants.{Stale, Repeated, Fresh}
 use Rattle.csi_replay.specs.ControllerSteps.{reply_frame, kept_of, stale, Answered}
 
 abbrev pub volume_shown : Row → Volume

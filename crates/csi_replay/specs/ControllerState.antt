@@ -1,20 +1,13 @@
 -- What the controller plugin knows of its volumes: CSI's spec.md, "Volume Lifecycle". That numbers and
 -- replies are kept, and that a deleted volume keeps its row, is this profile's own.
 use Rattle.std.specs.Prelude.{ℕ, Bool, List, []}
-use Rattle.csi_types.specs.declared.number.Number.{Number}
 use Rattle.csi_types.specs.declared.capability.Capability.{Capability}
-use Rattle.csi_types.specs.declared.call.Kind.{Kind}
-use Rattle.csi_types.specs.declared.reply.Reply.{Reply}
+use Rattle.csi_types.specs.declared.holding.Holding.{Holding}
+use Rattle.csi_types.specs.Fence.{Kept}
 
 -- what the operator sets: the greatest capacity in bytes that a volume gets
 pub record Config : Type 0 where
   pub greatest : ℕ
-
--- the greatest number that was answered for a volume, and the reply that was given, to a call of this kind
-pub record Kept : Type 0 where
-  pub number : Number
-  pub kind : Kind
-  pub reply : Reply
 
 -- a volume, or once it isn't live what is left of it
 pub record Volume : Type 0 where
@@ -24,13 +17,6 @@ pub record Volume : Type 0 where
   pub capabilities : List Capability
   pub live : Bool
   pub kept : Kept
-
--- a volume is attached to a node, for use with this capability
-pub record Holding : Type 0 where
-  pub volume : ℕ
-  pub node : List ℕ
-  pub capability : Capability
-  pub readonly : Bool
 
 -- the volumes in the order in which they were made, the id of the next one, and all holdings of all volumes,
 -- the newest last

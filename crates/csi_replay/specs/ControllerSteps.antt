@@ -1,7 +1,7 @@
 -- One step of the controller plugin: the fence before the table. This profile's own.
-use Rattle.std.specs.Prelude.{◌≡◌, ℕ, ◌+◌, ◌==◌, Bool, true, false, if◌then◌else◌, List, [], ◌∷◌, ◌++◌, Option, Some, None, codes}
+use Rattle.std.specs.Prelude.{◌≡◌, ℕ, ◌+◌, ◌==◌, Bool, true, false, if◌then◌else◌, List, [], ◌∷◌, ◌++◌, Option, Some, None}
 use Rattle.csi_types.specs.declared.number.Number.{Number}
-use Rattle.csi_types.specs.declared.status.Status.TheVariants.{Ok, Aborted}
+use Rattle.csi_types.specs.declared.status.Status.TheVariants.{Ok}
 use Rattle.csi_types.specs.declared.call.Call.TheVariants.{DeleteVolume}
 use Rattle.csi_types.specs.declared.call.Kind.{Kind}
 use Rattle.csi_types.specs.declared.reply.Reply.{Reply}
@@ -12,11 +12,13 @@ use Rattle.csi_types.specs.declared.frame.Body.{Body}
 use Rattle.csi_types.specs.declared.frame.Body.TheVariants as bodies
 use Rattle.csi_types.specs.Call.{kind_of}
 use Rattle.csi_types.specs.Frame.{Frame}
-use Rattle.csi_replay.specs.ControllerState.{Config, Kept, Volume, ControllerState}
-use Rattle.csi_replay.specs.ControllerTable.{Change, Outcome, reply_of, is_about, volume_of, delete_row, controller_row}
+use Rattle.csi_types.specs.Replies.{stale_reply, reply_frame as frame_of}
+use Rattle.csi_replay.specs.ControllerState.{Config, Volume, ControllerState}
+use Rattle.csi_replay.specs.ControllerTable.{Change, Outcome, is_about, volume_of, delete_row, controller_row}
 use Rattle.csi_replay.specs.ControllerTable.Change.{Nothing, Makes, Ends}
-use Rattle.csi_replay.specs.Fence.{Verdict, verdict}
-use Rattle.csi_replay.specs.Fence.Verdict.{Stale, Repeated, Fresh}
+use Rattle.csi_types.specs.Fence.{Kept, verdict_of}
+use Rattle.csi_types.specs.declared.fence.Verdict.{Verdict}
+use Rattle.csi_types.specs.declared.fence.Verdict.TheVariants.{Stale, Repeated, Fresh}
 
 -- the first that passes is changed
 abbrev pub update_first : {X : Type 0} → (X → Bool) → (X → X) → List X → List X
@@ -38,7 +40,7 @@ keeping state call kept = record state { volumes = update_first (is_about call) 
 
 -- the reply as a frame of the controller's
 abbrev pub reply_frame : Kept → Frame
-reply_frame kept = record { number = kept.number; party = Controller; body = bodies.Reply kept.kind kept.reply }
+reply_frame kept = frame_of kept.number Controller kept.kind kept.reply
 
 -- what is answered, if anything, and the state after it
 pub record Answered : Type 0 where
@@ -52,7 +54,7 @@ abbrev pub kept_of : Number → Kind → Reply → Kept
 kept_of number kind reply = record { number = number; kind = kind; reply = reply }
 
 abbrev pub stale : Number → Kind → Kept
-stale number kind = kept_of number kind (reply_of Aborted None (codes "stale"))
+stale number kind = kept_of number kind stale_reply
 
 -- Number and reply are kept where a volume is there, or is made.
 abbrev pub carried_out : ControllerState → Number → Call → Option Volume → Outcome → Answered
@@ -72,7 +74,7 @@ by_verdict state number call volume outcome Fresh = carried_out state number cal
 
 abbrev pub past_fence : ControllerState → Number → Call → Option Volume → Outcome → Answered
 past_fence state number call None outcome = carried_out state number call None outcome
-past_fence state number call (Some volume) outcome = by_verdict state number call volume outcome (verdict volume.kept.number number)
+past_fence state number call (Some volume) outcome = by_verdict state number call volume outcome (verdict_of (Some volume.kept.number) number)
 
 abbrev pub answered_call : ControllerState → Number → Call → Option Outcome → Answered
 answered_call state number call None = silent state
@@ -90,7 +92,7 @@ fenced config state frame = fenced_body config state frame.number frame.party fr
 -- the call isn't held back by the fence
 abbrev pub IsLetThrough : Number → Option Volume → Type 0
 IsLetThrough number None = Unit {0}
-IsLetThrough number (Some volume) = verdict volume.kept.number number ≡ Fresh
+IsLetThrough number (Some volume) = verdict_of (Some volume.kept.number) number ≡ Fresh
 
 -- a DeleteVolume that the table answers, with 0
 pub record IsDeletedBy (config : Config) (state : ControllerState) (frame : Frame) (id : ℕ) : Type 0 where

@@ -1,20 +1,19 @@
 -- The controller's table: what it answers to a call that is carried out, and what that changes. The first line
 -- that fits answers. CSI's spec.md, "CreateVolume" and "DeleteVolume"; which status and detail a line has where
 -- the standard leaves a choice, the limits and that a name is spent for good are this profile's own.
-use Rattle.std.specs.Prelude.{ℕ, ◌^◌, ◌==◌, ◌&&◌, ◌||◌, not, nat_lt, nat_le, nat_eq, Bool, true, false, if◌then◌else◌, List, [], ◌∷◌, length, Option, Some, None, codes}
-use Rattle.std.specs.List.{find, list_any, list_all}
-use Rattle.std.specs.Cmp.Lexicographic.{pointwise}
-use Rattle.csi_types.specs.declared.capability.Access.{Access}
-use Rattle.csi_types.specs.declared.capability.Access.TheVariants.{Block, Mount}
+use Rattle.std.specs.Prelude.{ℕ, ◌^◌, ◌==◌, ◌&&◌, ◌||◌, not, nat_lt, nat_le, Bool, true, false, if◌then◌else◌, List, [], ◌∷◌, length, Option, Some, None, codes}
+use Rattle.std.specs.List.{find, list_all}
 use Rattle.csi_types.specs.declared.capability.Capability.{Capability}
 use Rattle.csi_types.specs.declared.status.Status.{Status}
-use Rattle.csi_types.specs.declared.status.Status.TheVariants.{Ok, InvalidArgument, AlreadyExists, ResourceExhausted, FailedPrecondition, OutOfRange}
+use Rattle.csi_types.specs.declared.status.Status.TheVariants.{InvalidArgument, AlreadyExists, ResourceExhausted, FailedPrecondition, OutOfRange}
 use Rattle.csi_types.specs.declared.reply.Reply.{Reply}
 use Rattle.csi_types.specs.declared.call.Call.{Call}
+use Rattle.csi_types.specs.declared.holding.Holding.{Holding}
+use Rattle.csi_types.specs.Replies.{plain_reply, ok_reply, ok_reply_with}
 use Rattle.csi_types.specs.declared.call.Call.TheVariants as calls
 use Rattle.csi_types.specs.Capacity.{is_bad_range, is_empty_range, wanted}
-use Rattle.csi_types.specs.Mode.{mode_number}
-use Rattle.csi_replay.specs.ControllerState.{Config, Volume, Holding, ControllerState}
+use Rattle.csi_types.specs.Same.{same_text, has_capability}
+use Rattle.csi_replay.specs.ControllerState.{Config, Volume, ControllerState}
 
 -- what a line changes besides the number and the reply that are kept
 pub data Change : Type 0 where
@@ -34,40 +33,27 @@ reply_of status id detail = record { status = status; id = id; detail = detail }
 
 -- a status other than 0 changes nothing
 abbrev pub refused : Status → List ℕ → Outcome
-refused status detail = record { reply = reply_of status None detail; change = Nothing }
+refused status detail = record { reply = plain_reply status detail; change = Nothing }
 
 abbrev pub done : Change → Outcome
-done change = record { reply = reply_of Ok None []; change = change }
+done change = record { reply = ok_reply; change = change }
 
 abbrev pub given : ℕ → Change → Outcome
-given id change = record { reply = reply_of Ok (Some id) []; change = change }
-
--- the same bytes
-abbrev pub is_same_text : List ℕ → List ℕ → Bool
-is_same_text a b = pointwise nat_eq a b
-
-abbrev pub is_same_access : Access → Access → Bool
-is_same_access Block Block = true
-is_same_access (Mount a) (Mount b) = is_same_text a b
-is_same_access Block (Mount b) = false
-is_same_access (Mount a) Block = false
-
-abbrev pub is_same_capability : Capability → Capability → Bool
-is_same_capability a b = is_same_access a.access b.access && (mode_number a.mode == mode_number b.mode)
+given id change = record { reply = ok_reply_with id; change = change }
 
 -- each of these capabilities is in the list
 abbrev pub has_each : List Capability → List Capability → Bool
-has_each list wished = list_all (λ capability. list_any (is_same_capability capability) list) wished
+has_each list requested = list_all (has_capability list) requested
 
 -- the volume is what a second create asks for: its capacity is in the range, where a limit of 0 is none, and it
 -- has each capability
 abbrev pub is_compatible : Volume → ℕ → ℕ → List Capability → Bool
-is_compatible volume required limit wished =
-    nat_le required volume.capacity && ((limit == 0) || nat_le volume.capacity limit) && has_each volume.capabilities wished
+is_compatible volume required limit requested =
+    nat_le required volume.capacity && ((limit == 0) || nat_le volume.capacity limit) && has_each volume.capabilities requested
 
 -- A CreateVolume is about the volume of its name, live or not, and each other call about the one of its id.
 abbrev pub is_about : Call → Volume → Bool
-is_about (calls.CreateVolume name required limit capabilities) volume = is_same_text volume.name name
+is_about (calls.CreateVolume name required limit capabilities) volume = same_text volume.name name
 is_about (calls.DeleteVolume id) volume = volume.id == id
 is_about (calls.ControllerPublishVolume id node capability readonly) volume = volume.id == id
 is_about (calls.ControllerUnpublishVolume id node) volume = volume.id == id

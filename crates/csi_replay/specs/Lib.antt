@@ -1,6 +1,5 @@
 pub mod ControllerState
 pub mod ControllerTable
-pub mod Fence
 pub mod ControllerSteps
 pub mod ControllerCore
 pub mod Replay

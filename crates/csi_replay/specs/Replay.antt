@@ -36,6 +36,16 @@ pub record IsFaultOf (frames : List Frame) (rest : List ℕ) (kind : FaultKind) 
   pub faulty : IsFaulty rest kind at
   pub here : place ≡ length (flat_map spelling frames) + at
 
+-- what was there stays at the front
+pub record Grows (old new : List ℕ) : Type 0 where
+  pub more : List ℕ
+  pub appended : new ≡ old ++ more
+
+-- The rest is at fault; or memory ran out.
+abbrev pub Stops : List Frame → List ℕ → AnswerFault → Type 0
+Stops frames rest (faults.Frame kind place) = IsFaultOf frames rest kind place
+Stops frames rest faults.NoMemory = Unit {0}
+
 -- the replies to the first k frames were appended, for some k
 pub record AnswersFront (frames : List Frame) (old new : List ℕ) : Type 0 where
   pub count : ℕ

@@ -1,6 +1,6 @@
 //! A stream of frames, answered by a new controller.
 ghost use Rattle.std.specs.Prelude.{◌≡◌, ◌⊎◌, ◌+◌, ◌<◌, ◌≤◌, ◌++◌, ℕ, List, [], length, drop, IfOk, IfErr, OnOk, OnErr};
-ghost use Rattle.std.specs.Option.{option_to_list};
+ghost use Rattle.std.specs.Option.{option_to_list, option_copied};
 ghost use Rattle.std.specs.List.{flat_map};
 ghost use Rattle.csi_frames.specs.Spelling.{spelling};
 ghost use Rattle.csi_types.specs.Frame.{Frame as FrameParts};
@@ -53,8 +53,8 @@ impl From<AllocError> for AnswerFault {
 }
 
 // Appends the reply, if there is one. An `Err` appends nothing.
-fn append(reply: &Option<Frame>, out: &mut Vec<u8>) -> Result<(), NoMemory>
-    ensures ok { OnOk result (out.new.items ≡ out.old.items ++ flat_map spelling (option_to_list reply.now)) }
+fn append(reply: Option<&Frame>, out: &mut Vec<u8>) -> Result<(), NoMemory>
+    ensures ok { OnOk result (out.new.items ≡ out.old.items ++ flat_map spelling (option_to_list (option_copied reply.entry))) }
     ensures err { OnErr result (out.new.items ≡ out.old.items) }
 {
     match reply {
@@ -72,7 +72,7 @@ fn answer_frame(core: &mut Controller, frame: &Frame, out: &mut Vec<u8>) -> Resu
     ensures err { OnErr result (out.new.items ≡ out.old.items) }
 {
     let reply = core.step(frame)?;
-    append(&reply, out)
+    append(reply.as_ref(), out)
 }
 
 // Answers the frame in this place, and gives the count of its bytes. An `Err` appends nothing.

@@ -29,18 +29,18 @@ fn named(name: &str) -> Option<FileCommand> {
     }
 }
 
+// The ending where words are refused so.
+fn ending_of(kind: ErrorKind) -> Ending {
+    match kind {
+        ErrorKind::OutOfMemory => Ending::Memory,
+        _ => Ending::Usage,
+    }
+}
+
 /// The command that the words name, and the path of its file; `words` begins with the program's own name. `Usage` for all
 /// other words, a call for help among them, and `Memory` where an allocation was refused.
 pub fn parse<'a>(alloc: Global, words: &'a [String]) -> Result<(FileCommand, &'a str), Ending> {
-    let matches = match matches_of(alloc, words) {
-        Ok(matches) => matches,
-        Err(error) => {
-            return Err(match error.kind() {
-                ErrorKind::OutOfMemory => Ending::Memory,
-                _ => Ending::Usage,
-            });
-        }
-    };
+    let matches = matches_of(alloc, words).map_err(|error| ending_of(error.kind()))?;
     let Some((name, command)) = matches.subcommand() else {
         return Err(Ending::Usage);
     };

@@ -2,7 +2,7 @@
 ghost use Rattle.std.specs.Prelude.{List, ℕ};
 ghost use Rattle.csi_types.specs.Frame.{Frame};
 ghost use Rattle.csi_frames.specs.Stream.{FramesOf};
-ghost use Rattle.csi_replay.specs.Ending.{EndsWell};
+ghost use Rattle.csi_replay.specs.Ending.{EndsAs};
 
 use crate::answers::{AnswerFault, answer};
 use crate::ending::Ending;
@@ -22,7 +22,7 @@ pub enum FileCommand {
 /// before a fault stays. The ending is never `Usage` nor `Device`.
 pub fn file(alloc: Global, command: FileCommand, input: &[u8], out: &mut Vec<u8>) -> Ending
     ensures { (frames : List Frame) (rest : List ℕ) → FramesOf input.now frames rest →
-        EndsWell command frames rest out.old.items out.new.items result }
+        EndsAs command frames rest out.old.items out.new.items result }
 {
     match command {
         FileCommand::Answer => match answer(alloc, input, out) {

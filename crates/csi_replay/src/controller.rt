@@ -2,6 +2,7 @@
 //! carried out twice.
 ghost use Rattle.std.specs.Prelude.{◌≡◌, ◌==◌, ◌+◌, ◌≤◌, ◌<◌, ◌^◌, ℕ, List, Some, None, [], position, IfOk, OnErr, OnOk, IsOk, IsTrue, IfSome, MatchResult};
 ghost use Rattle.csi_types.specs.declared.call.Kind.TheVariants.{CreateVolume as CreateKind};
+ghost use Rattle.csi_replay.specs.ControllerCore.{next_shown};
 
 mod answer;
 mod arguments;
@@ -21,6 +22,15 @@ use std::alloc::Global;
 /// The most rows that a controller has.
 const MAX_ROWS: usize = 4096;
 
+// The id that is given after this one, or 0 where this one is the last.
+#[tactic(auto, using(crate::proofs::NextId::next_shown_up))]
+fn id_after(id: u64) -> u64
+    requires { 0 < id }
+    ensures { next_shown result ≡ next_shown id + 1 }
+{
+    id.wrapping_add(1)
+}
+
 /// The controller plugin: its rows in the order of their ids.
 #[derive(Drop)]
 pub struct Controller {
@@ -33,8 +43,9 @@ pub struct Controller {
 
 impl Controller {
     ghost use Rattle.csi_types.specs.Reply.{has_id_by_rule};
+    ghost use Rattle.csi_types.specs.Same.{same_text};
     ghost use Rattle.csi_replay.specs.ControllerState.{ControllerState, empty_controller};
-    ghost use Rattle.csi_replay.specs.ControllerTable.{is_same_text, create_row, create_anew, given, reply_of, volume_of};
+    ghost use Rattle.csi_replay.specs.ControllerTable.{create_row, create_anew, given, reply_of, volume_of};
     ghost use Rattle.csi_replay.specs.ControllerSteps.{reply_frame, kept_of, changed, fenced_body, fenced, IsLetThrough, IsDeletedBy};
     ghost use Rattle.csi_replay.specs.ControllerTable.Change.{Nothing, Makes};
     ghost use Rattle.csi_replay.specs.ControllerCore.{Shows, Gives, IsUnchanged, config_of, state_of, reply_shown};
@@ -54,7 +65,7 @@ impl Controller {
 
     // Where the row of this name is.
     fn place_of_name(&self, name: &Name) -> Option<usize>
-        ensures { result ≡ position (λ row. is_same_text row.name name.now) self.now.rows.items }
+        ensures { result ≡ position (λ row. same_text row.name name.now) self.now.rows.items }
     {
         self.rows.iter().position(|row| row.name == *name)
     }
@@ -63,16 +74,14 @@ impl Controller {
     fn place_of_id(&self, id: VolumeId) -> Option<usize>
         ensures { result ≡ position (λ row. row.id == id) self.now.rows.items }
     {
-        self.rows
-            .iter()
-            .position(|row| row.id.number() == id.number())
+        self.rows.iter().position(|row| row.id == id)
     }
 
     // The id of a volume that is made with this capacity, or the table's refusal.
     fn room_for(&self, capacity: u64) -> Result<VolumeId, Answer>
-        ensures line { (name : List ℕ) (wished : List Capability) → MatchResult result
-            (λ id. create_anew (config_of self.now) (state_of self.now) name capacity wished ≡ given id (Makes name capacity wished))
-            (λ answer. create_anew (config_of self.now) (state_of self.now) name capacity wished ≡ record { reply = reply_shown answer; change = Nothing }) }
+        ensures line { (name : List ℕ) (requested : List Capability) → MatchResult result
+            (λ id. create_anew (config_of self.now) (state_of self.now) name capacity requested ≡ given id (Makes name capacity requested))
+            (λ answer. create_anew (config_of self.now) (state_of self.now) name capacity requested ≡ record { reply = reply_shown answer; change = Nothing }) }
         ensures id { MatchResult result (λ id. (id ≡ self.now.next_id) × (0 < id)) (λ answer. IsTrue (has_id_by_rule CreateKind (reply_shown answer))) }
     {
         if capacity > self.greatest {
@@ -88,19 +97,19 @@ impl Controller {
     }
 
     // The id and the capacity of the volume that a create of a new name makes, or the table's refusal.
-    fn anew_line(
+    fn new_line(
         &self,
         name: &Name,
         required: u64,
         limit: u64,
-        wished: &[Capability],
+        requested: &[Capability],
     ) -> Result<(VolumeId, u64), Answer>
         ensures line { MatchResult result
-            (λ made. create_row (config_of self.now) (state_of self.now) None name.now required limit wished.now ≡ given made.0 (Makes name.now made.1 wished.now))
-            (λ answer. create_row (config_of self.now) (state_of self.now) None name.now required limit wished.now ≡ record { reply = reply_shown answer; change = Nothing }) }
+            (λ made. create_row (config_of self.now) (state_of self.now) None name.now required limit requested.now ≡ given made.0 (Makes name.now made.1 requested.now))
+            (λ answer. create_row (config_of self.now) (state_of self.now) None name.now required limit requested.now ≡ record { reply = reply_shown answer; change = Nothing }) }
         ensures id { MatchResult result (λ made. (made.0 ≡ self.now.next_id) × (0 < made.0)) (λ answer. IsTrue (has_id_by_rule CreateKind (reply_shown answer))) }
     {
-        match wanted_capacity(required, limit, wished) {
+        match wanted_capacity(required, limit, requested) {
             Ok(capacity) => match self.room_for(capacity) {
                 Ok(id) => Ok((id, capacity)),
                 Err(answer) => Err(answer),
@@ -128,9 +137,9 @@ impl Controller {
         let answer = Answer::given(id);
         let frame = answer.frame(self.alloc, number, Kind::CreateVolume)?;
         let kept = Kept::new(number, Kind::CreateVolume, answer.reply(self.alloc)?);
-        let row = Row::of_new(id, name, capacity, capabilities, kept)?;
+        let row = Row::new(id, name, capacity, capabilities, kept)?;
         self.rows.push(row)?;
-        self.next_id = self.next_id.wrapping_add(1);
+        self.next_id = id_after(self.next_id);
         Ok(frame)
     }
 
@@ -148,10 +157,10 @@ impl Controller {
         ensures err { OnErr result (IsUnchanged self.old self.new) }
     {
         let alloc = self.alloc;
-        let wished = capabilities.as_slice();
+        let requested = capabilities.as_slice();
         match self.place_of_name(name) {
-            Some(place) => self.rows[place].create_again(alloc, number, required, limit, wished),
-            None => match self.anew_line(name, required, limit, wished) {
+            Some(place) => self.rows[place].create_again(alloc, number, required, limit, requested),
+            None => match self.new_line(name, required, limit, requested) {
                 Ok(made) => self.make(number, made.0, made.1, name, capabilities),
                 Err(answer) => answer.frame(alloc, number, Kind::CreateVolume),
             },
@@ -172,8 +181,9 @@ impl Controller {
         }
     }
 
-    /// Answers a frame, or gives nothing for a reply and for another plugin's frame. An `Err` changes nothing. A reply,
-    /// another plugin's frame and a DeleteVolume that is answered 0 under a later number than the last take no memory.
+    /// Answers a frame, or gives nothing: for a reply, for another plugin's frame and, for now, for the two calls that
+    /// attach and detach a volume. An `Err` changes nothing. What gets nothing takes no memory, nor does a DeleteVolume
+    /// that is answered 0 under a later number than the last.
     pub fn step(&mut self, frame: &Frame) -> Result<Option<Frame>, NoMemory>
         // What is answered, and the new state, are the definition's.
         ensures reply { (state : ControllerState) → Shows self.old state →

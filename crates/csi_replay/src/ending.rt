@@ -1,9 +1,11 @@
 //! How a run of the program ends.
 ghost use Rattle.std.specs.Prelude.{◌≡◌};
-ghost use Rattle.csi_replay.specs.Ending.{exit_status};
+ghost use Rattle.csi_replay.specs.Ending.{exit_status, ending_unless_memory};
 
 use csi_frames::FaultKind;
+use std::alloc::AllocError;
 use std::fmt;
+use std::io::ErrorKind;
 
 /// How a run of the program ends. Its text is the program's line on standard error, without the newline, and none for
 /// `Done`. This profile's own.
@@ -33,6 +35,39 @@ impl Ending {
             Ending::Usage => 2,
             Ending::Device | Ending::Memory => 3,
         }
+    }
+}
+
+impl Ending {
+    /// The ending where a file or a stream fails so.
+    pub fn of_device(kind: ErrorKind) -> Ending
+        ensures { result ≡ ending_unless_memory kind Ending.Device }
+    {
+        match kind {
+            ErrorKind::OutOfMemory => Ending::Memory,
+            _ => Ending::Device,
+        }
+    }
+
+    /// The ending where the words of the command line can't be read: they are no UTF-8, unless memory ran out.
+    pub fn of_words(kind: ErrorKind) -> Ending
+        ensures { result ≡ ending_unless_memory kind Ending.Usage }
+    {
+        match kind {
+            ErrorKind::OutOfMemory => Ending::Memory,
+            _ => Ending::Usage,
+        }
+    }
+}
+
+impl From<AllocError> for Ending {
+    ghost use Rattle.std.specs.Prelude.{◌≡◌};
+    ghost use Rattle.csi_replay.specs.declared.ending.Ending.TheVariants.{Memory as Refused};
+
+    ghost from_gives = { λ _ ending. ending ≡ Refused };
+
+    fn from(_refused: AllocError) -> Ending {
+        Ending::Memory
     }
 }
 

@@ -16,41 +16,22 @@ use std::process::ExitCode;
 use std::rt::{Env, Files};
 use std::{fs, io};
 
-// How a failing call of the system ends the program.
-fn ending_of(error: &io::Error) -> Ending {
-    match error.kind() {
-        io::ErrorKind::OutOfMemory => Ending::Memory,
-        _ => Ending::Device,
-    }
-}
-
-// How words that can't be read end it: they are no UTF-8, unless memory ran out.
-fn ending_of_words(error: &io::Error) -> Ending {
-    match error.kind() {
-        io::ErrorKind::OutOfMemory => Ending::Memory,
-        _ => Ending::Usage,
-    }
-}
-
 // Reads the words and the file, and writes the output in one piece.
 fn run(rt: &(impl Env + Files + Print + AllocGlobal)) -> Result<Ending, Ending> {
-    let words = std::env::args(rt).map_err(|error| ending_of_words(&error))?;
-    let words: Vec<String> = words.collect(rt.alloc()).map_err(|_| Ending::Memory)?;
+    let words = std::env::args(rt).map_err(|error| Ending::of_words(error.kind()))?;
+    let words: Vec<String> = words.collect(rt.alloc())?;
     let (command, path) = command_line::parse(rt.alloc(), words.as_slice())?;
-    let input = fs::read(rt, path).map_err(|error| ending_of(&error))?;
+    let input = fs::read(rt, path).map_err(|error| Ending::of_device(error.kind()))?;
     let mut out = Vec::new(rt.alloc());
     let ending = commands::file(rt.alloc(), command, input.as_slice(), &mut out);
     io::writer(rt)
         .write_all(out.as_slice())
-        .map_err(|error| ending_of(&error))?;
+        .map_err(|error| Ending::of_device(error.kind()))?;
     Ok(ending)
 }
 
 fn main(rt: HostRuntime) -> ExitCode {
-    let ending = match run(&rt) {
-        Ok(ending) => ending,
-        Err(ending) => ending,
-    };
+    let ending = run(&rt).unwrap_or_else(|ending| ending);
     if ending != Ending::Done {
         let _ = eprintln!(rt; "{ending}");
     }

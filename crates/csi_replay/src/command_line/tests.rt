@@ -1,6 +1,7 @@
-use super::parse;
+use super::{ending_of, parse};
 use crate::commands::FileCommand;
 use crate::ending::Ending;
+use clap::error::ErrorKind;
 use std::alloc::{AllocError, Global};
 use std::process::Abort;
 use std::test::Fail;
@@ -38,4 +39,11 @@ fn other_words_are_refused(rt: HostRuntime) -> Result<(), Fail> {
     is_refused(&rt, &["csi-replay", "--help"])?;
     is_refused(&rt, &["csi-replay", "help"])?;
     is_refused(&rt, &["csi-replay", "answer", "--help"])
+}
+
+#[test]
+fn words_are_refused_as_usage_unless_memory_ran_out(rt: HostRuntime) {
+    assert_eq!(rt; ending_of(ErrorKind::OutOfMemory), Ending::Memory);
+    assert_eq!(rt; ending_of(ErrorKind::UnknownArgument), Ending::Usage);
+    assert_eq!(rt; ending_of(ErrorKind::DisplayHelp), Ending::Usage);
 }

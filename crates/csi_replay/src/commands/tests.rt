@@ -59,6 +59,28 @@ fn bytes(alloc: Global, texts: &[&str]) -> Result<Vec<u8>, AllocError> {
     Ok(out)
 }
 
+// What the command gives for these frames, behind what was there.
+fn gives(
+    rt: &(impl Abort + AllocGlobal),
+    command: FileCommand,
+    input: &[&str],
+    output: &[u8],
+    ending: Ending,
+) -> Result<(), Fail> {
+    let input = bytes(rt.alloc(), input)?;
+    for there in ["", "there"] {
+        let mut out = Vec::new(rt.alloc());
+        out.extend_from_slice(there.as_bytes())?;
+        let ended = file(rt.alloc(), command, input.as_slice(), &mut out);
+        let mut wanted = Vec::new(rt.alloc());
+        wanted.extend_from_slice(there.as_bytes())?;
+        wanted.extend_from_slice(output)?;
+        assert_eq!(rt; ended, ending);
+        assert_eq!(rt; out.as_slice(), wanted.as_slice());
+    }
+    Ok(())
+}
+
 // What `answer` gives for these frames.
 fn answers(
     rt: &(impl Abort + AllocGlobal),
@@ -66,13 +88,8 @@ fn answers(
     replies: &[&str],
     ending: Ending,
 ) -> Result<(), Fail> {
-    let input = bytes(rt.alloc(), input)?;
     let replies = bytes(rt.alloc(), replies)?;
-    let mut out = Vec::new(rt.alloc());
-    let ended = file(rt.alloc(), FileCommand::Answer, input.as_slice(), &mut out);
-    assert_eq!(rt; ended, ending);
-    assert_eq!(rt; out.as_slice(), replies.as_slice());
-    Ok(())
+    gives(rt, FileCommand::Answer, input, replies.as_slice(), ending)
 }
 
 // What `show` gives for these frames.
@@ -82,12 +99,7 @@ fn shows(
     lines: &str,
     ending: Ending,
 ) -> Result<(), Fail> {
-    let input = bytes(rt.alloc(), input)?;
-    let mut out = Vec::new(rt.alloc());
-    let ended = file(rt.alloc(), FileCommand::Show, input.as_slice(), &mut out);
-    assert_eq!(rt; ended, ending);
-    assert_eq!(rt; out.as_slice(), lines.as_bytes());
-    Ok(())
+    gives(rt, FileCommand::Show, input, lines.as_bytes(), ending)
 }
 
 #[test]
@@ -212,6 +224,15 @@ fn frames_are_shown(rt: HostRuntime) -> Result<(), Fail> {
         published,
         Ending::Done,
     )
+}
+
+#[test]
+fn the_first_fault_ends_the_lines(rt: HostRuntime) -> Result<(), Fail> {
+    let line = "0 1.2 controller DeleteVolume 1\n";
+    let longer = Ending::FrameFault(FaultKind::LengthDiffers, 62);
+    shows(&rt, &[DELETE, DAMAGED], line, longer)?;
+    assert_eq!(rt; FaultKind::LengthDiffers.number(), 13);
+    Ok(())
 }
 
 #[test]

@@ -12,15 +12,15 @@ use super::answer::Answer;
 use csi_types::{Capability, MAX_CAPACITY, Status, grant};
 
 /// The capacity that a create asks for, or what the table's first lines answer, whatever the name has.
-pub fn wanted_capacity(required: u64, limit: u64, wished: &[Capability]) -> Result<u64, Answer>
+pub fn wanted_capacity(required: u64, limit: u64, requested: &[Capability]) -> Result<u64, Answer>
     ensures capacity { MatchResult result (λ capacity. capacity ≡ wanted required limit)
         (λ answer. IsTrue (has_id_by_rule CreateVolume (reply_shown answer))) }
     ensures lines { (config : Config) (state : ControllerState) (named : Option Volume) (name : List ℕ) →
         MatchResult result
-        (λ capacity. create_row config state named name required limit wished.now ≡ create_named config state named name required limit wished.now)
-        (λ answer. create_row config state named name required limit wished.now ≡ record { reply = reply_shown answer; change = Nothing }) }
+        (λ capacity. create_row config state named name required limit requested.now ≡ create_named config state named name required limit requested.now)
+        (λ answer. create_row config state named name required limit requested.now ≡ record { reply = reply_shown answer; change = Nothing }) }
 {
-    if wished.is_empty() {
+    if requested.is_empty() {
         return Err(Answer::refused(Status::InvalidArgument, "capabilities"));
     }
     match grant(required, limit, MAX_CAPACITY) {

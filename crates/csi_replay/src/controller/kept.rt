@@ -1,15 +1,15 @@
 //! What a plugin keeps of the last call that it answered for a volume.
-ghost use Rattle.std.specs.Prelude.{◌≡◌, IsTrue, IsOk, IfOk};
+ghost use Rattle.std.specs.Prelude.{◌≡◌, Some, IsTrue, IsOk, IfOk};
 ghost use Rattle.csi_types.specs.declared.call.Party.TheVariants.{Controller};
 ghost use Rattle.csi_types.specs.Call.{is_party_of};
 ghost use Rattle.csi_types.specs.Reply.{has_id_by_rule};
 ghost use Rattle.csi_replay.specs.ControllerSteps.{reply_frame};
-ghost use Rattle.csi_replay.specs.Fence.{verdict};
-ghost use Rattle.csi_replay.specs.Fence.Verdict.{Fresh};
+ghost use Rattle.csi_types.specs.Fence.{verdict_of};
+ghost use Rattle.csi_types.specs.declared.fence.Verdict.TheVariants.{Fresh};
 ghost use Rattle.csi_replay.specs.ControllerCore.{fence_answer};
 
 use super::answer::Answer;
-use csi_types::{Frame, Kind, NoMemory, Number, Party, Reply, Status};
+use csi_types::{Frame, Kind, NoMemory, Number, Party, Reply, Status, Verdict, verdict_of};
 use std::alloc::Global;
 use std::marker::Model;
 
@@ -32,7 +32,7 @@ impl Model for Kept {
     ghost use Rattle.csi_types.specs.declared.call.Party.TheVariants.{Controller};
     ghost use Rattle.csi_types.specs.Call.{is_party_of};
     ghost use Rattle.csi_types.specs.Reply.{has_id_by_rule};
-    ghost use Rattle.csi_replay.specs.ControllerState.{Kept as Parts};
+    ghost use Rattle.csi_types.specs.Fence.{Kept as Parts};
 
     ghost Value = { Parts };
 
@@ -55,19 +55,6 @@ impl Kept {
         }
     }
 
-    const STALE: Answer = Answer {
-        status: Status::Aborted,
-        id: None,
-        detail: "stale",
-    };
-
-    /// The number of the last call that was answered.
-    pub fn number(&self) -> Number
-        ensures { result ≡ self.now.number }
-    {
-        self.number
-    }
-
     /// The reply again, as it was given.
     pub fn frame(&self) -> Result<Frame, NoMemory>
         ensures { IfOk result (λ frame. frame ≡ reply_frame self.now) }
@@ -85,15 +72,13 @@ impl Kept {
         kind: Kind,
     ) -> Result<Option<Frame>, NoMemory>
         requires { IsTrue (is_party_of kind Controller) }
-        ensures ok { IfOk result (λ answer. answer ≡ fence_answer number kind self.now (verdict self.now.number number)) }
-        ensures fresh { verdict self.now.number number ≡ Fresh → IsOk result }
+        ensures ok { IfOk result (λ answer. answer ≡ fence_answer number kind self.now (verdict_of (Some self.now.number) number)) }
+        ensures fresh { verdict_of (Some self.now.number) number ≡ Fresh → IsOk result }
     {
-        if number < self.number {
-            return Ok(Some(STALE.frame(alloc, number, kind)?));
+        match verdict_of(Some(self.number), number) {
+            Verdict::Stale => Ok(Some(STALE.frame(alloc, number, kind)?)),
+            Verdict::Repeated => Ok(Some(self.frame()?)),
+            Verdict::Fresh => Ok(None),
         }
-        if self.number < number {
-            return Ok(None);
-        }
-        Ok(Some(self.frame()?))
     }
 }

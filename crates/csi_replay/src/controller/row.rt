@@ -1,7 +1,7 @@
 //! A volume's row.
 ghost use Rattle.std.specs.Prelude.{◌≡◌, ◌==◌, IfOk, IsOk, OnErr};
 ghost use Rattle.csi_types.specs.declared.call.Kind.TheVariants.{CreateVolume, DeleteVolume};
-ghost use Rattle.csi_replay.specs.ControllerTable.{is_same_capability, is_same_access as same_access};
+ghost use Rattle.csi_types.specs.Same.{same_capability, same_access};
 
 use super::answer::Answer;
 use super::arguments::wanted_capacity;
@@ -33,7 +33,7 @@ fn is_same_access(a: &Access, b: &Access) -> bool
 }
 
 fn is_same(a: &Capability, b: &Capability) -> bool
-    ensures { result ≡ is_same_capability a.now b.now }
+    ensures { result ≡ same_capability a.now b.now }
 {
     is_same_access(&a.access, &b.access) && a.mode.number() == b.mode.number()
 }
@@ -41,20 +41,20 @@ fn is_same(a: &Capability, b: &Capability) -> bool
 impl Row {
     ghost use Rattle.csi_types.specs.declared.status.Status.TheVariants.{Ok as OkStatus};
     ghost use Rattle.std.specs.Prelude.{ℕ, Some, None, List, [], IsTrue, OnOk, true};
-    ghost use Rattle.std.specs.List.{list_any};
     ghost use Rattle.csi_types.specs.declared.call.Party.TheVariants.{Controller};
     ghost use Rattle.csi_types.specs.Call.{is_party_of};
     ghost use Rattle.csi_types.specs.Reply.{has_id_by_rule};
+    ghost use Rattle.csi_types.specs.Same.{has_capability};
     ghost use Rattle.csi_replay.specs.ControllerState.{Config, ControllerState};
-    ghost use Rattle.csi_replay.specs.ControllerTable.{create_row, create_again, is_compatible, is_same_capability, has_each, reply_of};
+    ghost use Rattle.csi_replay.specs.ControllerTable.{create_row, create_again, is_compatible, has_each, reply_of};
     ghost use Rattle.csi_replay.specs.ControllerTable.Change.{Nothing};
     ghost use Rattle.csi_replay.specs.ControllerSteps.{reply_frame, kept_of};
-    ghost use Rattle.csi_replay.specs.Fence.{verdict};
-    ghost use Rattle.csi_replay.specs.Fence.Verdict.{Fresh};
+    ghost use Rattle.csi_types.specs.Fence.{verdict_of};
+    ghost use Rattle.csi_types.specs.declared.fence.Verdict.TheVariants.{Fresh};
     ghost use Rattle.csi_replay.specs.ControllerCore.{volume_shown, reply_shown, row_answered, same, ended};
 
     /// The row of a volume that is made.
-    pub fn of_new(
+    pub fn new(
         id: VolumeId,
         name: &Name,
         capacity: u64,
@@ -77,49 +77,51 @@ impl Row {
     }
 
     // Whether it has this capability.
-    fn has(&self, wished: &Capability) -> bool
-        ensures { result ≡ list_any (is_same_capability wished.now) self.now.capabilities }
+    fn has(&self, requested: &Capability) -> bool
+        ensures { result ≡ has_capability self.now.capabilities requested.now }
     {
         self.capabilities
             .as_slice()
             .iter()
-            .any(|capability| is_same(wished, capability))
+            .any(|capability| is_same(requested, capability))
     }
 
     // Whether it has each of these capabilities.
-    fn has_each(&self, wished: &[Capability]) -> bool
-        ensures { result ≡ has_each self.now.capabilities wished.now }
+    fn has_each(&self, requested: &[Capability]) -> bool
+        ensures { result ≡ has_each self.now.capabilities requested.now }
     {
-        wished.iter().all(|capability| self.has(capability))
+        requested.iter().all(|capability| self.has(capability))
     }
 
     // Whether it is what a second create asks for.
-    fn is_compatible(&self, required: u64, limit: u64, wished: &[Capability]) -> bool
-        ensures { result ≡ is_compatible (volume_shown self.now) required limit wished.now }
+    fn is_compatible(&self, required: u64, limit: u64, requested: &[Capability]) -> bool
+        ensures { result ≡ is_compatible (volume_shown self.now) required limit requested.now }
     {
-        required <= self.capacity && (limit == 0 || self.capacity <= limit) && self.has_each(wished)
+        required <= self.capacity
+            && (limit == 0 || self.capacity <= limit)
+            && self.has_each(requested)
     }
 
     // The table's lines for a create, with good arguments, of a name that has a row.
-    fn again_line(&self, required: u64, limit: u64, wished: &[Capability]) -> Answer
-        ensures line { create_again (volume_shown self.now) required limit wished.now ≡ record { reply = reply_shown result; change = Nothing } }
+    fn existing_line(&self, required: u64, limit: u64, requested: &[Capability]) -> Answer
+        ensures line { create_again (volume_shown self.now) required limit requested.now ≡ record { reply = reply_shown result; change = Nothing } }
         ensures id { IsTrue (has_id_by_rule CreateVolume (reply_shown result)) }
     {
-        if self.live && self.is_compatible(required, limit, wished) {
+        if self.live && self.is_compatible(required, limit, requested) {
             return Answer::given(self.id);
         }
         Answer::refused(Status::AlreadyExists, "name")
     }
 
     // The table's lines for a create of a name that has a row.
-    fn create_line(&self, required: u64, limit: u64, wished: &[Capability]) -> Answer
+    fn create_line(&self, required: u64, limit: u64, requested: &[Capability]) -> Answer
         ensures line { (config : Config) (state : ControllerState) (name : List ℕ) →
-            create_row config state (Some (volume_shown self.now)) name required limit wished.now
+            create_row config state (Some (volume_shown self.now)) name required limit requested.now
             ≡ record { reply = reply_shown result; change = Nothing } }
         ensures id { IsTrue (has_id_by_rule CreateVolume (reply_shown result)) }
     {
-        match wanted_capacity(required, limit, wished) {
-            Ok(_) => self.again_line(required, limit, wished),
+        match wanted_capacity(required, limit, requested) {
+            Ok(_) => self.existing_line(required, limit, requested),
             Err(answer) => answer,
         }
     }
@@ -151,17 +153,17 @@ impl Row {
         number: Number,
         required: u64,
         limit: u64,
-        wished: &[Capability],
+        requested: &[Capability],
     ) -> Result<Frame, NoMemory>
         ensures ok { (config : Config) (state : ControllerState) (name : List ℕ) → IfOk result (λ frame.
-            row_answered number CreateVolume (create_row config state (Some (volume_shown self.old)) name required limit wished.now).reply same (volume_shown self.old) (verdict self.old.kept.number number)
+            row_answered number CreateVolume (create_row config state (Some (volume_shown self.old)) name required limit requested.now).reply same (volume_shown self.old) (verdict_of (Some self.old.kept.number) number)
             ≡ record { frame = frame; volume = volume_shown self.new }) }
         ensures err { OnErr result (self.new ≡ self.old) }
     {
         if let Some(frame) = self.kept.fence(alloc, number, Kind::CreateVolume)? {
             return Ok(frame);
         }
-        let answer = self.create_line(required, limit, wished);
+        let answer = self.create_line(required, limit, requested);
         self.keep(alloc, number, Kind::CreateVolume, &answer)
     }
 
@@ -169,10 +171,10 @@ impl Row {
     /// out takes no memory.
     pub fn delete(&mut self, alloc: Global, number: Number) -> Result<Frame, NoMemory>
         ensures ok { IfOk result (λ frame.
-            row_answered number DeleteVolume (reply_of OkStatus None []) ended (volume_shown self.old) (verdict self.old.kept.number number)
+            row_answered number DeleteVolume (reply_of OkStatus None []) ended (volume_shown self.old) (verdict_of (Some self.old.kept.number) number)
             ≡ record { frame = frame; volume = volume_shown self.new }) }
         ensures err { OnErr result (self.new ≡ self.old) }
-        ensures succeeds { verdict self.old.kept.number number ≡ Fresh → IsOk result }
+        ensures succeeds { verdict_of (Some self.old.kept.number) number ≡ Fresh → IsOk result }
     {
         if let Some(frame) = self.kept.fence(alloc, number, Kind::DeleteVolume)? {
             return Ok(frame);

@@ -15,7 +15,7 @@ overflow_add-place c =
     omega (arith, advance.begins.within, length-drop c.loop-place.place c.args.input.now)
 
 pub overflow_add-count : goal.overflow_add-count
-overflow_add-count c = omega (arith, c.loop-place.invariant.counted, c.loop-place.invariant.here, frames_few c.loop-place.invariant.done)
+overflow_add-count c = omega (arith, c.loop-place.invariant.counted, c.loop-place.invariant.read.here, frames_few c.loop-place.invariant.done)
 
 pub loop-place-smaller : goal.loop-place-smaller
 loop-place-smaller c =

@@ -1,0 +1,114 @@
+-- What the rows of a node answer is what the fence and the table answer.
+use Rattle.std.proofs.Common.{◌≡◌, ℕ, ◌<◌, ◌≤◌, List, map, length, Bool, true, false, refl, sym, ◌∙◌, ap, subst, arith}
+use Rattle.std.specs.Prelude.{Option, Some, None, option_map, ◌==◌, codes}
+use Rattle.std.proofs.lemmas.Bool.{eqb-true}
+use Rattle.std.proofs.lemmas.Bool.Decides.{nat_tests}
+use Rattle.csi_types.specs.declared.call.Call.{Call}
+use Rattle.csi_types.specs.declared.call.Party.TheVariants.{Node}
+use Rattle.csi_types.specs.declared.number.Number.{Number}
+use Rattle.csi_types.specs.declared.reply.Reply.{Reply}
+use Rattle.csi_types.specs.declared.status.Status.TheVariants.{ResourceExhausted}
+use Rattle.csi_types.specs.declared.fence.Verdict.{Verdict}
+use Rattle.csi_types.specs.declared.fence.Verdict.TheVariants.{Stale, Repeated, Fresh}
+use Rattle.csi_types.specs.Call.{kind_of}
+use Rattle.csi_types.specs.Fence.{Kept, verdict_of}
+use Rattle.csi_types.specs.Frame.{Frame}
+use Rattle.csi_types.specs.Replies.{reply_frame, plain_reply}
+use Rattle.csi_types.proofs.Lists.{find-passes}
+use Rattle.csi_node.specs.State.{NodeState, StagedVolume, volume_of}
+use Rattle.csi_node.specs.Table.{Outcome, lifecycle_row, node_row, has_no_room, changed}
+use Rattle.csi_node.specs.Fenced.{Fenced, keep, answered_only, carried_out, judged, fenced_call, kept_for}
+use Rattle.csi_node.specs.OneRow.{RowShown, alone, row_anew, IsAfter, RowAnswers}
+use Rattle.csi_node.proofs.StateChanges.{lifecycle-part}
+use Rattle.csi_node.proofs.Steps.{ShowsAll, RowsAfter, grown, answered_of, row_of, alone_in, part_of, kept-shown_by, room-by, shows_then, state_then}
+
+-- the rows are those after a frame that was answered so
+pub record GivesAll (rows : List RowShown) (frame : Frame) (fenced : Fenced) : Type 0 where
+  pub reply : fenced.reply ≡ Some frame
+  pub shows : ShowsAll rows fenced.state
+
+-- a call that is carried out where there is room
+done_then : (node : List ℕ) (state : NodeState) (number : Number) (call : Call) (id : ℕ) → volume_of call ≡ Some id → has_no_room state call ≡ false
+    → carried_out node state number call (node_row state call)
+    ≡ record {
+      reply = Some (reply_frame number (Node node) (kind_of call) (lifecycle_row state call).reply);
+      state = state_then state id (record { number = number; kind = kind_of call; reply = (lifecycle_row state call).reply }) call;
+    }
+done_then node state number call id v room =
+    let kept : Kept = record { number = number; kind = kind_of call; reply = (lifecycle_row state call).reply } in
+    let plain : carried_out node state number call (node_row state call)
+    ≡ record { reply = Some (reply_frame number (Node node) (kind_of call) (lifecycle_row state call).reply); state = keep (volume_of call) kept (changed state (lifecycle_row state call).change) } = simp room in
+    plain ∙ ap (λ (o : Option ℕ). let f : Fenced = record { reply = Some (reply_frame number (Node node) (kind_of call) (lifecycle_row state call).reply); state = keep o kept (changed state (lifecycle_row state call).change) } in f) v
+
+full_then : (node : List ℕ) (state : NodeState) (number : Number) (call : Call) → has_no_room state call ≡ true
+    → carried_out node state number call (node_row state call) ≡ answered_only node state number (kind_of call) (plain_reply ResourceExhausted (codes "rows"))
+full_then node state number call full = simp full
+
+module _ (node : List ℕ) (id : ℕ) (number : Number) (call : Call) (old new : List RowShown) (state : NodeState) (v : volume_of call ≡ Some id) (all : ShowsAll old state) where
+  -- a call that is carried out, for a row that was there or is new
+  gives-done : (before after : RowShown) (frame : Frame) → has_no_room state call ≡ false → RowsAfter id old new after → before.id ≡ id → alone before ≡ alone_in (row_of id old)
+      → frame ≡ reply_frame number (Node node) (kind_of call) (lifecycle_row (alone before) call).reply → IsAfter number call before after
+      → GivesAll new frame (carried_out node state number call (node_row state call))
+  gives-done before after frame room rows own is_before is_frame is_after =
+      let same_reply : (lifecycle_row (alone before) call).reply ≡ (lifecycle_row state call).reply =
+      ap (λ (s : NodeState). (lifecycle_row s call).reply) is_before
+      ∙ ap (λ (o : Outcome). o.reply) (lifecycle-part id (alone_in (row_of id old)) state call v (part_of id old state all)) in
+      let kept : Kept = record { number = number; kind = kind_of call; reply = (lifecycle_row state call).reply } in
+      let is_kept : after.kept ≡ kept = is_after.kept ∙ ap (λ (r : Reply). let k : Kept = record { number = number; kind = kind_of call; reply = r } in k) same_reply in
+      subst (GivesAll new frame) (sym (done_then node state number call id v room)) (record {
+        reply = ap (λ (r : Reply). Some (reply_frame number (Node node) (kind_of call) r)) (sym same_reply) ∙ ap Some (sym is_frame);
+        shows = shows_then id call old new state before after kept v all rows is_before (is_after.id ∙ own) is_kept is_after.state;
+      })
+
+  -- a call of a volume that has no row, where there is room
+  pub gives-anew : (after : RowShown) (frame : Frame) → row_of id old ≡ None → length old < 4096 → RowsAfter id old new after
+      → frame ≡ reply_frame number (Node node) (kind_of call) (lifecycle_row (alone (row_anew id number (kind_of call))) call).reply
+      → IsAfter number call (row_anew id number (kind_of call)) after
+      → GivesAll new frame (fenced_call node state number call (kept_for call state))
+  gives-anew after frame none few rows is_frame is_after =
+      let room : has_no_room state call ≡ false = room-by id call old state None v all none ∙ grind (arith, nat_tests) in
+      let kept : kept_for call state ≡ None = kept-shown_by id call old state None v all none in
+      subst (λ (o : Option Kept). GivesAll new frame (fenced_call node state number call o)) (sym kept)
+      (gives-done (row_anew id number (kind_of call)) after frame room rows refl (ap alone_in (sym none)) is_frame is_after)
+
+  -- and where there is none
+  pub gives-full : (frame : Frame) → row_of id old ≡ None → 4096 ≤ length old → frame ≡ reply_frame number (Node node) (kind_of call) (plain_reply ResourceExhausted (codes "rows"))
+      → GivesAll old frame (fenced_call node state number call (kept_for call state))
+  gives-full frame none many is_frame =
+      let full : has_no_room state call ≡ true = room-by id call old state None v all none ∙ grind (arith, nat_tests) in
+      let kept : kept_for call state ≡ None = kept-shown_by id call old state None v all none in
+      subst (λ (o : Option Kept). GivesAll old frame (fenced_call node state number call o)) (sym kept)
+      (subst (GivesAll old frame) (sym (full_then node state number call full)) (record { reply = ap Some (sym is_frame); shows = all }))
+
+  -- rows that are as they were
+  unchanged : (before after : RowShown) → row_of id old ≡ Some before → RowsAfter id old new after → after ≡ before → ShowsAll new state
+  unchanged before after found rows same = record {
+    count = rows.count ∙ ap (λ (o : Option RowShown). grown o (length old)) found ∙ all.count;
+    kept = λ k. ap (option_map answered_of) (as_was k (k == id) refl) ∙ all.kept k;
+    staged = λ k. ap (λ (o : Option RowShown). map (λ (s : StagedVolume). s.capability) (alone_in o).staged) (as_was k (k == id) refl) ∙ all.staged k;
+    published = λ k. ap (λ (o : Option RowShown). (alone_in o).published) (as_was k (k == id) refl) ∙ all.published k;
+  }
+    where
+      as_was : (k : ℕ) (b : Bool) → (k == id) ≡ b → row_of k new ≡ row_of k old
+      as_was k true e = let here : k ≡ id = eqb-true k id e in rw here (rows.this ∙ ap Some same ∙ sym found)
+      as_was k false e = rows.others k e
+
+  -- a call of a volume that has a row
+  pub gives-again : (before after : RowShown) (frame : Frame) → row_of id old ≡ Some before → RowsAfter id old new after
+      → RowAnswers node number call before after frame (verdict_of (Some before.kept.number) number)
+      → GivesAll new frame (fenced_call node state number call (kept_for call state))
+  gives-again before after frame found rows answers =
+      let kept : kept_for call state ≡ Some before.kept = kept-shown_by id call old state (Some before) v all found in
+      subst (λ (o : Option Kept). GivesAll new frame (fenced_call node state number call o)) (sym kept)
+      (by (verdict_of (Some before.kept.number) number) answers)
+    where
+      room : has_no_room state call ≡ false
+      room = room-by id call old state (Some before) v all found
+
+      own : before.id ≡ id
+      own = eqb-true before.id id (find-passes (λ (row : RowShown). row.id == id) old before found)
+
+      by : (verdict : Verdict) → RowAnswers node number call before after frame verdict → GivesAll new frame (judged node state number call before.kept verdict)
+      by Stale h = record { reply = ap Some (sym h.0); shows = unchanged before after found rows h.1 }
+      by Repeated h = record { reply = ap Some (sym h.0); shows = unchanged before after found rows h.1 }
+      by Fresh h = gives-done before after frame room rows own (ap alone_in (sym found)) h.0 h.1

@@ -1,0 +1,111 @@
+-- What the rows of a node answer, as its functions have them.
+use Rattle.std.proofs.Common.{◌≡◌, ℕ, zero, suc, ◌<◌, ◌≤◌, List, [], ◌∷◌, ◌++◌, map, length, get_or, set, take, drop, refl, sym, ◌∙◌, ap, subst, arith, Result, Ok, Err, IfOk, Some}
+use Rattle.std.specs.Prelude.{OnErr}
+use Rattle.std.specs.List.{insert}
+use Rattle.std.proofs.lemmas.List.{map-set, map-append, take-map, drop-map, length-map}
+use Rattle.csi_types.specs.declared.call.Call.{Call}
+use Rattle.csi_types.specs.declared.number.Number.{Number}
+use Rattle.csi_types.specs.declared.fence.Verdict.{Verdict}
+use Rattle.csi_types.specs.declared.fence.Verdict.TheVariants.{Stale, Repeated, Fresh}
+use Rattle.csi_types.specs.Fence.{verdict_of}
+use Rattle.csi_types.specs.Frame.{Frame}
+use Rattle.csi_types.specs.Call.{kind_of}
+use Rattle.csi_types.specs.Replies.{reply_frame, plain_reply}
+use Rattle.csi_types.specs.declared.call.Party.TheVariants.{Node}
+use Rattle.csi_types.specs.declared.status.Status.TheVariants.{ResourceExhausted}
+use Rattle.std.specs.Prelude.{codes}
+use Rattle.csi_node.specs.declared.row.NodeRow.{NodeRow}
+use Rattle.csi_node.specs.State.{NodeState, volume_of}
+use Rattle.csi_node.specs.Table.{lifecycle_row}
+use Rattle.csi_node.specs.Fenced.{Fenced, fenced_call, kept_for}
+use Rattle.csi_node.specs.Shown.{Shows}
+use Rattle.csi_node.specs.OneRow.{RowShown, shown, alone, row_anew, IsRow, IsAfter, RowAnswers}
+use Rattle.csi_node.specs.Record.{parts, id_at, IsAt, IsGapFor, IsRecord, Gives}
+use Rattle.csi_node.proofs.Steps.{row_of, all-from_shows, shows-from_all}
+use Rattle.csi_node.proofs.Answering.{GivesAll, gives-again, gives-anew, gives-full}
+use Rattle.csi_node.proofs.Rules.{id_at-parts, found-at, absent-gap, after-set, after-insert, rules-set, rules-insert}
+
+parts-at : (rows : List NodeRow) (place : ℕ) (d : NodeRow) → get_or (parts rows) place (shown d) ≡ shown (get_or rows place d)
+parts-at [] place d = refl
+parts-at (row ∷ rows) zero d = refl
+parts-at (row ∷ rows) (suc place) d = parts-at rows place d
+
+parts-insert : (rows : List NodeRow) (place : ℕ) (row : NodeRow) → parts (insert rows place row) ≡ insert (parts rows) place (shown row)
+parts-insert rows place row =
+    map-append shown (take place rows) (row ∷ drop place rows)
+    ∙ ap (λ (front : List RowShown). front ++ shown row ∷ map shown (drop place rows)) (sym (take-map shown place rows))
+    ∙ ap (λ (back : List RowShown). take place (map shown rows) ++ shown row ∷ back) (sym (drop-map shown place rows))
+
+gives-from_all : (rows : List NodeRow) (frame : Frame) (fenced : Fenced) → GivesAll (parts rows) frame fenced → Gives rows frame fenced
+gives-from_all rows frame fenced gives = record { reply = gives.reply; shows = shows-from_all rows fenced.state gives.shows }
+
+-- a row that is there
+pub record There (rows : List NodeRow) (id place : ℕ) (row : NodeRow) : Type 0 where
+  pub own : row.id ≡ id
+  pub found : row_of id (parts rows) ≡ Some (shown row)
+  pub rules : IsRow (shown row)
+  pub at_place : row.id ≡ id_at (parts rows) place
+
+pub there : (rows : List NodeRow) (id place : ℕ) (row : NodeRow) → row ≡ get_or rows place row → IsRecord (parts rows) → IsAt (parts rows) id place → There rows id place row
+there rows id place row is rules at =
+    let shown_at : get_or (parts rows) place (shown row) ≡ shown row = parts-at rows place row ∙ ap shown (sym is) in
+    let many = length-map rows shown in
+    let inside : place < length rows = omega (arith, at.within) in
+    let at_place : row.id ≡ id_at (parts rows) place = ap (λ (r : NodeRow). r.id) is ∙ sym (id_at-parts rows place row inside) in
+    record {
+      own = at_place ∙ at.has_id;
+      found = found-at (parts rows) id place (shown row) rules.rising at ∙ ap Some shown_at;
+      rules = subst IsRow shown_at (rules.each place (shown row) at.within);
+      at_place = at_place;
+    }
+
+-- a row keeps its id
+answers-id : (node : List ℕ) (number : Number) (call : Call) (old new : RowShown) (frame : Frame) (verdict : Verdict) → RowAnswers node number call old new frame verdict → new.id ≡ old.id
+answers-id node number call old new frame Stale h = ap (λ (r : RowShown). r.id) h.1
+answers-id node number call old new frame Repeated h = ap (λ (r : RowShown). r.id) h.1
+answers-id node number call old new frame Fresh h = h.1.id
+
+pub kept_id : {E : Type 0} (r : Result Frame E) (node : List ℕ) (number : Number) (call : Call) (old new : RowShown) (verdict : Verdict)
+    → IfOk r (λ frame. RowAnswers node number call old new frame verdict) → OnErr r (new ≡ old) → new.id ≡ old.id
+kept_id (Ok frame) node number call old new verdict ok err = answers-id node number call old new frame verdict ok
+kept_id (Err fault) node number call old new verdict ok err = ap (λ (r : RowShown). r.id) err
+
+-- a call of a volume that has a row
+pub gives-there : (node : List ℕ) (id : ℕ) (number : Number) (call : Call) (rows : List NodeRow) (place : ℕ) (row new : NodeRow) (state : NodeState) → volume_of call ≡ Some id
+    → IsRecord (parts rows) → IsAt (parts rows) id place → There rows id place row → Shows rows state
+    → (frame : Frame) → RowAnswers node number call (shown row) (shown new) frame (verdict_of (Some row.last) number)
+    → Gives (set rows place new) frame (fenced_call node state number call (kept_for call state))
+gives-there node id number call rows place row new state v rules at is shows frame answers =
+    let own : new.id ≡ id = answers-id node number call (shown row) (shown new) frame _ answers ∙ is.own in
+    gives-from_all (set rows place new) frame _ (subst (λ (l : List RowShown). GivesAll l frame (fenced_call node state number call (kept_for call state))) (sym (map-set shown rows place new))
+    (gives-again node id number call (parts rows) (set (parts rows) place (shown new)) state v (all-from_shows rows state shows) (shown row) (shown new) frame is.found
+    (after-set (parts rows) id place (shown new) (shown row) rules.rising at own) answers))
+
+-- the rules then
+pub rules-there : (id : ℕ) (rows : List NodeRow) (place : ℕ) (row new : NodeRow) → IsRecord (parts rows) → IsAt (parts rows) id place → There rows id place row → IsRow (shown new) → new.id ≡ row.id
+    → IsRecord (parts (set rows place new))
+rules-there id rows place row new rules at is own same =
+    subst IsRecord (sym (map-set shown rows place new)) (rules-set (parts rows) place (shown new) rules own (same ∙ is.at_place) at.within)
+
+-- the first call of a volume
+pub gives-first : (node : List ℕ) (id : ℕ) (number : Number) (call : Call) (rows : List NodeRow) (place : ℕ) (new : NodeRow) (state : NodeState) (frame : Frame) → volume_of call ≡ Some id
+    → IsGapFor (parts rows) id place → length rows < 4096 → Shows rows state
+    → frame ≡ reply_frame number (Node node) (kind_of call) (lifecycle_row (alone (row_anew id number (kind_of call))) call).reply
+    → IsAfter number call (row_anew id number (kind_of call)) (shown new)
+    → Gives (insert rows place new) frame (fenced_call node state number call (kept_for call state))
+gives-first node id number call rows place new state frame v gap few shows is after =
+    gives-from_all (insert rows place new) frame _ (subst (λ (l : List RowShown). GivesAll l frame (fenced_call node state number call (kept_for call state))) (sym (parts-insert rows place new))
+    (gives-anew node id number call (parts rows) (insert (parts rows) place (shown new)) state v (all-from_shows rows state shows) (shown new) frame (absent-gap (parts rows) id place gap)
+    (let many = length-map rows shown in omega arith) (after-insert (parts rows) id place (shown new) gap after.id) is after))
+
+pub rules-first : (id : ℕ) (rows : List NodeRow) (place : ℕ) (new : NodeRow) → IsRecord (parts rows) → IsGapFor (parts rows) id place → length rows < 4096 → IsRow (shown new) → new.id ≡ id
+    → IsRecord (parts (insert rows place new))
+rules-first id rows place new rules gap few own same =
+    subst IsRecord (sym (parts-insert rows place new)) (rules-insert (parts rows) id place (shown new) rules own same gap (let many = length-map rows shown in omega arith))
+
+-- where there is no room
+pub gives-none : (node : List ℕ) (id : ℕ) (number : Number) (call : Call) (rows : List NodeRow) (place : ℕ) (state : NodeState) → volume_of call ≡ Some id → IsGapFor (parts rows) id place → 4096 ≤ length rows → Shows rows state
+    → (frame : Frame) → frame ≡ reply_frame number (Node node) (kind_of call) (plain_reply ResourceExhausted (codes "rows"))
+    → Gives rows frame (fenced_call node state number call (kept_for call state))
+gives-none node id number call rows place state v gap many shows frame is =
+    gives-from_all rows frame _ (gives-full node id number call (parts rows) (parts rows) state v (all-from_shows rows state shows) frame (absent-gap (parts rows) id place gap) (let same = length-map rows shown in omega arith) is)

@@ -1,0 +1,96 @@
+-- What the table reads of the state of one row alone.
+use Rattle.std.proofs.Common.{◌≡◌, ℕ, List, [], map, Bool, true, cond, not, ◌&&◌, refl, ◌∙◌, ap}
+use Rattle.std.specs.Prelude.{Option, Some, None, option_map, find, filter, ◌==◌, codes}
+use Rattle.std.proofs.lemmas.Bool.{eq-eqb}
+use Rattle.csi_types.specs.declared.capability.Capability.{Capability}
+use Rattle.csi_types.specs.declared.status.Status.TheVariants.{FailedPrecondition}
+use Rattle.csi_types.specs.Same.{same_text, same_capability}
+use Rattle.csi_types.proofs.Equality.{same_capability-tells}
+use Rattle.csi_node.specs.declared.row.NodeTarget.{NodeTarget}
+use Rattle.csi_node.specs.State.{StagedVolume, PublishedVolume, is_published_at, published_at, published_of, staged_of}
+use Rattle.csi_node.specs.Table.{Outcome, refused, publish, publish_at_target, publish_staged, publish_new, unpublish, begins_with_slash}
+use Rattle.csi_node.specs.OneRow.{RowShown, IsNew, HasRoomFor, alone, staged_by, published_so, published_by, target_in, publish_by_row, unpublish_by_row}
+use Rattle.csi_node.proofs.Lists.{find-of_map, find-same, filter-of_map, filter-all}
+use Rattle.csi_node.specs.declared.line.Line.{Line}
+use Rattle.csi_node.specs.declared.line.Line.TheVariants.{Refused, Met, Done}
+use Rattle.csi_node.specs.Lines.{WhereDone}
+
+itself : (id : ℕ) → (id == id) ≡ true
+itself id = eq-eqb id id refl
+
+itself_and : (id : ℕ) (b : Bool) → ((id == id) && b) ≡ b
+itself_and id b = rw (itself id) refl
+
+-- how a staged row is published at a target
+pub published_at-staged : (id : ℕ) (capability : Capability) (targets : List NodeTarget) (target : List ℕ)
+    → find (is_published_at id target) (map (published_so id capability) targets) ≡ option_map (published_so id capability) (find (λ there. same_text there.target target) targets)
+published_at-staged id capability targets target =
+    find-of_map (is_published_at id target) (published_so id capability) targets
+    ∙ ap (option_map (published_so id capability)) (find-same (λ there. is_published_at id target (published_so id capability there)) (λ there. same_text there.target target) targets (λ there. itself_and id (same_text there.target target)))
+
+unpublish-found : (id : ℕ) (capability : Capability) (target : List ℕ) (o : Option NodeTarget)
+    → unpublish id target (option_map (published_so id capability) o) ≡ unpublish_by_row id target o
+unpublish-found id capability target None = refl
+unpublish-found id capability target (Some there) = refl
+
+-- NodeUnpublishVolume, by the row
+pub unpublish-row : (row : RowShown) (target : List ℕ) → (row.staged ≡ None → row.targets ≡ [])
+    → unpublish row.id target (published_at row.id target (alone row)) ≡ unpublish_by_row row.id target (target_in row target)
+unpublish-row row target unstaged = by row.staged refl
+  where
+    by : (o : Option Capability) → row.staged ≡ o → unpublish row.id target (find (is_published_at row.id target) (published_by row.id o row.targets)) ≡ unpublish_by_row row.id target (target_in row target)
+    by None e = let none : row.targets ≡ [] = unstaged e in rw none refl
+    by (Some capability) e = ap (unpublish row.id target) (published_at-staged row.id capability row.targets target) ∙ unpublish-found row.id capability target (target_in row target)
+
+-- how a row is staged
+pub staged_of-alone : (row : RowShown) → staged_of row.id (alone row) ≡ row.staged
+staged_of-alone row = by row.staged
+  where
+    by : (o : Option Capability) → option_map (λ (s : StagedVolume). s.capability) (find (λ (s : StagedVolume). s.volume == row.id) (staged_by row.id o)) ≡ o
+    by None = refl
+    by (Some capability) = rw (itself row.id) refl
+
+-- all that a row publishes is of its volume
+pub published_of-alone : (row : RowShown) → published_of row.id (alone row) ≡ published_by row.id row.staged row.targets
+published_of-alone row = by row.staged
+  where
+    by : (o : Option Capability) → filter (λ (p : PublishedVolume). p.volume == row.id) (published_by row.id o row.targets) ≡ published_by row.id o row.targets
+    by None = refl
+    by (Some capability) =
+        filter-of_map (λ (p : PublishedVolume). p.volume == row.id) (published_so row.id capability) row.targets
+        ∙ ap (map (published_so row.id capability)) (filter-all (λ (there : NodeTarget). row.id == row.id) row.targets (λ there. itself row.id))
+
+publish-found : (row : RowShown) (staged : Capability) (published : PublishedVolume) (o : Option NodeTarget)
+    → staged_of published.volume (alone row) ≡ Some staged → published_of published.volume (alone row) ≡ published_by row.id (Some staged) row.targets
+    → publish_at_target (alone row) published (option_map (published_so row.id staged) o) ≡ publish_by_row row staged published o
+publish-found row staged published (Some there) is all = refl
+publish-found row staged published None is all =
+    ap (publish_staged (alone row) published) is
+    ∙ ap (λ (others : List PublishedVolume). cond (not (same_capability staged published.capability)) (refused FailedPrecondition (codes "staged otherwise")) (publish_new published others)) all
+
+absolute : (b : Bool) (x y : Outcome) → b ≡ true → cond (not b) x y ≡ y
+absolute b x y h = rw h refl
+
+-- NodePublishVolume at an absolute target, by the row
+pub publish-row : (row : RowShown) (staged : Capability) (target : List ℕ) (capability : Capability) (readonly : Bool) → row.staged ≡ Some staged → begins_with_slash target ≡ true
+    → let published : PublishedVolume = record { volume = row.id; target = target; capability = capability; readonly = readonly } in
+    publish (alone row) published ≡ publish_by_row row staged published (target_in row target)
+publish-row row staged target capability readonly is slash =
+    let published : PublishedVolume = record { volume = row.id; target = target; capability = capability; readonly = readonly } in
+    let at : published_at row.id target (alone row) ≡ option_map (published_so row.id staged) (target_in row target) =
+    ap (λ (o : Option Capability). find (is_published_at row.id target) (published_by row.id o row.targets)) is ∙ published_at-staged row.id staged row.targets target in
+    absolute (begins_with_slash target) _ _ slash
+    ∙ ap (publish_at_target (alone row) published) at
+    ∙ publish-found row staged published (target_in row target) (staged_of-alone row ∙ is) (published_of-alone row ∙ ap (λ (o : Option Capability). published_by row.id o row.targets) is)
+
+-- a fact that holds where the change is made
+pub WhereDone-weaker : (line : Line) {P Q : Type 0} → (P → Q) → WhereDone line P → WhereDone line Q
+WhereDone-weaker (Refused status detail) f h = tt
+WhereDone-weaker Met f h = tt
+WhereDone-weaker Done f h = f h
+
+-- a new target can be published where the volume is staged in the call's capability
+pub has_room : (row : RowShown) (staged : Capability) (target : List ℕ) (capability : Capability) → row.staged ≡ Some staged → begins_with_slash target ≡ true
+    → IsNew row staged target capability → HasRoomFor row target capability
+has_room row staged target capability is slash at =
+    record { staged = is ∙ ap Some ((same_capability-tells staged capability).0 at.same); absolute = slash; «new» = at.«new»; single = at.single; limit = at.limit }

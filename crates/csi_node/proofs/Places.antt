@@ -1,0 +1,43 @@
+-- What a search finds among rows by rising id, and what an edit at that place does.
+use Rattle.std.proofs.Common.{◌≡◌, ◌≢◌, ℕ, zero, suc, ◌<◌, List, [], ◌∷◌, length, get_or, set, cond, refl, arith}
+use Rattle.std.specs.Prelude.{Some, None, ◌==◌}
+use Rattle.std.specs.List.{insert}
+use Rattle.std.proofs.lemmas.Bool.Decides.{nat_tests}
+use Rattle.csi_node.specs.OneRow.{RowShown}
+use Rattle.csi_node.specs.Record.{id_at, IsAt}
+use Rattle.csi_node.proofs.Steps.{row_of}
+
+-- no row before the place has the id
+abbrev pub NoneBefore : List RowShown → ℕ → ℕ → Type 0
+NoneBefore rows id place = (j : ℕ) → j < place → id_at rows j ≢ id
+
+tail_none : (row : RowShown) (rows : List RowShown) (id place : ℕ) → NoneBefore (row ∷ rows) id (suc place) → NoneBefore rows id place
+tail_none row rows id place none j lt = none (suc j) (omega arith)
+
+tail_at : (row : RowShown) (rows : List RowShown) (id place : ℕ) → IsAt (row ∷ rows) id (suc place) → IsAt rows id place
+tail_at row rows id place at = record { within = omega (arith, at.within); has_id = at.has_id }
+
+-- an id that no row has is not found
+pub row_of-absent : (rows : List RowShown) (id : ℕ) → NoneBefore rows id (length rows) → row_of id rows ≡ None
+row_of-absent [] id none = refl
+row_of-absent (row ∷ rows) id none = grind (arith, nat_tests, none 0 (omega arith), row_of-absent rows id (tail_none row rows id _ none))
+
+-- the first row that has it is found
+pub row_of-present : (rows : List RowShown) (id place : ℕ) (d : RowShown) → IsAt rows id place → NoneBefore rows id place → row_of id rows ≡ Some (get_or rows place d)
+row_of-present [] id place d at none = absurd (omega (arith, at.within))
+row_of-present (row ∷ rows) id zero d at none = grind (arith, nat_tests, at.has_id)
+row_of-present (row ∷ rows) id (suc place) d at none = grind (arith, nat_tests, none 0 (omega arith), row_of-present rows id place d (tail_at row rows id place at) (tail_none row rows id place none))
+
+-- another row of the same id in its place
+pub row_of-set : (rows : List RowShown) (id place : ℕ) (new : RowShown) → new.id ≡ id → IsAt rows id place → NoneBefore rows id place
+    → (k : ℕ) → row_of k (set rows place new) ≡ cond (k == id) (Some new) (row_of k rows)
+row_of-set [] id place new own at none k = absurd (omega (arith, at.within))
+row_of-set (row ∷ rows) id zero new own at none k = grind (arith, nat_tests, at.has_id)
+row_of-set (row ∷ rows) id (suc place) new own at none k = grind (arith, nat_tests, none 0 (omega arith), row_of-set rows id place new own (tail_at row rows id place at) (tail_none row rows id place none) k)
+
+-- a row of a new id
+pub row_of-insert : (rows : List RowShown) (id place : ℕ) (new : RowShown) → new.id ≡ id → NoneBefore rows id place
+    → (k : ℕ) → row_of k (insert rows place new) ≡ cond (k == id) (Some new) (row_of k rows)
+row_of-insert rows id zero new own none k = grind (arith, nat_tests)
+row_of-insert [] id (suc place) new own none k = grind (arith, nat_tests)
+row_of-insert (row ∷ rows) id (suc place) new own none k = grind (arith, nat_tests, none 0 (omega arith), row_of-insert rows id place new own (tail_none row rows id place none) k)

@@ -1,0 +1,285 @@
+-- A step of a node, from rows that show a state to rows that show the state after it.
+use Rattle.std.proofs.Common.{◌≡◌, ℕ, ◌+◌, List, map, length, Bool, true, false, cond, not, ◌&&◌, refl, sym, ◌∙◌, ap, arith, length-append}
+use Rattle.std.specs.Prelude.{Option, Some, None, option_map, find, filter, ◌==◌, is_none, nat_le, option_to_list}
+use Rattle.std.proofs.lemmas.Bool.{eq-eqb, eqb-true}
+use Rattle.std.proofs.lemmas.Bool.Decides.{nat_tests}
+use Rattle.std.proofs.lemmas.List.{length-map}
+use Rattle.csi_types.specs.declared.capability.Capability.{Capability}
+use Rattle.csi_types.specs.declared.call.Call.{Call}
+use Rattle.csi_types.specs.Fence.{Kept}
+use Rattle.csi_types.proofs.Lists.{find-append_one, find-append, find-map, find-passes, filter-filter, or_else, or_else-none, or_else-some}
+use Rattle.csi_node.specs.declared.row.NodeRow.{NodeRow}
+use Rattle.csi_node.specs.State.{NodeState, Answered, StagedVolume, PublishedVolume, empty_node, row_with_id, published_of, volume_of, row_of_volume, row_for}
+use Rattle.csi_node.specs.Table.{Change, Stays, Stages, Unstages, Publishes, Unpublishes, Outcome, lifecycle_row, has_no_room, changed}
+use Rattle.csi_node.specs.Fenced.{kept_in, kept_rows, keep, kept_for}
+use Rattle.csi_node.specs.Laws.{is_another}
+use Rattle.csi_node.specs.Shown.{Shows, answered_of_row, published_in, staged_in, row_in}
+use Rattle.csi_node.specs.OneRow.{RowShown, shown, alone}
+use Rattle.csi_node.proofs.Facts.{lifecycle_facts}
+use Rattle.csi_node.proofs.Lists.{find-of_map}
+use Rattle.csi_node.proofs.StateChanges.{IsPart, IsAbout, lifecycle-part, lifecycle-about, changed-published, changed-staged}
+
+-- the row of an id
+abbrev pub row_of : ℕ → List RowShown → Option RowShown
+row_of id rows = find (λ row. row.id == id) rows
+
+-- the state of a volume alone, with a row or without
+abbrev pub alone_in : Option RowShown → NodeState
+alone_in None = empty_node
+alone_in (Some row) = alone row
+
+abbrev pub answered_of : RowShown → Answered
+answered_of row = record { id = row.id; kept = row.kept }
+
+-- the rows show the state
+pub record ShowsAll (rows : List RowShown) (state : NodeState) : Type 0 where
+  pub count : length rows ≡ length state.rows
+  pub kept : (id : ℕ) → option_map answered_of (row_of id rows) ≡ row_with_id id state
+  pub staged : (id : ℕ) → map (λ (s : StagedVolume). s.capability) (alone_in (row_of id rows)).staged ≡ map (λ (s : StagedVolume). s.capability) (filter (λ (s : StagedVolume). s.volume == id) state.staged)
+  pub published : (id : ℕ) → (alone_in (row_of id rows)).published ≡ published_of id state
+
+-- the rows of a record and their parts show the same
+pub row_of-shown : (id : ℕ) (rows : List NodeRow) → row_of id (map shown rows) ≡ option_map shown (row_in id rows)
+row_of-shown id rows = find-of_map (λ (row : RowShown). row.id == id) shown rows
+
+pub kept-shown : (o : Option NodeRow) → option_map answered_of (option_map shown o) ≡ option_map answered_of_row o
+kept-shown None = refl
+kept-shown (Some row) = refl
+
+staged-shown : (o : Option NodeRow) → map (λ (s : StagedVolume). s.capability) (alone_in (option_map shown o)).staged ≡ staged_in o
+staged-shown None = refl
+staged-shown (Some row) = by row.staged row.staged refl refl
+  where
+    by : (s t : Option Capability) → row.staged ≡ s → row.staged ≡ t → map (λ (s : StagedVolume). s.capability) (alone (shown row)).staged ≡ option_to_list row.staged
+    by None t e f = rw e refl
+    by (Some capability) t e f = rw e refl
+
+published-shown : (o : Option NodeRow) → (alone_in (option_map shown o)).published ≡ published_in o
+published-shown None = refl
+published-shown (Some row) = by row.staged refl
+  where
+    by : (s : Option Capability) → row.staged ≡ s → (alone (shown row)).published ≡ published_in (Some row)
+    by None e = rw e refl
+    by (Some capability) e = rw e refl
+
+pub all-from_shows : (rows : List NodeRow) (state : NodeState) → Shows rows state → ShowsAll (map shown rows) state
+all-from_shows rows state shows = record {
+  count = length-map rows shown ∙ shows.count;
+  kept = λ id. ap (option_map answered_of) (row_of-shown id rows) ∙ kept-shown (row_in id rows) ∙ shows.kept id;
+  staged = λ id. ap (λ (o : Option RowShown). map (λ (s : StagedVolume). s.capability) (alone_in o).staged) (row_of-shown id rows) ∙ staged-shown (row_in id rows) ∙ shows.staged id;
+  published = λ id. ap (λ (o : Option RowShown). (alone_in o).published) (row_of-shown id rows) ∙ published-shown (row_in id rows) ∙ shows.published id;
+}
+
+pub shows-from_all : (rows : List NodeRow) (state : NodeState) → ShowsAll (map shown rows) state → Shows rows state
+shows-from_all rows state all = record {
+  count = sym (length-map rows shown) ∙ all.count;
+  kept = λ id. sym (kept-shown (row_in id rows)) ∙ ap (option_map answered_of) (sym (row_of-shown id rows)) ∙ all.kept id;
+  staged = λ id. sym (staged-shown (row_in id rows)) ∙ ap (λ (o : Option RowShown). map (λ (s : StagedVolume). s.capability) (alone_in o).staged) (sym (row_of-shown id rows)) ∙ all.staged id;
+  published = λ id. sym (published-shown (row_in id rows)) ∙ ap (λ (o : Option RowShown). (alone_in o).published) (sym (row_of-shown id rows)) ∙ all.published id;
+}
+
+-- how many rows there are after a call, by whether its volume had one
+abbrev pub grown : Option RowShown → ℕ → ℕ
+grown None n = n + 1
+grown (Some row) n = n
+
+-- the rows after a call of a volume
+pub record RowsAfter (id : ℕ) (old new : List RowShown) (row : RowShown) : Type 0 where
+  pub count : length new ≡ grown (row_of id old) (length old)
+  pub this : row_of id new ≡ Some row
+  pub others : (k : ℕ) → (k == id) ≡ false → row_of k new ≡ row_of k old
+
+itself : (id : ℕ) → (id == id) ≡ true
+itself id = eq-eqb id id refl
+
+answered_id : (o : Option RowShown) (row : Answered) → option_map answered_of o ≡ Some row → (r : RowShown) → o ≡ Some r → answered_of r ≡ row
+answered_id o row h r e = let both : Some (answered_of r) ≡ Some row = ap (option_map answered_of) (sym e) ∙ h in cc
+
+changed-rows : (state : NodeState) (change : Change) → (changed state change).rows ≡ state.rows
+changed-rows state Stays = refl
+changed-rows state (Stages staged) = refl
+changed-rows state (Unstages id) = refl
+changed-rows state (Publishes published) = refl
+changed-rows state (Unpublishes id target) = refl
+
+-- the parts of the state that are a volume's
+pub part_of : (id : ℕ) (rows : List RowShown) (state : NodeState) → ShowsAll rows state → IsPart id (alone_in (row_of id rows)) state
+part_of id rows state all = record {
+  staged = all.staged id;
+  of_id = own (row_of id rows) (λ row found. eqb-true row.id id (find-passes (λ (r : RowShown). r.id == id) rows row found));
+  published = all.published id;
+}
+  where
+    one : (row : RowShown) (s : Option Capability) → row.id ≡ id → filter (λ (v : StagedVolume). v.volume == id) (alone (record row { staged = s })).staged ≡ (alone (record row { staged = s })).staged
+    one row None e = refl
+    one row (Some capability) e = let passes : (row.id == id) ≡ true = eq-eqb row.id id e in rw passes refl
+
+    own : (o : Option RowShown) → ((row : RowShown) → o ≡ Some row → row.id ≡ id) → filter (λ (v : StagedVolume). v.volume == id) (alone_in o).staged ≡ (alone_in o).staged
+    own None h = refl
+    own (Some row) h = one row row.staged (h row refl)
+
+-- what is kept for the call's volume
+pub kept-shown_by : (id : ℕ) (call : Call) (rows : List RowShown) (state : NodeState) (o : Option RowShown) → volume_of call ≡ Some id → ShowsAll rows state → row_of id rows ≡ o
+    → kept_for call state ≡ option_map (λ (r : RowShown). r.kept) o
+kept-shown_by id call rows state o v all found =
+    ap (λ (volume : Option ℕ). option_map (λ (row : Answered). row.kept) (row_of_volume volume state)) v
+    ∙ ap (option_map (λ (row : Answered). row.kept)) (sym (all.kept id))
+    ∙ ap (λ (p : Option RowShown). option_map (λ (row : Answered). row.kept) (option_map answered_of p)) found
+    ∙ twice o
+  where
+    twice : (p : Option RowShown) → option_map (λ (row : Answered). row.kept) (option_map answered_of p) ≡ option_map (λ (r : RowShown). r.kept) p
+    twice None = refl
+    twice (Some row) = refl
+
+-- whether the state has room, by the rows
+pub room-by : (id : ℕ) (call : Call) (rows : List RowShown) (state : NodeState) (o : Option RowShown) → volume_of call ≡ Some id → ShowsAll rows state → row_of id rows ≡ o
+    → has_no_room state call ≡ (is_none o && nat_le 4096 (length rows))
+room-by id call rows state o v all found =
+    let row : row_for call state ≡ option_map answered_of o =
+    ap (λ (volume : Option ℕ). row_of_volume volume state) v ∙ sym (all.kept id) ∙ ap (option_map answered_of) found in
+    let none : is_none (row_for call state) ≡ is_none o = ap is_none row ∙ mapped o in
+    λ i. none i && nat_le 4096 ((sym all.count) i)
+  where
+    mapped : (p : Option RowShown) → is_none (option_map answered_of p) ≡ is_none p
+    mapped None = refl
+    mapped (Some row) = refl
+
+-- what is kept, in the rows of the state
+length-kept : (id : ℕ) (kept : Kept) (rows : List Answered) (o : Option Answered) (p : Option RowShown) → option_map answered_of p ≡ o → length (kept_rows id kept rows o) ≡ grown p (length rows)
+length-kept id kept rows (Some row) None h = cc
+length-kept id kept rows None None h = omega (arith, length-append {A = Answered})
+length-kept id kept rows None (Some r) h = cc
+length-kept id kept rows (Some row) (Some r) h = length-map rows (kept_in id kept)
+
+kept_in-id : (id : ℕ) (kept : Kept) (row : Answered) → (kept_in id kept row).id ≡ row.id
+kept_in-id id kept row = by (row.id == id)
+  where
+    by : (b : Bool) → (cond b (record row { kept = kept }) row).id ≡ row.id
+    by true = refl
+    by false = refl
+
+kept-here : (id : ℕ) (kept : Kept) (rows : List Answered) (o : Option Answered) → find (λ (row : Answered). row.id == id) rows ≡ o
+    → find (λ (row : Answered). row.id == id) (kept_rows id kept rows o) ≡ Some (record { id = id; kept = kept })
+kept-here id kept rows None h = find-append_one (λ (row : Answered). row.id == id) rows (record { id = id; kept = kept }) (itself id) h
+kept-here id kept rows (Some row) h =
+    let own : (row.id == id) ≡ true = find-passes (λ (r : Answered). r.id == id) rows row h in
+    let same : row.id ≡ id = eqb-true row.id id own in
+    find-map (λ (r : Answered). r.id == id) (kept_in id kept) rows (λ r. ap (λ n. n == id) (kept_in-id id kept r))
+    ∙ ap (option_map (kept_in id kept)) h
+    ∙ rw own (ap (λ (n : ℕ). let a : Option Answered = Some (record { id = n; kept = kept }) in a) same)
+
+kept_in-other : (id : ℕ) (kept : Kept) (row : Answered) → (row.id == id) ≡ false → kept_in id kept row ≡ row
+kept_in-other id kept row h = rw h refl
+
+mapped-other : (id k : ℕ) (kept : Kept) (o : Option Answered) → ((row : Answered) → o ≡ Some row → (row.id == id) ≡ false) → option_map (kept_in id kept) o ≡ o
+mapped-other id k kept None h = refl
+mapped-other id k kept (Some row) h = ap Some (kept_in-other id kept row (h row refl))
+
+turned : (k id : ℕ) → (k == id) ≡ false → (id == k) ≡ false
+turned k id h = grind (arith, nat_tests)
+
+apart : (k id n : ℕ) → (k == id) ≡ false → (n == k) ≡ true → (n == id) ≡ false
+apart k id n h e = grind (arith, nat_tests)
+
+another : (id k n : ℕ) (call : Call) → volume_of call ≡ Some id → (k == id) ≡ false → (n == k) ≡ true → is_another (volume_of call) n ≡ true
+another id k n call v h e =
+    ap (λ (o : Option ℕ). is_another o n) v ∙ ap not (apart k id n h e)
+
+no_other : (p : Option Answered) → or_else p None ≡ p
+no_other None = or_else-none None None refl
+no_other (Some row) = or_else-some (Some row) None row refl
+
+kept-elsewhere : (id k : ℕ) (kept : Kept) (rows : List Answered) (o : Option Answered) → (k == id) ≡ false
+    → find (λ (row : Answered). row.id == k) (kept_rows id kept rows o) ≡ find (λ (row : Answered). row.id == k) rows
+kept-elsewhere id k kept rows None h =
+    find-append (λ (row : Answered). row.id == k) rows (record { id = id; kept = kept })
+    ∙ ap (λ (b : Bool). or_else (find (λ (row : Answered). row.id == k) rows) (cond b (Some (record { id = id; kept = kept })) None)) (turned k id h)
+    ∙ no_other (find (λ (row : Answered). row.id == k) rows)
+kept-elsewhere id k kept rows (Some there) h =
+    find-map (λ (row : Answered). row.id == k) (kept_in id kept) rows (λ row. ap (λ n. n == k) (kept_in-id id kept row))
+    ∙ mapped-other id k kept (find (λ (row : Answered). row.id == k) rows) (λ row found. apart k id row.id h (find-passes (λ (r : Answered). r.id == k) rows row found))
+
+-- the other volumes' stagings and targets
+other_staged : (id k : ℕ) (state : NodeState) (call : Call) → volume_of call ≡ Some id → (k == id) ≡ false
+    → filter (λ (s : StagedVolume). s.volume == k) (changed state (lifecycle_row state call).change).staged ≡ filter (λ (s : StagedVolume). s.volume == k) state.staged
+other_staged id k state call v h =
+    let same : (old new : List StagedVolume) → filter (λ (s : StagedVolume). is_another (volume_of call) s.volume) new ≡ filter (λ (s : StagedVolume). is_another (volume_of call) s.volume) old
+    → filter (λ (s : StagedVolume). s.volume == k) new ≡ filter (λ (s : StagedVolume). s.volume == k) old = λ old new e.
+    sym (filter-filter (λ (s : StagedVolume). s.volume == k) (λ (s : StagedVolume). is_another (volume_of call) s.volume) new (λ s e. another id k s.volume call v h e))
+    ∙ ap (filter (λ (s : StagedVolume). s.volume == k)) e
+    ∙ filter-filter (λ (s : StagedVolume). s.volume == k) (λ (s : StagedVolume). is_another (volume_of call) s.volume) old (λ s e. another id k s.volume call v h e) in
+    same state.staged (changed state (lifecycle_row state call).change).staged (lifecycle_facts state call).others.staged
+
+other_published : (id k : ℕ) (state : NodeState) (call : Call) → volume_of call ≡ Some id → (k == id) ≡ false
+    → published_of k (changed state (lifecycle_row state call).change) ≡ published_of k state
+other_published id k state call v h =
+    let same : (old new : List PublishedVolume) → filter (λ (p : PublishedVolume). is_another (volume_of call) p.volume) new ≡ filter (λ (p : PublishedVolume). is_another (volume_of call) p.volume) old
+    → filter (λ (p : PublishedVolume). p.volume == k) new ≡ filter (λ (p : PublishedVolume). p.volume == k) old = λ old new e.
+    sym (filter-filter (λ (p : PublishedVolume). p.volume == k) (λ (p : PublishedVolume). is_another (volume_of call) p.volume) new (λ p e. another id k p.volume call v h e))
+    ∙ ap (filter (λ (p : PublishedVolume). p.volume == k)) e
+    ∙ filter-filter (λ (p : PublishedVolume). p.volume == k) (λ (p : PublishedVolume). is_another (volume_of call) p.volume) old (λ p e. another id k p.volume call v h e) in
+    same state.published (changed state (lifecycle_row state call).change).published (lifecycle_facts state call).others.published
+
+-- the state that the table and the fence lead to
+abbrev pub state_then : NodeState → ℕ → Kept → Call → NodeState
+state_then state id kept call = keep (Some id) kept (changed state (lifecycle_row state call).change)
+
+-- rows show the state after a call that is carried out
+pub shows_then : (id : ℕ) (call : Call) (old new : List RowShown) (state : NodeState) (before after : RowShown) (kept : Kept)
+    → volume_of call ≡ Some id → ShowsAll old state → RowsAfter id old new after
+    → alone before ≡ alone_in (row_of id old) → after.id ≡ id → after.kept ≡ kept
+    → alone after ≡ changed (alone before) (lifecycle_row (alone before) call).change
+    → ShowsAll new (state_then state id kept call)
+shows_then id call old new state before after kept v all rows is_before is_id is_kept is_after = record {
+  count = rows.count ∙ ap (grown (row_of id old)) all.count ∙ sym (ap length kept_there ∙ length-kept id kept state.rows (row_with_id id state) (row_of id old) (all.kept id));
+  kept = λ k. by_kept k (k == id) refl;
+  staged = λ k. by_staged k (k == id) refl;
+  published = λ k. by_published k (k == id) refl;
+}
+  where
+    change : Change
+    change = (lifecycle_row state call).change
+
+    part : IsPart id (alone_in (row_of id old)) state
+    part = part_of id old state all
+
+    about : IsAbout id change
+    about = lifecycle-about id state call v
+
+    same_change : (lifecycle_row (alone before) call).change ≡ change
+    same_change = ap (λ (s : NodeState). (lifecycle_row s call).change) is_before ∙ ap (λ (o : Outcome). o.change) (lifecycle-part id (alone_in (row_of id old)) state call v part)
+
+    now : alone_in (row_of id new) ≡ changed (alone_in (row_of id old)) change
+    now = ap alone_in rows.this ∙ is_after ∙ ap (changed (alone before)) same_change ∙ ap (λ (s : NodeState). changed s change) is_before
+
+    kept_there : (state_then state id kept call).rows ≡ kept_rows id kept state.rows (row_with_id id state)
+    kept_there = ap (λ (l : List Answered). kept_rows id kept l (find (λ (row : Answered). row.id == id) l)) (changed-rows state change)
+
+    by_kept : (k : ℕ) (b : Bool) → (k == id) ≡ b → option_map answered_of (row_of k new) ≡ row_with_id k (state_then state id kept call)
+    by_kept k true e =
+        let same : k ≡ id = eqb-true k id e in
+        rw same (ap (option_map answered_of) rows.this
+        ∙ (λ i. Some (record { id = is_id i; kept = is_kept i }))
+        ∙ sym (ap (find (λ (row : Answered). row.id == id)) kept_there ∙ kept-here id kept state.rows (row_with_id id state) refl))
+    by_kept k false e =
+        ap (option_map answered_of) (rows.others k e)
+        ∙ all.kept k
+        ∙ sym (ap (find (λ (row : Answered). row.id == k)) kept_there ∙ kept-elsewhere id k kept state.rows (row_with_id id state) e)
+
+    by_staged : (k : ℕ) (b : Bool) → (k == id) ≡ b → map (λ (s : StagedVolume). s.capability) (alone_in (row_of k new)).staged ≡ map (λ (s : StagedVolume). s.capability) (filter (λ (s : StagedVolume). s.volume == k) (changed state change).staged)
+    by_staged k true e =
+        let same : k ≡ id = eqb-true k id e in
+        rw same (ap (λ (s : NodeState). map (λ (v : StagedVolume). v.capability) s.staged) now ∙ changed-staged id (alone_in (row_of id old)) state change about part)
+    by_staged k false e =
+        ap (λ (o : Option RowShown). map (λ (s : StagedVolume). s.capability) (alone_in o).staged) (rows.others k e)
+        ∙ all.staged k
+        ∙ ap (map (λ (s : StagedVolume). s.capability)) (sym (other_staged id k state call v e))
+
+    by_published : (k : ℕ) (b : Bool) → (k == id) ≡ b → (alone_in (row_of k new)).published ≡ published_of k (changed state change)
+    by_published k true e =
+        let same : k ≡ id = eqb-true k id e in
+        rw same (ap (λ (s : NodeState). s.published) now ∙ changed-published id (alone_in (row_of id old)) state change about part)
+    by_published k false e =
+        ap (λ (o : Option RowShown). (alone_in o).published) (rows.others k e)
+        ∙ all.published k
+        ∙ sym (other_published id k state call v e)

@@ -1,0 +1,11 @@
+use Rattle.std.proofs.Common.{◌≡◌, ◌∙◌, ap}
+use Rattle.csi_node.specs.OneRow.{shown}
+use Rattle.csi_node.specs.Table.{unstage}
+use Rattle.csi_node.proofs.OneRow.{published_of-alone}
+use Rattle.csi_node.proofs.lines.line.Goals as goal
+
+pub returns-in-NodeUnstageVolume-clause-line : goal.returns-in-NodeUnstageVolume-clause-line
+returns-in-NodeUnstageVolume-clause-line c =
+    let volume = rw c.in-NodeUnstageVolume.is at c.requires.volume in
+    let id : c.in-NodeUnstageVolume.id ≡ c.args.row.now.id = cc in
+    rw (c.in-NodeUnstageVolume.is, id) (ap (unstage c.args.row.now.id) (published_of-alone (shown c.args.row.now)) ∙ c.unstage_line.ensures.line)

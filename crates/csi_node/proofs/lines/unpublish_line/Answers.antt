@@ -1,0 +1,14 @@
+use Rattle.std.proofs.Common.{◌∙◌, ap, sym}
+use Rattle.csi_node.specs.OneRow.{shown, unpublish_by_row}
+use Rattle.csi_node.proofs.OneRow.{unpublish-row}
+use Rattle.csi_node.proofs.lines.unpublish_line.Goals as goal
+
+pub returns-in-None : goal.returns-in-None
+returns-in-None c =
+    unpublish-row (shown c.args.row.now) c.args.target.now c.requires.rules.targets.unstaged
+    ∙ ap (unpublish_by_row c.args.row.now.id c.args.target.now) (sym c.in-None.ensures)
+
+pub returns-in-Some : goal.returns-in-Some
+returns-in-Some c =
+    unpublish-row (shown c.args.row.now) c.args.target.now c.requires.rules.targets.unstaged
+    ∙ ap (unpublish_by_row c.args.row.now.id c.args.target.now) (sym c.in-Some.ensures)

@@ -1,0 +1,34 @@
+use Rattle.std.proofs.Common.{◌∙◌, ap, sym, Some}
+use Rattle.std.proofs.lemmas.Result.{IfOk-weaker, on_err_weaker}
+use Rattle.std.proofs.Math.Seq.{map-set_same}
+use Rattle.csi_node.specs.OneRow.{shown}
+use Rattle.csi_node.proofs.Calls.{there, gives-there, rules-there, kept_id}
+use Rattle.csi_node.proofs.step.answer_there.Goals as goal
+
+pub answer_again-requires-clause-volume : goal.answer_again-requires-clause-volume
+answer_again-requires-clause-volume c =
+    let is = there c.args.rows.now.items c.args.id c.args.place c.index_mut.result.now c.index_mut.ensures.value c.requires.rules c.requires.place in
+    c.requires.volume ∙ ap Some (sym is.own)
+
+pub answer_again-requires-clause-rules : goal.answer_again-requires-clause-rules
+answer_again-requires-clause-rules c =
+    (there c.args.rows.now.items c.args.id c.args.place c.index_mut.result.now c.index_mut.ensures.value c.requires.rules c.requires.place).rules
+
+pub returns-clause-ok : goal.returns-clause-ok
+returns-clause-ok c = λ state shows.
+    let is = there c.args.rows.now.items c.args.id c.args.place c.index_mut.result.now c.index_mut.ensures.value c.requires.rules c.requires.place in
+    IfOk-weaker c.answer_again.result _ _
+    (gives-there c.args.node.now c.args.id c.args.number c.args.call.now c.args.rows.now.items c.args.place c.index_mut.result.now c.answer_again.new.row state c.requires.volume c.requires.rules c.requires.place is shows)
+    c.answer_again.ensures.ok
+
+pub returns-clause-rules : goal.returns-clause-rules
+returns-clause-rules c =
+    let is = there c.args.rows.now.items c.args.id c.args.place c.index_mut.result.now c.index_mut.ensures.value c.requires.rules c.requires.place in
+    rules-there c.args.id c.args.rows.now.items c.args.place c.index_mut.result.now c.answer_again.new.row c.requires.rules c.requires.place is c.answer_again.ensures.rules
+    (kept_id c.answer_again.result c.args.node.now c.args.number c.args.call.now (shown c.index_mut.result.now) (shown c.answer_again.new.row) _ c.answer_again.ensures.ok c.answer_again.ensures.err)
+
+pub returns-clause-err : goal.returns-clause-err
+returns-clause-err c =
+    on_err_weaker c.answer_again.result
+    (λ same. map-set_same shown c.args.rows.now.items c.args.place c.answer_again.new.row c.index_mut.result.now (same ∙ ap shown c.index_mut.ensures.value))
+    c.answer_again.ensures.err

@@ -1,0 +1,55 @@
+-- A node's record as a value, and the rules that it keeps. This profile's own.
+use Rattle.std.specs.Prelude.{◌≡◌, ℕ, ◌<◌, ◌≤◌, List, map, length, slice_index_or, All, Bool, false, Some}
+use Rattle.csi_types.specs.declared.call.Party.{Party}
+use Rattle.csi_types.specs.declared.call.Party.TheVariants.{Controller, Node}
+use Rattle.csi_types.specs.declared.frame.Body.{Body}
+use Rattle.csi_types.specs.declared.frame.Body.TheVariants as bodies
+use Rattle.csi_types.specs.Frame.{Frame}
+use Rattle.csi_types.specs.Same.{same_text}
+use Rattle.csi_node.specs.declared.row.NodeRow.{NodeRow}
+use Rattle.csi_node.specs.Fenced.{Fenced}
+use Rattle.csi_node.specs.Shown.{Shows}
+use Rattle.csi_node.specs.OneRow.{RowShown, shown, IsRow}
+
+-- a record: its node, and its rows
+pub record NodeParts : Type 0 where
+  pub id : List ℕ
+  pub rows : List NodeRow
+
+abbrev pub parts : List NodeRow → List RowShown
+parts rows = map shown rows
+
+abbrev pub ids : List RowShown → List ℕ
+ids rows = map (λ row. row.id) rows
+
+-- the id at a place
+abbrev pub id_at : List RowShown → ℕ → ℕ
+id_at rows place = slice_index_or (ids rows) place 0
+
+-- the rules of a record: its rows stand by rising id, at most 4,096, and each keeps the rules of a row
+pub record IsRecord (rows : List RowShown) : Type 0 where
+  pub rising : (i j : ℕ) → i < j → j < length rows → id_at rows i < id_at rows j
+  pub limit : length rows ≤ 4096
+  pub each : All IsRow rows
+
+-- the row of the id is at this place
+pub record IsAt (rows : List RowShown) (id place : ℕ) : Type 0 where
+  pub within : place < length rows
+  pub has_id : id_at rows place ≡ id
+
+-- no row has the id, which would stand at this place
+pub record IsGapFor (rows : List RowShown) (id place : ℕ) : Type 0 where
+  pub within : place ≤ length rows
+  pub before : (j : ℕ) → j < place → id_at rows j < id
+  pub after : (j : ℕ) → place ≤ j → j < length rows → id < id_at rows j
+
+-- the frame is a call for this node
+abbrev pub is_call_for : List ℕ → Party → Body → Bool
+is_call_for node (Node id) (bodies.Call call) = same_text id node
+is_call_for node (Node id) (bodies.Reply kind reply) = false
+is_call_for node Controller body = false
+
+-- the rows are those after a frame that was answered so
+pub record Gives (rows : List NodeRow) (frame : Frame) (fenced : Fenced) : Type 0 where
+  pub reply : fenced.reply ≡ Some frame
+  pub shows : Shows rows fenced.state

@@ -1,0 +1,183 @@
+//! The node's table, for the row of a call's volume.
+ghost use Rattle.std.specs.Prelude.{◌≡◌, ◌<◌, List, [], length, true, Some, None, option_copied, codes, if◌then◌else◌};
+ghost use Rattle.csi_types.specs.Call.{kind_of, is_node_kind};
+ghost use Rattle.csi_types.specs.Sharing.{allows_one_target};
+ghost use Rattle.csi_types.specs.Same.{same_capability as same, same_flag as flags};
+ghost use Rattle.csi_types.specs.declared.status.Status.TheVariants.{AlreadyExists};
+ghost use Rattle.csi_node.specs.Lines.{outcome_shown, WhereDone};
+ghost use Rattle.csi_node.specs.OneRow.{shown, alone, target_in, published_by, publish_by_row, change_of, CanChange, HasRoomFor, IsNew, IsRow};
+ghost use Rattle.csi_node.specs.State.{volume_of, published_at, PublishedVolume};
+ghost use Rattle.csi_node.specs.Table.{Change, Stages, Unstages, Publishes, Unpublishes, stage, unstage, refused, met, publish, publish_new, unpublish, lifecycle_row, begins_with_slash};
+
+use crate::line::Line;
+use crate::row::{NodeRow, NodeTarget};
+use csi_types::{Call, Capability, Status, Target, single_node};
+
+/// The most targets that a volume has on a node.
+pub(crate) const MAX_TARGETS: usize = 16;
+
+// Whether the two are the same.
+fn same_capability(a: &Capability, b: &Capability) -> bool
+    ensures { result ≡ same a.now b.now }
+{
+    a == b
+}
+
+// Whether both are set, or neither is.
+fn same_flag(a: bool, b: bool) -> bool
+    ensures { result ≡ flags a b }
+{
+    a == b
+}
+
+// Whether the target is a path from the root.
+fn is_absolute(target: &Target) -> bool
+    ensures { result ≡ begins_with_slash target.now }
+{
+    target.as_str().as_bytes().first() == Some(&b'/')
+}
+
+// How the row's volume is published at the target, if it is.
+fn find_target<'a>(row: &'a NodeRow, target: &Target) -> Option<&'a NodeTarget>
+    ensures { option_copied result ≡ target_in (shown row.now) target.now }
+{
+    row.targets.iter().find(|there| there.target == *target)
+}
+
+// NodeStageVolume.
+fn stage_line(row: &NodeRow, capability: &Capability) -> Line<'static>
+    ensures line { stage (record { volume = row.now.id; capability = capability.now }) row.now.staged
+        ≡ outcome_shown (Stages (record { volume = row.now.id; capability = capability.now })) result }
+    ensures ready { WhereDone result (row.now.staged ≡ None) }
+{
+    match &row.staged {
+        None => Line::Done,
+        Some(staged) => {
+            if same_capability(staged, capability) {
+                return Line::Met;
+            }
+            Line::Refused(Status::AlreadyExists, "staged otherwise")
+        }
+    }
+}
+
+// NodeUnstageVolume.
+fn unstage_line(row: &NodeRow) -> Line<'_>
+    requires rules { IsRow (shown row.now) }
+    ensures line { unstage row.now.id (published_by row.now.id row.now.staged row.now.targets.items) ≡ outcome_shown (Unstages row.now.id) result }
+    ensures ready { WhereDone result (row.now.targets.items ≡ []) }
+{
+    match row.targets.first() {
+        None => Line::Done,
+        Some(first) => Line::Refused(Status::FailedPrecondition, first.target.as_str()),
+    }
+}
+
+// NodePublishVolume at a target where the volume isn't published, in the capability in which it is staged.
+fn publish_new_line<'a>(row: &'a NodeRow, capability: &Capability) -> Line<'a>
+    ensures line { (published : PublishedVolume) (staged : Capability) → published.capability ≡ capability.now →
+        publish_new published (published_by row.now.id (Some staged) row.now.targets.items) ≡ outcome_shown (Publishes published) result }
+    ensures single { WhereDone result (allows_one_target capability.now.mode ≡ true → row.now.targets.items ≡ []) }
+    ensures limit { WhereDone result (length row.now.targets.items < 16) }
+{
+    match row.targets.first() {
+        None => Line::Done,
+        Some(first) => {
+            if single_node(capability.mode) {
+                return Line::Refused(Status::FailedPrecondition, first.target.as_str());
+            }
+            if row.targets.len() >= MAX_TARGETS {
+                return Line::Refused(Status::ResourceExhausted, "targets");
+            }
+            Line::Done
+        }
+    }
+}
+
+// NodePublishVolume at a target where the volume is published, by whether it is so in the same way.
+fn published_line(is_same: bool) -> Line<'static>
+    ensures line { (change : Change) → (if is_same then met else refused AlreadyExists (codes "published otherwise")) ≡ outcome_shown change result }
+    ensures never { WhereDone result ⊥ }
+{
+    if is_same {
+        return Line::Met;
+    }
+    Line::Refused(Status::AlreadyExists, "published otherwise")
+}
+
+// NodePublishVolume at an absolute target, of a volume that is staged so.
+fn publish_staged_line<'a>(
+    row: &'a NodeRow,
+    staged: &Capability,
+    target: &Target,
+    capability: &Capability,
+    readonly: bool,
+) -> Line<'a>
+    ensures line { let published : PublishedVolume = record { volume = row.now.id; target = target.now; capability = capability.now; readonly = readonly } in
+        publish_by_row (shown row.now) staged.now published (target_in (shown row.now) target.now) ≡ outcome_shown (Publishes published) result }
+    ensures ready { WhereDone result (IsNew (shown row.now) staged.now target.now capability.now) }
+{
+    let is_same = same_capability(staged, capability);
+    match find_target(row, target) {
+        Some(there) => published_line(is_same && same_flag(there.readonly, readonly)),
+        None => {
+            if !is_same {
+                return Line::Refused(Status::FailedPrecondition, "staged otherwise");
+            }
+            publish_new_line(row, capability)
+        }
+    }
+}
+
+// NodePublishVolume.
+fn publish_line<'a>(
+    row: &'a NodeRow,
+    target: &Target,
+    capability: &Capability,
+    readonly: bool,
+) -> Line<'a>
+    ensures line { let published : PublishedVolume = record { volume = row.now.id; target = target.now; capability = capability.now; readonly = readonly } in
+        publish (alone (shown row.now)) published ≡ outcome_shown (Publishes published) result }
+    ensures ready { WhereDone result (HasRoomFor (shown row.now) target.now capability.now) }
+{
+    if !is_absolute(target) {
+        return Line::Refused(Status::InvalidArgument, "target");
+    }
+    match &row.staged {
+        None => Line::Refused(Status::FailedPrecondition, "not staged"),
+        Some(staged) => publish_staged_line(row, staged, target, capability, readonly),
+    }
+}
+
+// NodeUnpublishVolume.
+fn unpublish_line(row: &NodeRow, target: &Target) -> Line<'static>
+    requires rules { IsRow (shown row.now) }
+    ensures { unpublish row.now.id target.now (published_at row.now.id target.now (alone (shown row.now))) ≡ outcome_shown (Unpublishes row.now.id target.now) result }
+{
+    match find_target(row, target) {
+        None => Line::Met,
+        Some(_) => Line::Done,
+    }
+}
+
+/// What the table answers to a call of the row's volume.
+pub(crate) fn line<'a>(row: &'a NodeRow, call: &Call) -> Line<'a>
+    requires volume { volume_of call.now ≡ Some row.now.id }
+    requires kind { is_node_kind (kind_of call.now) ≡ true }
+    requires rules { IsRow (shown row.now) }
+    ensures line { lifecycle_row (alone (shown row.now)) call.now ≡ outcome_shown (change_of call.now) result }
+    ensures ready { WhereDone result (CanChange (shown row.now) call.now) }
+{
+    match call {
+        Call::NodeStageVolume { capability, .. } => stage_line(row, capability),
+        Call::NodeUnstageVolume { .. } => unstage_line(row),
+        Call::NodePublishVolume {
+            target,
+            capability,
+            readonly,
+            ..
+        } => publish_line(row, target, capability, *readonly),
+        Call::NodeUnpublishVolume { target, .. } => unpublish_line(row, target),
+        _ => Line::Refused(Status::Unimplemented, ""),
+    }
+}

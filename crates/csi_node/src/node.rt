@@ -1,0 +1,150 @@
+//! The node plugin.
+ghost use Rattle.std.specs.Prelude.{◌≡◌, true, false, Some, None, [], IfOk, OnOk, OnErr, Ok, IsOk, option_map, map};
+ghost use Rattle.csi_types.specs.Call.{kind_of, is_node_kind};
+ghost use Rattle.csi_types.specs.Same.{same_text};
+ghost use Rattle.csi_node.specs.State.{volume_of};
+
+use crate::entries::{Published, Staged};
+use crate::fault::CoreFault;
+use crate::record::NodeRecord;
+use crate::row::NodeRow;
+use crate::views::{published_in, staged_in};
+use csi_types::{Body, Call, Frame, NodeId, Party, VolumeId};
+use std::alloc::Global;
+use std::marker::Model;
+
+/// The node plugin of one node: which volumes are staged there and at which targets they are published, behind a
+/// fence that keeps a call from being carried out twice (CSI's spec.md, "NodeStageVolume" to
+/// "NodeUnpublishVolume"; the fence is this profile's own). A contract sees its record.
+#[derive(Drop)]
+pub struct Node {
+    alloc: Global,
+    record: NodeRecord,
+}
+
+impl Model for Node {
+    ghost use Rattle.csi_node.specs.Record.{NodeParts};
+
+    ghost Value = { NodeParts };
+
+    ghost view = { λ node. node.«record» };
+}
+
+// The volume that a node's call is about.
+fn volume_id(call: &Call) -> VolumeId
+    requires { is_node_kind (kind_of call.now) ≡ true }
+    ensures { volume_of call.now ≡ Some result }
+{
+    match call {
+        Call::NodeStageVolume { id, .. }
+        | Call::NodeUnstageVolume { id }
+        | Call::NodePublishVolume { id, .. }
+        | Call::NodeUnpublishVolume { id, .. } => *id,
+        _ => unreachable!(),
+    }
+}
+
+// Whether the two are the same.
+fn is_same_node(a: &NodeId, b: &NodeId) -> bool
+    ensures { result ≡ same_text a.now b.now }
+{
+    a == b
+}
+
+impl Node {
+    ghost use Rattle.csi_node.specs.Fenced.{fenced};
+    ghost use Rattle.csi_node.specs.Record.{parts, is_call_for};
+    ghost use Rattle.csi_node.specs.OneRow.{shown, alone};
+    ghost use Rattle.std.specs.List.{flat_map};
+    ghost use Rattle.csi_node.specs.Safety.{IsSafe};
+    ghost use Rattle.csi_node.specs.Views.{staged_shown, published_shown};
+    ghost use Rattle.csi_node.specs.Shown.{Shows, row_in, answered_of_row};
+    ghost use Rattle.csi_node.specs.State.{NodeState, empty_node, row_with_id};
+
+    /// A node of this id that has answered nothing. It takes no memory.
+    pub fn new(alloc: Global, id: NodeId) -> Node
+        ensures id { result.id ≡ id }
+        ensures rows { result.rows ≡ [] }
+        ensures empty { Shows result.rows empty_node }
+    {
+        Node {
+            alloc,
+            record: NodeRecord::empty(alloc, id),
+        }
+    }
+
+    /// Answers a frame by the fence and the table (CSI's spec.md, "NodeStageVolume" to "NodeUnpublishVolume"), or
+    /// gives nothing for a reply and for another plugin's frame, which change nothing and take no memory. An `Err`,
+    /// an allocation that was refused, leaves the node as it was.
+    pub fn step(&mut self, frame: &Frame) -> Result<Option<Frame>, CoreFault>
+        // What is answered, and the new state, are the definition's.
+        ensures reply { (state : NodeState) → Shows self.old.rows state →
+            IfOk result (λ reply. reply ≡ (fenced self.old.id state frame.now).reply) }
+        ensures state { (state : NodeState) → Shows self.old.rows state →
+            OnOk result (Shows self.new.rows (fenced self.old.id state frame.now).state) }
+        ensures id { self.new.id ≡ self.old.id }
+        ensures err { (state : NodeState) → Shows self.old.rows state → OnErr result (Shows self.new.rows state) }
+        // What is not for the node.
+        ensures silent { is_call_for self.old.id frame.now.party frame.now.body ≡ false → result ≡ Ok None }
+        ensures untouched { is_call_for self.old.id frame.now.party frame.now.body ≡ false → self.new ≡ self.old }
+    {
+        let Body::Call(call) = frame.body() else {
+            return Ok(None);
+        };
+        let Party::Node(id) = frame.party() else {
+            return Ok(None);
+        };
+        if !is_same_node(id, self.record.id()) {
+            return Ok(None);
+        }
+        let alloc = self.alloc;
+        let reply = self
+            .record
+            .answer(alloc, frame.number(), volume_id(call), call)?;
+        Ok(Some(reply))
+    }
+
+    /// The node's record as a value. The node stays as it is. An `Err` is an allocation that was refused.
+    pub fn record(&self) -> Result<NodeRecord, CoreFault>
+        ensures id { IfOk result (λ copy. copy.id ≡ self.now.id) }
+        ensures rows { IfOk result (λ copy. parts copy.rows ≡ parts self.now.rows) }
+        ensures shows { (state : NodeState) → Shows self.now.rows state → IfOk result (λ copy. Shows copy.rows state) }
+    {
+        self.record.copy(self.alloc)
+    }
+
+    /// The node that has this record: it shows what the record shows. It takes no memory.
+    pub fn from_record(alloc: Global, record: NodeRecord) -> Result<Node, CoreFault>
+        ensures { result ≡ Ok «record» }
+    {
+        Ok(Node { alloc, record })
+    }
+
+    /// The row of a volume as the record has it, if it has one. The node stays as it is. An `Err` is an allocation
+    /// that was refused; without a row none is asked for.
+    pub fn row(&self, id: VolumeId) -> Result<Option<NodeRow>, CoreFault>
+        ensures row { IfOk result (λ row. option_map shown row ≡ option_map shown (row_in id self.now.rows)) }
+        ensures succeeds { row_in id self.now.rows ≡ None → IsOk result }
+        ensures shows { (state : NodeState) → Shows self.now.rows state →
+            IfOk result (λ row. option_map answered_of_row row ≡ row_with_id id state) }
+    {
+        self.record.row(id)
+    }
+
+    /// What is staged, by rising id. The node stays as it is. An `Err` is an allocation that was refused.
+    pub fn staged(&self) -> Result<Vec<Staged>, CoreFault>
+        ensures { IfOk result (λ list. map staged_shown list.items ≡ flat_map (λ row. (alone (shown row)).staged) self.now.rows) }
+    {
+        staged_in(self.alloc, self.record.rows())
+    }
+
+    /// What is published, by rising id and then in the order in which it was published. The node stays as it is. An
+    /// `Err` is an allocation that was refused. In every state that a node shows, what is published is staged in the
+    /// same capability, and a mode that allows one target has at most one.
+    pub fn published(&self) -> Result<Vec<Published>, CoreFault>
+        ensures list { IfOk result (λ list. map published_shown list.items ≡ flat_map (λ row. (alone (shown row)).published) self.now.rows) }
+        ensures safe { (state : NodeState) → Shows self.now.rows state → IsSafe state }
+    {
+        published_in(self.alloc, self.record.rows())
+    }
+}

@@ -1,0 +1,100 @@
+//! A node's record as a value.
+ghost use Rattle.std.specs.Prelude.{◌≡◌, true, Some, None, [], IfOk, IsOk, OnErr, option_map};
+
+use crate::copies::{copies_of, copy_in};
+use crate::fault::CoreFault;
+use crate::row::NodeRow;
+use crate::step::answer;
+use csi_types::{Call, Frame, NodeId, Number, VolumeId};
+use std::alloc::Global;
+use std::marker::Model;
+
+/// A node's record: its id, and a row for each volume for which it answered a call, at most 4,096, by rising id.
+/// A volume that has targets is staged; its targets are paths from the root, at most 16, and each is there once;
+/// in a mode that allows one target there is at most one; and the kept reply is one to a node's call. A contract
+/// sees it as the id's text and the rows.
+#[derive(Drop)]
+pub struct NodeRecord {
+    pub(crate) id: NodeId,
+    pub(crate) rows: Vec<NodeRow>,
+}
+
+impl Model for NodeRecord {
+    ghost use Rattle.csi_node.specs.Record.{NodeParts, parts, IsRecord};
+
+    ghost Value = { NodeParts };
+
+    ghost view = { λ record_. record { id = record_.id; rows = record_.rows.items } };
+
+    ghost invariant = { λ record_. IsRecord (parts record_.rows.items) };
+}
+
+impl NodeRecord {
+    ghost use Rattle.csi_types.specs.Call.{kind_of, is_node_kind};
+    ghost use Rattle.csi_node.specs.Fenced.{fenced_call, kept_for};
+    ghost use Rattle.csi_node.specs.Record.{parts, IsRecord, Gives};
+    ghost use Rattle.csi_node.specs.Shown.{Shows, row_in};
+    ghost use Rattle.csi_node.specs.OneRow.{shown};
+    ghost use Rattle.csi_node.specs.State.{NodeState, volume_of};
+
+    /// The node's id.
+    pub fn id(&self) -> &NodeId
+        ensures { result.now ≡ self.now.id }
+    {
+        &self.id
+    }
+
+    /// The rows, by rising id.
+    pub fn rows(&self) -> &[NodeRow]
+        ensures value { result.now ≡ self.now.rows }
+        ensures rules { IsRecord (parts self.now.rows) }
+    {
+        self.rows.as_slice()
+    }
+
+    /// A record without rows.
+    pub(crate) fn empty(alloc: Global, id: NodeId) -> NodeRecord
+        ensures { result ≡ record { id = id; rows = [] } }
+    {
+        NodeRecord {
+            id,
+            rows: Vec::new(alloc),
+        }
+    }
+
+    /// Answers a call of this volume to the record's node, behind the fence. An `Err` changes nothing.
+    pub(crate) fn answer(
+        &mut self,
+        alloc: Global,
+        number: Number,
+        id: VolumeId,
+        call: &Call,
+    ) -> Result<Frame, CoreFault>
+        requires volume { volume_of call.now ≡ Some id }
+        requires kind { is_node_kind (kind_of call.now) ≡ true }
+        ensures ok { (state : NodeState) → Shows self.old.rows state → IfOk result (λ frame.
+            Gives self.new.rows frame (fenced_call self.old.id state number call.now (kept_for call.now state))) }
+        ensures id { self.new.id ≡ self.old.id }
+        ensures err { OnErr result (parts self.new.rows ≡ parts self.old.rows) }
+    {
+        answer(&mut self.rows, alloc, &self.id, number, id, call)
+    }
+
+    /// A copy of the record.
+    pub(crate) fn copy(&self, alloc: Global) -> Result<NodeRecord, CoreFault>
+        ensures id { IfOk result (λ copy. copy.id ≡ self.now.id) }
+        ensures rows { IfOk result (λ copy. parts copy.rows ≡ parts self.now.rows) }
+    {
+        let id = self.id.clone()?;
+        let rows = copies_of(alloc, self.rows.as_slice())?;
+        Ok(NodeRecord { id, rows })
+    }
+
+    /// A copy of the row of this volume, if it has one. Without one it takes no memory.
+    pub(crate) fn row(&self, id: VolumeId) -> Result<Option<NodeRow>, CoreFault>
+        ensures row { IfOk result (λ row. option_map shown row ≡ option_map shown (row_in id self.now.rows)) }
+        ensures succeeds { row_in id self.now.rows ≡ None → IsOk result }
+    {
+        copy_in(self.rows.as_slice(), id)
+    }
+}

@@ -1,0 +1,93 @@
+//! What is staged and published on a node, as lists.
+ghost use Rattle.std.specs.Prelude.{◌≡◌, ◌++◌, ◌∷◌, [], map, Some, IfOk, OnOk};
+ghost use Rattle.std.specs.List.{flat_map};
+ghost use Rattle.csi_node.specs.OneRow.{shown, alone};
+ghost use Rattle.csi_node.specs.Views.{staged_shown, published_shown, published_of_target};
+
+use crate::entries::{Published, Staged};
+use crate::fault::CoreFault;
+use crate::row::{NodeRow, NodeTarget};
+use csi_types::{Capability, VolumeId};
+use std::alloc::Global;
+
+// Puts what the row has staged at the end.
+fn push_staged(list: &mut Vec<Staged>, row: &NodeRow) -> Result<(), CoreFault>
+    ensures { OnOk result (map staged_shown list.new.items ≡ map staged_shown list.old.items ++ (alone (shown row.now)).staged) }
+{
+    if let Some(capability) = &row.staged {
+        let capability = capability.clone()?;
+        list.push(Staged {
+            id: row.id,
+            capability,
+        })?;
+    }
+    Ok(())
+}
+
+/// What rows have staged, in their order.
+pub(crate) fn staged_in(alloc: Global, rows: &[NodeRow]) -> Result<Vec<Staged>, CoreFault>
+    ensures { IfOk result (λ list. map staged_shown list.items ≡ flat_map (λ row. (alone (shown row)).staged) rows.now) }
+{
+    let mut list = Vec::new(alloc);
+    for row in rows {
+        push_staged(&mut list, row)?;
+    }
+    Ok(list)
+}
+
+// Puts a volume at a target at the end.
+fn push_target(
+    list: &mut Vec<Published>,
+    id: VolumeId,
+    capability: &Capability,
+    target: &NodeTarget,
+) -> Result<(), CoreFault>
+    ensures { OnOk result (map published_shown list.new.items ≡ map published_shown list.old.items ++ published_of_target id capability.now target.now ∷ []) }
+{
+    let capability = capability.clone()?;
+    let readonly = target.readonly;
+    let target = target.target.clone()?;
+    list.push(Published {
+        id,
+        target,
+        capability,
+        readonly,
+    })?;
+    Ok(())
+}
+
+// Puts a volume at its targets at the end.
+fn push_targets(
+    list: &mut Vec<Published>,
+    id: VolumeId,
+    capability: &Capability,
+    targets: &[NodeTarget],
+) -> Result<(), CoreFault>
+    ensures { OnOk result (map published_shown list.new.items ≡ map published_shown list.old.items ++ map (published_of_target id capability.now) targets.now) }
+{
+    for target in targets {
+        push_target(list, id, capability, target)?;
+    }
+    Ok(())
+}
+
+// Puts what the row has published at the end.
+fn push_published(list: &mut Vec<Published>, row: &NodeRow) -> Result<(), CoreFault>
+    ensures { OnOk result (map published_shown list.new.items ≡ map published_shown list.old.items ++ (alone (shown row.now)).published) }
+{
+    match &row.staged {
+        None => Ok(()),
+        Some(capability) => push_targets(list, row.id, capability, row.targets.as_slice()),
+    }
+}
+
+/// What rows have published, in their order.
+pub(crate) fn published_in(alloc: Global, rows: &[NodeRow]) -> Result<Vec<Published>, CoreFault>
+    ensures { IfOk result (λ list. map published_shown list.items ≡ flat_map (λ row. (alone (shown row)).published) rows.now) }
+{
+    let mut list = Vec::new(alloc);
+    for row in rows {
+        push_published(&mut list, row)?;
+    }
+    Ok(list)
+}
