@@ -1,3 +1,16 @@
+pub mod FirstAt
+pub mod Holdings
+pub mod Lines
+pub mod Sound
+pub mod Steps
+pub mod Fit
+pub mod Calls
+pub mod Made
+pub mod Called
+pub mod Views
+pub mod Copies
+pub mod Exclusive
+pub mod Attached
 pub mod Orderly
 pub mod Facts
 pub mod TableLaw

@@ -4,4 +4,9 @@ pub mod Fenced
 pub mod Shown
 pub mod Rows
 pub mod Laws
+pub mod Core
+pub mod Wanted
+pub mod CoreParts
+pub mod Views
+pub mod Exclusive
 pub mod Safe

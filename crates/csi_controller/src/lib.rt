@@ -2,9 +2,20 @@
 //! to each call, and what it keeps.
 #![tactic(auto)]
 
+mod controller;
+mod fault;
+mod law;
 mod laws;
+mod record;
 mod row;
 mod rows;
 
+pub use controller::Controller;
+pub use fault::CoreFault;
+pub use law::exclusive_law;
 pub use laws::{safety_law, table_law};
+pub use record::ControllerRecord;
 pub use row::{ControllerRow, NodeHolding};
+
+#[cfg(test)]
+mod tests;

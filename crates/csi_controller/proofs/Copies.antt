@@ -1,0 +1,98 @@
+-- Rows that say the same show the same state, and keep the same rules.
+use Rattle.std.proofs.Common.{◌≡◌, ◌<◌, ℕ, Bool, true, false, cond, List, [], ◌∷◌, ◌++◌, map, refl, sym, ◌∙◌, ap, subst}
+use Rattle.std.specs.Prelude.{Option, Some, None, find, ◌==◌}
+use Rattle.std.specs.List.{AllByRecursion}
+use Rattle.csi_types.specs.Config.{Config}
+use Rattle.csi_types.specs.Same.{same_text}
+use Rattle.csi_controller.specs.declared.row.ControllerRow.{ControllerRow}
+use Rattle.csi_controller.specs.State.{Volume, ControllerState}
+use Rattle.csi_controller.specs.Shown.{volume_of_row, holdings_in}
+use Rattle.csi_controller.specs.Core.{IsShown, IsSound, IsSoundRow, IsRising, AtMostOne, IsSameRow, held_by}
+use Rattle.csi_controller.specs.Views.{AreSameRows}
+use Rattle.csi_controller.proofs.Sound.{sound-same}
+
+pub AreSameRows-append : (rows copies : List ControllerRow) (row copy : ControllerRow) → AreSameRows rows copies → IsSameRow row copy → AreSameRows (rows ++ row ∷ []) (copies ++ copy ∷ [])
+AreSameRows-append [] [] row copy same own = (own, tt)
+AreSameRows-append [] (c ∷ cs) row copy same own = absurd same
+AreSameRows-append (r ∷ rs) [] row copy same own = absurd same
+AreSameRows-append (r ∷ rs) (c ∷ cs) row copy same own = (same.0, AreSameRows-append rs cs row copy (same.1) own)
+
+volumes-same : (rows copies : List ControllerRow) → AreSameRows rows copies → map volume_of_row copies ≡ map volume_of_row rows
+volumes-same [] [] same = refl
+volumes-same [] (c ∷ cs) same = absurd same
+volumes-same (r ∷ rs) [] same = absurd same
+volumes-same (r ∷ rs) (c ∷ cs) same = let first = (same.0).volume in let rest = volumes-same rs cs (same.1) in λ i. first i ∷ rest i
+
+holdings-same : (rows copies : List ControllerRow) (id : ℕ) → AreSameRows rows copies → holdings_in (find (λ (r : ControllerRow). r.id == id) copies) ≡ holdings_in (find (λ (r : ControllerRow). r.id == id) rows)
+holdings-same [] [] id same = refl
+holdings-same [] (c ∷ cs) id same = absurd same
+holdings-same (r ∷ rs) [] id same = absurd same
+holdings-same (r ∷ rs) (c ∷ cs) id same =
+    let ids : c.id ≡ r.id = ap (λ (v : Volume). v.id) (same.0).volume in
+    let items = (same.0).items in
+    ap (λ k. holdings_in (cond (k == id) (Some c) (find (λ (x : ControllerRow). x.id == id) cs))) ids
+    ∙ by (r.id == id) (holdings-same rs cs id (same.1)) (ap (λ k. map (held_by k) c.holdings.items) ids ∙ ap (map (held_by r.id)) items)
+  where
+    by : (b : Bool) → holdings_in (find (λ (r : ControllerRow). r.id == id) cs) ≡ holdings_in (find (λ (r : ControllerRow). r.id == id) rs) → map (held_by c.id) c.holdings.items ≡ map (held_by r.id) r.holdings.items
+        → holdings_in (cond b (Some c) (find (λ (r : ControllerRow). r.id == id) cs)) ≡ holdings_in (cond b (Some r) (find (λ (r : ControllerRow). r.id == id) rs))
+    by true h own = own
+    by false h own = h
+
+pub shown-copies : (config : Config) (n : ℕ) (rows copies : List ControllerRow) (state : ControllerState) → AreSameRows rows copies → IsShown (record { config = config; next_id = n; rows = rows }) state → IsShown (record { config = config; next_id = n; rows = copies }) state
+shown-copies config n rows copies state same shown =
+    record {
+      shows = record {
+        next = shown.shows.next;
+        volumes = volumes-same rows copies same ∙ shown.shows.volumes;
+        holdings = λ id. holdings-same rows copies id same ∙ shown.shows.holdings id;
+      };
+      next_from = shown.next_from;
+      next_to = shown.next_to;
+    }
+
+each-same : (n : ℕ) (rows copies : List ControllerRow) → AreSameRows rows copies → AllByRecursion (IsSoundRow n) rows → AllByRecursion (IsSoundRow n) copies
+each-same n [] [] same all = tt
+each-same n [] (c ∷ cs) same all = absurd same
+each-same n (r ∷ rs) [] same all = absurd same
+each-same n (r ∷ rs) (c ∷ cs) same all = (sound-same n r c (all.0) (same.0).volume (same.0).items, each-same n rs cs (same.1) (all.1))
+
+above-same : (id : ℕ) (rows copies : List ControllerRow) → AreSameRows rows copies → AllByRecursion (λ (later : ControllerRow). id < later.id) rows → AllByRecursion (λ (later : ControllerRow). id < later.id) copies
+above-same id [] [] same all = tt
+above-same id [] (c ∷ cs) same all = absurd same
+above-same id (r ∷ rs) [] same all = absurd same
+above-same id (r ∷ rs) (c ∷ cs) same all = (subst (λ k. id < k) (sym (ap (λ (v : Volume). v.id) (same.0).volume)) (all.0), above-same id rs cs (same.1) (all.1))
+
+rising-same : (rows copies : List ControllerRow) → AreSameRows rows copies → IsRising rows → IsRising copies
+rising-same [] [] same rising = tt
+rising-same [] (c ∷ cs) same rising = absurd same
+rising-same (r ∷ rs) [] same rising = absurd same
+rising-same (r ∷ rs) (c ∷ cs) same rising =
+    (above-same c.id rs cs (same.1) (subst (λ k. AllByRecursion (λ (later : ControllerRow). k < later.id) rs) (sym (ap (λ (v : Volume). v.id) (same.0).volume)) (rising.0)), rising-same rs cs (same.1) (rising.1))
+
+none-same : (name : List ℕ) (rows copies : List ControllerRow) → AreSameRows rows copies → find (λ (r : ControllerRow). same_text r.name name) rows ≡ None → find (λ (r : ControllerRow). same_text r.name name) copies ≡ None
+none-same name [] [] same none = refl
+none-same name [] (c ∷ cs) same none = absurd same
+none-same name (r ∷ rs) [] same none = absurd same
+none-same name (r ∷ rs) (c ∷ cs) same none =
+    let names : c.name ≡ r.name = ap (λ (v : Volume). v.name) (same.0).volume in
+    ap (λ k. cond (same_text k name) (Some c) (find (λ (x : ControllerRow). same_text x.name name) cs)) names
+    ∙ by (same_text r.name name) (none-same name rs cs (same.1)) none
+  where
+    some_is_none : (x : ControllerRow) → Some x ≡ None → ⊥
+    some_is_none x h = cc
+
+    by : (b : Bool) → (find (λ (r : ControllerRow). same_text r.name name) rs ≡ None → find (λ (r : ControllerRow). same_text r.name name) cs ≡ None)
+        → cond b (Some r) (find (λ (r : ControllerRow). same_text r.name name) rs) ≡ None → cond b (Some c) (find (λ (r : ControllerRow). same_text r.name name) cs) ≡ None
+    by true f h = absurd (some_is_none r h)
+    by false f h = f h
+
+names-same : (name : List ℕ) (rows copies : List ControllerRow) → AreSameRows rows copies → AtMostOne (λ (r : ControllerRow). same_text r.name name) rows → AtMostOne (λ (r : ControllerRow). same_text r.name name) copies
+names-same name [] [] same one = tt
+names-same name [] (c ∷ cs) same one = absurd same
+names-same name (r ∷ rs) [] same one = absurd same
+names-same name (r ∷ rs) (c ∷ cs) same one =
+    (λ e. none-same name rs cs (same.1) (one.0 (ap (λ k. same_text k name) (sym (ap (λ (v : Volume). v.name) (same.0).volume)) ∙ e)), names-same name rs cs (same.1) (one.1))
+
+pub sound-copies : (n : ℕ) (rows copies : List ControllerRow) → AreSameRows rows copies → IsSound n rows → IsSound n copies
+sound-copies n rows copies same sound =
+    record { each = each-same n rows copies same sound.each; rising = rising-same rows copies same sound.rising; names = λ name. names-same name rows copies same (sound.names name) }

@@ -1,0 +1,204 @@
+-- CreateVolume of a name that has no row.
+use Rattle.std.proofs.Common.{◌≡◌, ◌≤◌, ◌<◌, ◌+◌, ◌^◌, ◌%◌, ℕ, Bool, true, false, cond, List, [], ◌∷◌, ◌++◌, map, length, refl, sym, ◌∙◌, ap, subst, arith}
+use Rattle.std.specs.Prelude.{Result, IfOk, OnOk}
+use Rattle.std.specs.declared.result.Result.TheVariants as results
+use Rattle.csi_controller.specs.declared.controller.core.Core.{Core}
+use Rattle.csi_controller.specs.CoreParts.{parts_of, IsMade}
+use Rattle.std.specs.Prelude.{Option, Some, None, option_map, find, filter, ◌==◌, codes, IsTrue}
+use Rattle.std.specs.List.{AllByRecursion}
+use Rattle.std.proofs.lemmas.Bool.{eqb-true}
+use Rattle.std.proofs.lemmas.Bool.Decides.{nat_tests}
+use Rattle.std.proofs.lemmas.List.{map-append}
+use Rattle.csi_types.proofs.Equality.{same_text-tells}
+use Rattle.csi_types.specs.declared.number.Number.{Number}
+use Rattle.csi_types.specs.declared.holding.Holding.{Holding}
+use Rattle.csi_types.specs.declared.capability.Capability.{Capability}
+use Rattle.csi_types.specs.declared.call.Call.{Call}
+use Rattle.csi_types.specs.declared.call.Kind.TheVariants as kinds
+use Rattle.csi_types.specs.declared.call.Call.TheVariants.{CreateVolume}
+use Rattle.csi_types.specs.declared.call.Party.TheVariants.{Controller}
+use Rattle.csi_types.specs.declared.reply.Reply.{Reply}
+use Rattle.csi_types.specs.declared.status.Status.TheVariants.{InvalidArgument, OutOfRange}
+use Rattle.csi_types.specs.Call.{is_party_of}
+use Rattle.csi_types.specs.Capacity.{is_bad_range, is_empty_range}
+use Rattle.csi_types.specs.Config.{Config}
+use Rattle.csi_types.specs.Fence.{Kept}
+use Rattle.csi_types.specs.Frame.{Frame}
+use Rattle.csi_types.specs.Replies.{plain_reply, ok_reply_with, reply_frame}
+use Rattle.csi_types.specs.Reply.{has_id_by_rule}
+use Rattle.csi_types.specs.Same.{same_text}
+use Rattle.csi_controller.specs.declared.row.NodeHolding.{NodeHolding}
+use Rattle.csi_controller.specs.declared.row.ControllerRow.{ControllerRow}
+use Rattle.csi_controller.specs.State.{Volume, ControllerState, volume_named, holdings_of}
+use Rattle.csi_controller.specs.Table.{Outcome, Stays, Makes, create, create_named, controller_row, changed, refused}
+use Rattle.csi_controller.specs.Fenced.{Fenced, fenced_call, kept_for, carried_out, keep, kept_in}
+use Rattle.csi_controller.specs.Shown.{Shows, volume_of_row, holdings_in, holdings_in_row}
+use Rattle.csi_controller.specs.Core.{Parts, IsShown, Answers, IsSound, IsSoundRow, IsRising, AreCompatible, AtMostOne, held_by, next_shown, argument_fault, new_line, made_volume}
+use Rattle.csi_controller.proofs.FirstAt.{AtMostOne-append, All-append, All-weaker, map-none, find-view}
+use Rattle.csi_controller.proofs.Lines.{length-view}
+use Rattle.csi_controller.proofs.Steps.{nowhere-answers}
+
+some_is_none : {X : Type 0} (x : X) → Some x ≡ None → ⊥
+some_is_none x h = cc
+
+next-is : (n m : ℕ) → n ≡ m % 18446744073709551616 → 1 ≤ m → m ≤ 18446744073709551616 → m ≡ next_shown n
+next-is n m e from to = grind (arith, nat_tests)
+
+next_up : (n : ℕ) → 0 < n → n < 18446744073709551616 → next_shown ((n + 1) % 18446744073709551616) ≡ n + 1
+next_up n from fits = grind (arith, nat_tests)
+
+next_self : (n : ℕ) → 0 < n → next_shown n ≡ n
+next_self n from = grind (arith, nat_tests)
+
+-- what the table answers to a new name, by the controller's parts
+with_fault : (config : Config) (state : ControllerState) (name : List ℕ) (required limit : ℕ) (wished : List Capability) (reply : Reply) → argument_fault required limit wished ≡ Some reply
+    → create config state name required limit wished ≡ record { reply = reply; change = Stays }
+with_fault config state name required limit [] reply e = let same : plain_reply InvalidArgument (codes "capabilities") ≡ reply = (let h : Some (plain_reply InvalidArgument (codes "capabilities")) ≡ Some reply = e in cc) in ap refused_as same
+  where
+    refused_as : Reply → Outcome
+    refused_as reply = record { reply = reply; change = Stays }
+with_fault config state name required limit (capability ∷ others) reply e = by (is_bad_range required limit) (is_empty_range required limit) e
+  where
+    by : (bad none : Bool) → cond bad (Some (plain_reply InvalidArgument (codes "capacity"))) (cond none (Some (plain_reply OutOfRange (codes "range"))) None) ≡ Some reply
+        → cond bad (refused InvalidArgument (codes "capacity")) (cond none (refused OutOfRange (codes "range")) (create_named config state name required limit (capability ∷ others) (volume_named name state))) ≡ record { reply = reply; change = Stays }
+    by true none h = let same : plain_reply InvalidArgument (codes "capacity") ≡ reply = cc in λ i. record { reply = same i; change = Stays }
+    by false true h = let same : plain_reply OutOfRange (codes "range") ≡ reply = cc in λ i. record { reply = same i; change = Stays }
+    by false false h = absurd (some_is_none reply (sym h))
+
+no_fault : (config : Config) (state : ControllerState) (name : List ℕ) (required limit : ℕ) (wished : List Capability) → argument_fault required limit wished ≡ None
+    → create config state name required limit wished ≡ create_named config state name required limit wished (volume_named name state)
+no_fault config state name required limit [] e = absurd (some_is_none _ e)
+no_fault config state name required limit (capability ∷ others) e = by (is_bad_range required limit) (is_empty_range required limit) e
+  where
+    by : (bad none : Bool) → cond bad (Some (plain_reply InvalidArgument (codes "capacity"))) (cond none (Some (plain_reply OutOfRange (codes "range"))) None) ≡ None
+        → cond bad (refused InvalidArgument (codes "capacity")) (cond none (refused OutOfRange (codes "range")) (create_named config state name required limit (capability ∷ others) (volume_named name state)))
+        ≡ create_named config state name required limit (capability ∷ others) (volume_named name state)
+    by true none h = absurd (some_is_none _ h)
+    by false true h = absurd (some_is_none _ h)
+    by false false h = refl
+
+named-nowhere : (config : Config) (n : ℕ) (rows : List ControllerRow) (state : ControllerState) (name : List ℕ) → IsShown (record { config = config; next_id = n; rows = rows }) state → find (λ (r : ControllerRow). same_text r.name name) rows ≡ None → volume_named name state ≡ None
+named-nowhere config n rows state name shown none =
+    ap (find (λ (v : Volume). same_text v.name name)) (sym shown.shows.volumes) ∙ find-view volume_of_row (λ (v : Volume). same_text v.name name) rows ∙ ap (option_map volume_of_row) none
+
+new-told : (config : Config) (n : ℕ) (rows : List ControllerRow) (state : ControllerState) (name : List ℕ) (required limit : ℕ) (wished : List Capability) → IsShown (record { config = config; next_id = n; rows = rows }) state
+    → find (λ (r : ControllerRow). same_text r.name name) rows ≡ None → argument_fault required limit wished ≡ None
+    → create config state name required limit wished ≡ new_line config.greatest (length rows) (next_shown n) name required limit wished
+new-told config n rows state name required limit wished shown none good =
+    no_fault config state name required limit wished good
+    ∙ ap (create_named config state name required limit wished) (named-nowhere config n rows state name shown none)
+    ∙ ap (λ k. new_line config.greatest k state.next_id name required limit wished) (ap length (sym shown.shows.volumes) ∙ length-view volume_of_row rows)
+    ∙ ap (λ k. new_line config.greatest (length rows) k name required limit wished) (next-is n state.next_id shown.shows.next shown.next_from shown.next_to)
+
+-- a refusal of a new name
+pub fault-answers : (config : Config) (n : ℕ) (rows : List ControllerRow) (state : ControllerState) (number : Number) (name : List ℕ) (required limit : ℕ) (wished : List Capability) (frame : Frame) (reply : Reply)
+    → IsShown (record { config = config; next_id = n; rows = rows }) state → find (λ (r : ControllerRow). same_text r.name name) rows ≡ None → argument_fault required limit wished ≡ Some reply
+    → frame ≡ reply_frame number Controller kinds.CreateVolume reply
+    → Answers (record { config = config; next_id = n; rows = rows }) frame (fenced_call config state number (CreateVolume name required limit wished) (kept_for (CreateVolume name required limit wished) state))
+fault-answers config n rows state number name required limit wished frame reply shown none fault is =
+    nowhere-answers config n rows state number (CreateVolume name required limit wished) frame reply shown none (with_fault config state name required limit wished reply fault) is
+
+pub refused-answers : (config : Config) (n : ℕ) (rows : List ControllerRow) (state : ControllerState) (number : Number) (name : List ℕ) (required limit : ℕ) (wished : List Capability) (frame : Frame) (reply : Reply)
+    → IsShown (record { config = config; next_id = n; rows = rows }) state → find (λ (r : ControllerRow). same_text r.name name) rows ≡ None → argument_fault required limit wished ≡ None
+    → new_line config.greatest (length rows) (next_shown n) name required limit wished ≡ record { reply = reply; change = Stays }
+    → frame ≡ reply_frame number Controller kinds.CreateVolume reply
+    → Answers (record { config = config; next_id = n; rows = rows }) frame (fenced_call config state number (CreateVolume name required limit wished) (kept_for (CreateVolume name required limit wished) state))
+refused-answers config n rows state number name required limit wished frame reply shown none good line is =
+    nowhere-answers config n rows state number (CreateVolume name required limit wished) frame reply shown none (new-told config n rows state name required limit wished shown none good ∙ line) is
+
+-- a row without holdings, at the end
+held-append : (rows : List ControllerRow) (row : ControllerRow) (id : ℕ) → row.holdings.items ≡ [] → holdings_in (find (λ (r : ControllerRow). r.id == id) (rows ++ row ∷ [])) ≡ holdings_in (find (λ (r : ControllerRow). r.id == id) rows)
+held-append [] row id empty = by (row.id == id)
+  where
+    by : (b : Bool) → holdings_in (cond b (Some row) None) ≡ []
+    by true = ap (map (held_by row.id)) empty
+    by false = refl
+held-append (r ∷ rs) row id empty = by (r.id == id) (held-append rs row id empty)
+  where
+    by : (b : Bool) → holdings_in (find (λ (r : ControllerRow). r.id == id) (rs ++ row ∷ [])) ≡ holdings_in (find (λ (r : ControllerRow). r.id == id) rs)
+        → holdings_in (cond b (Some r) (find (λ (r : ControllerRow). r.id == id) (rs ++ row ∷ []))) ≡ holdings_in (cond b (Some r) (find (λ (r : ControllerRow). r.id == id) rs))
+    by true h = refl
+    by false h = h
+
+IsRising-append : (rows : List ControllerRow) (row : ControllerRow) → IsRising rows → AllByRecursion (λ (r : ControllerRow). r.id < row.id) rows → IsRising (rows ++ row ∷ [])
+IsRising-append [] row rising below = (tt, tt)
+IsRising-append (r ∷ rs) row rising below =
+    (All-append (λ (later : ControllerRow). r.id < later.id) rs row (rising.0) (below.0), IsRising-append rs row (rising.1) (below.1))
+
+same_either_way : {X : Type 0} (b : Bool) (x : X) → x ≡ cond b x x
+same_either_way true x = refl
+same_either_way false x = refl
+
+-- a volume is made
+pub made-answers : (config : Config) (n : ℕ) (rows : List ControllerRow) (state : ControllerState) (number : Number) (name : List ℕ) (required limit capacity id : ℕ) (wished : List Capability) (row : ControllerRow) (frame : Frame)
+    → IsShown (record { config = config; next_id = n; rows = rows }) state → find (λ (r : ControllerRow). same_text r.name name) rows ≡ None → argument_fault required limit wished ≡ None
+    → new_line config.greatest (length rows) (next_shown n) name required limit wished ≡ record { reply = ok_reply_with id; change = Makes name capacity wished }
+    → id ≡ n → 0 < id → n < 18446744073709551616 → frame ≡ reply_frame number Controller kinds.CreateVolume (ok_reply_with id)
+    → volume_of_row row ≡ made_volume number id name capacity wished → row.holdings.items ≡ []
+    → Answers (record { config = config; next_id = (n + 1) % 18446744073709551616; rows = rows ++ row ∷ [] }) frame (fenced_call config state number (CreateVolume name required limit wished) (kept_for (CreateVolume name required limit wished) state))
+made-answers config n rows state number name required limit capacity id wished row frame shown none good line is from fits is_frame volume empty =
+    let call : Call = CreateVolume name required limit wished in
+    let kept : Kept = record { number = number; kind = kinds.CreateVolume; reply = ok_reply_with id } in
+    let next : state.next_id ≡ n = next-is n state.next_id shown.shows.next shown.next_from shown.next_to ∙ next_self n (omega arith) in
+    let found : kept_for call state ≡ None = ap (option_map (λ (v : Volume). v.kept)) (named-nowhere config n rows state name shown none) in
+    let whole : controller_row config state call ≡ record { reply = ok_reply_with id; change = Makes name capacity wished } = new-told config n rows state name required limit wished shown none good ∙ line in
+    let others : map (kept_in call kept) (map volume_of_row rows) ≡ map volume_of_row rows = map-none volume_of_row (λ (v : Volume). same_text v.name name) (λ (v : Volume). record v { kept = kept }) rows none in
+    let new : Volume = record { id = state.next_id; name = name; capacity = capacity; capabilities = wished; is_live = true; kept = kept } in
+    let with_id : ℕ → Volume = λ k. record { id = k; name = name; capacity = capacity; capabilities = wished; is_live = true; kept = kept } in
+    let last : volume_of_row row ≡ kept_in call kept new = volume ∙ ap with_id (is ∙ sym next) ∙ same_either_way (same_text name name) new in
+    let old : map volume_of_row rows ≡ map (kept_in call kept) state.volumes = sym (ap (map (kept_in call kept)) (sym shown.shows.volumes) ∙ others) in
+    let volumes : map volume_of_row (rows ++ row ∷ []) ≡ map (kept_in call kept) (state.volumes ++ new ∷ [])
+    = map-append volume_of_row rows (row ∷ []) ∙ (λ i. old i ++ last i ∷ []) ∙ sym (map-append (kept_in call kept) state.volumes (new ∷ [])) in
+    subst (λ (k : Option Kept). Answers (record { config = config; next_id = (n + 1) % 18446744073709551616; rows = rows ++ row ∷ [] }) frame (fenced_call config state number call k)) (sym found)
+    (subst (λ (o : Outcome). Answers (record { config = config; next_id = (n + 1) % 18446744073709551616; rows = rows ++ row ∷ [] }) frame (carried_out state number call o)) (sym whole)
+    (record {
+      reply = ap Some (sym is_frame);
+      shown = record {
+        shows = record {
+          next = ap (λ k. (k + 1) % 18446744073709551616) (sym next);
+          volumes = volumes;
+          holdings = λ k. held-append rows row k empty ∙ shown.shows.holdings k;
+        };
+        next_from = omega arith;
+        next_to = omega (arith, next);
+      };
+    }))
+
+-- and the rules are kept
+pub made-sound : (n : ℕ) (rows : List ControllerRow) (number : Number) (name : List ℕ) (capacity id : ℕ) (wished : List Capability) (row : ControllerRow) → IsSound n rows → find (λ (r : ControllerRow). same_text r.name name) rows ≡ None
+    → id ≡ n → 0 < id → n < 18446744073709551616 → volume_of_row row ≡ made_volume number id name capacity wished → row.holdings.items ≡ [] → IsSound ((n + 1) % 18446744073709551616) (rows ++ row ∷ [])
+made-sound n rows number name capacity id wished row sound none is from fits volume empty =
+    let row_id : row.id ≡ n = ap (λ (v : Volume). v.id) volume ∙ is in
+    let row_name : row.name ≡ name = ap (λ (v : Volume). v.name) volume in
+    let kind : row.kind ≡ kinds.CreateVolume = ap (λ (v : Volume). v.kept.kind) volume in
+    let up : next_shown ((n + 1) % 18446744073709551616) ≡ n + 1 = next_up n (omega arith) fits in
+    let one : next_shown n ≡ n = next_self n (omega arith) in
+    record {
+      each = All-append (IsSoundRow ((n + 1) % 18446744073709551616)) rows row
+          (All-weaker (IsSoundRow n) (IsSoundRow ((n + 1) % 18446744073709551616)) rows (λ r own. let lower = own.below in record { below = omega (arith, up, one, lower); party = own.party; reply = own.reply; apart = own.apart; compatible = own.compatible; gone = own.gone }) sound.each)
+          (record {
+            below = omega (arith, up, row_id);
+            party = subst (λ k. IsTrue (is_party_of k Controller)) (sym kind) refl;
+            reply = subst (λ (v : Volume). IsTrue (has_id_by_rule v.kept.kind v.kept.reply)) (sym volume) refl;
+            apart = λ node. subst (λ items. AtMostOne (λ (held : NodeHolding). same_text held.node node) items) (sym empty) tt;
+            compatible = subst AreCompatible (sym empty) tt;
+            gone = λ _. empty;
+          });
+      rising = IsRising-append rows row sound.rising (All-weaker (IsSoundRow n) (λ (r : ControllerRow). r.id < row.id) rows (λ r own. let lower = own.below in omega (arith, one, row_id, lower)) sound.each);
+      names = λ k. AtMostOne-append (λ (r : ControllerRow). same_text r.name k) rows row (sound.names k)
+          (λ e. subst (λ x. find (λ (r : ControllerRow). same_text r.name x) rows ≡ None) (sym row_name ∙ (same_text-tells row.name k).0 e) none);
+    }
+
+pub none-where : {X : Type 0} (o : Option X) → ((x : X) → o ≡ Some x → ⊥) → o ≡ None
+none-where None f = refl
+none-where (Some x) f = absurd (f x refl)
+
+pub ok-both : {T E : Type 0} (r : Result T E) (P S : T → Type 0) (Q : Type 0) → ((x : T) → P x → Q → S x) → IfOk r P → OnOk r Q → IfOk r S
+ok-both (results.Ok x) P S Q f p q = f x p q
+ok-both (results.Err e) P S Q f p q = tt
+
+pub parts-made : (old new : Core) (number : Number) (id : ℕ) (name : List ℕ) (capacity : ℕ) (wished : List Capability) (made : IsMade old new number id name capacity wished)
+    → record { config = old.config; next_id = (old.next_id + 1) % 18446744073709551616; rows = old.rows.items ++ made.row ∷ [] } ≡ parts_of new
+parts-made old new number id name capacity wished made =
+    let config = sym made.config in let next = sym made.next in let rows = sym made.rows in
+    λ i. record { config = config i; next_id = next i; rows = rows i }

@@ -1,0 +1,174 @@
+-- The rules of the rows are kept by what a row answers.
+use Rattle.std.proofs.Common.{◌≡◌, ◌<◌, ℕ, zero, suc, Bool, true, false, cond, not, List, [], ◌∷◌, ◌++◌, refl, sym, ◌∙◌, ap, subst, arith}
+use Rattle.std.specs.Prelude.{Option, Some, None, find, filter, ◌&&◌, ◌||◌, ◌==◌, IsTrue}
+use Rattle.std.specs.List.{AllByRecursion}
+use Rattle.std.proofs.lemmas.Bool.{eq-eqb, eqb-true}
+use Rattle.std.proofs.Math.ListN.{set}
+use Rattle.csi_types.specs.declared.number.Number.{Number}
+use Rattle.csi_types.specs.declared.call.Kind.{Kind}
+use Rattle.csi_types.specs.declared.call.Kind.TheVariants as kinds
+use Rattle.csi_types.specs.declared.call.Party.TheVariants.{Controller}
+use Rattle.csi_types.specs.declared.fence.Verdict.{Verdict}
+use Rattle.csi_types.specs.declared.fence.Verdict.TheVariants.{Stale, Repeated, Fresh}
+use Rattle.csi_types.specs.declared.capability.Capability.{Capability}
+use Rattle.csi_types.specs.Call.{is_party_of}
+use Rattle.csi_types.specs.Frame.{Frame}
+use Rattle.csi_types.specs.Holding.{is_compatible, is_second_writer}
+use Rattle.csi_types.specs.Sharing.{is_multi_node}
+use Rattle.csi_types.specs.Reply.{has_id_by_rule}
+use Rattle.csi_types.specs.Same.{same_text, same_capability, same_flag, has_capability}
+use Rattle.csi_types.proofs.Equality.{same_text-tells}
+use Rattle.csi_controller.specs.declared.row.NodeHolding.{NodeHolding}
+use Rattle.csi_controller.specs.declared.row.ControllerRow.{ControllerRow}
+use Rattle.csi_controller.specs.State.{Volume}
+use Rattle.csi_controller.specs.Shown.{volume_of_row}
+use Rattle.csi_controller.specs.Core.{AtMostOne, IsRising, AreCompatible, IsSoundRow, IsSound, IsFit, held_by, next_shown, RowChange, RowStays, RowEnds, RowAttaches, RowDetaches, RowOutcome, RowGives, row_after, live_after, items_after}
+use Rattle.csi_controller.proofs.FirstAt.{IsAt, AtMostOne-set, AtMostOne-append, All-set, All-at, All-append, All-weaker}
+
+some_is_none : {X : Type 0} (x : X) → Some x ≡ None → ⊥
+some_is_none x h = cc
+
+false_is_true : false ≡ true → ⊥
+false_is_true h = cc
+
+-- where none fails, each passes
+find_none-all : {X : Type 0} (p : X → Bool) (xs : List X) → find (λ x. not (p x)) xs ≡ None → AllByRecursion (λ x. p x ≡ true) xs
+find_none-all p [] none = tt
+find_none-all p (x ∷ xs) none = by (p x) refl (find_none-all p xs) none
+  where
+    by : (b : Bool) → p x ≡ b → (find (λ x. not (p x)) xs ≡ None → AllByRecursion (λ x. p x ≡ true) xs) → cond (not b) (Some x) (find (λ x. not (p x)) xs) ≡ None → (p x ≡ true) × AllByRecursion (λ x. p x ≡ true) xs
+    by true e f k = (e, f k)
+    by false e f k = absurd (some_is_none x k)
+
+find_none-filter : {X : Type 0} (p q : X → Bool) (xs : List X) → find p xs ≡ None → find p (filter q xs) ≡ None
+find_none-filter p q [] none = refl
+find_none-filter p q (x ∷ xs) none = by (p x) (q x) refl (find_none-filter p q xs) none
+  where
+    by : (a b : Bool) → p x ≡ a → (find p xs ≡ None → find p (filter q xs) ≡ None) → cond a (Some x) (find p xs) ≡ None → find p (cond b (x ∷ filter q xs) (filter q xs)) ≡ None
+    by true b e f k = absurd (some_is_none x k)
+    by false true e f k = rw e (f k)
+    by false false e f k = f k
+
+AtMostOne-filter : {X : Type 0} (p q : X → Bool) (xs : List X) → AtMostOne p xs → AtMostOne p (filter q xs)
+AtMostOne-filter p q [] one = tt
+AtMostOne-filter p q (x ∷ xs) one = by (q x) (AtMostOne-filter p q xs (one.1))
+  where
+    by : (b : Bool) → AtMostOne p (filter q xs) → AtMostOne p (cond b (x ∷ filter q xs) (filter q xs))
+    by true k = (λ e. find_none-filter p q xs (one.0 e), k)
+    by false k = k
+
+All-filter : {X : Type 0} (P : X → Type 0) (q : X → Bool) (xs : List X) → AllByRecursion P xs → AllByRecursion P (filter q xs)
+All-filter P q [] all = tt
+All-filter P q (x ∷ xs) all = by (q x) (All-filter P q xs (all.1))
+  where
+    by : (b : Bool) → AllByRecursion P (filter q xs) → AllByRecursion P (cond b (x ∷ filter q xs) (filter q xs))
+    by true k = (all.0, k)
+    by false k = k
+
+AreCompatible-filter : (q : NodeHolding → Bool) (items : List NodeHolding) → AreCompatible items → AreCompatible (filter q items)
+AreCompatible-filter q [] all = tt
+AreCompatible-filter q (held ∷ later) all = by (q held) (AreCompatible-filter q later (all.1))
+  where
+    by : (b : Bool) → AreCompatible (filter q later) → AreCompatible (cond b (held ∷ filter q later) (filter q later))
+    by true k = (All-filter _ q later (all.0), k)
+    by false k = k
+
+AreCompatible-append : (items : List NodeHolding) (wanted : NodeHolding) → AreCompatible items → AllByRecursion (λ (held : NodeHolding). is_compatible (held_by 1 wanted) (held_by 1 held) ≡ true) items → AreCompatible (items ++ wanted ∷ [])
+AreCompatible-append [] wanted all each = (tt, tt)
+AreCompatible-append (held ∷ later) wanted all each =
+    (All-append (λ (other : NodeHolding). is_compatible (held_by 1 other) (held_by 1 held) ≡ true) later wanted (all.0) (each.0), AreCompatible-append later wanted (all.1) (each.1))
+
+self : (id : ℕ) → (id == id) ≡ true
+self id = eq-eqb id id refl
+
+-- the volume makes no difference where it is the same
+compatible-any : (a b : ℕ) (x y : NodeHolding) → is_compatible (held_by a x) (held_by a y) ≡ is_compatible (held_by b x) (held_by b y)
+compatible-any a b x y =
+    ap (λ (t : Bool). cond (same_text x.node y.node) (t && same_text x.node y.node && same_capability x.capability y.capability && same_flag x.readonly y.readonly)
+    (is_multi_node x.capability.mode && is_multi_node y.capability.mode && not (is_second_writer (held_by a x) (held_by a y)))) (self a ∙ sym (self b))
+
+-- a row with the same id
+sound-from : (n : ℕ) (row new : ControllerRow) (items : List NodeHolding) → IsSoundRow n row → new.id ≡ row.id → IsTrue (is_party_of new.kind Controller) → IsTrue (has_id_by_rule new.kind new.reply) → new.holdings.items ≡ items
+    → ((node : List ℕ) → AtMostOne (λ (held : NodeHolding). same_text held.node node) items) → AreCompatible items → (new.live ≡ false → items ≡ []) → IsSoundRow n new
+sound-from n row new items sound id party reply is apart compatible gone =
+    record {
+      below = subst (λ k. k < next_shown n) (sym id) sound.below;
+      party = party;
+      reply = reply;
+      apart = λ node. subst (λ xs. AtMostOne (λ (held : NodeHolding). same_text held.node node) xs) (sym is) (apart node);
+      compatible = subst AreCompatible (sym is) compatible;
+      gone = λ e. is ∙ gone e;
+    }
+
+pub sound-same : (n : ℕ) (row new : ControllerRow) → IsSoundRow n row → volume_of_row new ≡ volume_of_row row → new.holdings.items ≡ row.holdings.items → IsSoundRow n new
+sound-same n row new sound volume items =
+    sound-from n row new row.holdings.items sound (ap (λ (v : Volume). v.id) volume)
+    (subst (λ k. IsTrue (is_party_of k Controller)) (sym (ap (λ (v : Volume). v.kept.kind) volume)) sound.party)
+    (subst (λ (v : Volume). IsTrue (has_id_by_rule v.kept.kind v.kept.reply)) (sym volume) sound.reply)
+    items sound.apart sound.compatible (λ e. sound.gone (sym (ap (λ (v : Volume). v.is_live) volume) ∙ e))
+
+pub sound-after : (n : ℕ) (row new : ControllerRow) (frame : Frame) (number : Number) (kind : Kind) (outcome : RowOutcome) → IsSoundRow n row → IsTrue (is_party_of kind Controller) → IsTrue (has_id_by_rule kind outcome.reply)
+    → (change : RowChange) → change ≡ outcome.change → IsFit row change → (verdict : Verdict) → RowGives new frame (row_after number kind (record { reply = outcome.reply; change = change }) row verdict) → IsSoundRow n new
+sound-after n row new frame number kind outcome sound party reply change is fit Stale gives = sound-same n row new sound gives.volume gives.items
+sound-after n row new frame number kind outcome sound party reply change is fit Repeated gives = sound-same n row new sound gives.volume gives.items
+sound-after n row new frame number kind outcome sound party reply change is fit Fresh gives = by change fit gives
+  where
+    by : (change : RowChange) → IsFit row change → RowGives new frame (row_after number kind (record { reply = outcome.reply; change = change }) row Fresh) → IsSoundRow n new
+    by change fit gives =
+        let id : new.id ≡ row.id = ap (λ (v : Volume). v.id) gives.volume in
+        let party_new : IsTrue (is_party_of new.kind Controller) = subst (λ k. IsTrue (is_party_of k Controller)) (sym (ap (λ (v : Volume). v.kept.kind) gives.volume)) party in
+        let reply_new : IsTrue (has_id_by_rule new.kind new.reply) = subst (λ (v : Volume). IsTrue (has_id_by_rule v.kept.kind v.kept.reply)) (sym gives.volume) reply in
+        last change fit (ap (λ (v : Volume). v.is_live) gives.volume) gives.items id party_new reply_new
+      where
+        last : (change : RowChange) → IsFit row change → new.live ≡ live_after change row.live → new.holdings.items ≡ items_after change row.holdings.items
+            → new.id ≡ row.id → IsTrue (is_party_of new.kind Controller) → IsTrue (has_id_by_rule new.kind new.reply) → IsSoundRow n new
+        last RowStays fit live items id p r = sound-from n row new row.holdings.items sound id p r items sound.apart sound.compatible (λ e. sound.gone (sym live ∙ e))
+        last RowEnds fit live items id p r = sound-from n row new row.holdings.items sound id p r items sound.apart sound.compatible (λ e. fit)
+        last (RowAttaches held) fit live items id p r =
+            sound-from n row new (row.holdings.items ++ held ∷ []) sound id p r items
+            (λ node. AtMostOne-append (λ (other : NodeHolding). same_text other.node node) row.holdings.items held (sound.apart node)
+            (λ e. subst (λ k. find (λ (other : NodeHolding). same_text other.node k) row.holdings.items ≡ None) ((same_text-tells held.node node).0 e) (fit.1)))
+            (AreCompatible-append row.holdings.items held sound.compatible
+            (All-weaker _ _ row.holdings.items (λ other e. compatible-any 1 row.id held other ∙ e) (find_none-all (λ other. is_compatible (held_by row.id held) (held_by row.id other)) row.holdings.items (fit.2))))
+            (λ e. absurd (false_is_true (sym e ∙ live ∙ fit.0)))
+        last (RowDetaches node) fit live items id p r =
+            let left : List NodeHolding = filter (λ (held : NodeHolding). not (same_text held.node node)) row.holdings.items in
+            sound-from n row new left sound id p r items
+            (λ other. AtMostOne-filter (λ (held : NodeHolding). same_text held.node other) (λ (held : NodeHolding). not (same_text held.node node)) row.holdings.items (sound.apart other))
+            (AreCompatible-filter (λ (held : NodeHolding). not (same_text held.node node)) row.holdings.items sound.compatible)
+            (λ e. ap (filter (λ (held : NodeHolding). not (same_text held.node node))) (sound.gone (sym live ∙ e)))
+
+-- ids in rising order: each id has one row
+above-none : (rows : List ControllerRow) (id : ℕ) → AllByRecursion (λ (later : ControllerRow). id < later.id) rows → find (λ (row : ControllerRow). row.id == id) rows ≡ None
+above-none [] id all = refl
+above-none (other ∷ rest) id all = by (other.id == id) refl (above-none rest id (all.1))
+  where
+    by : (b : Bool) → (other.id == id) ≡ b → find (λ (row : ControllerRow). row.id == id) rest ≡ None → cond b (Some other) (find (λ (row : ControllerRow). row.id == id) rest) ≡ None
+    by true f k = absurd (let same : other.id ≡ id = eqb-true other.id id f in omega (arith, all.0, same))
+    by false f k = k
+
+pub rising-one : (rows : List ControllerRow) → IsRising rows → (id : ℕ) → AtMostOne (λ (row : ControllerRow). row.id == id) rows
+rising-one [] rising id = tt
+rising-one (row ∷ rows) rising id =
+    (λ e. subst (λ k. find (λ (r : ControllerRow). r.id == k) rows ≡ None) (eqb-true row.id id e) (above-none rows row.id (rising.0)), rising-one rows (rising.1) id)
+
+above-set : (rows : List ControllerRow) (place : ℕ) (row new : ControllerRow) (id : ℕ) → IsAt rows place row → new.id ≡ row.id → AllByRecursion (λ (later : ControllerRow). id < later.id) rows
+    → AllByRecursion (λ (later : ControllerRow). id < later.id) (set rows place new)
+above-set rows place row new id at same all =
+    All-set (λ (later : ControllerRow). id < later.id) rows place new all (subst (λ k. id < k) (sym same) (All-at (λ (later : ControllerRow). id < later.id) rows place row all at))
+
+IsRising-set : (rows : List ControllerRow) (place : ℕ) (row new : ControllerRow) → IsAt rows place row → new.id ≡ row.id → IsRising rows → IsRising (set rows place new)
+IsRising-set [] place row new at same rising = tt
+IsRising-set (r ∷ rs) zero row new at same rising =
+    (subst (λ k. AllByRecursion (λ (later : ControllerRow). k < later.id) rs) (ap (λ (x : ControllerRow). x.id) at ∙ sym same) (rising.0), rising.1)
+IsRising-set (r ∷ rs) (suc place) row new at same rising =
+    (above-set rs place row new r.id at same (rising.0), IsRising-set rs place row new at same (rising.1))
+
+-- the rules of all rows, where one row is another
+pub sound-set : (n : ℕ) (rows : List ControllerRow) (place : ℕ) (row new : ControllerRow) → IsSound n rows → IsAt rows place row → new.id ≡ row.id → new.name ≡ row.name → IsSoundRow n new → IsSound n (set rows place new)
+sound-set n rows place row new sound at id name own =
+    record {
+      each = All-set (IsSoundRow n) rows place new sound.each own;
+      rising = IsRising-set rows place row new at id sound.rising;
+      names = λ k. AtMostOne-set (λ (r : ControllerRow). same_text r.name k) rows place row new at (ap (λ x. same_text x k) name) (sound.names k);
+    }

@@ -1,0 +1,29 @@
+-- What the readers show, by the rows.
+use Rattle.std.proofs.Common.{◌≡◌, ℕ, Bool, true, false, List, map, refl, sym, ◌∙◌, ap}
+use Rattle.std.specs.Prelude.{Option, Some, None, option_map, find}
+use Rattle.csi_types.specs.Same.{same_text}
+use Rattle.csi_controller.specs.declared.row.ControllerRow.{ControllerRow}
+use Rattle.csi_controller.specs.State.{Volume, ControllerState, volume_named}
+use Rattle.csi_controller.specs.Shown.{volume_of_row}
+use Rattle.csi_controller.specs.Core.{Parts, IsShown}
+use Rattle.csi_controller.specs.Views.{shown_if_live, row_if_live}
+use Rattle.csi_controller.proofs.FirstAt.{find-view}
+
+named-shown : (parts : Parts) (state : ControllerState) (name : List ℕ) → IsShown parts state → volume_named name state ≡ option_map volume_of_row (find (λ (r : ControllerRow). same_text r.name name) parts.rows)
+named-shown parts state name shown =
+    ap (find (λ (v : Volume). same_text v.name name)) (sym shown.shows.volumes) ∙ find-view volume_of_row (λ (v : Volume). same_text v.name name) parts.rows
+
+pub volume-shown : (parts : Parts) (state : ControllerState) (name : List ℕ) → IsShown parts state → row_if_live (find (λ (r : ControllerRow). same_text r.name name) parts.rows) ≡ shown_if_live (volume_named name state)
+volume-shown parts state name shown = sym (ap shown_if_live (named-shown parts state name shown) ∙ by (find (λ (r : ControllerRow). same_text r.name name) parts.rows))
+  where
+    by : (o : Option ControllerRow) → shown_if_live (option_map volume_of_row o) ≡ row_if_live o
+    by None = refl
+    by (Some row) = refl
+
+pub id-shown : (parts : Parts) (state : ControllerState) (name : List ℕ) → IsShown parts state
+    → option_map (λ (r : ControllerRow). r.id) (find (λ (r : ControllerRow). same_text r.name name) parts.rows) ≡ option_map (λ (v : Volume). v.id) (volume_named name state)
+id-shown parts state name shown = sym (ap (option_map (λ (v : Volume). v.id)) (named-shown parts state name shown) ∙ by (find (λ (r : ControllerRow). same_text r.name name) parts.rows))
+  where
+    by : (o : Option ControllerRow) → option_map (λ (v : Volume). v.id) (option_map volume_of_row o) ≡ option_map (λ (r : ControllerRow). r.id) o
+    by None = refl
+    by (Some row) = refl

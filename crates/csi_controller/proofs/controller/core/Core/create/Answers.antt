@@ -1,0 +1,45 @@
+-- CreateVolume at the row of its name, or with none.
+use Rattle.std.proofs.Common.{◌≡◌, ◌∙◌, ap, refl, sym, Some, None}
+use Rattle.std.specs.Prelude.{◌==◌}
+use Rattle.std.proofs.lemmas.Result.{IfOk-weaker, on_err_weaker}
+use Rattle.csi_types.specs.declared.call.Party.TheVariants.{Controller}
+use Rattle.csi_types.specs.declared.call.Kind.TheVariants.{CreateVolume, DeleteVolume, ControllerPublishVolume, ControllerUnpublishVolume}
+use Rattle.csi_types.specs.declared.number.Number.{Number}
+use Rattle.csi_types.specs.declared.reply.Reply.{Reply}
+use Rattle.csi_types.specs.Fence.{verdict_of}
+use Rattle.csi_types.specs.Replies.{reply_frame}
+use Rattle.csi_types.specs.Same.{same_text}
+use Rattle.csi_controller.specs.declared.row.NodeHolding.{NodeHolding}
+use Rattle.csi_controller.specs.declared.row.ControllerRow.{ControllerRow}
+use Rattle.csi_controller.specs.Core.{create_line, delete_line, publish_line, unpublish_line}
+use Rattle.csi_controller.proofs.Fit.{create-good}
+use Rattle.csi_controller.proofs.Calls.{create-answers, nowhere, shown-refused, sound-gives, sound-refused, either_way}
+use Rattle.csi_controller.proofs.controller.core.Core.create.Goals as goal
+
+pub create_new-requires-clause-new : goal.create_new-requires-clause-new
+create_new-requires-clause-new c = nowhere (λ (r : ControllerRow). same_text r.name c.args.name.now) c.args.self.now.rows.items c.in-None.ensures
+
+pub returns-in-Some-clause-ok : goal.returns-in-Some-clause-ok
+returns-in-Some-clause-ok c = λ state shown.
+    let core = c.args.self.now in
+    IfOk-weaker c.create_again.result _ _
+    (λ frame gives. create-answers core.config core.next_id core.rows.items state c.args.number c.args.name.now c.args.required c.args.limit c.args.capabilities.now c.in-Some.place c.index_mut.result.now c.create_again.new.row frame c.requires.sound shown c.in-Some.ensures c.index_mut.ensures.value
+    (rw c.as_slice-wished.ensures.value at gives))
+    c.create_again.ensures.ok
+
+pub returns-in-Some-clause-err : goal.returns-in-Some-clause-err
+returns-in-Some-clause-err c = λ state shown.
+    let core = c.args.self.now in
+    on_err_weaker c.create_again.result
+    (λ same. shown-refused (λ (r : ControllerRow). same_text r.name c.args.name.now) core.config core.next_id core.rows.items state c.in-Some.place c.index_mut.result.now c.create_again.new.row c.requires.sound c.in-Some.ensures c.index_mut.ensures.value same shown)
+    c.create_again.ensures.err
+
+pub returns-in-Some-clause-sound : goal.returns-in-Some-clause-sound
+returns-in-Some-clause-sound c =
+    let core = c.args.self.now in
+    let row = c.index_mut.result.now in
+    either_way c.create_again.result _ _ _
+    (λ frame gives. sound-gives (λ (r : ControllerRow). same_text r.name c.args.name.now) core.next_id core.rows.items c.in-Some.place row c.create_again.new.row frame c.args.number CreateVolume (create_line row c.args.required c.args.limit c.as_slice-wished.result.now) c.requires.sound c.in-Some.ensures c.index_mut.ensures.value refl
+    (create-good row c.args.required c.args.limit c.as_slice-wished.result.now) (verdict_of (Some row.last) c.args.number) gives)
+    (λ same. sound-refused (λ (r : ControllerRow). same_text r.name c.args.name.now) core.next_id core.rows.items c.in-Some.place row c.create_again.new.row c.requires.sound c.in-Some.ensures c.index_mut.ensures.value same)
+    c.create_again.ensures.ok c.create_again.ensures.err

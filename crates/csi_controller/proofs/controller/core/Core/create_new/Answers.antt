@@ -1,0 +1,58 @@
+-- CreateVolume of a name that has no row: refused, or made.
+use Rattle.std.proofs.Common.{◌≡◌, ◌∙◌, ap, subst, refl, sym, Some, None}
+use Rattle.std.proofs.lemmas.Result.{IfOk-weaker}
+use Rattle.csi_types.specs.declared.capability.Capability.{Capability}
+use Rattle.csi_types.specs.declared.call.Call.TheVariants.{CreateVolume}
+use Rattle.csi_types.specs.declared.call.Kind.TheVariants as kinds
+use Rattle.csi_types.specs.declared.call.Party.TheVariants.{Controller}
+use Rattle.csi_types.specs.declared.reply.Reply.{Reply}
+use Rattle.csi_types.specs.Replies.{plain_reply, reply_frame}
+use Rattle.csi_controller.specs.Fenced.{fenced_call, kept_for}
+use Rattle.csi_controller.specs.Core.{Parts, Answers, IsSound, argument_fault}
+use Rattle.csi_controller.specs.CoreParts.{IsMade, parts_of}
+use Rattle.csi_controller.proofs.Calls.{either_way}
+use Rattle.csi_controller.proofs.Made.{fault-answers, refused-answers, made-answers, made-sound, none-where, ok-both, parts-made}
+use Rattle.csi_controller.proofs.controller.core.Core.create_new.Goals as goal
+
+pub returns-in-Some-clause-ok : goal.returns-in-Some-clause-ok
+returns-in-Some-clause-ok c = λ state shown.
+    let core = c.args.self.now in
+    let fault : argument_fault c.args.required c.args.limit c.args.capabilities.now ≡ Some c.in-Some.reply
+    = ap (argument_fault c.args.required c.args.limit) (sym c.as_slice-wished.ensures.value) ∙ sym c.in_ok-reply.ensures.ok ∙ c.in-Some.is in
+    IfOk-weaker c.frame_of.result _ _
+    (λ frame is. fault-answers core.config core.next_id core.rows.items state c.args.number c.args.name.now c.args.required c.args.limit c.args.capabilities.now frame c.in-Some.reply shown c.requires.new fault is)
+    c.frame_of.ensures.ok
+
+pub returns-in-Ok-clause-ok : goal.returns-in-Ok-clause-ok
+returns-in-Ok-clause-ok c = λ state shown.
+    let core = c.args.self.now in
+    let good : argument_fault c.args.required c.args.limit c.args.capabilities.now ≡ None
+    = ap (argument_fault c.args.required c.args.limit) (sym c.as_slice-wished.ensures.value) ∙ sym c.in_ok-reply.ensures.ok ∙ none-where _ c.in_default.not-Some in
+    ok-both c.make.result _ _ _
+    (λ frame is made. subst (λ (k : Parts). Answers k frame (fenced_call core.config state c.args.number (CreateVolume c.args.name.now c.args.required c.args.limit c.args.capabilities.now) (kept_for (CreateVolume c.args.name.now c.args.required c.args.limit c.args.capabilities.now) state)))
+    (parts-made core c.make.new.self c.args.number c.in-Ok.made.0 c.args.name.now c.in-Ok.made.1 c.args.capabilities.now made)
+    (made-answers core.config core.next_id core.rows.items state c.args.number c.args.name.now c.args.required c.args.limit c.in-Ok.made.1 c.in-Ok.made.0 c.args.capabilities.now made.row frame shown c.requires.new good
+    (c.in-Ok.ensures.line c.args.name.now c.args.capabilities.now) c.in-Ok.ensures.id c.in-Ok.ensures.from made.fits is made.volume made.items))
+    c.make.ensures.frame c.make.ensures.made
+
+pub returns-in-Ok-clause-sound : goal.returns-in-Ok-clause-sound
+returns-in-Ok-clause-sound c =
+    let core = c.args.self.now in
+    either_way c.make.result _ _ _
+    (λ x made. subst (λ (k : Parts). IsSound k.next_id k.rows) (parts-made core c.make.new.self c.args.number c.in-Ok.made.0 c.args.name.now c.in-Ok.made.1 c.args.capabilities.now made)
+    (made-sound core.next_id core.rows.items c.args.number c.args.name.now c.in-Ok.made.1 c.in-Ok.made.0 c.args.capabilities.now made.row c.requires.sound c.requires.new
+    c.in-Ok.ensures.id c.in-Ok.ensures.from made.fits made.volume made.items))
+    (λ (same : parts_of c.make.new.self ≡ parts_of core). subst (λ (k : Parts). IsSound k.next_id k.rows) (sym same) c.requires.sound)
+    c.make.ensures.made c.make.ensures.err
+
+pub returns-in_ok-reply-in-Err-clause-ok : goal.returns-in_ok-reply-in-Err-clause-ok
+returns-in_ok-reply-in-Err-clause-ok c = λ state shown.
+    let core = c.args.self.now in
+    let good : argument_fault c.args.required c.args.limit c.args.capabilities.now ≡ None
+    = ap (argument_fault c.args.required c.args.limit) (sym c.as_slice-wished.ensures.value) ∙ sym c.in_ok-reply.ensures.ok ∙ none-where _ c.in_default.not-Some in
+    let refusal = c.in-Err.refusal in
+    IfOk-weaker c.frame_of-in-Err.result _ _
+    (λ frame is. refused-answers core.config core.next_id core.rows.items state c.args.number c.args.name.now c.args.required c.args.limit c.args.capabilities.now frame (plain_reply refusal.status refusal.detail.now) shown c.requires.new good
+    (c.in-Err.ensures.line c.args.name.now c.args.capabilities.now)
+    (is ∙ ap (λ (reply : Reply). reply_frame c.args.number Controller kinds.CreateVolume reply) c.in_ok-reply-in-Err.ensures.ok))
+    c.frame_of-in-Err.ensures.ok

@@ -1,0 +1,55 @@
+-- DeleteVolume at its row, or with none.
+use Rattle.std.proofs.Common.{◌≡◌, ◌∙◌, ap, refl, sym, Some, None}
+use Rattle.std.specs.Prelude.{◌==◌}
+use Rattle.std.proofs.lemmas.Result.{IfOk-weaker, on_err_weaker}
+use Rattle.csi_types.specs.declared.call.Party.TheVariants.{Controller}
+use Rattle.csi_types.specs.declared.call.Kind.TheVariants.{CreateVolume, DeleteVolume, ControllerPublishVolume, ControllerUnpublishVolume}
+use Rattle.csi_types.specs.declared.number.Number.{Number}
+use Rattle.csi_types.specs.declared.reply.Reply.{Reply}
+use Rattle.csi_types.specs.Fence.{verdict_of}
+use Rattle.csi_types.specs.Replies.{reply_frame}
+use Rattle.csi_types.specs.Same.{same_text}
+use Rattle.csi_controller.specs.declared.row.NodeHolding.{NodeHolding}
+use Rattle.csi_controller.specs.declared.row.ControllerRow.{ControllerRow}
+use Rattle.csi_controller.specs.Core.{create_line, delete_line, publish_line, unpublish_line}
+use Rattle.csi_controller.proofs.Fit.{delete-good}
+use Rattle.csi_controller.proofs.Calls.{delete-answers, delete-nowhere, delete-let_through, shown-refused, sound-gives, sound-refused, either_way}
+use Rattle.csi_controller.proofs.controller.core.Core.delete.Goals as goal
+
+pub returns-in-Some-clause-ok : goal.returns-in-Some-clause-ok
+returns-in-Some-clause-ok c = λ state shown.
+    let core = c.args.self.now in
+    IfOk-weaker c.delete.result _ _
+    (λ frame gives. delete-answers core.config core.next_id core.rows.items state c.args.number c.args.id c.in-Some.place c.index_mut.result.now c.delete.new.row frame c.requires.sound shown c.in-Some.ensures c.index_mut.ensures.value gives)
+    c.delete.ensures.ok
+
+pub returns-in-Some-clause-err : goal.returns-in-Some-clause-err
+returns-in-Some-clause-err c = λ state shown.
+    let core = c.args.self.now in
+    on_err_weaker c.delete.result
+    (λ same. shown-refused (λ (r : ControllerRow). r.id == c.args.id) core.config core.next_id core.rows.items state c.in-Some.place c.index_mut.result.now c.delete.new.row c.requires.sound c.in-Some.ensures c.index_mut.ensures.value same shown)
+    c.delete.ensures.err
+
+pub returns-in-Some-clause-sound : goal.returns-in-Some-clause-sound
+returns-in-Some-clause-sound c =
+    let core = c.args.self.now in
+    let row = c.index_mut.result.now in
+    either_way c.delete.result _ _ _
+    (λ frame gives. sound-gives (λ (r : ControllerRow). r.id == c.args.id) core.next_id core.rows.items c.in-Some.place row c.delete.new.row frame c.args.number DeleteVolume (delete_line row) c.requires.sound c.in-Some.ensures c.index_mut.ensures.value refl
+    (delete-good row) (verdict_of (Some row.last) c.args.number) gives)
+    (λ same. sound-refused (λ (r : ControllerRow). r.id == c.args.id) core.next_id core.rows.items c.in-Some.place row c.delete.new.row c.requires.sound c.in-Some.ensures c.index_mut.ensures.value same)
+    c.delete.ensures.ok c.delete.ensures.err
+
+pub returns-in-Some-clause-succeeds : goal.returns-in-Some-clause-succeeds
+returns-in-Some-clause-succeeds c = λ state shown answered.
+    let core = c.args.self.now in
+    let through = delete-let_through core.config core.next_id core.rows.items state c.args.number c.args.id c.in-Some.place c.index_mut.result.now c.requires.sound shown c.in-Some.ensures c.index_mut.ensures.value answered in
+    c.delete.ensures.succeeds through.0 through.1
+
+pub returns-in-None-clause-ok : goal.returns-in-None-clause-ok
+returns-in-None-clause-ok c = λ state shown.
+    let core = c.args.self.now in
+    IfOk-weaker c.frame_of.result _ _
+    (λ frame is. delete-nowhere core.config core.next_id core.rows.items state c.args.number c.args.id frame shown c.in-None.ensures
+    (is ∙ ap (λ (reply : Reply). reply_frame c.args.number Controller DeleteVolume reply) c.done.ensures))
+    c.frame_of.ensures.ok

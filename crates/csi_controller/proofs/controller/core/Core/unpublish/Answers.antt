@@ -1,0 +1,54 @@
+-- ControllerUnpublishVolume at its row, or with none.
+use Rattle.std.proofs.Common.{◌≡◌, ◌∙◌, ap, refl, sym, Some, None}
+use Rattle.std.specs.Prelude.{◌==◌}
+use Rattle.std.proofs.lemmas.Result.{IfOk-weaker, on_err_weaker}
+use Rattle.csi_types.specs.declared.call.Party.TheVariants.{Controller}
+use Rattle.csi_types.specs.declared.call.Kind.TheVariants.{CreateVolume, DeleteVolume, ControllerPublishVolume, ControllerUnpublishVolume}
+use Rattle.csi_types.specs.declared.number.Number.{Number}
+use Rattle.csi_types.specs.declared.reply.Reply.{Reply}
+use Rattle.csi_types.specs.Fence.{verdict_of}
+use Rattle.csi_types.specs.Replies.{reply_frame}
+use Rattle.csi_types.specs.Same.{same_text}
+use Rattle.csi_controller.specs.declared.row.NodeHolding.{NodeHolding}
+use Rattle.csi_controller.specs.declared.row.ControllerRow.{ControllerRow}
+use Rattle.csi_controller.specs.Core.{create_line, delete_line, publish_line, unpublish_line}
+use Rattle.csi_controller.proofs.Fit.{unpublish-good}
+use Rattle.csi_controller.proofs.Calls.{unpublish-answers, unpublish-nowhere, unpublish-let_through, shown-refused, sound-gives, sound-refused, either_way}
+use Rattle.csi_controller.proofs.controller.core.Core.unpublish.Goals as goal
+
+pub returns-in-Some-clause-ok : goal.returns-in-Some-clause-ok
+returns-in-Some-clause-ok c = λ state shown.
+    let core = c.args.self.now in
+    IfOk-weaker c.unpublish.result _ _
+    (λ frame gives. unpublish-answers core.config core.next_id core.rows.items state c.args.number c.args.id c.args.node.now c.in-Some.place c.index_mut.result.now c.unpublish.new.row frame c.requires.sound shown c.in-Some.ensures c.index_mut.ensures.value gives)
+    c.unpublish.ensures.ok
+
+pub returns-in-Some-clause-err : goal.returns-in-Some-clause-err
+returns-in-Some-clause-err c = λ state shown.
+    let core = c.args.self.now in
+    on_err_weaker c.unpublish.result
+    (λ same. shown-refused (λ (r : ControllerRow). r.id == c.args.id) core.config core.next_id core.rows.items state c.in-Some.place c.index_mut.result.now c.unpublish.new.row c.requires.sound c.in-Some.ensures c.index_mut.ensures.value same shown)
+    c.unpublish.ensures.err
+
+pub returns-in-Some-clause-sound : goal.returns-in-Some-clause-sound
+returns-in-Some-clause-sound c =
+    let core = c.args.self.now in
+    let row = c.index_mut.result.now in
+    either_way c.unpublish.result _ _ _
+    (λ frame gives. sound-gives (λ (r : ControllerRow). r.id == c.args.id) core.next_id core.rows.items c.in-Some.place row c.unpublish.new.row frame c.args.number ControllerUnpublishVolume (unpublish_line row c.args.node.now) c.requires.sound c.in-Some.ensures c.index_mut.ensures.value refl
+    (unpublish-good row c.args.node.now) (verdict_of (Some row.last) c.args.number) gives)
+    (λ same. sound-refused (λ (r : ControllerRow). r.id == c.args.id) core.next_id core.rows.items c.in-Some.place row c.unpublish.new.row c.requires.sound c.in-Some.ensures c.index_mut.ensures.value same)
+    c.unpublish.ensures.ok c.unpublish.ensures.err
+
+pub returns-in-Some-clause-succeeds : goal.returns-in-Some-clause-succeeds
+returns-in-Some-clause-succeeds c = λ state shown answered.
+    let core = c.args.self.now in
+    c.unpublish.ensures.succeeds (unpublish-let_through core.config core.next_id core.rows.items state c.args.number c.args.id c.args.node.now c.in-Some.place c.index_mut.result.now shown c.in-Some.ensures c.index_mut.ensures.value answered)
+
+pub returns-in-None-clause-ok : goal.returns-in-None-clause-ok
+returns-in-None-clause-ok c = λ state shown.
+    let core = c.args.self.now in
+    IfOk-weaker c.frame_of.result _ _
+    (λ frame is. unpublish-nowhere core.config core.next_id core.rows.items state c.args.number c.args.id c.args.node.now frame shown c.in-None.ensures
+    (is ∙ ap (λ (reply : Reply). reply_frame c.args.number Controller ControllerUnpublishVolume reply) c.done.ensures))
+    c.frame_of.ensures.ok

@@ -1,0 +1,24 @@
+-- The parts of the controller's core, and what a volume that was just made adds to them.
+use Rattle.std.specs.Prelude.{◌≡◌, ℕ, ◌+◌, ◌<◌, ◌%◌, ◌^◌, List, [], ◌∷◌, ◌++◌, true, Some}
+use Rattle.csi_types.specs.declared.number.Number.{Number}
+use Rattle.csi_types.specs.declared.capability.Capability.{Capability}
+use Rattle.csi_types.specs.declared.call.Kind.TheVariants.{CreateVolume}
+use Rattle.csi_types.specs.Replies.{ok_reply_with}
+use Rattle.csi_controller.specs.declared.row.ControllerRow.{ControllerRow}
+use Rattle.csi_controller.specs.declared.controller.core.Core.{Core}
+use Rattle.csi_controller.specs.State.{Volume}
+use Rattle.csi_controller.specs.Shown.{volume_of_row}
+use Rattle.csi_controller.specs.Core.{Parts, made_volume}
+
+abbrev pub parts_of : Core → Parts
+parts_of core = record { config = core.config; next_id = core.next_id; rows = core.rows.items }
+
+-- the volume was made, and stands last
+pub record IsMade (old new : Core) (number : Number) (id : ℕ) (name : List ℕ) (capacity : ℕ) (capabilities : List Capability) : Type 0 where
+  pub row : ControllerRow
+  pub volume : volume_of_row row ≡ made_volume number id name capacity capabilities
+  pub items : row.holdings.items ≡ []
+  pub rows : new.rows.items ≡ old.rows.items ++ row ∷ []
+  pub next : new.next_id ≡ (old.next_id + 1) % 2 ^ 64
+  pub config : new.config ≡ old.config
+  pub fits : old.next_id < 2 ^ 64

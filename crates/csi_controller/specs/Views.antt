@@ -1,0 +1,41 @@
+-- What a controller's readers show of a state, and its record.
+use Rattle.std.specs.Prelude.{◌≡◌, ℕ, List, [], ◌∷◌, ◌++◌, Option, Some, None, if◌then◌else◌}
+use Rattle.csi_controller.specs.declared.row.ControllerRow.{ControllerRow}
+use Rattle.csi_controller.specs.State.{Volume}
+use Rattle.csi_types.specs.declared.holding.Holding.{Holding}
+use Rattle.csi_controller.specs.Shown.{holdings_in_row}
+use Rattle.csi_controller.specs.Core.{IsSameRow}
+
+-- a record's next id (0 once all were given), and its rows by rising id
+pub record RecordParts : Type 0 where
+  pub next_id : ℕ
+  pub rows : List ControllerRow
+
+-- id and capacity of a volume, unless it was deleted
+abbrev pub shown_if_live : Option Volume → Option (ℕ × ℕ)
+shown_if_live None = None
+shown_if_live (Some volume) = if volume.is_live then Some (volume.id, volume.capacity) else None
+
+-- the same, of a row
+abbrev pub row_if_live : Option ControllerRow → Option (ℕ × ℕ)
+row_if_live None = None
+row_if_live (Some row) = if row.live then Some (row.id, row.capacity) else None
+
+-- the rows say the same, one by one
+abbrev pub AreSameRows : List ControllerRow → List ControllerRow → Type 0
+AreSameRows [] [] = Unit {0}
+AreSameRows [] (copy ∷ copies) = ⊥
+AreSameRows (row ∷ rows) [] = ⊥
+AreSameRows (row ∷ rows) (copy ∷ copies) = IsSameRow row copy × AreSameRows rows copies
+
+-- a copy of the row, if there is one
+abbrev pub IsCopyOf : Option ControllerRow → Option ControllerRow → Type 0
+IsCopyOf None None = Unit {0}
+IsCopyOf None (Some copy) = ⊥
+IsCopyOf (Some row) None = ⊥
+IsCopyOf (Some row) (Some copy) = IsSameRow row copy
+
+-- the holdings of all rows, by row, and then in the order of the row
+abbrev pub attached : List ControllerRow → List Holding
+attached [] = []
+attached (row ∷ rows) = holdings_in_row row ++ attached rows

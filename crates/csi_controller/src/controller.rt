@@ -1,0 +1,154 @@
+//! The controller plugin.
+ghost use Rattle.std.specs.Prelude.{◌≡◌, ◌%◌, ◌^◌, Some, None, [], IfOk, OnOk, OnErr, IsOk, option_map, find, ◌==◌};
+ghost use Rattle.csi_types.specs.declared.call.Call.{Call as OneCall};
+
+mod answer;
+mod core;
+mod fence;
+mod lines;
+mod new_row;
+mod row_calls;
+mod wanted;
+
+use self::core::Core;
+use crate::fault::CoreFault;
+use crate::record::ControllerRecord;
+use crate::row::ControllerRow;
+use csi_types::{Body, Config, Frame, Holding, Name, VolumeId};
+use new_row::attachments;
+use std::alloc::Global;
+use std::marker::Model;
+
+/// The controller plugin of CSI's spec.md, "Controller Service RPC": the volumes that it made, the nodes at
+/// which each is published, and the last call that it answered for each. A contract sees its configuration,
+/// its next id and its rows by rising id.
+#[derive(Drop)]
+pub struct Controller {
+    core: Core,
+}
+
+impl Model for Controller {
+    ghost use Rattle.csi_controller.specs.Core.{Parts, IsSound};
+    ghost use Rattle.csi_controller.specs.CoreParts.{parts_of};
+
+    ghost Value = { Parts };
+
+    ghost view = { λ controller. parts_of controller.core };
+
+    ghost invariant = { λ controller. IsSound controller.core.next_id controller.core.rows.items };
+}
+
+impl Controller {
+    ghost use Rattle.csi_controller.specs.State.{ControllerState, empty_controller, volume_named};
+    ghost use Rattle.csi_controller.specs.Fenced.{fenced};
+    ghost use Rattle.csi_controller.specs.Views.{shown_if_live, attached, IsCopyOf};
+    ghost use Rattle.csi_controller.specs.Core.{IsShown, IsSound, IsAnsweredOk, IsUndoing};
+
+    /// A controller that made no volume. It takes no memory.
+    pub fn new(alloc: Global, config: Config) -> Controller
+        ensures config { result.config ≡ config }
+        ensures empty { IsShown result empty_controller }
+    {
+        Controller {
+            core: Core {
+                alloc,
+                config,
+                next_id: 1,
+                rows: Vec::new(alloc),
+            },
+        }
+    }
+
+    /// Answers a call: the fence, then the table ("CreateVolume", "DeleteVolume", "ControllerPublishVolume"
+    /// and "ControllerUnpublishVolume" of CSI's spec.md; the fence is this profile's own). A reply and another
+    /// plugin's call get no answer, change nothing and take no memory, as do a DeleteVolume and a
+    /// ControllerUnpublishVolume that the table answers with `Ok`. A refusal for want of memory leaves the
+    /// controller as it was.
+    pub fn step(&mut self, frame: &Frame) -> Result<Option<Frame>, CoreFault>
+        // the answer and the new state are the definition's
+        ensures reply { (state : ControllerState) → IsShown self.old state → IfOk result (λ reply. reply ≡ (fenced self.old.config state frame.now).reply) }
+        ensures state { (state : ControllerState) → IsShown self.old state → OnOk result (IsShown self.new (fenced self.old.config state frame.now).state) }
+        ensures config { self.new.config ≡ self.old.config }
+        ensures err { (state : ControllerState) → IsShown self.old state → OnErr result (IsShown self.new state) }
+        // what takes no memory succeeds
+        ensures silent { (state : ControllerState) → (fenced self.old.config state frame.now).reply ≡ None → IsOk result }
+        ensures undone { (state : ControllerState) (call : OneCall) → IsShown self.old state → frame.now.body ≡ Body.Call call → IsUndoing call
+            → IsAnsweredOk self.old.config state frame.now.number call → IsOk result }
+    {
+        self.core.step(frame)
+    }
+
+    /// Id and capacity in bytes of the volume of this name, unless it was deleted. It takes no memory.
+    pub fn volume(&self, name: &Name) -> Option<(VolumeId, u64)>
+        ensures { (state : ControllerState) → IsShown self.now state → result ≡ shown_if_live (volume_named name.now state) }
+    {
+        self.core.volume(name)
+    }
+
+    /// The id of the volume of this name, deleted or not. It takes no memory.
+    pub fn id_of(&self, name: &Name) -> Option<VolumeId>
+        ensures { (state : ControllerState) → IsShown self.now state → result ≡ option_map (λ volume. volume.id) (volume_named name.now state) }
+    {
+        self.core.id_of(name)
+    }
+
+    /// The id of the next volume, 0 once all were given. It takes no memory.
+    pub fn next_id(&self) -> u64
+        ensures value { result ≡ self.now.next_id }
+        ensures state { (state : ControllerState) → IsShown self.now state → result ≡ state.next_id % 2 ^ 64 }
+    {
+        self.core.next_id
+    }
+
+    /// The controller of a record, under a configuration that need not be the one that it was made under: what
+    /// the record holds stays, also where the configuration wouldn't grant it. It takes no memory today.
+    pub fn from_record(
+        alloc: Global,
+        config: Config,
+        kept: ControllerRecord,
+    ) -> Result<Controller, CoreFault>
+        ensures { IfOk result (λ controller. controller ≡ record { config = config; next_id = kept.next_id; rows = kept.rows }) }
+    {
+        let next_id = kept.next_id();
+        let rows = kept.into_rows();
+        Ok(Controller {
+            core: Core {
+                alloc,
+                config,
+                next_id,
+                rows,
+            },
+        })
+    }
+
+    /// The record of this controller.
+    pub fn record(&self, alloc: Global) -> Result<ControllerRecord, CoreFault>
+        ensures { (state : ControllerState) → IsShown self.now state →
+            IfOk result (λ kept. IsShown (record { config = self.now.config; next_id = kept.next_id; rows = kept.rows }) state) }
+    {
+        let core = &self.core;
+        let rows = core.copied_rows(alloc)?;
+        Ok(ControllerRecord::new(core.next_id, rows))
+    }
+
+    /// The row of this id, as the record has it.
+    pub fn row(&self, _alloc: Global, id: VolumeId) -> Result<Option<ControllerRow>, CoreFault>
+        ensures { IfOk result (λ copy. IsCopyOf (find (λ row. row.id == id) self.now.rows) copy) }
+    {
+        self.core.row(id)
+    }
+
+    /// Where each volume is held, by rising id, and for each volume in the order of its row.
+    pub fn attachments(&self, alloc: Global) -> Result<Vec<Holding>, CoreFault>
+        ensures { IfOk result (λ all. all.items ≡ attached self.now.rows) }
+    {
+        attachments(&self.core.rows, alloc)
+    }
+
+    // Nothing that runs: the rules of the rows hold.
+    pub(crate) fn assert_sound(&self)
+        ensures { IsSound self.now.next_id self.now.rows }
+    {
+        let _core = &self.core;
+    }
+}

@@ -1,0 +1,394 @@
+//! The controller's rows in a vector, in the order of their ids, and what it does with a call.
+ghost use Rattle.std.specs.Prelude.{◌≡◌, ◌==◌, ◌<◌, ◌&&◌, ◌||◌, ◌∷◌, ℕ, List, Some, None, [], length, position, count_by, nat_le, IfOk, OnErr, OnOk, IsOk, IsTrue, IfErr, MatchResult, option_map};
+ghost use Rattle.std.specs.List.{find, list_any};
+ghost use Rattle.std.specs.Option.{option_copied};
+ghost use Rattle.csi_controller.specs.Views.{row_if_live, AreSameRows, IsCopyOf};
+ghost use Rattle.csi_types.specs.declared.capability.Capability.{Capability as OneCapability};
+ghost use Rattle.csi_types.specs.declared.call.Kind.TheVariants.{CreateVolume as CreateKind};
+ghost use Rattle.csi_types.specs.declared.call.Call.{Call as OneCall};
+ghost use Rattle.csi_types.specs.declared.call.Party.TheVariants.{Controller};
+ghost use Rattle.csi_types.specs.Config.{has_node};
+ghost use Rattle.csi_types.specs.Reply.{has_id_by_rule};
+ghost use Rattle.csi_types.specs.Replies.{ok_reply_with, plain_reply, reply_frame};
+ghost use Rattle.csi_types.specs.Same.{same_text};
+ghost use Rattle.csi_controller.specs.Shown.{volume_of_row};
+ghost use Rattle.csi_controller.specs.Core.{made_volume, IsSameRow};
+
+use super::answer::{done, frame_of, plain};
+use super::lines::{argument_fault, is_held_at};
+use super::new_row::{copied_row, new_row};
+use super::row_calls::{create_again, delete, publish, unpublish};
+use super::wanted::Wanted;
+use crate::fault::CoreFault;
+use crate::row::ControllerRow;
+use csi_types::{
+    Body, Call, Capability, CapabilityList, Config, DEFAULT_CAPACITY, Frame, Kind, Name, NodeId,
+    Number, Reply, Status, VolumeId,
+};
+use std::alloc::Global;
+
+/// The most rows that a controller has.
+const MAX_ROWS: usize = 4096;
+
+/// A controller's parts.
+#[derive(Drop)]
+pub struct Core {
+    pub alloc: Global,
+    pub config: Config,
+    // 0 once all ids are given
+    pub next_id: u64,
+    pub rows: Vec<ControllerRow>,
+}
+
+/// A status with its detail, as the table answers it.
+#[derive(Clone, Copy)]
+struct Refusal {
+    status: Status,
+    detail: &'static str,
+}
+
+impl Core {
+    ghost use Rattle.csi_controller.specs.State.{ControllerState};
+    ghost use Rattle.csi_controller.specs.Table.{Makes, refused};
+    ghost use Rattle.csi_controller.specs.Fenced.{fenced, fenced_call, kept_for};
+    ghost use Rattle.csi_controller.specs.Core.{IsShown, IsSound, Answers, IsAnsweredOk, IsUndoing, new_line, next_shown};
+    ghost use Rattle.csi_controller.specs.CoreParts.{parts_of, IsMade};
+
+    // Where the row of this name is.
+    fn place_of_name(&self, name: &Name) -> Option<usize>
+        ensures { result ≡ position (λ row. same_text row.name name.now) self.now.rows.items }
+    {
+        self.rows.iter().position(|row| row.name == *name)
+    }
+
+    // Where the row of this id is.
+    fn place_of_id(&self, id: VolumeId) -> Option<usize>
+        ensures { result ≡ position (λ row. row.id == id) self.now.rows.items }
+    {
+        self.rows
+            .iter()
+            .position(|row| row.id.number() == id.number())
+    }
+
+    // How many volumes are held at the node.
+    fn count_at(&self, node: &NodeId) -> usize
+        ensures { result ≡ count_by (λ row. list_any (λ held. same_text held.node node.now) row.holdings.items) self.now.rows.items }
+    {
+        self.rows.iter().filter(|row| is_held_at(row, node)).count()
+    }
+
+    // Whether the node is configured.
+    fn has_node(&self, node: &NodeId) -> bool
+        ensures { result ≡ has_node node.now self.now.config.nodes }
+    {
+        self.config.nodes().iter().any(|entry| *node == entry.id)
+    }
+
+    // Whether the node takes no more volumes.
+    fn is_full(&self, node: &NodeId) -> bool
+        ensures { result ≡ list_any (λ entry. same_text entry.id node.now
+            && nat_le entry.slots (count_by (λ row. list_any (λ held. same_text held.node node.now) row.holdings.items) self.now.rows.items)) self.now.config.nodes }
+    {
+        let count = self.count_at(node) as u64;
+        self.config
+            .nodes()
+            .iter()
+            .any(|entry| entry.id == *node && entry.slots <= count)
+    }
+
+    // The id and the capacity of the volume that is made for a new name, or the table's refusal.
+    fn room_for(&self, required: u64, limit: u64) -> Result<(VolumeId, u64), Refusal>
+        ensures line { (name : List ℕ) (wished : List OneCapability) → MatchResult result
+            (λ made. new_line self.now.config.greatest (length self.now.rows.items) (next_shown self.now.next_id) name required limit wished
+            ≡ record { reply = ok_reply_with made.0; change = Makes name made.1 wished })
+            (λ refusal. new_line self.now.config.greatest (length self.now.rows.items) (next_shown self.now.next_id) name required limit wished
+            ≡ refused refusal.status refusal.detail.now) }
+        ensures id { IfOk result (λ made. made.0 ≡ self.now.next_id) }
+        ensures from { IfOk result (λ made. 0 < made.0) }
+        ensures no_id { IfErr result (λ refusal. IsTrue (has_id_by_rule CreateKind (plain_reply refusal.status refusal.detail.now))) }
+    {
+        let capacity = if required == 0 {
+            DEFAULT_CAPACITY.min(limit)
+        } else {
+            required
+        };
+        if capacity > self.config.greatest() {
+            return Err(Refusal {
+                status: Status::OutOfRange,
+                detail: "range",
+            });
+        }
+        if self.rows.len() >= MAX_ROWS {
+            return Err(Refusal {
+                status: Status::ResourceExhausted,
+                detail: "volumes",
+            });
+        }
+        match VolumeId::try_new(self.next_id) {
+            Some(id) => Ok((id, capacity)),
+            None => Err(Refusal {
+                status: Status::ResourceExhausted,
+                detail: "volumes",
+            }),
+        }
+    }
+
+    // Makes the volume that has the next id. A refusal changes nothing.
+    fn make(
+        &mut self,
+        number: Number,
+        id: VolumeId,
+        capacity: u64,
+        name: &Name,
+        capabilities: &CapabilityList,
+    ) -> Result<Frame, CoreFault>
+        ensures frame { IfOk result (λ frame. frame ≡ reply_frame number Controller CreateKind (ok_reply_with id)) }
+        ensures made { OnOk result (IsMade self.old self.new number id name.now capacity capabilities.now) }
+        ensures err { OnErr result (parts_of self.new ≡ parts_of self.old) }
+    {
+        let alloc = self.alloc;
+        let frame = frame_of(alloc, number, Kind::CreateVolume, &done(alloc, Some(id)))?;
+        let row = new_row(alloc, number, id, name, capacity, capabilities)?;
+        self.rows.push(row)?;
+        self.next_id = self.next_id.wrapping_add(1);
+        Ok(frame)
+    }
+
+    // CreateVolume of a name that has no row. A refusal changes nothing.
+    fn create_new(
+        &mut self,
+        number: Number,
+        name: &Name,
+        required: u64,
+        limit: u64,
+        capabilities: &CapabilityList,
+    ) -> Result<Frame, CoreFault>
+        requires sound { IsSound self.old.next_id self.old.rows.items }
+        requires new { find (λ row. same_text row.name name.now) self.old.rows.items ≡ None }
+        ensures ok { (state : ControllerState) → IsShown (parts_of self.old) state → IfOk result (λ frame. Answers (parts_of self.new) frame
+            (fenced_call self.old.config state number (Call.CreateVolume name.now required limit capabilities.now) (kept_for (Call.CreateVolume name.now required limit capabilities.now) state))) }
+        ensures err { (state : ControllerState) → IsShown (parts_of self.old) state → OnErr result (IsShown (parts_of self.new) state) }
+        ensures sound { IsSound self.new.next_id self.new.rows.items }
+        ensures config { self.new.config ≡ self.old.config }
+    {
+        let alloc = self.alloc;
+        let wished = capabilities.as_slice();
+        if let Some(reply) = argument_fault(alloc, required, limit, wished)? {
+            return frame_of(alloc, number, Kind::CreateVolume, &reply);
+        }
+        match self.room_for(required, limit) {
+            Ok(made) => self.make(number, made.0, made.1, name, capabilities),
+            Err(refusal) => {
+                let reply = plain(alloc, refusal.status, refusal.detail)?;
+                frame_of(alloc, number, Kind::CreateVolume, &reply)
+            }
+        }
+    }
+
+    // CreateVolume, behind the fence. A refusal changes nothing.
+    fn create(
+        &mut self,
+        number: Number,
+        name: &Name,
+        required: u64,
+        limit: u64,
+        capabilities: &CapabilityList,
+    ) -> Result<Frame, CoreFault>
+        requires sound { IsSound self.old.next_id self.old.rows.items }
+        ensures ok { (state : ControllerState) → IsShown (parts_of self.old) state → IfOk result (λ frame. Answers (parts_of self.new) frame
+            (fenced_call self.old.config state number (Call.CreateVolume name.now required limit capabilities.now) (kept_for (Call.CreateVolume name.now required limit capabilities.now) state))) }
+        ensures err { (state : ControllerState) → IsShown (parts_of self.old) state → OnErr result (IsShown (parts_of self.new) state) }
+        ensures sound { IsSound self.new.next_id self.new.rows.items }
+        ensures config { self.new.config ≡ self.old.config }
+    {
+        let alloc = self.alloc;
+        let wished = capabilities.as_slice();
+        match self.place_of_name(name) {
+            Some(place) => {
+                create_again(
+                    &mut self.rows[place],
+                    alloc,
+                    number,
+                    required,
+                    limit,
+                    wished,
+                )
+            }
+            None => self.create_new(number, name, required, limit, capabilities),
+        }
+    }
+
+    // DeleteVolume, behind the fence. A refusal changes nothing. What the table answers 0 takes no memory.
+    fn delete(&mut self, number: Number, id: VolumeId) -> Result<Frame, CoreFault>
+        requires sound { IsSound self.old.next_id self.old.rows.items }
+        ensures ok { (state : ControllerState) → IsShown (parts_of self.old) state → IfOk result (λ frame. Answers (parts_of self.new) frame
+            (fenced_call self.old.config state number (Call.DeleteVolume id) (kept_for (Call.DeleteVolume id) state))) }
+        ensures err { (state : ControllerState) → IsShown (parts_of self.old) state → OnErr result (IsShown (parts_of self.new) state) }
+        ensures sound { IsSound self.new.next_id self.new.rows.items }
+        ensures config { self.new.config ≡ self.old.config }
+        ensures succeeds { (state : ControllerState) → IsShown (parts_of self.old) state → IsAnsweredOk self.old.config state number (Call.DeleteVolume id) → IsOk result }
+    {
+        let alloc = self.alloc;
+        match self.place_of_id(id) {
+            Some(place) => delete(&mut self.rows[place], alloc, number),
+            None => frame_of(alloc, number, Kind::DeleteVolume, &done(alloc, None)),
+        }
+    }
+
+    // ControllerPublishVolume, behind the fence. A refusal changes nothing.
+    fn publish(
+        &mut self,
+        number: Number,
+        id: VolumeId,
+        node: &NodeId,
+        capability: &Capability,
+        readonly: bool,
+    ) -> Result<Frame, CoreFault>
+        requires sound { IsSound self.old.next_id self.old.rows.items }
+        ensures ok { (state : ControllerState) → IsShown (parts_of self.old) state → IfOk result (λ frame. Answers (parts_of self.new) frame
+            (fenced_call self.old.config state number (Call.ControllerPublishVolume id node.now capability.now readonly) (kept_for (Call.ControllerPublishVolume id node.now capability.now readonly) state))) }
+        ensures err { (state : ControllerState) → IsShown (parts_of self.old) state → OnErr result (IsShown (parts_of self.new) state) }
+        ensures sound { IsSound self.new.next_id self.new.rows.items }
+        ensures config { self.new.config ≡ self.old.config }
+    {
+        let alloc = self.alloc;
+        let wanted = Wanted {
+            node,
+            capability,
+            readonly,
+        };
+        let is_configured = self.has_node(node);
+        let is_full = self.is_full(node);
+        match self.place_of_id(id) {
+            Some(place) => {
+                let row = &mut self.rows[place];
+                publish(row, alloc, number, wanted, is_configured, is_full)
+            }
+            None => {
+                let reply = plain(alloc, Status::NotFound, "volume")?;
+                frame_of(alloc, number, Kind::ControllerPublishVolume, &reply)
+            }
+        }
+    }
+
+    // ControllerUnpublishVolume, behind the fence. A refusal changes nothing. What the table answers takes no
+    // memory.
+    fn unpublish(&mut self, number: Number, id: VolumeId, node: &NodeId) -> Result<Frame, CoreFault>
+        requires sound { IsSound self.old.next_id self.old.rows.items }
+        ensures ok { (state : ControllerState) → IsShown (parts_of self.old) state → IfOk result (λ frame. Answers (parts_of self.new) frame
+            (fenced_call self.old.config state number (Call.ControllerUnpublishVolume id node.now) (kept_for (Call.ControllerUnpublishVolume id node.now) state))) }
+        ensures err { (state : ControllerState) → IsShown (parts_of self.old) state → OnErr result (IsShown (parts_of self.new) state) }
+        ensures sound { IsSound self.new.next_id self.new.rows.items }
+        ensures config { self.new.config ≡ self.old.config }
+        ensures succeeds { (state : ControllerState) → IsShown (parts_of self.old) state → IsAnsweredOk self.old.config state number (Call.ControllerUnpublishVolume id node.now) → IsOk result }
+    {
+        let alloc = self.alloc;
+        match self.place_of_id(id) {
+            Some(place) => unpublish(&mut self.rows[place], alloc, number, node),
+            None => frame_of(
+                alloc,
+                number,
+                Kind::ControllerUnpublishVolume,
+                &done(alloc, None),
+            ),
+        }
+    }
+
+    /// Answers a frame, as `Controller::step` says.
+    pub fn step(&mut self, frame: &Frame) -> Result<Option<Frame>, CoreFault>
+        requires sound { IsSound self.old.next_id self.old.rows.items }
+        ensures reply { (state : ControllerState) → IsShown (parts_of self.old) state → IfOk result (λ reply. reply ≡ (fenced self.old.config state frame.now).reply) }
+        ensures state { (state : ControllerState) → IsShown (parts_of self.old) state → OnOk result (IsShown (parts_of self.new) (fenced self.old.config state frame.now).state) }
+        ensures err { (state : ControllerState) → IsShown (parts_of self.old) state → OnErr result (IsShown (parts_of self.new) state) }
+        ensures sound { IsSound self.new.next_id self.new.rows.items }
+        ensures config { self.new.config ≡ self.old.config }
+        ensures silent { (state : ControllerState) → (fenced self.old.config state frame.now).reply ≡ None → IsOk result }
+        ensures undone { (state : ControllerState) (call : OneCall) → IsShown (parts_of self.old) state → frame.now.body ≡ Body.Call call → IsUndoing call
+            → IsAnsweredOk self.old.config state frame.now.number call → IsOk result }
+    {
+        let number = frame.number();
+        let Body::Call(call) = frame.body() else {
+            return Ok(None);
+        };
+        match call {
+            Call::CreateVolume {
+                name,
+                required,
+                limit,
+                capabilities,
+            } => Ok(Some(self.create(number, name, *required, *limit, capabilities)?)),
+            Call::DeleteVolume { id } => Ok(Some(self.delete(number, *id)?)),
+            Call::ControllerPublishVolume {
+                id,
+                node,
+                capability,
+                readonly,
+            } => Ok(Some(self.publish(number, *id, node, capability, *readonly)?)),
+            Call::ControllerUnpublishVolume { id, node } => {
+                Ok(Some(self.unpublish(number, *id, node)?))
+            }
+            _ => Ok(None),
+        }
+    }
+
+    /// The row of this name.
+    pub fn named(&self, name: &Name) -> Option<&ControllerRow>
+        ensures { option_copied result ≡ find (λ row. same_text row.name name.now) self.now.rows.items }
+    {
+        self.rows.iter().find(|row| row.name == *name)
+    }
+
+    /// Id and capacity of the volume of this name, unless it was deleted.
+    pub fn volume(&self, name: &Name) -> Option<(VolumeId, u64)>
+        ensures { result ≡ row_if_live (find (λ row. same_text row.name name.now) self.now.rows.items) }
+    {
+        match self.named(name) {
+            Some(row) => {
+                if row.live {
+                    Some((row.id, row.capacity))
+                } else {
+                    None
+                }
+            }
+            None => None,
+        }
+    }
+
+    /// The id of the volume of this name, deleted or not.
+    pub fn id_of(&self, name: &Name) -> Option<VolumeId>
+        ensures { result ≡ option_map (λ row. row.id) (find (λ row. same_text row.name name.now) self.now.rows.items) }
+    {
+        match self.named(name) {
+            Some(row) => Some(row.id),
+            None => None,
+        }
+    }
+
+    /// Copies of the rows, in order.
+    pub fn copied_rows(&self, alloc: Global) -> Result<Vec<ControllerRow>, CoreFault>
+        ensures { IfOk result (λ rows. AreSameRows self.now.rows.items rows.items) }
+    {
+        let mut copies = Vec::new(alloc);
+        for row in &self.rows {
+            copies.push(copied_row(row)?)?;
+        }
+        Ok(copies)
+    }
+
+    // The row of this id.
+    fn identified(&self, id: VolumeId) -> Option<&ControllerRow>
+        ensures { option_copied result ≡ find (λ row. row.id == id) self.now.rows.items }
+    {
+        self.rows.iter().find(|row| row.id.number() == id.number())
+    }
+
+    /// A copy of the row of this id.
+    pub fn row(&self, id: VolumeId) -> Result<Option<ControllerRow>, CoreFault>
+        ensures { IfOk result (λ copy. IsCopyOf (find (λ row. row.id == id) self.now.rows.items) copy) }
+    {
+        match self.identified(id) {
+            Some(row) => Ok(Some(copied_row(row)?)),
+            None => Ok(None),
+        }
+    }
+}

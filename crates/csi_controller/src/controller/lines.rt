@@ -1,0 +1,220 @@
+//! What the lines of the table for a volume's row answer: a reply that changes nothing, or `None` where the
+//! call is carried out.
+ghost use Rattle.std.specs.Prelude.{◌≡◌, ℕ, true, IsTrue, IsOk, IfOk, not, ◌&&◌, ◌||◌, nat_le, length, None, IfSome, []};
+ghost use Rattle.std.specs.List.{find, list_any, list_all};
+ghost use Rattle.std.specs.Option.{option_copied};
+ghost use Rattle.csi_types.specs.declared.call.Kind.TheVariants.{CreateVolume, DeleteVolume, ControllerPublishVolume};
+ghost use Rattle.csi_types.specs.Holding.{same_holding, is_compatible};
+ghost use Rattle.csi_types.specs.Same.{same_text, same_capability as is_same_capability, same_access as is_same_access, has_capability};
+ghost use Rattle.csi_types.specs.Reply.{has_id_by_rule};
+ghost use Rattle.csi_controller.specs.Table.{serves as is_served};
+ghost use Rattle.csi_controller.specs.Shown.{volume_of_row};
+ghost use Rattle.csi_controller.specs.Wanted.{wanted_shown};
+ghost use Rattle.csi_controller.specs.Core.{held_by, by_line, delete_line as delete_told, again_line as again_told, argument_fault as fault_told, unpublish_line as unpublish_told, publish_line as publish_told, held_line as held_told};
+ghost use Rattle.csi_controller.specs.Core.RowChange.{RowStays, RowEnds, RowAttaches, RowDetaches};
+
+use super::answer::{done, plain};
+use super::wanted::Wanted;
+use crate::fault::CoreFault;
+use crate::row::{ControllerRow, NodeHolding};
+use csi_types::{
+    Access, Capability, MAX_CAPACITY, Mode, NodeId, Reply, Status, single_node, writes,
+};
+use std::alloc::Global;
+
+// Whether both are block, or both mount the same type.
+fn same_access(a: &Access, b: &Access) -> bool
+    ensures { result ≡ is_same_access a.now b.now }
+{
+    match (a, b) {
+        (Access::Block, Access::Block) => true,
+        (Access::Mount(a), Access::Mount(b)) => a == b,
+        _ => false,
+    }
+}
+
+// Whether access and mode are the same.
+fn same_capability(a: &Capability, b: &Capability) -> bool
+    ensures { result ≡ is_same_capability a.now b.now }
+{
+    same_access(&a.access, &b.access) && a.mode.number() == b.mode.number()
+}
+
+// Whether the list has the capability.
+fn has(capabilities: &[Capability], wished: &Capability) -> bool
+    ensures { result ≡ has_capability capabilities.now wished.now }
+{
+    capabilities.iter().any(|own| same_capability(wished, own))
+}
+
+// Whether the list has each of these capabilities.
+fn has_each(capabilities: &[Capability], wished: &[Capability]) -> bool
+    ensures { result ≡ list_all (has_capability capabilities.now) wished.now }
+{
+    wished
+        .iter()
+        .all(|capability| has(capabilities, capability))
+}
+
+// Whether the volume has a capacity in the range, where a limit of 0 is none, and each capability.
+fn serves(row: &ControllerRow, required: u64, limit: u64, wished: &[Capability]) -> bool
+    ensures { result ≡ is_served (volume_of_row row.now) required limit wished.now }
+{
+    required <= row.capacity
+        && (limit == 0 || row.capacity <= limit)
+        && has_each(row.capabilities.as_slice(), wished)
+}
+
+/// Whether the volume is held at the node.
+pub fn is_held_at(row: &ControllerRow, node: &NodeId) -> bool
+    ensures { result ≡ list_any (λ held. same_text held.node node.now) row.now.holdings.items }
+{
+    row.holdings.iter().any(|held| held.node == *node)
+}
+
+/// What is wrong with the arguments of a CreateVolume, as the table answers it, if anything is.
+pub fn argument_fault(
+    alloc: Global,
+    required: u64,
+    limit: u64,
+    wished: &[Capability],
+) -> Result<Option<Reply>, CoreFault>
+    ensures ok { IfOk result (λ fault. fault ≡ fault_told required limit wished.now) }
+    ensures id { IfOk result (λ fault. IfSome fault (λ reply. IsTrue (has_id_by_rule CreateVolume reply))) }
+{
+    if wished.is_empty() {
+        return Ok(Some(plain(alloc, Status::InvalidArgument, "capabilities")?));
+    }
+    if (required == 0 && limit == 0) || required > MAX_CAPACITY || limit > MAX_CAPACITY {
+        return Ok(Some(plain(alloc, Status::InvalidArgument, "capacity")?));
+    }
+    if limit != 0 && limit < required {
+        return Ok(Some(plain(alloc, Status::OutOfRange, "range")?));
+    }
+    Ok(None)
+}
+
+/// CreateVolume with good arguments, of a name that has this row.
+pub fn again_line(
+    row: &ControllerRow,
+    alloc: Global,
+    required: u64,
+    limit: u64,
+    wished: &[Capability],
+) -> Result<Reply, CoreFault>
+    ensures ok { IfOk result (λ reply. again_told row.now required limit wished.now ≡ record { reply = reply; change = RowStays }) }
+    ensures id { IfOk result (λ reply. IsTrue (has_id_by_rule CreateVolume reply)) }
+{
+    if row.live && serves(row, required, limit, wished) {
+        return Ok(done(alloc, Some(row.id)));
+    }
+    plain(alloc, Status::AlreadyExists, "name")
+}
+
+/// DeleteVolume of this row's volume. What is answered 0 takes no memory.
+pub fn delete_line(row: &ControllerRow, alloc: Global) -> Result<Option<Reply>, CoreFault>
+    ensures ok { IfOk result (λ line. delete_told row.now ≡ by_line RowEnds line) }
+    ensures id { IfOk result (λ line. IfSome line (λ reply. IsTrue (has_id_by_rule DeleteVolume reply))) }
+    ensures succeeds { (delete_told row.now).reply.status ≡ Status.Ok → IfOk result (λ line. IfSome line (λ reply. reply.detail ≡ [])) × IsOk result }
+{
+    if !row.live {
+        return Ok(Some(done(alloc, None)));
+    }
+    match row.holdings.first() {
+        Some(held) => Ok(Some(plain(alloc, Status::FailedPrecondition, held.node.as_str())?)),
+        None => Ok(None),
+    }
+}
+
+// Whether the volume is held so: at this node, with this capability and flag.
+fn is_held_so(held: &NodeHolding, wanted: Wanted) -> bool
+    ensures { (id : ℕ) → result ≡ same_holding (held_by id held.now) (held_by id (wanted_shown wanted.entry)) }
+{
+    held.node == *wanted.node
+        && same_capability(&held.capability, wanted.capability)
+        && held.readonly == wanted.readonly
+}
+
+// Whether it is the same holding, or can be held beside this one at another node.
+fn can_hold_with(held: &NodeHolding, wanted: Wanted) -> bool
+    ensures { (id : ℕ) → result ≡ is_compatible (held_by id (wanted_shown wanted.entry)) (held_by id held.now) }
+{
+    let mode = wanted.capability.mode;
+    let other = held.capability.mode;
+    if *wanted.node == held.node {
+        return same_capability(wanted.capability, &held.capability)
+            && wanted.readonly == held.readonly;
+    }
+    if single_node(mode) || single_node(other) {
+        return false;
+    }
+    let both_write = writes(mode, wanted.readonly) && writes(other, held.readonly);
+    let has_single_writer = mode == Mode::MultiNodeSingleWriter
+        || other == Mode::MultiNodeSingleWriter;
+    !(both_write && has_single_writer)
+}
+
+// How the volume is held at the node, if it is.
+fn held_at<'a>(row: &'a ControllerRow, node: &NodeId) -> Option<&'a NodeHolding>
+    ensures { option_copied result ≡ find (λ held. same_text held.node node.now) row.now.holdings.items }
+{
+    row.holdings.iter().find(|held| held.node == *node)
+}
+
+// The first holding that can't be held with this one.
+fn excluding<'a>(row: &'a ControllerRow, wanted: Wanted) -> Option<&'a NodeHolding>
+    ensures { option_copied result ≡ find (λ other. not (is_compatible (held_by row.now.id (wanted_shown wanted.entry)) (held_by row.now.id other))) row.now.holdings.items }
+{
+    row.holdings
+        .iter()
+        .find(|held| !can_hold_with(held, wanted))
+}
+
+/// ControllerPublishVolume of this row's volume, by whether the node is configured, and whether it takes no more
+/// volumes.
+pub fn publish_line(
+    row: &ControllerRow,
+    alloc: Global,
+    wanted: Wanted,
+    is_configured: bool,
+    is_full: bool,
+) -> Result<Option<Reply>, CoreFault>
+    ensures ok { IfOk result (λ line. publish_told row.now (wanted_shown wanted.entry) is_configured (is_full || nat_le 64 (length row.now.holdings.items)) ≡ by_line (RowAttaches (wanted_shown wanted.entry)) line) }
+    ensures id { IfOk result (λ line. IfSome line (λ reply. IsTrue (has_id_by_rule ControllerPublishVolume reply))) }
+{
+    if !row.live {
+        return Ok(Some(plain(alloc, Status::NotFound, "volume")?));
+    }
+    if !is_configured {
+        return Ok(Some(plain(alloc, Status::NotFound, "node")?));
+    }
+    if !has(row.capabilities.as_slice(), wanted.capability) {
+        return Ok(Some(plain(alloc, Status::InvalidArgument, "capability")?));
+    }
+    if let Some(held) = held_at(row, wanted.node) {
+        if is_held_so(held, wanted) {
+            return Ok(Some(done(alloc, None)));
+        }
+        return Ok(Some(plain(alloc, Status::AlreadyExists, "held otherwise")?));
+    }
+    attach_line(row, alloc, wanted, is_full)
+}
+
+// The same, where the volume isn't held at that node.
+fn attach_line(
+    row: &ControllerRow,
+    alloc: Global,
+    wanted: Wanted,
+    is_full: bool,
+) -> Result<Option<Reply>, CoreFault>
+    ensures ok { IfOk result (λ line. held_told row.now (wanted_shown wanted.entry) (is_full || nat_le 64 (length row.now.holdings.items)) None ≡ by_line (RowAttaches (wanted_shown wanted.entry)) line) }
+    ensures id { IfOk result (λ line. IfSome line (λ reply. IsTrue (has_id_by_rule ControllerPublishVolume reply))) }
+{
+    if let Some(other) = excluding(row, wanted) {
+        return Ok(Some(plain(alloc, Status::FailedPrecondition, other.node.as_str())?));
+    }
+    if is_full || row.holdings.len() >= 64 {
+        return Ok(Some(plain(alloc, Status::ResourceExhausted, "slots")?));
+    }
+    Ok(None)
+}

@@ -1,0 +1,141 @@
+//! What a row answers to the calls of its volume, behind the fence.
+ghost use Rattle.std.specs.Prelude.{◌≡◌, ◌||◌, ℕ, Some, [], ◌∷◌, ◌++◌, OnOk, not, filter, length, nat_le, IfOk, IsOk, OnErr};
+ghost use Rattle.csi_types.specs.declared.call.Kind.TheVariants.{CreateVolume, DeleteVolume, ControllerPublishVolume, ControllerUnpublishVolume};
+ghost use Rattle.csi_types.specs.declared.fence.Verdict.TheVariants.{Fresh};
+ghost use Rattle.csi_types.specs.declared.status.Status.TheVariants.{Ok as OkStatus};
+ghost use Rattle.csi_types.specs.Fence.{verdict_of};
+ghost use Rattle.csi_types.specs.Same.{same_text};
+ghost use Rattle.csi_controller.specs.Wanted.{wanted_shown};
+ghost use Rattle.csi_controller.specs.Core.{IsSoundRow, IsSameRow, RowGives, row_after, create_line as create_told, delete_line as delete_told, publish_line as publish_told, unpublish_line as unpublish_told};
+
+use super::answer::{done, frame_of};
+use super::fence::{fence, keep};
+use super::lines::{again_line, argument_fault, delete_line, is_held_at, publish_line};
+use super::wanted::Wanted;
+use crate::fault::CoreFault;
+use crate::row::{ControllerRow, NodeHolding};
+use csi_types::{Capability, Frame, Kind, NodeId, Number};
+use std::alloc::Global;
+
+/// CreateVolume of the name of this row. A refusal changes nothing.
+pub fn create_again(
+    row: &mut ControllerRow,
+    alloc: Global,
+    number: Number,
+    required: u64,
+    limit: u64,
+    wished: &[Capability],
+) -> Result<Frame, CoreFault>
+    requires { (next_id : ℕ) × IsSoundRow next_id row.old }
+    ensures ok { IfOk result (λ frame. RowGives row.new frame (row_after number CreateVolume (create_told row.old required limit wished.now) row.old (verdict_of (Some row.old.last) number))) }
+    ensures err { OnErr result (IsSameRow row.old row.new) }
+{
+    if let Some(frame) = fence(row, alloc, number, Kind::CreateVolume)? {
+        return Ok(frame);
+    }
+    let reply = match argument_fault(alloc, required, limit, wished)? {
+        Some(reply) => reply,
+        None => again_line(row, alloc, required, limit, wished)?,
+    };
+    keep(row, alloc, number, Kind::CreateVolume, reply)
+}
+
+/// DeleteVolume of the volume of this row. A refusal changes nothing. What the table answers 0 takes no memory.
+pub fn delete(row: &mut ControllerRow, alloc: Global, number: Number) -> Result<Frame, CoreFault>
+    requires { (next_id : ℕ) × IsSoundRow next_id row.old }
+    ensures ok { IfOk result (λ frame. RowGives row.new frame (row_after number DeleteVolume (delete_told row.old) row.old (verdict_of (Some row.old.last) number))) }
+    ensures err { OnErr result (IsSameRow row.old row.new) }
+    ensures succeeds { verdict_of (Some row.old.last) number ≡ Fresh → (delete_told row.old).reply.status ≡ OkStatus → IsOk result }
+{
+    if let Some(frame) = fence(row, alloc, number, Kind::DeleteVolume)? {
+        return Ok(frame);
+    }
+    if let Some(reply) = delete_line(row, alloc)? {
+        return keep(row, alloc, number, Kind::DeleteVolume, reply);
+    }
+    let frame = keep(row, alloc, number, Kind::DeleteVolume, done(alloc, None))?;
+    row.live = false;
+    Ok(frame)
+}
+
+// Adds a holding, the last one. A refusal changes nothing.
+fn add(holdings: &mut Vec<NodeHolding>, wanted: Wanted) -> Result<(), CoreFault>
+    ensures ok { OnOk result (holdings.new.items ≡ holdings.old.items ++ wanted_shown wanted.entry ∷ []) }
+    ensures err { OnErr result (holdings.new.items ≡ holdings.old.items) }
+{
+    let node = wanted.node.clone()?;
+    let capability = wanted.capability.clone()?;
+    holdings.push(NodeHolding {
+        node,
+        capability,
+        readonly: wanted.readonly,
+    })?;
+    Ok(())
+}
+
+/// ControllerPublishVolume of the volume of this row, by whether the node is configured, and whether it takes
+/// no more volumes. A refusal changes nothing.
+pub fn publish(
+    row: &mut ControllerRow,
+    alloc: Global,
+    number: Number,
+    wanted: Wanted,
+    is_configured: bool,
+    is_full: bool,
+) -> Result<Frame, CoreFault>
+    requires { (next_id : ℕ) × IsSoundRow next_id row.old }
+    ensures ok { IfOk result (λ frame. RowGives row.new frame (row_after number ControllerPublishVolume
+        (publish_told row.old (wanted_shown wanted.entry) is_configured (is_full || nat_le 64 (length row.old.holdings.items))) row.old (verdict_of (Some row.old.last) number))) }
+    ensures err { OnErr result (IsSameRow row.old row.new) }
+{
+    if let Some(frame) = fence(row, alloc, number, Kind::ControllerPublishVolume)? {
+        return Ok(frame);
+    }
+    if let Some(reply) = publish_line(row, alloc, wanted, is_configured, is_full)? {
+        return keep(row, alloc, number, Kind::ControllerPublishVolume, reply);
+    }
+    let reply = done(alloc, None);
+    let frame = frame_of(alloc, number, Kind::ControllerPublishVolume, &reply)?;
+    add(&mut row.holdings, wanted)?;
+    row.last = number;
+    row.kind = Kind::ControllerPublishVolume;
+    row.reply = reply;
+    Ok(frame)
+}
+
+// Takes out what is held at the node. The others keep their order.
+fn take_out(holdings: &mut Vec<NodeHolding>, node: &NodeId)
+    ensures { holdings.new.items ≡ filter (λ held. not (same_text held.node node.now)) holdings.old.items }
+{
+    holdings.retain(|held| held.node != *node);
+}
+
+/// ControllerUnpublishVolume of the volume of this row. A refusal changes nothing. What the table answers takes
+/// no memory.
+pub fn unpublish(
+    row: &mut ControllerRow,
+    alloc: Global,
+    number: Number,
+    node: &NodeId,
+) -> Result<Frame, CoreFault>
+    requires { (next_id : ℕ) × IsSoundRow next_id row.old }
+    ensures ok { IfOk result (λ frame. RowGives row.new frame (row_after number ControllerUnpublishVolume (unpublish_told row.old node.now) row.old (verdict_of (Some row.old.last) number))) }
+    ensures err { OnErr result (IsSameRow row.old row.new) }
+    ensures succeeds { verdict_of (Some row.old.last) number ≡ Fresh → IsOk result }
+{
+    if let Some(frame) = fence(row, alloc, number, Kind::ControllerUnpublishVolume)? {
+        return Ok(frame);
+    }
+    let is_held = is_held_at(row, node);
+    let frame = keep(
+        row,
+        alloc,
+        number,
+        Kind::ControllerUnpublishVolume,
+        done(alloc, None),
+    )?;
+    if is_held {
+        take_out(&mut row.holdings, node);
+    }
+    Ok(frame)
+}

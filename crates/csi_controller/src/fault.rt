@@ -1,0 +1,32 @@
+//! Why a controller refuses.
+ghost use Rattle.std.specs.Prelude.{⊤};
+
+use csi_types::NoMemory;
+use std::alloc::{AllocError, AllocFailed};
+use thiserror::Error;
+
+/// Why a call of a controller was refused. A refused call has left the controller as it was (this profile's own).
+#[derive(Clone, Copy, Debug, PartialEq, Eq, Error)]
+pub enum CoreFault {
+    /// An allocation was refused.
+    #[error("out of memory")]
+    NoMemory = 1,
+}
+
+impl From<NoMemory> for CoreFault {
+    fn from(_refused: NoMemory) -> CoreFault {
+        CoreFault::NoMemory
+    }
+}
+
+impl From<AllocError> for CoreFault {
+    fn from(_refused: AllocError) -> CoreFault {
+        CoreFault::NoMemory
+    }
+}
+
+impl<T: Drop> From<AllocFailed<T>> for CoreFault {
+    fn from(_refused: AllocFailed<T>) -> CoreFault {
+        CoreFault::NoMemory
+    }
+}
