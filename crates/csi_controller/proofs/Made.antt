@@ -2,7 +2,7 @@
 use Rattle.std.proofs.Common.{◌≡◌, ◌≤◌, ◌<◌, ◌+◌, ◌^◌, ◌%◌, ℕ, Bool, true, false, cond, List, [], ◌∷◌, ◌++◌, map, length, refl, sym, ◌∙◌, ap, subst, arith}
 use Rattle.std.specs.Prelude.{Result, IfOk, OnOk}
 use Rattle.std.specs.declared.result.Result.TheVariants as results
-use Rattle.csi_controller.specs.declared.controller.core.Core.{Core}
+use Rattle.csi_controller.specs.declared.controller.inner.Core.{Core}
 use Rattle.csi_controller.specs.CoreParts.{parts_of, IsMade}
 use Rattle.std.specs.Prelude.{Option, Some, None, option_map, find, filter, ◌==◌, codes, IsTrue}
 use Rattle.std.specs.List.{AllByRecursion}

@@ -3,18 +3,18 @@ ghost use Rattle.std.specs.Prelude.{◌≡◌, ◌%◌, ◌^◌, Some, None, [],
 ghost use Rattle.csi_types.specs.declared.call.Call.{Call as OneCall};
 
 mod answer;
-mod core;
 mod fence;
+mod inner;
 mod lines;
 mod new_row;
 mod row_calls;
 mod wanted;
 
-use self::core::Core;
 use crate::fault::CoreFault;
 use crate::record::ControllerRecord;
 use crate::row::ControllerRow;
 use csi_types::{Body, Config, Frame, Holding, Name, VolumeId};
+use inner::Core;
 use new_row::attachments;
 use std::alloc::Global;
 use std::marker::Model;

@@ -14,7 +14,7 @@ use Rattle.csi_controller.specs.declared.row.ControllerRow.{ControllerRow}
 use Rattle.csi_controller.specs.Core.{create_line, delete_line, publish_line, unpublish_line}
 use Rattle.csi_controller.proofs.Fit.{create-good}
 use Rattle.csi_controller.proofs.Calls.{create-answers, nowhere, shown-refused, sound-gives, sound-refused, either_way}
-use Rattle.csi_controller.proofs.controller.core.Core.create.Goals as goal
+use Rattle.csi_controller.proofs.controller.inner.Core.create.Goals as goal
 
 pub create_new-requires-clause-new : goal.create_new-requires-clause-new
 create_new-requires-clause-new c = nowhere (λ (r : ControllerRow). same_text r.name c.args.name.now) c.args.self.now.rows.items c.in-None.ensures

@@ -14,7 +14,7 @@ use Rattle.csi_controller.specs.declared.row.ControllerRow.{ControllerRow}
 use Rattle.csi_controller.specs.Core.{create_line, delete_line, publish_line, unpublish_line}
 use Rattle.csi_controller.proofs.Fit.{unpublish-good}
 use Rattle.csi_controller.proofs.Calls.{unpublish-answers, unpublish-nowhere, unpublish-let_through, shown-refused, sound-gives, sound-refused, either_way}
-use Rattle.csi_controller.proofs.controller.core.Core.unpublish.Goals as goal
+use Rattle.csi_controller.proofs.controller.inner.Core.unpublish.Goals as goal
 
 pub returns-in-Some-clause-ok : goal.returns-in-Some-clause-ok
 returns-in-Some-clause-ok c = λ state shown.

@@ -12,7 +12,7 @@ use Rattle.csi_controller.specs.Core.{Parts, Answers, IsSound, argument_fault}
 use Rattle.csi_controller.specs.CoreParts.{IsMade, parts_of}
 use Rattle.csi_controller.proofs.Calls.{either_way}
 use Rattle.csi_controller.proofs.Made.{fault-answers, refused-answers, made-answers, made-sound, none-where, ok-both, parts-made}
-use Rattle.csi_controller.proofs.controller.core.Core.create_new.Goals as goal
+use Rattle.csi_controller.proofs.controller.inner.Core.create_new.Goals as goal
 
 pub returns-in-Some-clause-ok : goal.returns-in-Some-clause-ok
 returns-in-Some-clause-ok c = λ state shown.

@@ -15,7 +15,7 @@ use Rattle.csi_controller.specs.Core.{create_line, delete_line, publish_line, un
 use Rattle.std.specs.Prelude.{◌||◌, nat_le, length}
 use Rattle.csi_controller.proofs.Fit.{publish-good}
 use Rattle.csi_controller.proofs.Calls.{publish-answers, publish-nowhere, shown-refused, sound-gives, sound-refused, either_way}
-use Rattle.csi_controller.proofs.controller.core.Core.publish.Goals as goal
+use Rattle.csi_controller.proofs.controller.inner.Core.publish.Goals as goal
 
 pub returns-in-Some-clause-ok : goal.returns-in-Some-clause-ok
 returns-in-Some-clause-ok c = λ state shown.

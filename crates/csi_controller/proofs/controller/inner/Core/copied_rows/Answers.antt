@@ -4,7 +4,7 @@ use Rattle.std.proofs.lemmas.List.{take_more}
 use Rattle.csi_controller.specs.declared.row.ControllerRow.{ControllerRow}
 use Rattle.csi_controller.specs.Views.{AreSameRows}
 use Rattle.csi_controller.proofs.Copies.{AreSameRows-append}
-use Rattle.csi_controller.proofs.controller.core.Core.copied_rows.Goals as goal
+use Rattle.csi_controller.proofs.controller.inner.Core.copied_rows.Goals as goal
 
 pub loop-row-preserved : goal.loop-row-preserved
 loop-row-preserved c =

@@ -4,7 +4,7 @@ use Rattle.csi_types.specs.declared.call.Call.TheVariants.{CreateVolume, DeleteV
 use Rattle.csi_types.specs.declared.frame.Body.TheVariants as bodies
 use Rattle.csi_controller.proofs.Called.{call-shown}
 use Rattle.csi_controller.specs.CoreParts.{parts_of}
-use Rattle.csi_controller.proofs.controller.core.Core.step.Goals as goal
+use Rattle.csi_controller.proofs.controller.inner.Core.step.Goals as goal
 
 pub returns-in_ok-create-in-CreateVolume-clause-state : goal.returns-in_ok-create-in-CreateVolume-clause-state
 returns-in_ok-create-in-CreateVolume-clause-state c = λ state shown.
