@@ -10,3 +10,4 @@ pub mod CoreParts
 pub mod Views
 pub mod Exclusive
 pub mod Safe
+pub mod View

@@ -10,3 +10,4 @@ pub mod Safety
 pub mod Laws
 pub mod Rows
 pub mod Safe
+pub mod View

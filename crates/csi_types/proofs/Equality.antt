@@ -17,6 +17,7 @@ use Rattle.csi_types.specs.declared.call.Party.TheVariants.{Controller, Node}
 use Rattle.csi_types.specs.Mode.{mode_number}
 use Rattle.csi_types.specs.Same.{same_text, same_flag, same_access, same_capability, same_number, kind_number, same_kind, same_party}
 use Rattle.csi_types.specs.Holding.{same_holding}
+use Rattle.csi_types.specs.Key.{Key, Exists, Attached, Staged, Published, same_key}
 
 pub same_text-tells : (a b : List ℕ) → IsTrue (same_text a b) ↔ (a ≡ b)
 same_text-tells a b = bytes_decides a b
@@ -125,3 +126,28 @@ same_party-self (Node id) = (same_text-tells id id).1 refl
 pub same_party-tells : (a b : Party) → IsTrue (same_party a b) ↔ (a ≡ b)
 same_party-tells a b =
     (same_party-then a b, λ e. subst (λ x. same_party a x ≡ true) e (same_party-self a))
+
+same_key-then : (a b : Key) → same_key a b ≡ true → a ≡ b
+same_key-then (Exists name) (Exists other) h = ap Exists ((same_text-tells name other).0 h)
+same_key-then (Attached id node) (Attached other there) h =
+    let parts = and_parts (id == other) (same_text node there) h in
+    λ i. Attached (eqb-true id other parts.0 i) ((same_text-tells node there).0 parts.1 i)
+same_key-then (Staged id node) (Staged other there) h =
+    let parts = and_parts (id == other) (same_text node there) h in
+    λ i. Staged (eqb-true id other parts.0 i) ((same_text-tells node there).0 parts.1 i)
+same_key-then (Published id node target) (Published other there aim) h =
+    let parts = and_parts ((id == other) && same_text node there) (same_text target aim) h in
+    let place = and_parts (id == other) (same_text node there) parts.0 in
+    λ i. Published (eqb-true id other place.0 i) ((same_text-tells node there).0 place.1 i) ((same_text-tells target aim).0 parts.1 i)
+same_key-then a b h = cc
+
+same_key-self : (a : Key) → same_key a a ≡ true
+same_key-self (Exists name) = (same_text-tells name name).1 refl
+same_key-self (Attached id node) = and_from _ _ (eq-eqb id id refl) ((same_text-tells node node).1 refl)
+same_key-self (Staged id node) = and_from _ _ (eq-eqb id id refl) ((same_text-tells node node).1 refl)
+same_key-self (Published id node target) =
+    and_from _ _ (and_from _ _ (eq-eqb id id refl) ((same_text-tells node node).1 refl)) ((same_text-tells target target).1 refl)
+
+pub same_key-tells : (a b : Key) → IsTrue (same_key a b) ↔ (a ≡ b)
+same_key-tells a b =
+    (same_key-then a b, λ e. subst (λ x. same_key a x ≡ true) e (same_key-self a))

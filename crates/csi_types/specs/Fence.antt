@@ -7,7 +7,7 @@ use Rattle.csi_types.specs.declared.call.Kind.{Kind}
 use Rattle.csi_types.specs.declared.reply.Reply.{Reply}
 use Rattle.csi_types.specs.declared.fence.Verdict.{Verdict}
 use Rattle.csi_types.specs.declared.fence.Verdict.TheVariants.{Stale, Repeated, Fresh}
-use Rattle.csi_types.specs.Number.{is_before}
+use Rattle.csi_types.specs.Number.{is_before, IsBefore}
 use Rattle.csi_types.specs.Same.{same_number}
 
 -- what a plugin keeps of the last call that it answered for a volume: its number and the reply
@@ -33,3 +33,7 @@ verdict_of_spent (Some last) number = if same_number number last then Repeated e
 -- what becomes of a call of this number
 abbrev pub verdict_of : Option Number → Number → Verdict
 verdict_of last number = if is_spent last number then verdict_of_spent last number else Fresh
+
+-- a number before a spent one is spent
+abbrev pub SpentIsClosed : Type 0
+SpentIsClosed = (last : Option Number) (earlier later : Number) → IsBefore earlier later → IsSpent last later → IsSpent last earlier

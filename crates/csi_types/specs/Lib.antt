@@ -16,3 +16,5 @@ pub mod Fence
 pub mod Config
 pub mod Rows
 pub mod Replies
+pub mod Key
+pub mod Delivery

@@ -12,6 +12,7 @@ use Rattle.csi_types.specs.Number.{is_before}
 use Rattle.csi_types.specs.Fence.{verdict_of}
 use Rattle.csi_types.specs.Same.{same_text, same_capability, same_number, same_kind, same_party}
 use Rattle.csi_types.specs.Holding.{same_holding}
+use Rattle.csi_types.specs.Key.{Key, same_key}
 
 -- the call of this number in this session
 abbrev pub number : ℕ → ℕ → Number
@@ -47,3 +48,4 @@ pub record TestsTellEquality : Type 0 where
   pub kinds : (a b : Kind) → IsTrue (same_kind a b) ↔ (a ≡ b)
   pub parties : (a b : Party) → IsTrue (same_party a b) ↔ (a ≡ b)
   pub holdings : (a b : Holding) → IsTrue (same_holding a b) ↔ (a ≡ b)
+  pub keys : (a b : Key) → IsTrue (same_key a b) ↔ (a ≡ b)

@@ -1,6 +1,6 @@
 //! The fence in front of the plugins' tables.
 ghost use Rattle.std.specs.Prelude.{◌≡◌};
-ghost use Rattle.csi_types.specs.Fence.{verdict_of};
+ghost use Rattle.csi_types.specs.Fence.{verdict_of, SpentIsClosed};
 
 use crate::number::Number;
 
@@ -33,3 +33,7 @@ pub fn verdict_of(last: Option<Number>, number: Number) -> Verdict
         }
     }
 }
+
+fn spent_is_closed()
+    ensures { SpentIsClosed }
+{}

@@ -1,0 +1,82 @@
+-- A controller seen thing by thing, and what a call that is delivered to it does there: what is safe of a world is
+-- told by this alone. This profile's own.
+use Rattle.std.specs.Prelude.{◌≡◌, ◌<◌, ℕ, List, Bool, ◌&&◌, find, Option, Some, None, option_map, IsTrue}
+use Rattle.csi_types.specs.declared.holding.Holding.{Holding}
+use Rattle.csi_types.specs.declared.number.Number.{Number}
+use Rattle.csi_types.specs.declared.call.Call.{Call}
+use Rattle.csi_types.specs.declared.call.Call.TheVariants as calls
+use Rattle.csi_types.specs.declared.call.Party.TheVariants.{Controller}
+use Rattle.csi_types.specs.Call.{kind_of, is_party_of}
+use Rattle.csi_types.specs.Config.{Config}
+use Rattle.csi_types.specs.Delivery.{View, view_by, IsDelivered, IsEmpty, IsClosed}
+use Rattle.csi_types.specs.Fence.{Kept}
+use Rattle.csi_types.specs.Frame.{Frame}
+use Rattle.csi_types.specs.Key.{Key, Exists, Attached, Staged, Published, Form, HasId, AttachedAs}
+use Rattle.csi_types.specs.Replies.{call_frame}
+use Rattle.csi_types.specs.Same.{same_text}
+use Rattle.csi_controller.specs.State.{Volume, ControllerState, empty_controller, volume_named, volume_with_id, holding_at}
+use Rattle.csi_controller.specs.Fenced.{fenced, after_frames}
+
+-- the live volume of a name
+abbrev pub live_named : List ℕ → ControllerState → Option Volume
+live_named name state = find (λ volume. same_text volume.name name && volume.is_live) state.volumes
+
+-- how a thing is in a controller; what is staged and published is the nodes'
+abbrev pub held_in : ControllerState → Key → Option Form
+held_in state (Exists name) = option_map (λ volume. HasId volume.id) (live_named name state)
+held_in state (Attached id node) = option_map (λ holding. AttachedAs holding.capability holding.readonly) (holding_at id node state)
+held_in state (Staged id node) = None
+held_in state (Published id node target) = None
+
+-- what is kept of the last call that was answered for a thing's volume, deleted or not
+abbrev pub kept_in_row : ControllerState → Key → Option Kept
+kept_in_row state (Exists name) = option_map (λ volume. volume.kept) (volume_named name state)
+kept_in_row state (Attached id node) = option_map (λ volume. volume.kept) (volume_with_id id state)
+kept_in_row state (Staged id node) = None
+kept_in_row state (Published id node target) = None
+
+-- the controller by its things
+abbrev pub view_of : ControllerState → View
+view_of state = view_by (held_in state) (kept_in_row state)
+
+-- the thing that a call to the controller does or undoes, where the call's volume was made
+abbrev pub key_of : ControllerState → Call → Option Key
+key_of state (calls.CreateVolume name required limit capabilities) = Some (Exists name)
+key_of state (calls.DeleteVolume id) = option_map (λ volume. Exists volume.name) (volume_with_id id state)
+key_of state (calls.ControllerPublishVolume id node capability readonly) = option_map (λ volume. Attached id node) (volume_with_id id state)
+key_of state (calls.ControllerUnpublishVolume id node) = option_map (λ volume. Attached id node) (volume_with_id id state)
+key_of state (calls.NodeStageVolume id capability) = None
+key_of state (calls.NodeUnstageVolume id) = None
+key_of state (calls.NodePublishVolume id target capability readonly) = None
+key_of state (calls.NodeUnpublishVolume id target) = None
+
+-- a call is delivered to a controller
+abbrev pub IsDeliveredTo : Config → ControllerState → Number → Call → Type 0
+IsDeliveredTo config state number call =
+    IsDelivered Controller number call (key_of state call) (view_of state) (view_of (fenced config state (call_frame number Controller call)).state)
+        (fenced config state (call_frame number Controller call)).reply
+
+-- in every state that frames lead to, whichever call comes next: it is delivered as the laws say; and a new
+-- controller has nothing, and what came before a spent number is spent
+pub record ControllerDeliveryLaw : Type 0 where
+  pub empty : IsEmpty (view_of empty_controller)
+  pub closed : (state : ControllerState) → IsClosed (view_of state)
+  pub delivered : (config : Config) (frames : List Frame) (number : Number) (call : Call) → IsTrue (is_party_of (kind_of call) Controller)
+      → IsDeliveredTo config (after_frames config empty_controller frames) number call
+
+-- a volume that is found by its name is found by its id, and the other way round, and its id was given
+pub record AreNamed (state : ControllerState) : Type 0 where
+  pub by_id : (name : List ℕ) (volume : Volume) → volume_named name state ≡ Some volume → volume_with_id volume.id state ≡ Some volume
+  pub by_name : (id : ℕ) (volume : Volume) → volume_with_id id state ≡ Some volume → volume_named volume.name state ≡ Some volume
+  pub given : (id : ℕ) (volume : Volume) → volume_with_id id state ≡ Some volume → id < state.next_id
+
+-- the id that a name got, if it got one
+abbrev pub id_named : List ℕ → ControllerState → Option ℕ
+id_named name state = option_map (λ volume. volume.id) (volume_named name state)
+
+-- in every state that frames lead to, names and ids belong together; and a name that got an id keeps it, whatever frame
+-- comes
+pub record ControllerNamesLaw : Type 0 where
+  pub named : (config : Config) (frames : List Frame) → AreNamed (after_frames config empty_controller frames)
+  pub keeps_ids : (config : Config) (state : ControllerState) (frame : Frame) (name : List ℕ) (id : ℕ)
+      → id_named name state ≡ Some id → id_named name (fenced config state frame).state ≡ Some id
