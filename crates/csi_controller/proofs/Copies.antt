@@ -1,5 +1,5 @@
 -- Rows that say the same show the same state, and keep the same rules.
-use Rattle.std.proofs.Common.{◌≡◌, ◌<◌, ℕ, Bool, true, false, cond, List, [], ◌∷◌, ◌++◌, map, refl, sym, ◌∙◌, ap, subst}
+use Rattle.std.proofs.Common.{◌≡◌, ◌<◌, ◌≤◌, ℕ, suc, length, arith, Bool, true, false, cond, List, [], ◌∷◌, ◌++◌, map, refl, sym, ◌∙◌, ap, subst}
 use Rattle.std.specs.Prelude.{Option, Some, None, find, ◌==◌}
 use Rattle.std.specs.List.{AllByRecursion}
 use Rattle.csi_types.specs.Config.{Config}
@@ -50,6 +50,15 @@ shown-copies config n rows copies state same shown =
       next_to = shown.next_to;
     }
 
+length-same : (rows copies : List ControllerRow) → AreSameRows rows copies → length copies ≡ length rows
+length-same [] [] same = refl
+length-same [] (c ∷ cs) same = absurd same
+length-same (r ∷ rs) [] same = absurd same
+length-same (r ∷ rs) (c ∷ cs) same = ap suc (length-same rs cs (same.1))
+
+limit-same : (rows copies : List ControllerRow) → AreSameRows rows copies → length rows ≤ 4096 → length copies ≤ 4096
+limit-same rows copies same limit = let long = length-same rows copies same in omega (arith, limit, long)
+
 each-same : (n : ℕ) (rows copies : List ControllerRow) → AreSameRows rows copies → AllByRecursion (IsSoundRow n) rows → AllByRecursion (IsSoundRow n) copies
 each-same n [] [] same all = tt
 each-same n [] (c ∷ cs) same all = absurd same
@@ -95,4 +104,4 @@ names-same name (r ∷ rs) (c ∷ cs) same one =
 
 pub sound-copies : (n : ℕ) (rows copies : List ControllerRow) → AreSameRows rows copies → IsSound n rows → IsSound n copies
 sound-copies n rows copies same sound =
-    record { each = each-same n rows copies same sound.each; rising = rising-same rows copies same sound.rising; names = λ name. names-same name rows copies same (sound.names name) }
+    record { limit = limit-same rows copies same sound.limit; each = each-same n rows copies same sound.each; rising = rising-same rows copies same sound.rising; names = λ name. names-same name rows copies same (sound.names name) }

@@ -1,6 +1,7 @@
 -- What the lines of a row answer: no id but CreateVolume's, and changes that the row allows.
-use Rattle.std.proofs.Common.{◌≡◌, ℕ, Bool, true, false, cond, not, List, [], ◌∷◌, refl, sym, ◌∙◌, ap, subst}
-use Rattle.std.specs.Prelude.{Option, Some, None, find, IsTrue, codes}
+use Rattle.std.proofs.Common.{◌≡◌, ◌<◌, ℕ, Bool, true, false, cond, not, List, [], ◌∷◌, length, refl, sym, ◌∙◌, ap, subst, arith}
+use Rattle.std.specs.Prelude.{Option, Some, None, find, ◌||◌, nat_le, IsTrue, codes}
+use Rattle.std.proofs.lemmas.Bool.Decides.{nat_tests}
 use Rattle.std.specs.List.{list_any}
 use Rattle.csi_types.specs.declared.capability.Capability.{Capability}
 use Rattle.csi_types.specs.declared.call.Kind.{Kind}
@@ -79,23 +80,30 @@ unpublish-good row node =
     either (IsGood ControllerUnpublishVolume row) (list_any (λ (held : NodeHolding). same_text held.node node) row.holdings.items) _ _ (λ _. record { id = refl; fit = tt }) (λ _. refused-good ControllerUnpublishVolume row _ refl refl)
 
 attach-good : (row : ControllerRow) (wanted : NodeHolding) (full : Bool) (o : Option NodeHolding) → row.live ≡ true → find (λ (other : NodeHolding). same_text other.node wanted.node) row.holdings.items ≡ None
-    → find (λ (other : NodeHolding). not (is_compatible (held_by row.id wanted) (held_by row.id other))) row.holdings.items ≡ o → IsGood ControllerPublishVolume row (attach_line wanted full o)
-attach-good row wanted full (Some other) live none e = refused-good ControllerPublishVolume row _ refl refl
-attach-good row wanted full None live none e =
-    either (IsGood ControllerPublishVolume row) full _ _ (λ _. refused-good ControllerPublishVolume row _ refl refl) (λ _. record { id = refl; fit = (live, none, e) })
+    → find (λ (other : NodeHolding). not (is_compatible (held_by row.id wanted) (held_by row.id other))) row.holdings.items ≡ o
+    → has_capability row.capabilities wanted.capability ≡ true → (full ≡ false → length row.holdings.items < 64) → IsGood ControllerPublishVolume row (attach_line wanted full o)
+attach-good row wanted full (Some other) live none e listed room = refused-good ControllerPublishVolume row _ refl refl
+attach-good row wanted full None live none e listed room =
+    either (IsGood ControllerPublishVolume row) full _ _ (λ _. refused-good ControllerPublishVolume row _ refl refl) (λ spare. record { id = refl; fit = (live, none, e, listed, room spare) })
 
 held-good : (row : ControllerRow) (wanted : NodeHolding) (full : Bool) (o : Option NodeHolding) → row.live ≡ true → find (λ (other : NodeHolding). same_text other.node wanted.node) row.holdings.items ≡ o
-    → IsGood ControllerPublishVolume row (held_line row wanted full o)
-held-good row wanted full (Some held) live e =
+    → has_capability row.capabilities wanted.capability ≡ true → (full ≡ false → length row.holdings.items < 64) → IsGood ControllerPublishVolume row (held_line row wanted full o)
+held-good row wanted full (Some held) live e listed room =
     either (IsGood ControllerPublishVolume row) (same_holding (held_by row.id held) (held_by row.id wanted)) _ _ (λ _. refused-good ControllerPublishVolume row _ refl refl) (λ _. refused-good ControllerPublishVolume row _ refl refl)
-held-good row wanted full None live e = attach-good row wanted full _ live e refl
+held-good row wanted full None live e listed room = attach-good row wanted full _ live e refl listed room
 
-pub publish-good : (row : ControllerRow) (wanted : NodeHolding) (configured full : Bool) → IsGood ControllerPublishVolume row (publish_line row wanted configured full)
-publish-good row wanted configured full =
+-- with room for a holding more
+spare : (is_full : Bool) (n : ℕ) → (is_full || nat_le 64 n) ≡ false → n < 64
+spare true n h = cc
+spare false n h = grind (arith, nat_tests)
+
+pub publish-good : (row : ControllerRow) (wanted : NodeHolding) (configured is_full : Bool)
+    → IsGood ControllerPublishVolume row (publish_line row wanted configured (is_full || nat_le 64 (length row.holdings.items)))
+publish-good row wanted configured is_full =
     either (IsGood ControllerPublishVolume row) (not row.live) _ _ (λ _. refused-good ControllerPublishVolume row _ refl refl)
     (λ live. either (IsGood ControllerPublishVolume row) (not configured) _ _ (λ _. refused-good ControllerPublishVolume row _ refl refl)
     (λ _. either (IsGood ControllerPublishVolume row) (not (has_capability row.capabilities wanted.capability)) _ _ (λ _. refused-good ControllerPublishVolume row _ refl refl)
-    (λ _. held-good row wanted full _ (not_false row.live live) refl)))
+    (λ listed. held-good row wanted (is_full || nat_le 64 (length row.holdings.items)) _ (not_false row.live live) refl (not_false _ listed) (spare is_full (length row.holdings.items)))))
 
 -- only a deletion ends a volume
 pub create-ends_not : (row : ControllerRow) (required limit : ℕ) (wished : List Capability) → EndsNot (create_line row required limit wished)

@@ -4,11 +4,11 @@ use Rattle.std.specs.Prelude.{Result, IfOk, OnOk}
 use Rattle.std.specs.declared.result.Result.TheVariants as results
 use Rattle.csi_controller.specs.declared.controller.inner.Core.{Core}
 use Rattle.csi_controller.specs.CoreParts.{parts_of, IsMade}
-use Rattle.std.specs.Prelude.{Option, Some, None, option_map, find, filter, ◌==◌, codes, IsTrue}
+use Rattle.std.specs.Prelude.{Option, Some, None, option_map, find, filter, ◌==◌, ◌||◌, nat_le, nat_lt, codes, IsTrue}
 use Rattle.std.specs.List.{AllByRecursion}
 use Rattle.std.proofs.lemmas.Bool.{eqb-true}
 use Rattle.std.proofs.lemmas.Bool.Decides.{nat_tests}
-use Rattle.std.proofs.lemmas.List.{map-append}
+use Rattle.std.proofs.lemmas.List.{map-append, length-append}
 use Rattle.csi_types.proofs.Equality.{same_text-tells}
 use Rattle.csi_types.specs.declared.number.Number.{Number}
 use Rattle.csi_types.specs.declared.holding.Holding.{Holding}
@@ -18,15 +18,15 @@ use Rattle.csi_types.specs.declared.call.Kind.TheVariants as kinds
 use Rattle.csi_types.specs.declared.call.Call.TheVariants.{CreateVolume}
 use Rattle.csi_types.specs.declared.call.Party.TheVariants.{Controller}
 use Rattle.csi_types.specs.declared.reply.Reply.{Reply}
-use Rattle.csi_types.specs.declared.status.Status.TheVariants.{InvalidArgument, OutOfRange}
+use Rattle.csi_types.specs.declared.status.Status.TheVariants.{InvalidArgument, ResourceExhausted, OutOfRange}
 use Rattle.csi_types.specs.Call.{is_party_of}
-use Rattle.csi_types.specs.Capacity.{is_bad_range, is_empty_range}
+use Rattle.csi_types.specs.Capacity.{is_bad_range, is_empty_range, wanted}
 use Rattle.csi_types.specs.Config.{Config}
 use Rattle.csi_types.specs.Fence.{Kept}
 use Rattle.csi_types.specs.Frame.{Frame}
 use Rattle.csi_types.specs.Replies.{plain_reply, ok_reply_with, reply_frame}
 use Rattle.csi_types.specs.Reply.{has_id_by_rule}
-use Rattle.csi_types.specs.Same.{same_text}
+use Rattle.csi_types.specs.Same.{same_text, has_capability}
 use Rattle.csi_controller.specs.declared.row.NodeHolding.{NodeHolding}
 use Rattle.csi_controller.specs.declared.row.ControllerRow.{ControllerRow}
 use Rattle.csi_controller.specs.State.{Volume, ControllerState, volume_named, holdings_of}
@@ -164,18 +164,67 @@ made-answers config n rows state number name required limit capacity id wished r
       };
     }))
 
+-- with which a volume is made: a capacity within the range, at least one capability, and room for its row
+pub record IsMadeWell (count capacity : ℕ) (wished : List Capability) : Type 0 where
+  pub capacity_from : 1 ≤ capacity
+  pub capacity_to : capacity < 9223372036854775808
+  pub capable : 1 ≤ length wished
+  pub room : count < 4096
+
+wanted-range : (required limit : ℕ) → is_bad_range required limit ≡ false → (1 ≤ wanted required limit) × (wanted required limit < 9223372036854775808)
+wanted-range required limit good = (grind (arith, nat_tests), grind (arith, nat_tests))
+
+made-capacity : (greatest count next : ℕ) (name : List ℕ) (required limit capacity id : ℕ) (wished : List Capability)
+    → new_line greatest count next name required limit wished ≡ record { reply = ok_reply_with id; change = Makes name capacity wished } → (wanted required limit ≡ capacity) × (count < 4096)
+made-capacity greatest count next name required limit capacity id wished line =
+    by (nat_lt greatest (wanted required limit)) (nat_le 4096 count || nat_le 18446744073709551616 next) refl line
+  where
+    stays : Stays ≡ Makes name capacity wished → ⊥
+    stays h = cc
+
+    same_capacity : Makes name (wanted required limit) wished ≡ Makes name capacity wished → wanted required limit ≡ capacity
+    same_capacity h = cc
+
+    room : (full : Bool) → (nat_le 4096 count || full) ≡ false → count < 4096
+    room full h = grind (arith, nat_tests)
+
+    by : (above full : Bool) → (nat_le 4096 count || nat_le 18446744073709551616 next) ≡ full
+        → cond above (refused OutOfRange (codes "range")) (cond full (refused ResourceExhausted (codes "volumes")) (record { reply = ok_reply_with next; change = Makes name (wanted required limit) wished }))
+        ≡ record { reply = ok_reply_with id; change = Makes name capacity wished } → (wanted required limit ≡ capacity) × (count < 4096)
+    by true full e h = absurd (stays (ap (λ (o : Outcome). o.change) h))
+    by false true e h = absurd (stays (ap (λ (o : Outcome). o.change) h))
+    by false false e h = (same_capacity (ap (λ (o : Outcome). o.change) h), room (nat_le 18446744073709551616 next) e)
+
+pub made-well : (greatest count next : ℕ) (name : List ℕ) (required limit capacity id : ℕ) (wished : List Capability) → argument_fault required limit wished ≡ None
+    → new_line greatest count next name required limit wished ≡ record { reply = ok_reply_with id; change = Makes name capacity wished } → IsMadeWell count capacity wished
+made-well greatest count next name required limit capacity id [] good line = absurd (some_is_none _ good)
+made-well greatest count next name required limit capacity id (capability ∷ others) good line =
+    let made = made-capacity greatest count next name required limit capacity id (capability ∷ others) line in
+    let range = wanted-range required limit (fits (is_bad_range required limit) (is_empty_range required limit) refl good) in
+    let same = made.0 in let from = range.0 in let to = range.1 in
+    record { capacity_from = omega (arith, same, from); capacity_to = omega (arith, same, to); capable = omega arith; room = made.1 }
+  where
+    fits : (bad none : Bool) → is_bad_range required limit ≡ bad → cond bad (Some (plain_reply InvalidArgument (codes "capacity"))) (cond none (Some (plain_reply OutOfRange (codes "range"))) None) ≡ None → is_bad_range required limit ≡ false
+    fits true none e h = absurd (some_is_none _ h)
+    fits false none e h = e
+
 -- and the rules are kept
 pub made-sound : (n : ℕ) (rows : List ControllerRow) (number : Number) (name : List ℕ) (capacity id : ℕ) (wished : List Capability) (row : ControllerRow) → IsSound n rows → find (λ (r : ControllerRow). same_text r.name name) rows ≡ None
-    → id ≡ n → 0 < id → n < 18446744073709551616 → volume_of_row row ≡ made_volume number id name capacity wished → row.holdings.items ≡ [] → IsSound ((n + 1) % 18446744073709551616) (rows ++ row ∷ [])
-made-sound n rows number name capacity id wished row sound none is from fits volume empty =
+    → id ≡ n → 0 < id → n < 18446744073709551616 → volume_of_row row ≡ made_volume number id name capacity wished → row.holdings.items ≡ [] → IsMadeWell (length rows) capacity wished
+    → IsSound ((n + 1) % 18446744073709551616) (rows ++ row ∷ [])
+made-sound n rows number name capacity id wished row sound none is from fits volume empty well =
+    let row_capacity : row.capacity ≡ capacity = ap (λ (v : Volume). v.capacity) volume in
+    let lower = well.capacity_from in let upper = well.capacity_to in let room = well.room in
+    let longer : length (rows ++ row ∷ []) ≡ length rows + 1 = length-append rows (row ∷ []) in
     let row_id : row.id ≡ n = ap (λ (v : Volume). v.id) volume ∙ is in
     let row_name : row.name ≡ name = ap (λ (v : Volume). v.name) volume in
     let kind : row.kind ≡ kinds.CreateVolume = ap (λ (v : Volume). v.kept.kind) volume in
     let up : next_shown ((n + 1) % 18446744073709551616) ≡ n + 1 = next_up n (omega arith) fits in
     let one : next_shown n ≡ n = next_self n (omega arith) in
     record {
+      limit = omega (arith, room, longer);
       each = All-append (IsSoundRow ((n + 1) % 18446744073709551616)) rows row
-          (All-weaker (IsSoundRow n) (IsSoundRow ((n + 1) % 18446744073709551616)) rows (λ r own. let lower = own.below in record { below = omega (arith, up, one, lower); party = own.party; reply = own.reply; apart = own.apart; compatible = own.compatible; gone = own.gone }) sound.each)
+          (All-weaker (IsSoundRow n) (IsSoundRow ((n + 1) % 18446744073709551616)) rows (λ r own. let lower = own.below in record { below = omega (arith, up, one, lower); party = own.party; reply = own.reply; apart = own.apart; compatible = own.compatible; gone = own.gone; capacity_from = own.capacity_from; capacity_to = own.capacity_to; capable = own.capable; listed = own.listed; limit = own.limit }) sound.each)
           (record {
             below = omega (arith, up, row_id);
             party = subst (λ k. IsTrue (is_party_of k Controller)) (sym kind) refl;
@@ -183,6 +232,11 @@ made-sound n rows number name capacity id wished row sound none is from fits vol
             apart = λ node. subst (λ items. AtMostOne (λ (held : NodeHolding). same_text held.node node) items) (sym empty) tt;
             compatible = subst AreCompatible (sym empty) tt;
             gone = λ _. empty;
+            capacity_from = omega (arith, row_capacity, lower);
+            capacity_to = omega (arith, row_capacity, upper);
+            capable = subst (λ (v : Volume). 1 ≤ length v.capabilities) (sym volume) well.capable;
+            listed = subst (AllByRecursion (λ (held : NodeHolding). IsTrue (has_capability row.capabilities held.capability))) (sym empty) tt;
+            limit = subst (λ (items : List NodeHolding). length items ≤ 64) (sym empty) (omega arith);
           });
       rising = IsRising-append rows row sound.rising (All-weaker (IsSoundRow n) (λ (r : ControllerRow). r.id < row.id) rows (λ r own. let lower = own.below in omega (arith, one, row_id, lower)) sound.each);
       names = λ k. AtMostOne-append (λ (r : ControllerRow). same_text r.name k) rows row (sound.names k)

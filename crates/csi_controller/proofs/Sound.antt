@@ -1,9 +1,10 @@
 -- The rules of the rows are kept by what a row answers.
-use Rattle.std.proofs.Common.{◌≡◌, ◌<◌, ℕ, zero, suc, Bool, true, false, cond, not, List, [], ◌∷◌, ◌++◌, refl, sym, ◌∙◌, ap, subst, arith}
+use Rattle.std.proofs.Common.{◌≡◌, ◌<◌, ◌≤◌, ◌+◌, ◌^◌, ℕ, zero, suc, length, Bool, true, false, cond, not, List, [], ◌∷◌, ◌++◌, refl, sym, ◌∙◌, ap, subst, arith}
 use Rattle.std.specs.Prelude.{Option, Some, None, find, filter, ◌&&◌, ◌||◌, ◌==◌, IsTrue}
 use Rattle.std.specs.List.{AllByRecursion}
 use Rattle.std.proofs.lemmas.Bool.{eq-eqb, eqb-true}
 use Rattle.std.proofs.Math.ListN.{set}
+use Rattle.std.proofs.lemmas.List.{length-append, length-set}
 use Rattle.csi_types.specs.declared.number.Number.{Number}
 use Rattle.csi_types.specs.declared.call.Kind.{Kind}
 use Rattle.csi_types.specs.declared.call.Kind.TheVariants as kinds
@@ -87,10 +88,28 @@ compatible-any a b x y =
     ap (λ (t : Bool). cond (same_text x.node y.node) (t && same_text x.node y.node && same_capability x.capability y.capability && same_flag x.readonly y.readonly)
     (is_multi_node x.capability.mode && is_multi_node y.capability.mode && not (is_second_writer (held_by a x) (held_by a y)))) (self a ∙ sym (self b))
 
--- a row with the same id
+-- the holding's capability is among these
+abbrev IsListed : List Capability → NodeHolding → Type 0
+IsListed capabilities held = IsTrue (has_capability capabilities held.capability)
+
+filter-no_longer : {X : Type 0} (p : X → Bool) (xs : List X) → length (filter p xs) ≤ length xs
+filter-no_longer p [] = omega arith
+filter-no_longer p (x ∷ xs) = by (p x) (filter-no_longer p xs)
+  where
+    by : (b : Bool) → length (filter p xs) ≤ length xs → length (cond b (x ∷ filter p xs) (filter p xs)) ≤ suc (length xs)
+    by true h = omega (arith, h)
+    by false h = omega (arith, h)
+
+one_more : (items : List NodeHolding) (held : NodeHolding) → length items < 64 → length (items ++ held ∷ []) ≤ 64
+one_more items held room = let longer : length (items ++ held ∷ []) ≡ length items + 1 = length-append items (held ∷ []) in omega (arith, room, longer)
+
+-- a row with the same id, made with the same capacity and capabilities
 sound-from : (n : ℕ) (row new : ControllerRow) (items : List NodeHolding) → IsSoundRow n row → new.id ≡ row.id → IsTrue (is_party_of new.kind Controller) → IsTrue (has_id_by_rule new.kind new.reply) → new.holdings.items ≡ items
-    → ((node : List ℕ) → AtMostOne (λ (held : NodeHolding). same_text held.node node) items) → AreCompatible items → (new.live ≡ false → items ≡ []) → IsSoundRow n new
-sound-from n row new items sound id party reply is apart compatible gone =
+    → ((node : List ℕ) → AtMostOne (λ (held : NodeHolding). same_text held.node node) items) → AreCompatible items → (new.live ≡ false → items ≡ [])
+    → new.capacity ≡ row.capacity → new.capabilities ≡ row.capabilities → AllByRecursion (IsListed row.capabilities) items → length items ≤ 64 → IsSoundRow n new
+sound-from n row new items sound id party reply is apart compatible gone capacity capabilities listed limit =
+    let from = sound.capacity_from in
+    let to = sound.capacity_to in
     record {
       below = subst (λ k. k < next_shown n) (sym id) sound.below;
       party = party;
@@ -98,6 +117,11 @@ sound-from n row new items sound id party reply is apart compatible gone =
       apart = λ node. subst (λ xs. AtMostOne (λ (held : NodeHolding). same_text held.node node) xs) (sym is) (apart node);
       compatible = subst AreCompatible (sym is) compatible;
       gone = λ e. is ∙ gone e;
+      capacity_from = omega (arith, from, capacity);
+      capacity_to = omega (arith, to, capacity);
+      capable = subst (λ (list : List Capability). 1 ≤ length list) (sym capabilities) sound.capable;
+      listed = subst (λ (list : List Capability). AllByRecursion (IsListed list) new.holdings.items) (sym capabilities) (subst (AllByRecursion (IsListed row.capabilities)) (sym is) listed);
+      limit = subst (λ (xs : List NodeHolding). length xs ≤ 64) (sym is) limit;
     }
 
 pub sound-same : (n : ℕ) (row new : ControllerRow) → IsSoundRow n row → volume_of_row new ≡ volume_of_row row → new.holdings.items ≡ row.holdings.items → IsSoundRow n new
@@ -106,6 +130,7 @@ sound-same n row new sound volume items =
     (subst (λ k. IsTrue (is_party_of k Controller)) (sym (ap (λ (v : Volume). v.kept.kind) volume)) sound.party)
     (subst (λ (v : Volume). IsTrue (has_id_by_rule v.kept.kind v.kept.reply)) (sym volume) sound.reply)
     items sound.apart sound.compatible (λ e. sound.gone (sym (ap (λ (v : Volume). v.is_live) volume) ∙ e))
+    (ap (λ (v : Volume). v.capacity) volume) (ap (λ (v : Volume). v.capabilities) volume) sound.listed sound.limit
 
 pub sound-after : (n : ℕ) (row new : ControllerRow) (frame : Frame) (number : Number) (kind : Kind) (outcome : RowOutcome) → IsSoundRow n row → IsTrue (is_party_of kind Controller) → IsTrue (has_id_by_rule kind outcome.reply)
     → (change : RowChange) → change ≡ outcome.change → IsFit row change → (verdict : Verdict) → RowGives new frame (row_after number kind (record { reply = outcome.reply; change = change }) row verdict) → IsSoundRow n new
@@ -118,25 +143,28 @@ sound-after n row new frame number kind outcome sound party reply change is fit 
         let id : new.id ≡ row.id = ap (λ (v : Volume). v.id) gives.volume in
         let party_new : IsTrue (is_party_of new.kind Controller) = subst (λ k. IsTrue (is_party_of k Controller)) (sym (ap (λ (v : Volume). v.kept.kind) gives.volume)) party in
         let reply_new : IsTrue (has_id_by_rule new.kind new.reply) = subst (λ (v : Volume). IsTrue (has_id_by_rule v.kept.kind v.kept.reply)) (sym gives.volume) reply in
-        last change fit (ap (λ (v : Volume). v.is_live) gives.volume) gives.items id party_new reply_new
+        last change fit (ap (λ (v : Volume). v.is_live) gives.volume) gives.items (ap (λ (v : Volume). v.capacity) gives.volume) (ap (λ (v : Volume). v.capabilities) gives.volume) id party_new reply_new
       where
         last : (change : RowChange) → IsFit row change → new.live ≡ live_after change row.live → new.holdings.items ≡ items_after change row.holdings.items
-            → new.id ≡ row.id → IsTrue (is_party_of new.kind Controller) → IsTrue (has_id_by_rule new.kind new.reply) → IsSoundRow n new
-        last RowStays fit live items id p r = sound-from n row new row.holdings.items sound id p r items sound.apart sound.compatible (λ e. sound.gone (sym live ∙ e))
-        last RowEnds fit live items id p r = sound-from n row new row.holdings.items sound id p r items sound.apart sound.compatible (λ e. fit)
-        last (RowAttaches held) fit live items id p r =
+            → new.capacity ≡ row.capacity → new.capabilities ≡ row.capabilities → new.id ≡ row.id → IsTrue (is_party_of new.kind Controller) → IsTrue (has_id_by_rule new.kind new.reply) → IsSoundRow n new
+        last RowStays fit live items c cs id p r = sound-from n row new row.holdings.items sound id p r items sound.apart sound.compatible (λ e. sound.gone (sym live ∙ e)) c cs sound.listed sound.limit
+        last RowEnds fit live items c cs id p r = sound-from n row new row.holdings.items sound id p r items sound.apart sound.compatible (λ e. fit) c cs sound.listed sound.limit
+        last (RowAttaches held) fit live items c cs id p r =
             sound-from n row new (row.holdings.items ++ held ∷ []) sound id p r items
             (λ node. AtMostOne-append (λ (other : NodeHolding). same_text other.node node) row.holdings.items held (sound.apart node)
             (λ e. subst (λ k. find (λ (other : NodeHolding). same_text other.node k) row.holdings.items ≡ None) ((same_text-tells held.node node).0 e) (fit.1)))
             (AreCompatible-append row.holdings.items held sound.compatible
             (All-weaker _ _ row.holdings.items (λ other e. compatible-any 1 row.id held other ∙ e) (find_none-all (λ other. is_compatible (held_by row.id held) (held_by row.id other)) row.holdings.items (fit.2))))
             (λ e. absurd (false_is_true (sym e ∙ live ∙ fit.0)))
-        last (RowDetaches node) fit live items id p r =
+            c cs (All-append (IsListed row.capabilities) row.holdings.items held sound.listed (fit.3)) (one_more row.holdings.items held (fit.4))
+        last (RowDetaches node) fit live items c cs id p r =
             let left : List NodeHolding = filter (λ (held : NodeHolding). not (same_text held.node node)) row.holdings.items in
             sound-from n row new left sound id p r items
             (λ other. AtMostOne-filter (λ (held : NodeHolding). same_text held.node other) (λ (held : NodeHolding). not (same_text held.node node)) row.holdings.items (sound.apart other))
             (AreCompatible-filter (λ (held : NodeHolding). not (same_text held.node node)) row.holdings.items sound.compatible)
             (λ e. ap (filter (λ (held : NodeHolding). not (same_text held.node node))) (sound.gone (sym live ∙ e)))
+            c cs (All-filter (IsListed row.capabilities) (λ (held : NodeHolding). not (same_text held.node node)) row.holdings.items sound.listed)
+            (let shorter : length left ≤ length row.holdings.items = filter-no_longer (λ (held : NodeHolding). not (same_text held.node node)) row.holdings.items in let limit = sound.limit in omega (arith, shorter, limit))
 
 -- ids in rising order: each id has one row
 above-none : (rows : List ControllerRow) (id : ℕ) → AllByRecursion (λ (later : ControllerRow). id < later.id) rows → find (λ (row : ControllerRow). row.id == id) rows ≡ None
@@ -168,6 +196,7 @@ IsRising-set (r ∷ rs) (suc place) row new at same rising =
 pub sound-set : (n : ℕ) (rows : List ControllerRow) (place : ℕ) (row new : ControllerRow) → IsSound n rows → IsAt rows place row → new.id ≡ row.id → new.name ≡ row.name → IsSoundRow n new → IsSound n (set rows place new)
 sound-set n rows place row new sound at id name own =
     record {
+      limit = let limit = sound.limit in let same : length (set rows place new) ≡ length rows = length-set rows place new in omega (arith, limit, same);
       each = All-set (IsSoundRow n) rows place new sound.each own;
       rising = IsRising-set rows place row new at id sound.rising;
       names = λ k. AtMostOne-set (λ (r : ControllerRow). same_text r.name k) rows place row new at (ap (λ x. same_text x k) name) (sound.names k);

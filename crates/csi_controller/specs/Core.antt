@@ -1,5 +1,5 @@
 -- How a controller's parts are a state, and what one row answers to a call of its own.
-use Rattle.std.specs.Prelude.{◌≡◌, ℕ, ◌+◌, ◌<◌, ◌≤◌, ◌^◌, ◌==◌, List, [], ◌∷◌, ◌++◌, filter, find, Bool, true, false, not, ◌&&◌, ◌||◌, nat_le, nat_lt, Option, Some, None, if◌then◌else◌, codes, IsTrue}
+use Rattle.std.specs.Prelude.{◌≡◌, ℕ, ◌+◌, ◌<◌, ◌≤◌, ◌^◌, ◌==◌, List, [], ◌∷◌, ◌++◌, filter, find, length, Bool, true, false, not, ◌&&◌, ◌||◌, nat_le, nat_lt, Option, Some, None, if◌then◌else◌, codes, IsTrue}
 use Rattle.std.specs.List.{AllByRecursion, list_all, list_any}
 use Rattle.csi_types.specs.declared.capability.Capability.{Capability}
 use Rattle.csi_types.specs.declared.holding.Holding.{Holding}
@@ -73,9 +73,15 @@ pub record IsSoundRow (next_id : ℕ) (row : ControllerRow) : Type 0 where
   pub apart : (node : List ℕ) → AtMostOne (λ (held : NodeHolding). same_text held.node node) row.holdings.items
   pub compatible : AreCompatible row.holdings.items
   pub gone : row.live ≡ false → row.holdings.items ≡ []
+  pub capacity_from : 1 ≤ row.capacity
+  pub capacity_to : row.capacity < 2 ^ 63
+  pub capable : 1 ≤ length row.capabilities
+  pub listed : AllByRecursion (λ (held : NodeHolding). IsTrue (has_capability row.capabilities held.capability)) row.holdings.items
+  pub limit : length row.holdings.items ≤ 64
 
 -- the rules of all rows
 pub record IsSound (next_id : ℕ) (rows : List ControllerRow) : Type 0 where
+  pub limit : length rows ≤ 4096
   pub each : AllByRecursion (IsSoundRow next_id) rows
   pub rising : IsRising rows
   pub names : (name : List ℕ) → AtMostOne (λ (row : ControllerRow). same_text row.name name) rows
@@ -227,6 +233,7 @@ IsFit row RowEnds = row.holdings.items ≡ []
 IsFit row (RowAttaches held) =
     (row.live ≡ true) × (find (λ (other : NodeHolding). same_text other.node held.node) row.holdings.items ≡ None)
     × (find (λ (other : NodeHolding). not (is_compatible (held_by row.id held) (held_by row.id other))) row.holdings.items ≡ None)
+    × IsTrue (has_capability row.capabilities held.capability) × (length row.holdings.items < 64)
 IsFit row (RowDetaches node) = Unit {0}
 
 -- a volume that was just made

@@ -1,5 +1,5 @@
 -- CreateVolume of a name that has no row: refused, or made.
-use Rattle.std.proofs.Common.{◌≡◌, ◌∙◌, ap, subst, refl, sym, Some, None}
+use Rattle.std.proofs.Common.{◌≡◌, ◌∙◌, ap, subst, refl, sym, length, Some, None}
 use Rattle.std.proofs.lemmas.Result.{IfOk-weaker}
 use Rattle.csi_types.specs.declared.capability.Capability.{Capability}
 use Rattle.csi_types.specs.declared.call.Call.TheVariants.{CreateVolume}
@@ -8,10 +8,10 @@ use Rattle.csi_types.specs.declared.call.Party.TheVariants.{Controller}
 use Rattle.csi_types.specs.declared.reply.Reply.{Reply}
 use Rattle.csi_types.specs.Replies.{plain_reply, reply_frame}
 use Rattle.csi_controller.specs.Fenced.{fenced_call, kept_for}
-use Rattle.csi_controller.specs.Core.{Parts, Answers, IsSound, argument_fault}
+use Rattle.csi_controller.specs.Core.{Parts, Answers, IsSound, argument_fault, next_shown}
 use Rattle.csi_controller.specs.CoreParts.{IsMade, parts_of}
 use Rattle.csi_controller.proofs.Calls.{either_way}
-use Rattle.csi_controller.proofs.Made.{fault-answers, refused-answers, made-answers, made-sound, none-where, ok-both, parts-made}
+use Rattle.csi_controller.proofs.Made.{fault-answers, refused-answers, made-answers, made-sound, made-well, none-where, ok-both, parts-made}
 use Rattle.csi_controller.proofs.controller.inner.Core.create_new.Goals as goal
 
 pub returns-in-Some-clause-ok : goal.returns-in-Some-clause-ok
@@ -38,10 +38,14 @@ returns-in-Ok-clause-ok c = λ state shown.
 pub returns-in-Ok-clause-sound : goal.returns-in-Ok-clause-sound
 returns-in-Ok-clause-sound c =
     let core = c.args.self.now in
+    let good : argument_fault c.args.required c.args.limit c.args.capabilities.now ≡ None
+    = ap (argument_fault c.args.required c.args.limit) (sym c.as_slice-wished.ensures.value) ∙ sym c.in_ok-reply.ensures.ok ∙ none-where _ c.in_default.not-Some in
+    let well = made-well core.config.greatest (length core.rows.items) (next_shown core.next_id) c.args.name.now c.args.required c.args.limit c.in-Ok.made.1 c.in-Ok.made.0 c.args.capabilities.now good
+    (c.in-Ok.ensures.line c.args.name.now c.args.capabilities.now) in
     either_way c.make.result _ _ _
     (λ x made. subst (λ (k : Parts). IsSound k.next_id k.rows) (parts-made core c.make.new.self c.args.number c.in-Ok.made.0 c.args.name.now c.in-Ok.made.1 c.args.capabilities.now made)
     (made-sound core.next_id core.rows.items c.args.number c.args.name.now c.in-Ok.made.1 c.in-Ok.made.0 c.args.capabilities.now made.row c.requires.sound c.requires.new
-    c.in-Ok.ensures.id c.in-Ok.ensures.from made.fits made.volume made.items))
+    c.in-Ok.ensures.id c.in-Ok.ensures.from made.fits made.volume made.items well))
     (λ (same : parts_of c.make.new.self ≡ parts_of core). subst (λ (k : Parts). IsSound k.next_id k.rows) (sym same) c.requires.sound)
     c.make.ensures.made c.make.ensures.err
 

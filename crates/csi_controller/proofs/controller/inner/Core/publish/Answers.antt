@@ -38,7 +38,7 @@ returns-in-Some-clause-sound c =
     let row = c.index_mut-row.result.now in
     either_way c.publish.result _ _ _
     (λ frame gives. sound-gives (λ (r : ControllerRow). r.id == c.args.id) core.next_id core.rows.items c.in-Some.place row c.publish.new.row frame c.args.number ControllerPublishVolume (publish_line row (let w : NodeHolding = record { node = c.args.node.now; capability = c.args.capability.now; readonly = c.args.readonly } in w) c.has_node-is_configured.result (c.is_full-is_full.result || nat_le 64 (length row.holdings.items))) c.requires.sound c.in-Some.ensures c.index_mut-row.ensures.value refl
-    (publish-good row (let w : NodeHolding = record { node = c.args.node.now; capability = c.args.capability.now; readonly = c.args.readonly } in w) c.has_node-is_configured.result (c.is_full-is_full.result || nat_le 64 (length row.holdings.items))) (verdict_of (Some row.last) c.args.number) gives)
+    (publish-good row (let w : NodeHolding = record { node = c.args.node.now; capability = c.args.capability.now; readonly = c.args.readonly } in w) c.has_node-is_configured.result c.is_full-is_full.result) (verdict_of (Some row.last) c.args.number) gives)
     (λ same. sound-refused (λ (r : ControllerRow). r.id == c.args.id) core.next_id core.rows.items c.in-Some.place row c.publish.new.row c.requires.sound c.in-Some.ensures c.index_mut-row.ensures.value same)
     c.publish.ensures.ok c.publish.ensures.err
 
