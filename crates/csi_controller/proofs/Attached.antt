@@ -1,12 +1,16 @@
 -- One more row of those whose holdings are attached.
-use Rattle.std.proofs.Common.{◌≡◌, ◌<◌, ◌+◌, ℕ, List, [], ◌∷◌, ◌++◌, map, take, get_or, length, refl, sym, ◌∙◌, ap, append_assoc}
+use Rattle.std.proofs.Common.{◌≡◌, ◌<◌, ◌+◌, ℕ, Bool, true, false, cond, List, [], ◌∷◌, ◌++◌, map, take, get_or, length, refl, sym, ◌∙◌, ap, append_assoc}
+use Rattle.std.specs.Prelude.{Option, Some, None, find, filter, ◌==◌}
 use Rattle.std.proofs.lemmas.List.{take_more, map-append}
+use Rattle.std.proofs.lemmas.List.Elements.{filter-append}
 use Rattle.csi_types.specs.declared.holding.Holding.{Holding}
 use Rattle.csi_controller.specs.declared.row.NodeHolding.{NodeHolding}
 use Rattle.csi_controller.specs.declared.row.ControllerRow.{ControllerRow}
-use Rattle.csi_controller.specs.Shown.{holdings_in_row}
-use Rattle.csi_controller.specs.Core.{held_by}
-use Rattle.csi_controller.specs.Views.{attached}
+use Rattle.csi_controller.specs.Shown.{holdings_in_row, holdings_in}
+use Rattle.csi_controller.specs.Core.{Parts, IsShown, IsSound, AtMostOne, held_by}
+use Rattle.csi_controller.specs.Views.{attached, HasHoldingsOf}
+use Rattle.csi_controller.proofs.Sound.{rising-one}
+use Rattle.csi_controller.specs.State.{ControllerState}
 
 append-none : {X : Type 0} (xs : List X) → xs ++ [] ≡ xs
 append-none [] = refl
@@ -19,3 +23,35 @@ attached-append (r ∷ rs) row = ap (λ all. holdings_in_row r ++ all) (attached
 pub one_more_row : (rows : List ControllerRow) (place : ℕ) (row : ControllerRow) → place < length rows → row ≡ get_or rows place row → attached (take place rows) ++ holdings_in_row row ≡ attached (take (place + 1) rows)
 one_more_row rows place row inside is =
     sym (ap attached (take_more rows place row inside ∙ ap (λ (x : ControllerRow). take place rows ++ x ∷ []) (sym is)) ∙ attached-append (take place rows) row)
+
+-- the holdings of a row are all of its volume
+own_holdings : (id volume : ℕ) (items : List NodeHolding) → filter (λ (h : Holding). h.volume == id) (map (held_by volume) items) ≡ cond (volume == id) (map (held_by volume) items) []
+own_holdings id volume [] = same_either_way (volume == id)
+  where
+    same_either_way : (b : Bool) → [] ≡ cond {A = List Holding} b [] []
+    same_either_way true = refl
+    same_either_way false = refl
+own_holdings id volume (held ∷ later) = by (volume == id) (own_holdings id volume later)
+  where
+    by : (b : Bool) → filter (λ (h : Holding). h.volume == id) (map (held_by volume) later) ≡ cond b (map (held_by volume) later) []
+        → cond b (held_by volume held ∷ filter (λ (h : Holding). h.volume == id) (map (held_by volume) later)) (filter (λ (h : Holding). h.volume == id) (map (held_by volume) later))
+        ≡ cond b (held_by volume held ∷ map (held_by volume) later) []
+    by true e = ap (λ xs. held_by volume held ∷ xs) e
+    by false e = e
+
+-- the holdings of a volume are those of its row
+pub attached-of : (rows : List ControllerRow) (id : ℕ) → ((n : ℕ) → AtMostOne (λ (r : ControllerRow). r.id == n) rows)
+    → filter (λ (h : Holding). h.volume == id) (attached rows) ≡ holdings_in (find (λ (r : ControllerRow). r.id == id) rows)
+attached-of [] id one = refl
+attached-of (r ∷ rs) id one =
+    filter-append (λ (h : Holding). h.volume == id) (holdings_in_row r) (attached rs)
+    ∙ ap (λ xs. xs ++ filter (λ (h : Holding). h.volume == id) (attached rs)) (own_holdings id r.id r.holdings.items)
+    ∙ by (r.id == id) refl (attached-of rs id (λ n. (one n).1))
+  where
+    by : (b : Bool) → (r.id == id) ≡ b → filter (λ (h : Holding). h.volume == id) (attached rs) ≡ holdings_in (find (λ (x : ControllerRow). x.id == id) rs)
+        → cond b (holdings_in_row r) [] ++ filter (λ (h : Holding). h.volume == id) (attached rs) ≡ holdings_in (cond b (Some r) (find (λ (x : ControllerRow). x.id == id) rs))
+    by true e rest = ap (λ xs. holdings_in_row r ++ xs) (rest ∙ ap holdings_in ((one id).0 e)) ∙ append-none (holdings_in_row r)
+    by false e rest = rest
+
+pub attached-shown : (parts : Parts) (state : ControllerState) → IsSound parts.next_id parts.rows → IsShown parts state → HasHoldingsOf state (attached parts.rows)
+attached-shown parts state sound shown = λ id. attached-of parts.rows id (rising-one parts.rows sound.rising) ∙ shown.shows.holdings id

@@ -1,12 +1,12 @@
 -- What the readers show, by the rows.
 use Rattle.std.proofs.Common.{◌≡◌, ℕ, Bool, true, false, List, map, refl, sym, ◌∙◌, ap}
-use Rattle.std.specs.Prelude.{Option, Some, None, option_map, find}
+use Rattle.std.specs.Prelude.{Option, Some, None, option_map, find, ◌==◌}
 use Rattle.csi_types.specs.Same.{same_text}
 use Rattle.csi_controller.specs.declared.row.ControllerRow.{ControllerRow}
 use Rattle.csi_controller.specs.State.{Volume, ControllerState, volume_named}
-use Rattle.csi_controller.specs.Shown.{volume_of_row}
-use Rattle.csi_controller.specs.Core.{Parts, IsShown}
-use Rattle.csi_controller.specs.Views.{shown_if_live, row_if_live}
+use Rattle.csi_controller.specs.Shown.{volume_of_row, holdings_in_row, holdings_in}
+use Rattle.csi_controller.specs.Core.{Parts, IsShown, held_by}
+use Rattle.csi_controller.specs.Views.{shown_if_live, row_if_live, IsCopyOf, IsRowOf}
 use Rattle.csi_controller.proofs.FirstAt.{find-view}
 
 named-shown : (parts : Parts) (state : ControllerState) (name : List ℕ) → IsShown parts state → volume_named name state ≡ option_map volume_of_row (find (λ (r : ControllerRow). same_text r.name name) parts.rows)
@@ -27,3 +27,25 @@ id-shown parts state name shown = sym (ap (option_map (λ (v : Volume). v.id)) (
     by : (o : Option ControllerRow) → option_map (λ (v : Volume). v.id) (option_map volume_of_row o) ≡ option_map (λ (r : ControllerRow). r.id) o
     by None = refl
     by (Some row) = refl
+
+-- a copy of the row of an id is of the volume of that id
+copy-shown : (state : ControllerState) (id : ℕ) (row copy : Option ControllerRow) → IsCopyOf row copy → IsRowOf state id row → IsRowOf state id copy
+copy-shown state id None None same is = is
+copy-shown state id None (Some c) same is = absurd same
+copy-shown state id (Some r) None same is = absurd same
+copy-shown state id (Some r) (Some c) same is =
+    record {
+      volume = ap Some same.volume ∙ is.volume;
+      holdings = held ∙ is.holdings;
+    }
+  where
+    held : holdings_in_row c ≡ holdings_in_row r
+    held = ap (λ n. map (held_by n) c.holdings.items) (ap (λ (v : Volume). v.id) same.volume) ∙ ap (map (held_by r.id)) same.items
+
+pub row-shown : (parts : Parts) (state : ControllerState) (id : ℕ) (copy : Option ControllerRow) → IsShown parts state → IsCopyOf (find (λ (r : ControllerRow). r.id == id) parts.rows) copy → IsRowOf state id copy
+row-shown parts state id copy shown same =
+    copy-shown state id (find (λ (r : ControllerRow). r.id == id) parts.rows) copy same
+    (record {
+      volume = sym (ap (find (λ (v : Volume). v.id == id)) (sym shown.shows.volumes) ∙ find-view volume_of_row (λ (v : Volume). v.id == id) parts.rows);
+      holdings = shown.shows.holdings id;
+    })

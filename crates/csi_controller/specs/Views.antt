@@ -1,9 +1,9 @@
 -- What a controller's readers show of a state, and its record.
-use Rattle.std.specs.Prelude.{◌≡◌, ℕ, List, [], ◌∷◌, ◌++◌, Option, Some, None, if◌then◌else◌}
+use Rattle.std.specs.Prelude.{◌≡◌, ℕ, ◌==◌, List, [], ◌∷◌, ◌++◌, filter, Option, Some, None, option_map, if◌then◌else◌}
 use Rattle.csi_controller.specs.declared.row.ControllerRow.{ControllerRow}
-use Rattle.csi_controller.specs.State.{Volume}
+use Rattle.csi_controller.specs.State.{Volume, ControllerState, volume_with_id, holdings_of}
 use Rattle.csi_types.specs.declared.holding.Holding.{Holding}
-use Rattle.csi_controller.specs.Shown.{holdings_in_row}
+use Rattle.csi_controller.specs.Shown.{volume_of_row, holdings_in_row, holdings_in}
 use Rattle.csi_controller.specs.Core.{IsSameRow}
 
 -- a record's next id (0 once all were given), and its rows by rising id
@@ -39,3 +39,12 @@ IsCopyOf (Some row) (Some copy) = IsSameRow row copy
 abbrev pub attached : List ControllerRow → List Holding
 attached [] = []
 attached (row ∷ rows) = holdings_in_row row ++ attached rows
+
+-- a list of holdings has each volume's, in order
+abbrev pub HasHoldingsOf : ControllerState → List Holding → Type 0
+HasHoldingsOf state all = (id : ℕ) → filter (λ holding. holding.volume == id) all ≡ holdings_of id state
+
+-- a row is that of the volume of this id, with where it is held; none where no volume got the id
+pub record IsRowOf (state : ControllerState) (id : ℕ) (row : Option ControllerRow) : Type 0 where
+  pub volume : option_map volume_of_row row ≡ volume_with_id id state
+  pub holdings : holdings_in row ≡ holdings_of id state

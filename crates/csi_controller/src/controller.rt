@@ -41,7 +41,7 @@ impl Model for Controller {
 impl Controller {
     ghost use Rattle.csi_controller.specs.State.{ControllerState, empty_controller, volume_named};
     ghost use Rattle.csi_controller.specs.Fenced.{fenced};
-    ghost use Rattle.csi_controller.specs.Views.{shown_if_live, attached, IsCopyOf};
+    ghost use Rattle.csi_controller.specs.Views.{shown_if_live, attached, HasHoldingsOf, IsCopyOf, IsRowOf};
     ghost use Rattle.csi_controller.specs.Core.{IsShown, IsSound, IsAnsweredOk, IsUndoing};
 
     /// A controller that made no volume. It takes no memory.
@@ -131,16 +131,18 @@ impl Controller {
         Ok(ControllerRecord::new(core.next_id, rows))
     }
 
-    /// The row of this id, as the record has it.
+    /// The row of the volume of this id, deleted or not, as the record has it.
     pub fn row(&self, _alloc: Global, id: VolumeId) -> Result<Option<ControllerRow>, CoreFault>
-        ensures { IfOk result (λ copy. IsCopyOf (find (λ row. row.id == id) self.now.rows) copy) }
+        ensures copy { IfOk result (λ copy. IsCopyOf (find (λ row. row.id == id) self.now.rows) copy) }
+        ensures state { (state : ControllerState) → IsShown self.now state → IfOk result (IsRowOf state id) }
     {
         self.core.row(id)
     }
 
     /// Where each volume is held, by rising id, and for each volume in the order of its row.
     pub fn attachments(&self, alloc: Global) -> Result<Vec<Holding>, CoreFault>
-        ensures { IfOk result (λ all. all.items ≡ attached self.now.rows) }
+        ensures order { IfOk result (λ all. all.items ≡ attached self.now.rows) }
+        ensures state { (state : ControllerState) → IsShown self.now state → IfOk result (λ all. HasHoldingsOf state all.items) }
     {
         attachments(&self.core.rows, alloc)
     }
