@@ -13,7 +13,10 @@ use Rattle.csi_types.specs.declared.fence.Verdict.TheVariants.{Fresh}
 use Rattle.csi_types.specs.declared.reply.Reply.{Reply}
 use Rattle.csi_types.specs.Call.{kind_of}
 use Rattle.csi_types.specs.Config.{Config}
-use Rattle.csi_types.specs.Fence.{Kept, verdict_of}
+use Rattle.csi_types.specs.Fence as fence
+use Rattle.csi_types.specs.Fence.{Kept}
+use Rattle.csi_types.specs.Lawful as lawful
+use Rattle.csi_types.specs.Lawful.{Plugin}
 use Rattle.csi_types.specs.Frame.{Frame}
 use Rattle.csi_types.specs.Number.{IsBefore}
 use Rattle.csi_types.specs.Replies.{call_frame, reply_frame}
@@ -32,7 +35,7 @@ state_after config state number call = (fenced config state (call_frame number C
 
 -- the fence lets the call through to the table
 abbrev pub IsLetThrough : ControllerState → Number → Call → Type 0
-IsLetThrough state number call = verdict_of (option_map (λ kept. kept.number) (kept_for call state)) number ≡ Fresh
+IsLetThrough state number call = fence.IsLetThrough (option_map (λ kept. kept.number) (kept_for call state)) number
 
 -- the volume, with this kept
 abbrev pub keeping : Kept → Volume → Volume
@@ -66,13 +69,6 @@ IsDone state reply (calls.NodeUnstageVolume id) = ⊥
 IsDone state reply (calls.NodePublishVolume id target capability readonly) = ⊥
 IsDone state reply (calls.NodeUnpublishVolume id target) = ⊥
 
--- the call again, under a later number of its session, gets the same reply and changes nothing
-abbrev pub IsIdempotent : Config → ControllerState → Reply → Number → Call → Type 0
-IsIdempotent config state reply number call =
-    (later : Number) → later.session ≡ number.session → IsBefore number later
-    → ((fenced config state (call_frame later Controller call)).reply ≡ Some (reply_frame later Controller (kind_of call) reply))
-    × IsSameApart state (fenced config state (call_frame later Controller call)).state
-
 -- a holding of another volume than the call's
 abbrev pub is_of_another : Call → Holding → Bool
 is_of_another (calls.CreateVolume name required limit capabilities) holding = true
@@ -89,12 +85,26 @@ pub record LeavesOthers (old new : ControllerState) (call : Call) : Type 0 where
   pub volumes : filter (λ volume. not (is_row_for call volume)) new.volumes ≡ filter (λ volume. not (is_row_for call volume)) old.volumes
   pub holdings : filter (is_of_another call) new.holdings ≡ filter (is_of_another call) old.holdings
 
+-- the controller, for the laws of its table
+abbrev pub plugin_with : Config → Plugin ControllerState
+plugin_with config =
+    record {
+      party = Controller;
+      reply_at = reply_at config;
+      answer = λ state frame. (fenced config state frame).reply;
+      after = λ state frame. (fenced config state frame).state;
+      is_same = IsSameApart;
+      is_done = IsDone;
+      leaves_others = LeavesOthers;
+    }
+
+-- the call again gets the same reply and changes nothing
+abbrev pub IsIdempotent : Config → ControllerState → Reply → Number → Call → Type 0
+IsIdempotent config state reply number call = lawful.IsIdempotent (plugin_with config) state reply number call
+
 -- what is so of one call that the table answers
-pub record IsLawful (config : Config) (state : ControllerState) (number : Number) (call : Call) : Type 0 where
-  pub refused : (reply_at config state call).status ≢ Ok → IsSameApart state (state_after config state number call)
-  pub done : (reply_at config state call).status ≡ Ok → IsDone (state_after config state number call) (reply_at config state call) call
-  pub again : (reply_at config state call).status ≡ Ok → IsIdempotent config (state_after config state number call) (reply_at config state call) number call
-  pub others : LeavesOthers state (state_after config state number call) call
+abbrev pub IsLawful : Config → ControllerState → Number → Call → Type 0
+IsLawful config state number call = lawful.IsLawful (plugin_with config) state number call
 
 -- the laws, for every state that frames reach and every call that the table answers there
 abbrev pub ControllerTableLaw : Type 0

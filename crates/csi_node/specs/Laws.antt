@@ -9,7 +9,9 @@ use Rattle.csi_types.specs.declared.status.Status.TheVariants.{Ok}
 use Rattle.csi_types.specs.declared.fence.Verdict.TheVariants.{Fresh}
 use Rattle.csi_types.specs.declared.reply.Reply.{Reply}
 use Rattle.csi_types.specs.Call.{kind_of}
-use Rattle.csi_types.specs.Fence.{verdict_of}
+use Rattle.csi_types.specs.Fence as fence
+use Rattle.csi_types.specs.Lawful as lawful
+use Rattle.csi_types.specs.Lawful.{Plugin}
 use Rattle.csi_types.specs.Frame.{Frame}
 use Rattle.csi_types.specs.Number.{IsBefore}
 use Rattle.csi_types.specs.Replies.{call_frame, reply_frame}
@@ -27,7 +29,7 @@ state_after node state number call = (fenced node state (call_frame number (Node
 
 -- the fence lets the call through to the table
 abbrev pub IsLetThrough : NodeState → Number → Call → Type 0
-IsLetThrough state number call = verdict_of (option_map (λ kept. kept.number) (kept_for call state)) number ≡ Fresh
+IsLetThrough state number call = fence.IsLetThrough (option_map (λ kept. kept.number) (kept_for call state)) number
 
 -- the two differ in nothing but the rows
 pub record IsSameApart (old new : NodeState) : Type 0 where
@@ -47,13 +49,6 @@ IsDone state (calls.DeleteVolume id) = ⊥
 IsDone state (calls.ControllerPublishVolume id node capability readonly) = ⊥
 IsDone state (calls.ControllerUnpublishVolume id node) = ⊥
 
--- the call again, under a later number of its session, gets the same reply and changes nothing
-abbrev pub IsIdempotent : List ℕ → NodeState → Reply → Number → Call → Type 0
-IsIdempotent node state reply number call =
-    (later : Number) → later.session ≡ number.session → IsBefore number later
-    → ((fenced node state (call_frame later (Node node) call)).reply ≡ Some (reply_frame later (Node node) (kind_of call) reply))
-    × IsSameApart state (fenced node state (call_frame later (Node node) call)).state
-
 -- another volume than the call's
 abbrev pub is_another : Option ℕ → ℕ → Bool
 is_another None id = true
@@ -65,12 +60,26 @@ pub record LeavesOthers (old new : NodeState) (call : Call) : Type 0 where
   pub staged : filter (λ staged. is_another (volume_of call) staged.volume) new.staged ≡ filter (λ staged. is_another (volume_of call) staged.volume) old.staged
   pub published : filter (λ published. is_another (volume_of call) published.volume) new.published ≡ filter (λ published. is_another (volume_of call) published.volume) old.published
 
+-- the node of this id, for the laws of its table
+abbrev pub plugin_at : List ℕ → Plugin NodeState
+plugin_at node =
+    record {
+      party = Node node;
+      reply_at = reply_at;
+      answer = λ state frame. (fenced node state frame).reply;
+      after = λ state frame. (fenced node state frame).state;
+      is_same = IsSameApart;
+      is_done = λ state reply call. IsDone state call;
+      leaves_others = LeavesOthers;
+    }
+
+-- the call again gets the same reply and changes nothing
+abbrev pub IsIdempotent : List ℕ → NodeState → Reply → Number → Call → Type 0
+IsIdempotent node state reply number call = lawful.IsIdempotent (plugin_at node) state reply number call
+
 -- what is so of one call that the table answers
-pub record IsLawful (node : List ℕ) (state : NodeState) (number : Number) (call : Call) : Type 0 where
-  pub refused : (reply_at state call).status ≢ Ok → IsSameApart state (state_after node state number call)
-  pub done : (reply_at state call).status ≡ Ok → IsDone (state_after node state number call) call
-  pub again : (reply_at state call).status ≡ Ok → IsIdempotent node (state_after node state number call) (reply_at state call) number call
-  pub others : LeavesOthers state (state_after node state number call) call
+abbrev pub IsLawful : List ℕ → NodeState → Number → Call → Type 0
+IsLawful node state number call = lawful.IsLawful (plugin_at node) state number call
 
 -- the laws, for every state that frames reach and every call that the table answers there
 abbrev pub NodeTableLaw : Type 0

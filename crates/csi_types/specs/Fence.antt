@@ -1,7 +1,7 @@
 -- The fence in front of both plugins' tables: which calls a plugin carries out, by their numbers. This
 -- profile's own: CSI's spec.md, "Concurrency", asks that a plugin bear calls that come twice, late or at once.
 -- A change of what a plugin remembers touches these definitions alone.
-use Rattle.std.specs.Prelude.{Bool, false, not, Option, Some, None, if◌then◌else◌, IsTrue}
+use Rattle.std.specs.Prelude.{◌≡◌, Bool, false, not, Option, Some, None, if◌then◌else◌, IsTrue}
 use Rattle.csi_types.specs.declared.number.Number.{Number}
 use Rattle.csi_types.specs.declared.call.Kind.{Kind}
 use Rattle.csi_types.specs.declared.reply.Reply.{Reply}
@@ -33,6 +33,10 @@ verdict_of_spent (Some last) number = if same_number number last then Repeated e
 -- what becomes of a call of this number
 abbrev pub verdict_of : Option Number → Number → Verdict
 verdict_of last number = if is_spent last number then verdict_of_spent last number else Fresh
+
+-- a call of this number is let through to the table
+abbrev pub IsLetThrough : Option Number → Number → Type 0
+IsLetThrough last number = verdict_of last number ≡ Fresh
 
 -- a number before a spent one is spent
 abbrev pub SpentIsClosed : Type 0

@@ -18,3 +18,4 @@ pub mod Rows
 pub mod Replies
 pub mod Key
 pub mod Delivery
+pub mod Lawful
