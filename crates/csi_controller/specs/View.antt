@@ -68,6 +68,7 @@ pub record ControllerDeliveryLaw : Type 0 where
 pub record AreNamed (state : ControllerState) : Type 0 where
   pub by_id : (name : List ℕ) (volume : Volume) → volume_named name state ≡ Some volume → volume_with_id volume.id state ≡ Some volume
   pub by_name : (id : ℕ) (volume : Volume) → volume_with_id id state ≡ Some volume → volume_named volume.name state ≡ Some volume
+  pub live : (name : List ℕ) (volume : Volume) → live_named name state ≡ Some volume → volume_named name state ≡ Some volume
   pub given : (id : ℕ) (volume : Volume) → volume_with_id id state ≡ Some volume → id < state.next_id
 
 -- the id that a name got, if it got one

@@ -1,1 +1,4 @@
 pub mod PluginSafety
+pub mod WorldView
+pub mod Issued
+pub mod Truth

@@ -1,0 +1,165 @@
+-- The thing that a sent call does or undoes, by its id; and how lists of sent calls are searched for it.
+use Rattle.std.proofs.Common.{◌≡◌, ◌⊎◌, ℕ, List, [], ◌∷◌, ◌++◌, Bool, true, false, cond, refl, sym, ◌∙◌, ap, subst, inl, inr, arith}
+use Rattle.std.specs.Prelude.{Option, Some, None, option_map, find, ◌==◌, IsTrue}
+use Rattle.std.proofs.lemmas.Bool.Decides.{nat_tests}
+use Rattle.csi_types.specs.declared.number.Number.{Number}
+use Rattle.csi_types.specs.declared.call.Call.{Call}
+use Rattle.csi_types.specs.declared.call.Call.TheVariants as calls
+use Rattle.csi_types.specs.declared.call.Party.{Party}
+use Rattle.csi_types.specs.declared.call.Party.TheVariants.{Controller, Node}
+use Rattle.csi_types.specs.declared.frame.Body.{Body}
+use Rattle.csi_types.specs.declared.frame.Body.TheVariants as bodies
+use Rattle.csi_types.specs.declared.reply.Reply.{Reply}
+use Rattle.csi_types.specs.declared.status.Status.TheVariants.{Ok}
+use Rattle.csi_types.specs.Call.{kind_of, is_party_of}
+use Rattle.csi_types.specs.Frame.{Frame}
+use Rattle.csi_types.specs.Key.{Key, Exists, Attached, Staged, Published, same_key}
+use Rattle.csi_types.specs.Lists.{IsAmong, EachTwo}
+use Rattle.csi_types.specs.Number.{is_before, IsBefore}
+use Rattle.csi_types.specs.Replies.{reply_frame}
+use Rattle.csi_types.specs.Same.{same_text}
+use Rattle.csi_types.proofs.Among.{each_of}
+use Rattle.csi_types.proofs.Equality.{same_text-tells}
+use Rattle.csi_types.proofs.Lists.{find-passes}
+use Rattle.csi_controller.specs.State.{Volume, ControllerState, volume_named, volume_with_id}
+use Rattle.csi_controller.specs.View as controllers
+use Rattle.csi_node.specs.View as nodes
+use Rattle.csi_orchestrator.specs.Thing.{Issued}
+use Rattle.csi_world.proofs.WorldView.{party_of}
+
+-- the thing of a call to this plugin, by its id
+abbrev pub key_at : List ℕ → Party → Call → Option Key
+key_at name party (calls.CreateVolume create required limit capabilities) = Some (Exists name)
+key_at name party (calls.DeleteVolume id) = Some (Exists name)
+key_at name party (calls.ControllerPublishVolume id node capability readonly) = Some (Attached id node)
+key_at name party (calls.ControllerUnpublishVolume id node) = Some (Attached id node)
+key_at name (Node node) (calls.NodeStageVolume id capability) = Some (Staged id node)
+key_at name (Node node) (calls.NodeUnstageVolume id) = Some (Staged id node)
+key_at name (Node node) (calls.NodePublishVolume id target capability readonly) = Some (Published id node target)
+key_at name (Node node) (calls.NodeUnpublishVolume id target) = Some (Published id node target)
+key_at name Controller call = None
+
+abbrev pub is_key : Key → Option Key → Bool
+is_key key None = false
+is_key key (Some other) = same_key key other
+
+-- the call does or undoes the thing
+abbrev pub is_of : Key → Issued → Bool
+is_of key issued = is_key key (key_at issued.name issued.party issued.call)
+
+-- the controller gave the name this id
+abbrev pub HasName : ControllerState → List ℕ → ℕ → Type 0
+HasName controller name id = controllers.id_named name controller ≡ Some id
+
+-- the call is for the plugin of its kind, and for the volume of the name
+abbrev pub IsOwn : ControllerState → List ℕ → Party → Call → Type 0
+IsOwn controller name Controller (calls.CreateVolume create required limit capabilities) = create ≡ name
+IsOwn controller name Controller (calls.DeleteVolume id) = HasName controller name id
+IsOwn controller name Controller (calls.ControllerPublishVolume id node capability readonly) = HasName controller name id
+IsOwn controller name Controller (calls.ControllerUnpublishVolume id node) = HasName controller name id
+IsOwn controller name (Node node) (calls.NodeStageVolume id capability) = HasName controller name id
+IsOwn controller name (Node node) (calls.NodeUnstageVolume id) = HasName controller name id
+IsOwn controller name (Node node) (calls.NodePublishVolume id target capability readonly) = HasName controller name id
+IsOwn controller name (Node node) (calls.NodeUnpublishVolume id target) = HasName controller name id
+IsOwn controller name party call = ⊥
+
+-- the thing that a plugin sees in a call
+abbrev pub key_seen : ControllerState → Party → Call → Option Key
+key_seen controller Controller call = controllers.key_of controller call
+key_seen controller (Node node) call = nodes.key_of node call
+
+-- a call of a volume by its id, where names and ids belong together
+pub record IsKeyed (controller : ControllerState) (name : List ℕ) (party : Party) (call : Call) : Type 0 where
+  pub key : Key
+  pub by_name : key_at name party call ≡ Some key
+  pub seen : key_seen controller party call ≡ Some key
+  pub of_party : party_of key ≡ party
+  pub of_kind : IsTrue (is_party_of (kind_of call) party)
+
+pub named-found : (controller : ControllerState) (name : List ℕ) (id : ℕ) → HasName controller name id → (volume : Volume) × (volume_named name controller ≡ Some volume) × (volume.id ≡ id)
+named-found controller name id h = by (volume_named name controller) h
+  where
+    none_is_some : None ≡ Some id → ⊥
+    none_is_some e = cc
+
+    same : (v : Volume) → Some v.id ≡ Some id → v.id ≡ id
+    same v e = cc
+
+    by : (o : Option Volume) → option_map (λ (v : Volume). v.id) o ≡ Some id → (volume : Volume) × (o ≡ Some volume) × (volume.id ≡ id)
+    by None e = absurd (none_is_some e)
+    by (Some v) e = (v, refl, same v e)
+
+id-found : (controller : ControllerState) (name : List ℕ) (id : ℕ) → controllers.AreNamed controller → HasName controller name id
+    → (volume : Volume) × (volume_with_id id controller ≡ Some volume) × (volume.name ≡ name)
+id-found controller name id names h =
+    let found = named-found controller name id h in
+    let volume : Volume = found.0 in
+    let passes : same_text volume.name name ≡ true = find-passes (λ (v : Volume). same_text v.name name) controller.volumes volume found.1 in
+    (volume, subst (λ n. volume_with_id n controller ≡ Some volume) found.2 (names.by_id name volume found.1), (same_text-tells volume.name name).0 passes)
+
+attached-keyed : (controller : ControllerState) (name node : List ℕ) (id : ℕ) → controllers.AreNamed controller → HasName controller name id
+    → option_map (λ (volume : Volume). Attached id node) (volume_with_id id controller) ≡ Some (Attached id node)
+attached-keyed controller name node id names h =
+    ap (option_map (λ (volume : Volume). Attached id node)) (id-found controller name id names h).1
+
+pub keyed : (controller : ControllerState) (name : List ℕ) (party : Party) (call : Call) → controllers.AreNamed controller → IsOwn controller name party call → IsKeyed controller name party call
+keyed controller name Controller (calls.CreateVolume create required limit capabilities) names own =
+    record { key = Exists name; by_name = refl; seen = ap (λ k. Some (Exists k)) own; of_party = refl; of_kind = refl }
+keyed controller name Controller (calls.DeleteVolume id) names own =
+    let found = id-found controller name id names own in
+    record {
+      key = Exists name;
+      by_name = refl;
+      seen = ap (option_map (λ (volume : Volume). Exists volume.name)) found.1 ∙ ap (λ k. Some (Exists k)) found.2;
+      of_party = refl;
+      of_kind = refl;
+    }
+keyed controller name Controller (calls.ControllerPublishVolume id node capability readonly) names own =
+    record { key = Attached id node; by_name = refl; seen = attached-keyed controller name node id names own; of_party = refl; of_kind = refl }
+keyed controller name Controller (calls.ControllerUnpublishVolume id node) names own =
+    record { key = Attached id node; by_name = refl; seen = attached-keyed controller name node id names own; of_party = refl; of_kind = refl }
+keyed controller name (Node node) (calls.NodeStageVolume id capability) names own = record { key = Staged id node; by_name = refl; seen = refl; of_party = refl; of_kind = refl }
+keyed controller name (Node node) (calls.NodeUnstageVolume id) names own = record { key = Staged id node; by_name = refl; seen = refl; of_party = refl; of_kind = refl }
+keyed controller name (Node node) (calls.NodePublishVolume id target capability readonly) names own = record { key = Published id node target; by_name = refl; seen = refl; of_party = refl; of_kind = refl }
+keyed controller name (Node node) (calls.NodeUnpublishVolume id target) names own = record { key = Published id node target; by_name = refl; seen = refl; of_party = refl; of_kind = refl }
+keyed controller name party call names own = absurd own
+
+-- an OK to the call was sent
+abbrev pub IsAnsweredOk : List Frame → Issued → Reply → Type 0
+IsAnsweredOk frames issued reply = IsAmong (reply_frame issued.number issued.party (kind_of issued.call) reply) frames × (reply.status ≡ Ok)
+
+-- the later of two sent calls has the later number
+abbrev pub ComesAfter : Issued → Issued → Type 0
+ComesAfter newer older = IsBefore older.number newer.number
+
+pub before-irreflexive : (a : Number) → IsBefore a a → ⊥
+before-irreflexive a h = let t : is_before a a ≡ true = rw h refl in grind (arith, nat_tests)
+
+-- each number was sent once
+pub one-number : (issued : List Issued) → EachTwo ComesAfter issued → (a b : Issued) → IsAmong a issued → IsAmong b issued → a.number ≡ b.number → a ≡ b
+one-number [] two a b at bt same = absurd at
+one-number (i ∷ is) two a b (inl e) (inl f) same = e ∙ sym f
+one-number (i ∷ is) two a b (inl e) (inr bt) same =
+    absurd (before-irreflexive b.number (subst (λ n. IsBefore b.number n) (sym (ap (λ (x : Issued). x.number) e) ∙ same) (each_of (ComesAfter i) is b two.0 bt)))
+one-number (i ∷ is) two a b (inr at) (inl f) same =
+    absurd (before-irreflexive a.number (subst (λ n. IsBefore a.number n) (sym (ap (λ (x : Issued). x.number) f) ∙ sym same) (each_of (ComesAfter i) is a two.0 at)))
+one-number (i ∷ is) two a b (inr at) (inr bt) same = one-number is two.1 a b at bt same
+
+-- the latest call of a thing is no earlier than any other of it
+pub latest-last : (key : Key) (issued : List Issued) (latest other : Issued) → EachTwo ComesAfter issued → find (is_of key) issued ≡ Some latest → IsAmong other issued → is_of key other ≡ true
+    → (other ≡ latest) ⊎ IsBefore other.number latest.number
+latest-last key [] latest other two found at of = absurd at
+latest-last key (i ∷ is) latest other two found at of = by (is_of key i) refl found at (λ e o. latest-last key is latest other two.1 e o of)
+  where
+    clash : true ≡ false → ⊥
+    clash e = cc
+
+    same : Some i ≡ Some latest → i ≡ latest
+    same e = cc
+
+    by : (b : Bool) → is_of key i ≡ b → cond b (Some i) (find (is_of key) is) ≡ Some latest → (other ≡ i) ⊎ IsAmong other is
+        → (find (is_of key) is ≡ Some latest → IsAmong other is → (other ≡ latest) ⊎ IsBefore other.number latest.number) → (other ≡ latest) ⊎ IsBefore other.number latest.number
+    by true t e (inl o) rest = inl (o ∙ same e)
+    by true t e (inr o) rest = inr (subst (λ (x : Issued). IsBefore other.number x.number) (same e) (each_of (ComesAfter i) is other two.0 o))
+    by false t e (inl o) rest = absurd (clash (sym of ∙ ap (is_of key) o ∙ t))
+    by false t e (inr o) rest = rest e o

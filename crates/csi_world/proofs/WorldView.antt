@@ -1,0 +1,97 @@
+-- A world seen thing by thing, each thing as the plugin has it to which it belongs; and what a call that one plugin
+-- got does to the whole.
+use Rattle.std.proofs.Common.{◌≡◌, ◌⊎◌, ℕ, List, Bool, true, false, refl, sym, ◌∙◌, ap, subst, inl, inr}
+use Rattle.std.specs.Prelude.{Option, Some, None, IsTrue}
+use Rattle.csi_types.specs.declared.number.Number.{Number}
+use Rattle.csi_types.specs.declared.call.Party.{Party}
+use Rattle.csi_types.specs.declared.call.Party.TheVariants.{Controller, Node}
+use Rattle.csi_types.specs.Delivery.{View, Delivery, Acts, Rests, IsSameView, IsClosed, kept_of}
+use Rattle.csi_types.specs.Key.{Key, Exists, Attached, Staged, Published, same_key}
+use Rattle.csi_types.specs.Number.{IsBefore}
+use Rattle.csi_types.specs.Same.{same_party}
+use Rattle.csi_types.proofs.Equality.{same_party-tells}
+use Rattle.csi_controller.specs.View as controllers
+use Rattle.csi_node.specs.State.{NodeState}
+use Rattle.csi_node.specs.View as nodes
+use Rattle.csi_world.specs.World.{World, node_state}
+
+-- the plugin that has a thing
+abbrev pub party_of : Key → Party
+party_of (Exists name) = Controller
+party_of (Attached id node) = Controller
+party_of (Staged id node) = Node node
+party_of (Published id node target) = Node node
+
+-- a node that isn't there
+abbrev pub no_view : View
+no_view = record { held = λ key. None; is_spent = λ key number. false; kept = λ key. None }
+
+abbrev pub node_view : List ℕ → Option NodeState → View
+node_view node None = no_view
+node_view node (Some state) = nodes.view_of node state
+
+abbrev pub plugin_view : World → Party → View
+plugin_view world Controller = controllers.view_of world.controller
+plugin_view world (Node id) = node_view id (node_state id world)
+
+abbrev pub view_of : World → View
+view_of world =
+    record {
+      held = λ key. (plugin_view world (party_of key)).held key;
+      is_spent = λ key number. (plugin_view world (party_of key)).is_spent key number;
+      kept = λ key. (plugin_view world (party_of key)).kept key;
+    }
+
+-- the other plugins are as they were
+abbrev pub ChangesOnly : Party → World → World → Type 0
+ChangesOnly party old new = (other : Party) → same_party other party ≡ false → plugin_view new other ≡ plugin_view old other
+
+-- a fact of two plugins' views, where the other plugins are as they were
+pub for_each : (P : View → View → Key → Type 0) (party : Party) (old new : World) → ChangesOnly party old new → (key : Key)
+    → P (plugin_view old party) (plugin_view new party) key → ((view : View) → P view view key)
+    → P (plugin_view old (party_of key)) (plugin_view new (party_of key)) key
+for_each P party old new only key its same = by (same_party (party_of key) party) refl
+  where
+    by : (b : Bool) → same_party (party_of key) party ≡ b → P (plugin_view old (party_of key)) (plugin_view new (party_of key)) key
+    by true e = subst (λ p. P (plugin_view old p) (plugin_view new p) key) (sym ((same_party-tells (party_of key) party).0 e)) its
+    by false e = subst (λ view. P (plugin_view old (party_of key)) view key) (sym (only (party_of key) e)) (same (plugin_view old (party_of key)))
+
+pub acts-all : (old new : World) (key : Key) (delivery : Delivery) → ChangesOnly (party_of key) old new
+    → Acts key delivery (plugin_view old (party_of key)) (plugin_view new (party_of key)) → Acts key delivery (view_of old) (view_of new)
+acts-all old new key delivery only acts =
+    record {
+      of_its_kind = acts.of_its_kind;
+      was_fresh = acts.was_fresh;
+      done = acts.done;
+      spent = acts.spent;
+      refused = acts.refused;
+      others = λ other differs. for_each (λ before after k. after.held k ≡ before.held k) (party_of key) old new only other (acts.others other differs) (λ view. refl);
+      stays_spent = λ other number spent. for_each (λ before after k. IsTrue (before.is_spent k number) → IsTrue (after.is_spent k number)) (party_of key) old new only other (acts.stays_spent other number) (λ view h. h) spent;
+      keeps = λ other. for_each (λ before after k. (after.kept k ≡ before.kept k) ⊎ (after.kept k ≡ Some (kept_of delivery))) (party_of key) old new only other (acts.keeps other) (λ view. inl refl);
+    }
+
+pub same-all : (party : Party) (old new : World) → ChangesOnly party old new → IsSameView (plugin_view old party) (plugin_view new party) → IsSameView (view_of old) (view_of new)
+same-all party old new only same =
+    record {
+      held = λ key. for_each (λ before after k. after.held k ≡ before.held k) party old new only key (same.held key) (λ view. refl);
+      is_spent = λ key number. for_each (λ before after k. after.is_spent k number ≡ before.is_spent k number) party old new only key (same.is_spent key number) (λ view. refl);
+      kept = λ key. for_each (λ before after k. after.kept k ≡ before.kept k) party old new only key (same.kept key) (λ view. refl);
+    }
+
+pub rests-all : (old new : World) (key : Key) (delivery : Delivery) → ChangesOnly (party_of key) old new
+    → Rests key delivery (plugin_view old (party_of key)) (plugin_view new (party_of key)) → Rests key delivery (view_of old) (view_of new)
+rests-all old new key delivery only rests =
+    record { was_spent = rests.was_spent; was_kept = rests.was_kept; same = same-all (party_of key) old new only rests.same }
+
+-- what came before a spent number is spent
+pub closed-all : (controller : (world : World) → IsClosed (controllers.view_of world.controller)) → (node : (id : List ℕ) (state : NodeState) → IsClosed (nodes.view_of id state))
+    → (world : World) → IsClosed (view_of world)
+closed-all controller node world = λ key earlier later before. by (party_of key) key earlier later before
+  where
+    by : (party : Party) (key : Key) (earlier later : Number) → IsBefore earlier later → IsTrue ((plugin_view world party).is_spent key later) → IsTrue ((plugin_view world party).is_spent key earlier)
+    by Controller key earlier later before = controller world key earlier later before
+    by (Node id) key earlier later before = at (node_state id world)
+      where
+        at : (o : Option NodeState) → IsTrue ((node_view id o).is_spent key later) → IsTrue ((node_view id o).is_spent key earlier)
+        at None h = h
+        at (Some state) h = node id state key earlier later before h
