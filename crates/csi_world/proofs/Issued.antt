@@ -89,7 +89,7 @@ named-found controller name id h = by (volume_named name controller) h
     by None e = absurd (none_is_some e)
     by (Some v) e = (v, refl, same v e)
 
-id-found : (controller : ControllerState) (name : List ℕ) (id : ℕ) → controllers.AreNamed controller → HasName controller name id
+pub id-found : (controller : ControllerState) (name : List ℕ) (id : ℕ) → controllers.AreNamed controller → HasName controller name id
     → (volume : Volume) × (volume_with_id id controller ≡ Some volume) × (volume.name ≡ name)
 id-found controller name id names h =
     let found = named-found controller name id h in

@@ -1,0 +1,250 @@
+-- Why a call that keeps the guards leaves what stands: it is for its own volume, it is of no attachment below which
+-- something stands, and it stages only what is attached so.
+use Rattle.std.proofs.Common.{◌≡◌, ◌≢◌, ◌⊎◌, ℕ, List, [], ◌∷◌, ◌++◌, Bool, true, false, cond, not, refl, sym, ◌∙◌, ap, subst, inl, inr}
+use Rattle.std.specs.Prelude.{Option, Some, None, find, filter, filter_map, ◌==◌, ◌&&◌, IsTrue}
+use Rattle.std.proofs.lemmas.Bool.{and_parts, and_from, eqb-true, eq-eqb, false≢true}
+use Rattle.csi_types.specs.declared.capability.Capability.{Capability}
+use Rattle.csi_types.specs.declared.call.Call.{Call}
+use Rattle.csi_types.specs.declared.call.Call.TheVariants as calls
+use Rattle.csi_types.specs.declared.call.Party.{Party}
+use Rattle.csi_types.specs.declared.call.Party.TheVariants.{Controller, Node}
+use Rattle.csi_types.specs.declared.reply.Reply.{Reply}
+use Rattle.csi_types.specs.Delivery.{View, IsClosed}
+use Rattle.csi_types.specs.Frame.{Frame}
+use Rattle.csi_types.specs.Key.{Key, Attached, Staged, Form, StagedAs, same_key, asked}
+use Rattle.csi_types.specs.Lists.{IsAmong}
+use Rattle.csi_types.specs.Number.{IsBefore}
+use Rattle.csi_types.specs.Same.{same_text}
+use Rattle.csi_types.proofs.Among.{among-find, none_passes}
+use Rattle.csi_types.proofs.Equality.{same_text-tells}
+use Rattle.csi_types.proofs.Lists.{find-passes}
+use Rattle.csi_controller.specs.State.{ControllerState}
+use Rattle.csi_controller.specs.View as controllers
+use Rattle.csi_orchestrator.specs.declared.thing.Thing.{Thing}
+use Rattle.csi_orchestrator.specs.declared.thing.Thing.TheVariants as things
+use Rattle.csi_orchestrator.specs.declared.thing.Known.TheVariants.{Yes, No}
+use Rattle.csi_orchestrator.specs.Thing.{Issued, touches, is_thing, thing_at, is_doing}
+use Rattle.csi_orchestrator.specs.History.{Held, Item, History}
+use Rattle.csi_orchestrator.specs.Readings.{newest, issued_in, has_success, known, held_by, held}
+use Rattle.csi_orchestrator.specs.Guards.{IsGuarded, HasId}
+use Rattle.csi_world.proofs.Issued.{HasName, IsOwn, IsAnsweredOk, key_at, is_key, is_of, latest-last}
+use Rattle.csi_world.proofs.Named.{Named, touches-attached, touches-staged, find-same}
+use Rattle.csi_world.proofs.Heard.{IsHeard, IsLatest, success-ok, id-given, known-yes, known-no, latest-known}
+use Rattle.csi_world.proofs.Truth.{Truth}
+use Rattle.csi_world.proofs.Standing.{MayStage, IsStanding, IsAttachedSo, Stands}
+
+-- what is so of a history, the frames that were sent, the things, and the controller
+pub record IsSoFar (history : History) (frames : List Frame) (view : View) (controller : ControllerState) : Type 0 where
+  pub truth : Truth (issued_in history.items) frames view
+  pub closed : IsClosed view
+  pub named : Named (issued_in history.items) frames controller
+  pub names : controllers.AreNamed controller
+  pub heard : IsHeard history.items (issued_in history.items) frames
+  pub stands : Stands history.items view
+
+pub given-id : (history : History) (frames : List Frame) (view : View) (controller : ControllerState) (name : List ℕ) (id : ℕ) → IsSoFar history frames view controller → HasId history name id → HasName controller name id
+given-id history frames view controller name id so has = id-given history frames controller name id so.heard so.truth.numbers so.named has
+
+-- a guarded call is for its own volume
+pub own-guarded : (history : History) (frames : List Frame) (view : View) (controller : ControllerState) (name : List ℕ) (party : Party) (call : Call) → IsSoFar history frames view controller
+    → IsGuarded history name party call → IsOwn controller name party call
+own-guarded history frames view controller name Controller (calls.CreateVolume create required limit capabilities) so guard = guard.own_name
+own-guarded history frames view controller name Controller (calls.DeleteVolume id) so guard = given-id history frames view controller name id so guard.0
+own-guarded history frames view controller name Controller (calls.ControllerPublishVolume id node capability readonly) so guard = given-id history frames view controller name id so guard.0
+own-guarded history frames view controller name Controller (calls.ControllerUnpublishVolume id node) so guard = given-id history frames view controller name id so guard.0
+own-guarded history frames view controller name (Node node) (calls.NodeStageVolume id capability) so guard = given-id history frames view controller name id so guard.0
+own-guarded history frames view controller name (Node node) (calls.NodeUnstageVolume id) so guard = given-id history frames view controller name id so guard.0
+own-guarded history frames view controller name (Node node) (calls.NodePublishVolume id target capability readonly) so guard = given-id history frames view controller name id so guard.0
+own-guarded history frames view controller name (Node node) (calls.NodeUnpublishVolume id target) so guard = given-id history frames view controller name id so guard
+own-guarded history frames view controller name party call so guard = absurd guard
+
+-- the latest call of a thing, by its name and by its id
+pub found-attached : (history : History) (frames : List Frame) (view : View) (controller : ControllerState) (name node : List ℕ) (id : ℕ) → IsSoFar history frames view controller → HasName controller name id
+    → find (touches (things.Attached name node)) (issued_in history.items) ≡ find (is_of (Attached id node)) (issued_in history.items)
+found-attached history frames view controller name node id so has =
+    find-same (touches (things.Attached name node)) (is_of (Attached id node)) (issued_in history.items) (λ call among. touches-attached controller name node id call so.names has (so.named.own call among))
+
+pub found-staged : (history : History) (frames : List Frame) (view : View) (controller : ControllerState) (name node : List ℕ) (id : ℕ) → IsSoFar history frames view controller → HasName controller name id
+    → find (touches (things.Staged name node)) (issued_in history.items) ≡ find (is_of (Staged id node)) (issued_in history.items)
+found-staged history frames view controller name node id so has =
+    find-same (touches (things.Staged name node)) (is_of (Staged id node)) (issued_in history.items) (λ call among. touches-staged controller name node id call so.names has (so.named.own call among))
+
+-- what stands is known to be attached
+attached-known : (history : History) (frames : List Frame) (view : View) (controller : ControllerState) (name node : List ℕ) (id : ℕ) (capability : Capability) → IsSoFar history frames view controller → HasName controller name id
+    → IsAttachedSo history.items id node capability → known history (things.Attached name node) ≡ Yes
+attached-known history frames view controller name node id capability so has attached =
+    latest-known history (things.Attached name node) attached.call
+    (record { found = found-attached history frames view controller name node id so has ∙ attached.found; success = attached.success; is_so = ap is_doing attached.publishes })
+
+-- a call that undoes asks for nothing
+pub asked-undoing : (c : Call) (reply : Reply) → is_doing c ≡ false → asked c reply ≡ None
+asked-undoing (calls.DeleteVolume id) reply h = refl
+asked-undoing (calls.ControllerUnpublishVolume id node) reply h = refl
+asked-undoing (calls.NodeUnstageVolume id) reply h = refl
+asked-undoing (calls.NodeUnpublishVolume id target) reply h = refl
+asked-undoing c reply h = absurd (false≢true (sym h))
+
+none_is_some : {X : Type 0} (x : X) → None ≡ Some x → ⊥
+none_is_some x e = cc
+
+-- nothing stands where staging is known to be undone
+stages-of : (issued : List Issued) (view : View) (id : ℕ) (node : List ℕ) (capability : Capability) (may : MayStage issued view id node capability) → is_of (Staged id node) may.call ≡ true
+stages-of issued view id node capability may =
+    ap (λ party. is_key (Staged id node) (key_at may.call.name party may.call.call)) may.of_node
+    ∙ ap (λ c. is_key (Staged id node) (key_at may.call.name (Node node) c)) may.stages
+    ∙ and_from (id == id) (same_text node node) (eq-eqb id id refl) ((same_text-tells node node).1 refl)
+
+none-stands : (history : History) (frames : List Frame) (view : View) (controller : ControllerState) (name node : List ℕ) (id : ℕ) (capability : Capability) → IsSoFar history frames view controller → HasName controller name id
+    → known history (things.Staged name node) ≡ No → IsStanding (issued_in history.items) view id node capability → ⊥
+none-stands history frames view controller name node id capability so has is_no standing = by (known-no history (things.Staged name node) is_no)
+  where
+    same : find (touches (things.Staged name node)) (issued_in history.items) ≡ find (is_of (Staged id node)) (issued_in history.items)
+    same = found-staged history frames view controller name node id so has
+
+    untouched : find (is_of (Staged id node)) (issued_in history.items) ≡ None → IsStanding (issued_in history.items) view id node capability → ⊥
+    untouched none (inl held) = none_is_some (StagedAs capability) (sym (so.truth.untouched (Staged id node) none) ∙ held)
+    untouched none (inr may) =
+        false≢true (sym (none_passes (is_of (Staged id node)) (issued_in history.items) may.call none may.among) ∙ stages-of (issued_in history.items) view id node capability may)
+
+    undone : (call : Issued) → find (is_of (Staged id node)) (issued_in history.items) ≡ Some call → has_success history.items call.number ≡ true → is_doing call.call ≡ false → IsStanding (issued_in history.items) view id node capability → ⊥
+    undone call found success ends standing =
+        let there : IsAmong call (issued_in history.items) = among-find (is_of (Staged id node)) (issued_in history.items) call found in
+        let ok = success-ok history.items (issued_in history.items) frames call so.heard so.truth.numbers there success in
+        at there ok.0 ok.1 standing
+      where
+        at : IsAmong call (issued_in history.items) → (reply : Reply) → IsAnsweredOk frames call reply → IsStanding (issued_in history.items) view id node capability → ⊥
+        at there reply ok (inl held) =
+            none_is_some (StagedAs capability) (sym (asked-undoing call.call reply ends) ∙ sym (so.truth.told call (Staged id node) reply found ok) ∙ held)
+        at there reply ok (inr may) = last (latest-last (Staged id node) (issued_in history.items) call may.call so.truth.numbers found may.among (stages-of (issued_in history.items) view id node capability may))
+          where
+            spent : IsTrue (view.is_spent (Staged id node) call.number)
+            spent = so.truth.spent call (Staged id node) reply there (find-passes (is_of (Staged id node)) (issued_in history.items) call found) ok
+
+            last : (may.call ≡ call) ⊎ IsBefore may.call.number call.number → ⊥
+            last (inl e) = false≢true (sym ends ∙ ap (λ (x : Issued). is_doing x.call) (sym e) ∙ ap is_doing may.stages)
+            last (inr before) = false≢true (sym may.unspent ∙ so.closed (Staged id node) may.call.number call.number before spent)
+
+    by : (find (touches (things.Staged name node)) (issued_in history.items) ≡ None) ⊎ ((call : Issued) × IsLatest history.items (things.Staged name node) call false) → ⊥
+    by (inl none) = untouched (sym same ∙ none) standing
+    by (inr latest) = undone latest.0 (sym same ∙ latest.1.found) latest.1.success latest.1.is_so standing
+
+-- a guarded call is of no attachment below which something stands
+pub leaves-guarded : (history : History) (frames : List Frame) (view : View) (controller : ControllerState) (call : Issued) → IsSoFar history frames view controller → IsGuarded history call.name call.party call.call
+    → (id : ℕ) (node : List ℕ) (capability : Capability) → IsStanding (issued_in history.items) view id node capability → is_of (Attached id node) call ≡ false
+leaves-guarded history frames view controller call so guard id node capability standing = by call.party call.call guard
+  where
+    -- of the same volume and node
+    apart : (i : ℕ) (there : List ℕ) → ((id ≡ i) → (node ≡ there) → ⊥) → ((id == i) && same_text node there) ≡ false
+    apart i there differ = at ((id == i) && same_text node there) refl
+      where
+        at : (b : Bool) → ((id == i) && same_text node there) ≡ b → b ≡ false
+        at false e = refl
+        at true e = let parts = and_parts (id == i) (same_text node there) e in absurd (differ (eqb-true id i parts.0) ((same_text-tells node there).0 parts.1))
+
+    by : (party : Party) (c : Call) → IsGuarded history call.name party c → is_key (Attached id node) (key_at call.name party c) ≡ false
+    by Controller (calls.CreateVolume create required limit capabilities) guard = refl
+    by Controller (calls.DeleteVolume i) guard = refl
+    by Controller (calls.ControllerPublishVolume i there other readonly) guard =
+        apart i there (λ volume at.
+        let has : HasName controller call.name id = subst (HasName controller call.name) (sym volume) (given-id history frames view controller call.name i so guard.0) in
+        guard.1.not_attached (subst (λ n. known history (things.Attached call.name n) ≡ Yes) at (attached-known history frames view controller call.name node id capability so has (so.stands id node capability standing))))
+    by Controller (calls.ControllerUnpublishVolume i there) guard =
+        apart i there (λ volume at.
+        let has : HasName controller call.name id = subst (HasName controller call.name) (sym volume) (given-id history frames view controller call.name i so guard.0) in
+        none-stands history frames view controller call.name node id capability so has (subst (λ n. known history (things.Staged call.name n) ≡ No) (sym at) guard.1.not_staged) standing)
+    by (Node here) (calls.NodeStageVolume i other) guard = refl
+    by (Node here) (calls.NodeUnstageVolume i) guard = refl
+    by (Node here) (calls.NodePublishVolume i target other readonly) guard = refl
+    by (Node here) (calls.NodeUnpublishVolume i target) guard = refl
+    by party c guard = absurd guard
+
+-- the latest call that attached a volume tells how it is held
+attached-call : (name : List ℕ) (party : Party) (c : Call) (id : ℕ) (node : List ℕ) → is_key (Attached id node) (key_at name party c) ≡ true → is_doing c ≡ true
+    → (held : Held) × (c ≡ calls.ControllerPublishVolume id node held.capability held.readonly)
+attached-call name party (calls.ControllerPublishVolume i there capability readonly) id node of doing =
+    let parts = and_parts (id == i) (same_text node there) of in
+    let volume : i ≡ id = sym (eqb-true id i parts.0) in
+    let at : there ≡ node = sym ((same_text-tells node there).0 parts.1) in
+    (record { capability = capability; readonly = readonly }, λ n. calls.ControllerPublishVolume (volume n) (at n) capability readonly)
+attached-call name party (calls.ControllerUnpublishVolume i there) id node of doing = absurd (false≢true doing)
+attached-call name party (calls.CreateVolume create required limit capabilities) id node of doing = absurd (false≢true of)
+attached-call name party (calls.DeleteVolume i) id node of doing = absurd (false≢true of)
+attached-call name (Node here) (calls.NodeStageVolume i capability) id node of doing = absurd (false≢true of)
+attached-call name (Node here) (calls.NodeUnstageVolume i) id node of doing = absurd (false≢true of)
+attached-call name (Node here) (calls.NodePublishVolume i target capability readonly) id node of doing = absurd (false≢true of)
+attached-call name (Node here) (calls.NodeUnpublishVolume i target) id node of doing = absurd (false≢true of)
+attached-call name Controller (calls.NodeStageVolume i capability) id node of doing = absurd (false≢true of)
+attached-call name Controller (calls.NodeUnstageVolume i) id node of doing = absurd (false≢true of)
+attached-call name Controller (calls.NodePublishVolume i target capability readonly) id node of doing = absurd (false≢true of)
+attached-call name Controller (calls.NodeUnpublishVolume i target) id node of doing = absurd (false≢true of)
+
+turned : (a b : List ℕ) → same_text a b ≡ true → same_text b a ≡ true
+turned a b h = (same_text-tells b a).1 (sym ((same_text-tells a b).0 h))
+
+-- a call of the name that isn't of this attachment tells nothing of how it is held
+held-none : (name node : List ℕ) (x : Issued) → touches (things.Attached name node) x ≡ false → same_text x.name name ≡ true → held_by node x.call ≡ None
+held-none name node x other named = by x.party x.call other
+  where
+    by : (party : Party) (c : Call) → is_thing (things.Attached name node) (thing_at x.name party c) ≡ false → held_by node c ≡ None
+    by party (calls.ControllerPublishVolume i there capability readonly) other = at (same_text there node) refl
+      where
+        at : (b : Bool) → same_text there node ≡ b → cond b (Some (let h : Held = record { capability = capability; readonly = readonly } in h)) None ≡ None
+        at false e = refl
+        at true e = absurd (false≢true (sym other ∙ and_from (same_text name x.name) (same_text node there) (turned x.name name named) (turned there node e)))
+    by party (calls.CreateVolume create required limit capabilities) other = refl
+    by party (calls.DeleteVolume i) other = refl
+    by party (calls.ControllerUnpublishVolume i there) other = refl
+    by party (calls.NodeStageVolume i capability) other = refl
+    by party (calls.NodeUnstageVolume i) other = refl
+    by party (calls.NodePublishVolume i target capability readonly) other = refl
+    by party (calls.NodeUnpublishVolume i target) other = refl
+
+held-latest : (name node : List ℕ) (id : ℕ) (call : Issued) (here : Held) (xs : List Issued) → call.call ≡ calls.ControllerPublishVolume id node here.capability here.readonly → find (touches (things.Attached name node)) xs ≡ Some call
+    → newest (filter_map (λ (issued : Issued). held_by node issued.call) (filter (λ (issued : Issued). same_text issued.name name) xs)) ≡ Some here
+held-latest name node id call here [] publishes found = absurd (none_is_some call found)
+held-latest name node id call here (x ∷ xs) publishes found = by (touches (things.Attached name node) x) refl found (held-latest name node id call here xs publishes)
+  where
+    same : Some x ≡ Some call → x ≡ call
+    same e = cc
+
+    -- the call itself
+    told : (y : Issued) → y.call ≡ calls.ControllerPublishVolume id node here.capability here.readonly → touches (things.Attached name node) y ≡ true → (same_text y.name name ≡ true) × (held_by node y.call ≡ Some here)
+    told y is of =
+        let whole : (same_text name y.name && same_text node node) ≡ true = sym (ap (λ c. is_thing (things.Attached name node) (thing_at y.name y.party c)) is) ∙ of in
+        let self : same_text node node ≡ true = (same_text-tells node node).1 refl in
+        (
+          turned name y.name (and_parts (same_text name y.name) (same_text node node) whole).0,
+          ap (held_by node) is ∙ ap (λ b. cond b (Some here) None) self,
+        )
+
+    skip : (b : Bool) → same_text x.name name ≡ b → touches (things.Attached name node) x ≡ false
+        → newest (filter_map (λ (issued : Issued). held_by node issued.call) (filter (λ (issued : Issued). same_text issued.name name) xs)) ≡ Some here
+        → newest (filter_map (λ (issued : Issued). held_by node issued.call) (cond b (x ∷ filter (λ (issued : Issued). same_text issued.name name) xs) (filter (λ (issued : Issued). same_text issued.name name) xs))) ≡ Some here
+    skip false e other rest = rest
+    skip true e other rest = rw (held-none name node x other e) rest
+
+    by : (b : Bool) → touches (things.Attached name node) x ≡ b → cond b (Some x) (find (touches (things.Attached name node)) xs) ≡ Some call
+        → (find (touches (things.Attached name node)) xs ≡ Some call → newest (filter_map (λ (issued : Issued). held_by node issued.call) (filter (λ (issued : Issued). same_text issued.name name) xs)) ≡ Some here)
+        → newest (filter_map (λ (issued : Issued). held_by node issued.call) (filter (λ (issued : Issued). same_text issued.name name) (x ∷ xs))) ≡ Some here
+    by true e found rest =
+        let is = told x (subst (λ (y : Issued). y.call ≡ calls.ControllerPublishVolume id node here.capability here.readonly) (sym (same found)) publishes) e in
+        rw (is.0, is.1) refl
+    by false e found rest = skip (same_text x.name name) refl e (rest found)
+
+-- a guarded call stages only what is attached so
+pub stages-guarded : (history : History) (frames : List Frame) (view : View) (controller : ControllerState) (call : Issued) → IsSoFar history frames view controller → IsGuarded history call.name call.party call.call
+    → (id : ℕ) (node : List ℕ) (capability : Capability) → call.party ≡ Node node → call.call ≡ calls.NodeStageVolume id capability → IsAttachedSo history.items id node capability
+stages-guarded history frames view controller call so guard id node capability of_node stages =
+    let own = subst (λ c. IsGuarded history call.name (Node node) c) stages (subst (λ p. IsGuarded history call.name p call.call) of_node guard) in
+    let has : HasName controller call.name id = given-id history frames view controller call.name id so own.0 in
+    let latest = known-yes history (things.Attached call.name node) own.1.attached in
+    let found : find (is_of (Attached id node)) (issued_in history.items) ≡ Some latest.0 = sym (found-attached history frames view controller call.name node id so has) ∙ latest.1.found in
+    let by = attached-call latest.0.name latest.0.party latest.0.call id node (find-passes (is_of (Attached id node)) (issued_in history.items) latest.0 found) latest.1.is_so in
+    let is_held : held history call.name node ≡ Some by.0 = held-latest call.name node id latest.0 by.0 (issued_in history.items) by.1 latest.1.found in
+    let guarded = own.1.as_held in
+    let one : by.0 ≡ guarded.0 = same by.0 guarded.0 (sym is_held ∙ guarded.1) in
+    let alike : by.0.capability ≡ capability = ap (λ (h : Held). h.capability) one ∙ guarded.2 in
+    record { call = latest.0; readonly = by.0.readonly; found = found; publishes = by.1 ∙ ap (λ c. calls.ControllerPublishVolume id node c by.0.readonly) alike; success = latest.1.success }
+  where
+    same : (a b : Held) → Some a ≡ Some b → a ≡ b
+    same a b e = cc

@@ -1,0 +1,193 @@
+-- What the orchestrator's history tells of the replies that were sent.
+use Rattle.std.proofs.Common.{◌≡◌, ◌≢◌, ◌⊎◌, ℕ, List, [], ◌∷◌, ◌++◌, Bool, true, false, cond, not, refl, sym, ◌∙◌, ap, subst, inl, inr}
+use Rattle.std.specs.Prelude.{Option, Some, None, find, filter, filter_map, ◌&&◌, ◌||◌}
+use Rattle.std.specs.List.{list_any}
+use Rattle.std.proofs.lemmas.Bool.{and_parts, false≢true}
+use Rattle.csi_types.specs.declared.number.Number.{Number}
+use Rattle.csi_types.specs.declared.call.Call.{Call}
+use Rattle.csi_types.specs.declared.call.Call.TheVariants as calls
+use Rattle.csi_types.specs.declared.capability.Capability.{Capability}
+use Rattle.csi_types.specs.declared.reply.Reply.{Reply}
+use Rattle.csi_types.specs.declared.status.Status.{Status}
+use Rattle.csi_types.specs.declared.status.Status.TheVariants.{Ok}
+use Rattle.csi_types.specs.Call.{kind_of}
+use Rattle.csi_types.specs.Frame.{Frame}
+use Rattle.csi_types.specs.Lists.{IsAmong, EachTwo}
+use Rattle.csi_types.specs.Reply.{is_ok_status}
+use Rattle.csi_types.specs.Replies.{reply_frame}
+use Rattle.csi_types.specs.Same.{same_text, same_number}
+use Rattle.csi_types.proofs.Among.{among-append, among-filter}
+use Rattle.csi_types.proofs.Equality.{same_number-tells, same_text-tells}
+use Rattle.csi_types.proofs.Lists.{find-passes}
+use Rattle.csi_controller.specs.State.{ControllerState}
+use Rattle.csi_orchestrator.specs.declared.thing.Thing.{Thing}
+use Rattle.csi_orchestrator.specs.declared.thing.Thing.TheVariants as things
+use Rattle.csi_orchestrator.specs.declared.thing.Known.{Known}
+use Rattle.csi_orchestrator.specs.declared.thing.Known.TheVariants.{Yes, No, Maybe}
+use Rattle.csi_orchestrator.specs.Thing.{Issued, touches, does, is_doing}
+use Rattle.csi_orchestrator.specs.History.{Item, Started, Sent, Accepted, Closed, Noted, History}
+use Rattle.csi_orchestrator.specs.Readings.{newest, issued_by, issued_in, issued_of, is_success_of, has_success, known_by, known, id_in, id_by, id_of}
+use Rattle.csi_world.proofs.Issued.{HasName, IsAnsweredOk, ComesAfter, one-number}
+use Rattle.csi_world.proofs.Named.{Named}
+
+-- a reply like this was sent to a sent call of this number
+pub record WasSent (issued : List Issued) (frames : List Frame) (number : Number) (status : Status) (id : Option ℕ) : Type 0 where
+  pub call : Issued
+  pub among : IsAmong call issued
+  pub has_number : call.number ≡ number
+  pub reply : Reply
+  pub sent : IsAmong (reply_frame call.number call.party (kind_of call.call) reply) frames
+  pub has_status : reply.status ≡ status
+  pub has_id : reply.id ≡ id
+
+-- what was taken was sent
+abbrev pub IsHeard : List Item → List Issued → List Frame → Type 0
+IsHeard items issued frames = (number : Number) (status : Status) (id : Option ℕ) → IsAmong (Accepted number status id) items → WasSent issued frames number status id
+
+pub sent-more : (issued more : List Issued) (frames : List Frame) (last : Frame) (number : Number) (status : Status) (id : Option ℕ) → ((call : Issued) → IsAmong call issued → IsAmong call more)
+    → WasSent issued frames number status id → WasSent more (frames ++ last ∷ []) number status id
+sent-more issued more frames last number status id wider was =
+    record { call = was.call; among = wider was.call was.among; has_number = was.has_number; reply = was.reply; sent = among-append frames (last ∷ []) _ was.sent; has_status = was.has_status; has_id = was.has_id }
+
+-- an element that passes
+pub any-found : {X : Type 0} (p : X → Bool) (xs : List X) → list_any p xs ≡ true → (x : X) × IsAmong x xs × (p x ≡ true)
+any-found p [] h = absurd (false≢true h)
+any-found {X} p (x ∷ xs) h = by (p x) refl h (any-found p xs)
+  where
+    by : (b : Bool) → p x ≡ b → (b || list_any p xs) ≡ true → (list_any p xs ≡ true → (y : X) × IsAmong y xs × (p y ≡ true)) → (y : X) × IsAmong y (x ∷ xs) × (p y ≡ true)
+    by true e h rest = (x, inl refl, e)
+    by false e h rest = let found = rest h in (found.0, inr found.1, found.2)
+
+pub is_ok-then : (status : Status) → is_ok_status status ≡ true → status ≡ Ok
+is_ok-then Ok h = refl
+is_ok-then status h = cc
+
+-- a success that was heard was sent
+pub success-ok : (items : List Item) (issued : List Issued) (frames : List Frame) (call : Issued) → IsHeard items issued frames → EachTwo ComesAfter issued → IsAmong call issued → has_success items call.number ≡ true
+    → (reply : Reply) × IsAnsweredOk frames call reply
+success-ok items issued frames call heard numbers there h =
+    let found = any-found (is_success_of call.number) items h in by found.0 found.1 found.2
+  where
+    by : (item : Item) → IsAmong item items → is_success_of call.number item ≡ true → (reply : Reply) × IsAnsweredOk frames call reply
+    by (Accepted other status id) among passes =
+        let parts = and_parts (same_number other call.number) (is_ok_status status) passes in
+        let was = heard other status id among in
+        let same : was.call ≡ call = one-number issued numbers was.call call was.among there (was.has_number ∙ (same_number-tells other call.number).0 parts.0) in
+        (was.reply, (subst (λ (x : Issued). IsAmong (reply_frame x.number x.party (kind_of x.call) was.reply) frames) same was.sent, was.has_status ∙ is_ok-then status parts.1))
+    by (Started session) among passes = absurd (false≢true passes)
+    by (Sent other) among passes = absurd (false≢true passes)
+    by (Closed number) among passes = absurd (false≢true passes)
+    by (Noted name goal) among passes = absurd (false≢true passes)
+
+-- the newest of what is found
+pub newest-found : {X Y : Type 0} (f : X → Option Y) (xs : List X) (y : Y) → newest (filter_map f xs) ≡ Some y → (x : X) × IsAmong x xs × (f x ≡ Some y)
+newest-found f [] y h = absurd (clash h)
+  where
+    clash : None ≡ Some y → ⊥
+    clash e = cc
+newest-found {X} {Y} f (x ∷ xs) y h = by (f x) refl h (newest-found f xs y)
+  where
+    by : (o : Option Y) → f x ≡ o → newest (filter_map f (x ∷ xs)) ≡ Some y → (newest (filter_map f xs) ≡ Some y → (z : X) × IsAmong z xs × (f z ≡ Some y)) → (z : X) × IsAmong z (x ∷ xs) × (f z ≡ Some y)
+    by None e h rest = let found = rest (rw e at h) in (found.0, inr found.1, found.2)
+    by (Some w) e h rest = (x, inl refl, e ∙ (let k : newest (w ∷ filter_map f xs) ≡ Some y = rw e at h in k))
+
+-- an id that was heard for a name is the one that the controller gave it
+pub id-given : (history : History) (frames : List Frame) (controller : ControllerState) (name : List ℕ) (id : ℕ) → IsHeard history.items (issued_in history.items) frames → EachTwo ComesAfter (issued_in history.items)
+    → Named (issued_in history.items) frames controller → id_of history name ≡ Some id → HasName controller name id
+id-given history frames controller name id heard numbers named h =
+    let found = newest-found (λ (issued : Issued). id_by history.items issued issued.call) (issued_of history name) id h in
+    let call : Issued = found.0 in
+    let among : IsAmong call (issued_in history.items) = among-filter (λ (issued : Issued). same_text issued.name name) (issued_in history.items) call found.1 in
+    subst (λ n. HasName controller n id) (of_name call found.1) (by call among call.call refl found.2)
+  where
+    of_name : (call : Issued) → IsAmong call (issued_of history name) → call.name ≡ name
+    of_name call among = (same_text-tells call.name name).0 (passes-filter (issued_in history.items) call among)
+      where
+        passes-filter : (xs : List Issued) (x : Issued) → IsAmong x (filter (λ (issued : Issued). same_text issued.name name) xs) → same_text x.name name ≡ true
+        passes-filter [] x among = absurd among
+        passes-filter (y ∷ ys) x among = at (same_text y.name name) refl among (passes-filter ys x)
+          where
+            at : (b : Bool) → same_text y.name name ≡ b → IsAmong x (cond b (y ∷ filter (λ (issued : Issued). same_text issued.name name) ys) (filter (λ (issued : Issued). same_text issued.name name) ys))
+                → (IsAmong x (filter (λ (issued : Issued). same_text issued.name name) ys) → same_text x.name name ≡ true) → same_text x.name name ≡ true
+            at true e (inl same) rest = ap (λ (z : Issued). same_text z.name name) same ∙ e
+            at true e (inr there) rest = rest there
+            at false e there rest = rest there
+
+    clash : None ≡ Some id → ⊥
+    clash e = cc
+
+    accepted : (call : Issued) → IsAmong call (issued_in history.items) → (create : List ℕ) (required limit : ℕ) (capabilities : List Capability) → call.call ≡ calls.CreateVolume create required limit capabilities
+        → (item : Item) → IsAmong item history.items → id_in call.number item ≡ Some id → HasName controller call.name id
+    accepted call there create required limit capabilities is (Accepted other status given) among h = at (same_number other call.number && is_ok_status status) refl h
+      where
+        at : (b : Bool) → (same_number other call.number && is_ok_status status) ≡ b → cond b given None ≡ Some id → HasName controller call.name id
+        at false e h = absurd (clash h)
+        at true e h =
+            let parts = and_parts (same_number other call.number) (is_ok_status status) e in
+            let was = heard other status given among in
+            let same : was.call ≡ call = one-number (issued_in history.items) numbers was.call call was.among there (was.has_number ∙ (same_number-tells other call.number).0 parts.0) in
+            named.made call was.reply id create required limit capabilities there is
+            (subst (λ (x : Issued). IsAmong (reply_frame x.number x.party (kind_of x.call) was.reply) frames) same was.sent, was.has_status ∙ is_ok-then status parts.1)
+            (was.has_id ∙ h)
+    accepted call there create required limit capabilities is (Started session) among h = absurd (clash h)
+    accepted call there create required limit capabilities is (Sent other) among h = absurd (clash h)
+    accepted call there create required limit capabilities is (Closed number) among h = absurd (clash h)
+    accepted call there create required limit capabilities is (Noted n goal) among h = absurd (clash h)
+
+    by : (call : Issued) → IsAmong call (issued_in history.items) → (c : Call) → call.call ≡ c → id_by history.items call c ≡ Some id → HasName controller call.name id
+    by call there (calls.CreateVolume create required limit capabilities) is h =
+        let found = newest-found (id_in call.number) history.items id h in accepted call there create required limit capabilities is found.0 found.1 found.2
+    by call there (calls.DeleteVolume i) is h = absurd (clash h)
+    by call there (calls.ControllerPublishVolume i node capability readonly) is h = absurd (clash h)
+    by call there (calls.ControllerUnpublishVolume i node) is h = absurd (clash h)
+    by call there (calls.NodeStageVolume i capability) is h = absurd (clash h)
+    by call there (calls.NodeUnstageVolume i) is h = absurd (clash h)
+    by call there (calls.NodePublishVolume i target capability readonly) is h = absurd (clash h)
+    by call there (calls.NodeUnpublishVolume i target) is h = absurd (clash h)
+
+-- what is known of a thing: by its latest call, and whether a success of it was heard
+pub record IsLatest (items : List Item) (thing : Thing) (call : Issued) (doing : Bool) : Type 0 where
+  pub found : find (touches thing) (issued_in items) ≡ Some call
+  pub success : has_success items call.number ≡ true
+  pub is_so : is_doing call.call ≡ doing
+
+no_is_yes : No ≡ Yes → ⊥
+no_is_yes e = cc
+
+maybe_is_yes : Maybe ≡ Yes → ⊥
+maybe_is_yes e = cc
+
+maybe_is_no : Maybe ≡ No → ⊥
+maybe_is_no e = cc
+
+yes_is_no : Yes ≡ No → ⊥
+yes_is_no e = cc
+
+pub known-yes : (history : History) (thing : Thing) → known history thing ≡ Yes → (call : Issued) × IsLatest history.items thing call true
+known-yes history thing h = by (find (touches thing) (issued_in history.items)) refl h
+  where
+    by : (o : Option Issued) → find (touches thing) (issued_in history.items) ≡ o → known_by history.items thing o ≡ Yes → (call : Issued) × IsLatest history.items thing call true
+    by None e h = absurd (no_is_yes h)
+    by (Some call) e h = at (has_success history.items call.number) (is_doing call.call) refl refl (rw (find-passes (touches thing) (issued_in history.items) call e) at h)
+      where
+        at : (s d : Bool) → has_success history.items call.number ≡ s → is_doing call.call ≡ d → cond (not s) Maybe (cond d Yes No) ≡ Yes → (call : Issued) × IsLatest history.items thing call true
+        at true true p q h = (call, record { found = e; success = p; is_so = q })
+        at true false p q h = absurd (no_is_yes h)
+        at false d p q h = absurd (maybe_is_yes h)
+
+pub known-no : (history : History) (thing : Thing) → known history thing ≡ No → (find (touches thing) (issued_in history.items) ≡ None) ⊎ ((call : Issued) × IsLatest history.items thing call false)
+known-no history thing h = by (find (touches thing) (issued_in history.items)) refl h
+  where
+    by : (o : Option Issued) → find (touches thing) (issued_in history.items) ≡ o → known_by history.items thing o ≡ No → (o ≡ None) ⊎ ((call : Issued) × IsLatest history.items thing call false)
+    by None e h = inl refl
+    by (Some call) e h = inr (at (has_success history.items call.number) (is_doing call.call) refl refl (rw (find-passes (touches thing) (issued_in history.items) call e) at h))
+      where
+        at : (s d : Bool) → has_success history.items call.number ≡ s → is_doing call.call ≡ d → cond (not s) Maybe (cond d Yes No) ≡ No → (call : Issued) × IsLatest history.items thing call false
+        at true true p q h = absurd (yes_is_no h)
+        at true false p q h = (call, record { found = e; success = p; is_so = q })
+        at false d p q h = absurd (maybe_is_no h)
+
+pub latest-known : (history : History) (thing : Thing) (call : Issued) → IsLatest history.items thing call true → known history thing ≡ Yes
+latest-known history thing call latest =
+    let passes : touches thing call ≡ true = find-passes (touches thing) (issued_in history.items) call latest.found in
+    ap (known_by history.items thing) latest.found ∙ rw (latest.success, passes, latest.is_so) refl
