@@ -13,6 +13,7 @@ use Rattle.csi_types.specs.Frame.{Frame}
 use Rattle.csi_types.specs.Key.{Key, Form, same_key, asked}
 use Rattle.csi_types.specs.Number.{IsBefore}
 use Rattle.csi_types.specs.Replies.{reply_frame}
+use Rattle.csi_types.specs.Reply.{has_id_by_rule}
 
 -- a plugin by its things: how each is there, if it is; which call numbers are spent for it, so that no call of that
 -- number will be carried out; and what is kept of the last call that was answered for its volume
@@ -41,11 +42,12 @@ pub record Delivery : Type 0 where
 abbrev pub kept_of : Delivery → Kept
 kept_of delivery = record { number = delivery.number; kind = delivery.kind; reply = delivery.reply }
 
--- the call was carried out. Its number wasn't spent. After an OK its thing is as asked and the number is spent; after
--- a refusal the thing is as it was. Other things are as they were, and what was spent stays so. What is kept then was
+-- the call was carried out. Its number wasn't spent. After an OK, which has an id where it must, its thing is as asked
+-- and the number is spent; after a refusal the thing is as it was. Other things are as they were, and what was spent stays so. What is kept then was
 -- kept before, or is this reply
 pub record Acts (key : Key) (delivery : Delivery) (old new : View) : Type 0 where
   pub of_its_kind : delivery.kind ≡ kind_of delivery.call
+  pub with_id : delivery.reply.status ≡ Ok → IsTrue (has_id_by_rule delivery.kind delivery.reply)
   pub was_fresh : old.is_spent key delivery.number ≡ false
   pub done : delivery.reply.status ≡ Ok → new.held key ≡ asked delivery.call delivery.reply
   pub spent : delivery.reply.status ≡ Ok → IsTrue (new.is_spent key delivery.number)

@@ -6,3 +6,4 @@ pub mod Named
 pub mod Heard
 pub mod Standing
 pub mod Guarded
+pub mod Recorded

@@ -18,6 +18,7 @@ use Rattle.csi_types.specs.Frame.{Frame}
 use Rattle.csi_types.specs.Key.{Key, same_key, asked}
 use Rattle.csi_types.specs.Lists.{IsAmong, EachTwo}
 use Rattle.csi_types.specs.Number.{IsBefore}
+use Rattle.csi_types.specs.Reply.{has_id_by_rule}
 use Rattle.csi_types.specs.Replies.{call_frame, reply_frame}
 use Rattle.csi_types.proofs.Among.{all_of, among-append, among-either, among-find, none_passes}
 use Rattle.csi_types.proofs.Equality.{same_key-tells}
@@ -40,9 +41,11 @@ pub record IsFrameOf (issued : List Issued) (frame : Frame) : Type 0 where
   pub is : frame ≡ frame_of call
 
 pub record Truth (issued : List Issued) (frames : List Frame) (view : View) : Type 0 where
-  -- what was sent: calls that were issued, and replies to their numbers, what is kept among them
+  -- what was sent: calls that were issued, and replies to their numbers, an OK with an id where it must, what is kept
+  -- among them
   pub calls : (frame : Frame) (call : Call) → IsAmong frame frames → frame.body ≡ bodies.Call call → IsFrameOf issued frame
   pub replies : (number : Number) (party : Party) (kind : Kind) (reply : Reply) → IsAmong (reply_frame number party kind reply) frames → IsSent issued number
+  pub ids : (number : Number) (party : Party) (kind : Kind) (reply : Reply) → IsAmong (reply_frame number party kind reply) frames → reply.status ≡ Ok → IsTrue (has_id_by_rule kind reply)
   pub kept : (key : Key) (kept : Kept) → view.kept key ≡ Some kept → IsAmong (reply_frame kept.number (party_of key) kept.kind kept.reply) frames
   pub numbers : EachTwo ComesAfter issued
   -- what was answered OK is spent; the latest call of a thing left it as it asks; a thing without one isn't there
@@ -81,6 +84,7 @@ truth-sent issued frames view call truth later =
       replies = λ number party kind reply among.
           let sent = truth.replies number party kind reply (before_call frames call number party kind reply among) in
           record { call = sent.call; among = inr sent.among; has_number = sent.has_number };
+      ids = λ number party kind reply among. truth.ids number party kind reply (before_call frames call number party kind reply among);
       kept = λ key kept is. among-append frames (frame_of call ∷ []) _ (truth.kept key kept is);
       numbers = (all_of (ComesAfter call) issued later, truth.numbers);
       spent = λ other key reply among of ok. spent other key reply among of ok;
@@ -141,6 +145,23 @@ answered-replies issued frames view call kind reply truth there number party k r
     by (inl old) = truth.replies number party k r old
     by (inr e) = record { call = call; among = there; has_number = sym (ap (λ (f : Frame). f.number) e) }
 
+answered-ids : (issued : List Issued) (frames : List Frame) (view : View) (call : Issued) (kind : Kind) (reply : Reply) → Truth issued frames view → (reply.status ≡ Ok → IsTrue (has_id_by_rule kind reply))
+    → (number : Number) (party : Party) (k : Kind) (r : Reply) → IsAmong (reply_frame number party k r) (frames ++ answer_to call kind reply ∷ []) → r.status ≡ Ok → IsTrue (has_id_by_rule k r)
+answered-ids issued frames view call kind reply truth rule number party k r among ok = by (among-either frames (answer_to call kind reply) (reply_frame number party k r) among)
+  where
+    same_kind : bodies.Reply k r ≡ bodies.Reply kind reply → k ≡ kind
+    same_kind e = cc
+
+    same_reply : bodies.Reply k r ≡ bodies.Reply kind reply → r ≡ reply
+    same_reply e = cc
+
+    by : IsAmong (reply_frame number party k r) frames ⊎ (reply_frame number party k r ≡ answer_to call kind reply) → IsTrue (has_id_by_rule k r)
+    by (inl old) = truth.ids number party k r old ok
+    by (inr e) =
+        let body : bodies.Reply k r ≡ bodies.Reply kind reply = ap (λ (f : Frame). f.body) e in
+        let is : r ≡ reply = same_reply body in
+        subst (λ x. IsTrue (has_id_by_rule x r)) (sym (same_kind body)) (subst (λ (x : Reply). IsTrue (has_id_by_rule kind x)) (sym is) (rule (subst (λ (x : Reply). x.status ≡ Ok) is ok)))
+
 -- an OK is an old one, or the answer
 ok-either : (issued : List Issued) (frames : List Frame) (call : Issued) (kind : Kind) (reply : Reply) → EachTwo ComesAfter issued → IsAmong call issued → (other : Issued) (r : Reply) → IsAmong other issued
     → IsAnsweredOk (frames ++ answer_to call kind reply ∷ []) other r → IsAnsweredOk frames other r ⊎ ((other ≡ call) × (r ≡ reply) × (r.status ≡ Ok))
@@ -170,6 +191,7 @@ truth-acts issued frames old new call key kind reply truth closed there of keeps
     record {
       calls = answered-calls issued frames old call kind reply truth;
       replies = answered-replies issued frames old call kind reply truth there;
+      ids = answered-ids issued frames old call kind reply truth acts.with_id;
       kept = λ other k is. kept other k (keeps other k is);
       numbers = truth.numbers;
       spent = λ other k r among its ok. spent other k r among its (ok-either issued frames call kind reply truth.numbers there other r among ok);
@@ -232,6 +254,7 @@ truth-rests issued frames old new call key kind reply truth there party rests =
     record {
       calls = answered-calls issued frames old call kind reply truth;
       replies = answered-replies issued frames old call kind reply truth there;
+      ids = answered-ids issued frames old call kind reply truth ids;
       kept = λ other k is. among-append frames (answer_to call kind reply ∷ []) _ (truth.kept other k (sym (same.kept other) ∙ is));
       numbers = truth.numbers;
       spent = λ other k r among its ok. same.is_spent k other.number ∙ truth.spent other k r among its (before other r among ok);
@@ -240,6 +263,12 @@ truth-rests issued frames old new call key kind reply truth there party rests =
     }
   where
     -- an OK was kept, so it was sent before
+    sent_before : reply.status ≡ Ok → IsAmong (answer_to call kind reply) frames
+    sent_before ok = subst (λ p. IsAmong (reply_frame call.number p kind reply) frames) party (truth.kept key (kept_of (delivery_of call kind reply)) (rests.was_kept ok))
+
+    ids : reply.status ≡ Ok → IsTrue (has_id_by_rule kind reply)
+    ids ok = truth.ids call.number call.party kind reply (sent_before ok) ok
+
     before : (other : Issued) (r : Reply) → IsAmong other issued → IsAnsweredOk (frames ++ answer_to call kind reply ∷ []) other r → IsAnsweredOk frames other r
     before other r among ok = by (among-either frames (answer_to call kind reply) (reply_frame other.number other.party (kind_of other.call) r) ok.0)
       where
@@ -250,6 +279,4 @@ truth-rests issued frames old new call key kind reply truth there party rests =
         by (inl old) = (old, ok.1)
         by (inr e) =
             let is : r ≡ reply = same_reply (ap (λ (f : Frame). f.body) e) in
-            let kept = truth.kept key (kept_of (delivery_of call kind reply)) (rests.was_kept (subst (λ (x : Reply). x.status ≡ Ok) is ok.1)) in
-            let sent : IsAmong (answer_to call kind reply) frames = subst (λ p. IsAmong (reply_frame call.number p kind reply) frames) party kept in
-            (subst (λ (f : Frame). IsAmong f frames) (sym e) sent, ok.1)
+            (subst (λ (f : Frame). IsAmong f frames) (sym e) (sent_before (subst (λ (x : Reply). x.status ≡ Ok) is ok.1)), ok.1)

@@ -61,6 +61,7 @@ pub acts-all : (old new : World) (key : Key) (delivery : Delivery) → ChangesOn
 acts-all old new key delivery only acts =
     record {
       of_its_kind = acts.of_its_kind;
+      with_id = acts.with_id;
       was_fresh = acts.was_fresh;
       done = acts.done;
       spent = acts.spent;
