@@ -7,3 +7,5 @@ pub mod Heard
 pub mod Standing
 pub mod Guarded
 pub mod Recorded
+pub mod Reached
+pub mod Deliveries

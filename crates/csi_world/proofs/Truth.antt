@@ -60,7 +60,7 @@ reply_is_call number party kind reply call e = clash (ap (λ (f : Frame). f.body
     clash h = cc
 
 -- a reply among frames to which a call was added stood there before
-before_call : (frames : List Frame) (call : Issued) (number : Number) (party : Party) (kind : Kind) (reply : Reply) → IsAmong (reply_frame number party kind reply) (frames ++ frame_of call ∷ []) → IsAmong (reply_frame number party kind reply) frames
+pub before_call : (frames : List Frame) (call : Issued) (number : Number) (party : Party) (kind : Kind) (reply : Reply) → IsAmong (reply_frame number party kind reply) (frames ++ frame_of call ∷ []) → IsAmong (reply_frame number party kind reply) frames
 before_call frames call number party kind reply among = by (among-either frames (frame_of call) (reply_frame number party kind reply) among)
   where
     by : IsAmong (reply_frame number party kind reply) frames ⊎ (reply_frame number party kind reply ≡ frame_of call) → IsAmong (reply_frame number party kind reply) frames
@@ -68,7 +68,7 @@ before_call frames call number party kind reply among = by (among-either frames 
     by (inr e) = absurd (reply_is_call number party kind reply call e)
 
 -- a new number has no reply
-unanswered : (issued : List Issued) (frames : List Frame) (view : View) (call : Issued) (reply : Reply) → Truth issued frames view → ((older : Issued) → IsAmong older issued → IsBefore older.number call.number)
+pub unanswered : (issued : List Issued) (frames : List Frame) (view : View) (call : Issued) (reply : Reply) → Truth issued frames view → ((older : Issued) → IsAmong older issued → IsBefore older.number call.number)
     → IsAnsweredOk (frames ++ frame_of call ∷ []) call reply → ⊥
 unanswered issued frames view call reply truth later ok =
     let sent = truth.replies call.number call.party (kind_of call.call) reply (before_call frames call call.number call.party (kind_of call.call) reply ok.0) in
@@ -163,7 +163,7 @@ answered-ids issued frames view call kind reply truth rule number party k r amon
         subst (λ x. IsTrue (has_id_by_rule x r)) (sym (same_kind body)) (subst (λ (x : Reply). IsTrue (has_id_by_rule kind x)) (sym is) (rule (subst (λ (x : Reply). x.status ≡ Ok) is ok)))
 
 -- an OK is an old one, or the answer
-ok-either : (issued : List Issued) (frames : List Frame) (call : Issued) (kind : Kind) (reply : Reply) → EachTwo ComesAfter issued → IsAmong call issued → (other : Issued) (r : Reply) → IsAmong other issued
+pub ok-either : (issued : List Issued) (frames : List Frame) (call : Issued) (kind : Kind) (reply : Reply) → EachTwo ComesAfter issued → IsAmong call issued → (other : Issued) (r : Reply) → IsAmong other issued
     → IsAnsweredOk (frames ++ answer_to call kind reply ∷ []) other r → IsAnsweredOk frames other r ⊎ ((other ≡ call) × (r ≡ reply) × (r.status ≡ Ok))
 ok-either issued frames call kind reply numbers there other r among ok = by (among-either frames (answer_to call kind reply) (reply_frame other.number other.party (kind_of other.call) r) ok.0)
   where
@@ -246,37 +246,41 @@ truth-acts issued frames old new call key kind reply truth closed there of keeps
         absurd (false≢true (sym (none_passes (is_of k) issued call none there) ∙ subst (λ x. is_of x call ≡ true) (sym same) of))
     untouched k none false e = acts.others k e ∙ truth.untouched k none
 
+-- an OK to a call that wasn't carried out was kept, so it was sent before
+sent_before : (issued : List Issued) (frames : List Frame) (old new : View) (call : Issued) (key : Key) (kind : Kind) (reply : Reply) → Truth issued frames old → party_of key ≡ call.party
+    → Rests key (delivery_of call kind reply) old new → reply.status ≡ Ok → IsAmong (answer_to call kind reply) frames
+sent_before issued frames old new call key kind reply truth party rests ok =
+    subst (λ p. IsAmong (reply_frame call.number p kind reply) frames) party (truth.kept key (kept_of (delivery_of call kind reply)) (rests.was_kept ok))
+
+pub ok-before : (issued : List Issued) (frames : List Frame) (old new : View) (call : Issued) (key : Key) (kind : Kind) (reply : Reply) → Truth issued frames old → party_of key ≡ call.party
+    → Rests key (delivery_of call kind reply) old new → (other : Issued) (r : Reply) → IsAnsweredOk (frames ++ answer_to call kind reply ∷ []) other r → IsAnsweredOk frames other r
+ok-before issued frames old new call key kind reply truth party rests other r ok =
+    by (among-either frames (answer_to call kind reply) (reply_frame other.number other.party (kind_of other.call) r) ok.0)
+  where
+    same_reply : bodies.Reply (kind_of other.call) r ≡ bodies.Reply kind reply → r ≡ reply
+    same_reply e = cc
+
+    by : IsAmong (reply_frame other.number other.party (kind_of other.call) r) frames ⊎ (reply_frame other.number other.party (kind_of other.call) r ≡ answer_to call kind reply) → IsAnsweredOk frames other r
+    by (inl old_one) = (old_one, ok.1)
+    by (inr e) =
+        let is : r ≡ reply = same_reply (ap (λ (f : Frame). f.body) e) in
+        let sent = sent_before issued frames old new call key kind reply truth party rests (subst (λ (x : Reply). x.status ≡ Ok) is ok.1) in
+        (subst (λ (f : Frame). IsAmong f frames) (sym e) sent, ok.1)
+
 -- a plugin didn't carry a sent call out
 pub truth-rests : (issued : List Issued) (frames : List Frame) (old new : View) (call : Issued) (key : Key) (kind : Kind) (reply : Reply) → Truth issued frames old → IsAmong call issued → party_of key ≡ call.party
     → Rests key (delivery_of call kind reply) old new → Truth issued (frames ++ answer_to call kind reply ∷ []) new
 truth-rests issued frames old new call key kind reply truth there party rests =
     let same = rests.same in
+    let before = ok-before issued frames old new call key kind reply truth party rests in
     record {
       calls = answered-calls issued frames old call kind reply truth;
       replies = answered-replies issued frames old call kind reply truth there;
-      ids = answered-ids issued frames old call kind reply truth ids;
+      ids = answered-ids issued frames old call kind reply truth
+          (λ ok. truth.ids call.number call.party kind reply (sent_before issued frames old new call key kind reply truth party rests ok) ok);
       kept = λ other k is. among-append frames (answer_to call kind reply ∷ []) _ (truth.kept other k (sym (same.kept other) ∙ is));
       numbers = truth.numbers;
-      spent = λ other k r among its ok. same.is_spent k other.number ∙ truth.spent other k r among its (before other r among ok);
-      told = λ other k r found ok. same.held k ∙ truth.told other k r found (before other r (among-find (is_of k) issued other found) ok);
+      spent = λ other k r among its ok. same.is_spent k other.number ∙ truth.spent other k r among its (before other r ok);
+      told = λ other k r found ok. same.held k ∙ truth.told other k r found (before other r ok);
       untouched = λ k none. same.held k ∙ truth.untouched k none;
     }
-  where
-    -- an OK was kept, so it was sent before
-    sent_before : reply.status ≡ Ok → IsAmong (answer_to call kind reply) frames
-    sent_before ok = subst (λ p. IsAmong (reply_frame call.number p kind reply) frames) party (truth.kept key (kept_of (delivery_of call kind reply)) (rests.was_kept ok))
-
-    ids : reply.status ≡ Ok → IsTrue (has_id_by_rule kind reply)
-    ids ok = truth.ids call.number call.party kind reply (sent_before ok) ok
-
-    before : (other : Issued) (r : Reply) → IsAmong other issued → IsAnsweredOk (frames ++ answer_to call kind reply ∷ []) other r → IsAnsweredOk frames other r
-    before other r among ok = by (among-either frames (answer_to call kind reply) (reply_frame other.number other.party (kind_of other.call) r) ok.0)
-      where
-        same_reply : bodies.Reply (kind_of other.call) r ≡ bodies.Reply kind reply → r ≡ reply
-        same_reply e = cc
-
-        by : IsAmong (reply_frame other.number other.party (kind_of other.call) r) frames ⊎ (reply_frame other.number other.party (kind_of other.call) r ≡ answer_to call kind reply) → IsAnsweredOk frames other r
-        by (inl old) = (old, ok.1)
-        by (inr e) =
-            let is : r ≡ reply = same_reply (ap (λ (f : Frame). f.body) e) in
-            (subst (λ (f : Frame). IsAmong f frames) (sym e) (sent_before (subst (λ (x : Reply). x.status ≡ Ok) is ok.1)), ok.1)
