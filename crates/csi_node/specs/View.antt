@@ -10,9 +10,10 @@ use Rattle.csi_types.specs.Delivery.{View, view_by, IsDelivered, IsEmpty, IsClos
 use Rattle.csi_types.specs.Fence.{Kept}
 use Rattle.csi_types.specs.Frame.{Frame}
 use Rattle.csi_types.specs.Key.{Key, Exists, Attached, Staged, Published, Form, StagedAs, PublishedAs}
+use Rattle.csi_types.specs.Lists.{IsAmong}
 use Rattle.csi_types.specs.Replies.{call_frame}
 use Rattle.csi_types.specs.Same.{same_text}
-use Rattle.csi_node.specs.State.{NodeState, empty_node, row_with_id, staged_of, published_at}
+use Rattle.csi_node.specs.State.{NodeState, StagedVolume, empty_node, row_with_id, staged_of, published_at}
 use Rattle.csi_node.specs.Fenced.{fenced, after_frames}
 
 -- how a thing is on this node; volumes and where they are attached are the controller's
@@ -55,10 +56,12 @@ IsDeliveredTo node state number call =
     IsDelivered (Node node) number call (key_of node call) (view_of node state) (view_of node (fenced node state (call_frame number (Node node) call)).state)
         (fenced node state (call_frame number (Node node) call)).reply
 
--- in every state that frames lead to, whichever call comes next: it is delivered as the laws say; and a new node has
--- nothing, and what came before a spent number is spent
+-- in every state that frames lead to, whichever call comes next: it is delivered as the laws say, and each staged volume
+-- is found as it is staged; and a new node has nothing, and what came before a spent number is spent
 pub record NodeDeliveryLaw : Type 0 where
   pub empty : (node : List ℕ) → IsEmpty (view_of node empty_node)
   pub closed : (node : List ℕ) (state : NodeState) → IsClosed (view_of node state)
   pub delivered : (node : List ℕ) (frames : List Frame) (number : Number) (call : Call) → IsTrue (is_party_of (kind_of call) (Node node))
       → IsDeliveredTo node (after_frames node empty_node frames) number call
+  pub found : (node : List ℕ) (frames : List Frame) (staged : StagedVolume) → IsAmong staged (after_frames node empty_node frames).staged
+      → staged_of staged.volume (after_frames node empty_node frames) ≡ Some staged.capability

@@ -9,3 +9,5 @@ pub mod Guarded
 pub mod Recorded
 pub mod Reached
 pub mod Deliveries
+pub mod Choices
+pub mod Safety

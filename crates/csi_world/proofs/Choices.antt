@@ -1,0 +1,331 @@
+-- What is so of a world after what its orchestrator chooses to do.
+use Rattle.std.proofs.Common.{◌≡◌, ◌⊎◌, ℕ, ◌<◌, List, [], ◌∷◌, ◌++◌, map, Bool, true, false, cond, refl, sym, ◌∙◌, ap, subst, inl, inr, arith}
+use Rattle.std.specs.Prelude.{Option, Some, None}
+use Rattle.std.proofs.lemmas.Bool.Decides.{nat_tests}
+use Rattle.csi_types.specs.declared.capability.Capability.{Capability}
+use Rattle.csi_types.specs.declared.number.Number.{Number}
+use Rattle.csi_types.specs.declared.call.Call.{Call}
+use Rattle.csi_types.specs.declared.call.Call.TheVariants as calls
+use Rattle.csi_types.specs.declared.reply.Reply.{Reply}
+use Rattle.csi_types.specs.declared.status.Status.{Status}
+use Rattle.csi_types.specs.Call.{kind_of}
+use Rattle.csi_types.specs.Config.{Config}
+use Rattle.csi_types.specs.Frame.{Frame}
+use Rattle.csi_types.specs.Lists.{IsAmong}
+use Rattle.csi_types.specs.Number.{is_before, IsBefore}
+use Rattle.csi_types.specs.Same.{same_text, same_number}
+use Rattle.csi_types.proofs.Order.{before-parts, before-from, before-trans}
+use Rattle.csi_types.specs.declared.config.NodeSlots.{NodeSlots}
+use Rattle.csi_types.specs.declared.call.Party.{Party}
+use Rattle.csi_types.specs.declared.call.Party.TheVariants.{Controller, Node}
+use Rattle.csi_types.specs.Delivery.{IsEmpty}
+use Rattle.csi_types.specs.Fence.{Kept}
+use Rattle.csi_types.specs.Key.{Form, StagedAs, Staged}
+use Rattle.csi_controller.specs.Fenced as controller
+use Rattle.csi_node.specs.State.{NodeState, empty_node}
+use Rattle.csi_node.specs.Fenced as node
+use Rattle.csi_orchestrator.specs.Thing.{Issued}
+use Rattle.csi_orchestrator.specs.History.{Goal, Item, Started, Sent, Accepted, Closed, Noted, History}
+use Rattle.csi_orchestrator.specs.Readings.{issued_in, unless, open_in, open_call, last_in, last_number}
+use Rattle.csi_world.specs.World.{NodeAt, World, new_node, empty_world, node_state, with_node, with_frame}
+use Rattle.csi_world.specs.Step.{Choice, Sends, Closes, Takes, Notes, Starts, Answers, frame_of, MaySend, MayTake, MayChoose, MayChooseAll, answered_by_node, answered_by, answered, chosen, chosen_all}
+use Rattle.csi_world.proofs.WorldView.{party_of, node_view, plugin_view, view_of}
+use Rattle.csi_world.proofs.Issued.{HasName, IsOwn, IsAnsweredOk}
+use Rattle.csi_world.proofs.Named.{Named}
+use Rattle.csi_world.proofs.Heard.{IsHeard, WasSent, sent-more}
+use Rattle.csi_world.proofs.Truth.{Truth, unanswered, before_call, truth-sent}
+use Rattle.csi_world.proofs.Standing.{IsStanding, stands-sent, stands-noted}
+use Rattle.csi_world.proofs.Guarded.{IsSoFar, own-guarded, leaves-guarded, stages-guarded}
+use Rattle.csi_world.proofs.Recorded.{IsWell}
+use Rattle.csi_world.proofs.Reached.{found-at, empty-reached}
+use Rattle.csi_world.proofs.Deliveries.{PluginLaws, all-closed, IsGood, frame-got}
+
+-- each sent number is the last one, or before it
+abbrev pub IsLast : History → Type 0
+IsLast history = (call : Issued) → IsAmong call (issued_in history.items) → (call.number ≡ last_number history) ⊎ IsBefore call.number (last_number history)
+
+then-before : (a b c : Number) → IsBefore a b → IsBefore b c → IsBefore a c
+then-before a b c h k = is_before-from a c (before-trans a b c (rw h refl) (rw k refl))
+  where
+    is_before-from : (x y : Number) → is_before x y ≡ true → IsBefore x y
+    is_before-from x y e = grind (arith, nat_tests)
+
+-- what is kept of every world
+pub record IsRight (config : Config) (world : World) : Type 0 where
+  pub good : IsGood config world
+  pub last : IsLast world.history
+
+-- a number after the last one is after all
+after-all : (history : History) (number : Number) → IsLast history → IsBefore (last_number history) number → (older : Issued) → IsAmong older (issued_in history.items) → IsBefore older.number number
+after-all history number last next older among = by (last older among)
+  where
+    by : (older.number ≡ last_number history) ⊎ IsBefore older.number (last_number history) → IsBefore older.number number
+    by (inl e) = subst (λ n. IsBefore n number) (sym e) next
+    by (inr before) = then-before older.number (last_number history) number before next
+
+-- a call is sent
+sent-right : PluginLaws → (config : Config) (world : World) (call : Issued) → IsRight config world → MaySend world call → IsRight config (chosen config world (Sends call))
+sent-right laws config world call right may =
+    record {
+      good = record {
+        reached = record { controller = right.good.reached.controller; nodes = right.good.reached.nodes; alike = right.good.reached.alike };
+        well = record {
+          truth = truth-sent (issued_in world.history.items) world.frames (view_of world) call well.truth later;
+          closed = all-closed laws world;
+          named = record {
+            own = own;
+            made = made;
+          };
+          names = well.names;
+          heard = heard;
+          stands = stands-sent world.history.items call (view_of world) well.stands
+              (leaves-guarded world.history world.frames (view_of world) world.controller call well may.allowed.guarded) (stages-guarded world.history world.frames (view_of world) world.controller call well may.allowed.guarded);
+        };
+      };
+      last = last;
+    }
+  where
+    well : IsWell world
+    well = right.good.well
+
+    later : (older : Issued) → IsAmong older (issued_in world.history.items) → IsBefore older.number call.number
+    later = after-all world.history call.number right.last may.numbered.later
+
+    own : (other : Issued) → IsAmong other (call ∷ issued_in world.history.items) → IsOwn world.controller other.name other.party other.call
+    own other (inl e) = subst (λ (x : Issued). IsOwn world.controller x.name x.party x.call) (sym e) (own-guarded world.history world.frames (view_of world) world.controller call.name call.party call.call well may.allowed.guarded)
+    own other (inr there) = well.named.own other there
+
+    made : (other : Issued) (reply : Reply) (id : ℕ) (create : List ℕ) (required limit : ℕ) (capabilities : List Capability) → IsAmong other (call ∷ issued_in world.history.items)
+        → other.call ≡ calls.CreateVolume create required limit capabilities → IsAnsweredOk (world.frames ++ frame_of call ∷ []) other reply → reply.id ≡ Some id → HasName world.controller other.name id
+    made other reply id create required limit capabilities (inl e) is ok given =
+        absurd (unanswered (issued_in world.history.items) world.frames (view_of world) call reply well.truth later (subst (λ (x : Issued). IsAnsweredOk (world.frames ++ frame_of call ∷ []) x reply) e ok))
+    made other reply id create required limit capabilities (inr there) is ok given =
+        well.named.made other reply id create required limit capabilities there is (before_call world.frames call other.number other.party (kind_of other.call) reply ok.0, ok.1) given
+
+    heard : (number : Number) (status : Status) (id : Option ℕ) → IsAmong (Accepted number status id) (Sent call ∷ world.history.items) → WasSent (call ∷ issued_in world.history.items) (world.frames ++ frame_of call ∷ []) number status id
+    heard number status id (inl e) = absurd (clash e)
+      where
+        clash : Accepted number status id ≡ Sent call → ⊥
+        clash h = cc
+    heard number status id (inr there) = sent-more (issued_in world.history.items) (call ∷ issued_in world.history.items) world.frames (frame_of call) number status id (λ c among. inr among) (well.heard number status id there)
+
+    last : (other : Issued) → IsAmong other (call ∷ issued_in world.history.items) → (other.number ≡ call.number) ⊎ IsBefore other.number call.number
+    last other (inl e) = inl (ap (λ (x : Issued). x.number) e)
+    last other (inr there) = inr (later other there)
+
+-- an item that sends nothing is added, and what it says was heard was sent
+noted-well : (world : World) (item : Item) → issued_in (item ∷ world.history.items) ≡ issued_in world.history.items → IsWell world
+    → ((number : Number) (status : Status) (id : Option ℕ) → Accepted number status id ≡ item → WasSent (issued_in world.history.items) world.frames number status id)
+    → IsSoFar (record world.history { items = item ∷ world.history.items }) world.frames (view_of world) world.controller
+noted-well world item same well told =
+    record {
+      truth = subst (λ (list : List Issued). Truth list world.frames (view_of world)) (sym same) well.truth;
+      closed = well.closed;
+      named = subst (λ (list : List Issued). Named list world.frames world.controller) (sym same) well.named;
+      names = well.names;
+      heard = λ number status id among. subst (λ (list : List Issued). WasSent list world.frames number status id) (sym same) (heard number status id among);
+      stands = stands-noted world.history.items item (view_of world) same well.stands;
+    }
+  where
+    heard : (number : Number) (status : Status) (id : Option ℕ) → IsAmong (Accepted number status id) (item ∷ world.history.items) → WasSent (issued_in world.history.items) world.frames number status id
+    heard number status id (inl e) = told number status id e
+    heard number status id (inr there) = well.heard number status id there
+
+-- a call that isn't left out
+unless-some : (number : Number) (o : Option Issued) (call : Issued) → unless number o ≡ Some call → o ≡ Some call
+unless-some number None call h = h
+unless-some number (Some issued) call h = by (same_number issued.number number) h
+  where
+    clash : None ≡ Some call → ⊥
+    clash e = cc
+
+    by : (b : Bool) → cond b None (Some issued) ≡ Some call → Some issued ≡ Some call
+    by true h = absurd (clash h)
+    by false h = h
+
+-- an open call was sent
+open-sent : (name : List ℕ) (items : List Item) (call : Issued) → open_in name items ≡ Some call → IsAmong call (issued_in items)
+open-sent name [] call h = absurd (clash h)
+  where
+    clash : None ≡ Some call → ⊥
+    clash e = cc
+open-sent name (Started session ∷ older) call h = absurd (clash h)
+  where
+    clash : None ≡ Some call → ⊥
+    clash e = cc
+open-sent name (Sent issued ∷ older) call h = by (same_text issued.name name) h (open-sent name older call)
+  where
+    same : Some issued ≡ Some call → call ≡ issued
+    same e = cc
+
+    by : (b : Bool) → cond b (Some issued) (open_in name older) ≡ Some call → (open_in name older ≡ Some call → IsAmong call (issued_in older)) → IsAmong call (issued ∷ issued_in older)
+    by true h rest = inl (same h)
+    by false h rest = inr (rest h)
+open-sent name (Accepted number status id ∷ older) call h = open-sent name older call (unless-some number (open_in name older) call h)
+open-sent name (Closed number ∷ older) call h = open-sent name older call (unless-some number (open_in name older) call h)
+open-sent name (Noted other goal ∷ older) call h = open-sent name older call h
+
+-- the last number of a new session
+started-last : (history : History) (session : ℕ) → IsLast history → (last_number history).session < session
+    → (call : Issued) → IsAmong call (issued_in history.items) → IsBefore call.number (let n : Number = record { session = session; call = 0 } in n)
+started-last history session last rises call among = by (last call among)
+  where
+    later : (a : Number) → a.session < session → IsBefore a (let n : Number = record { session = session; call = 0 } in n)
+    later a less = grind (arith, nat_tests)
+
+    by : (call.number ≡ last_number history) ⊎ IsBefore call.number (last_number history) → IsBefore call.number (let n : Number = record { session = session; call = 0 } in n)
+    by (inl e) = subst (λ n. IsBefore n (let m : Number = record { session = session; call = 0 } in m)) (sym e) (later (last_number history) rises)
+    by (inr before) = then-before call.number (last_number history) (record { session = session; call = 0 }) before (later (last_number history) rises)
+
+-- a reply is taken
+taken-sent : (world : World) (call : Issued) (reply : Reply) → MayTake world call reply → (number : Number) (status : Status) (id : Option ℕ) → Accepted number status id ≡ Accepted call.number reply.status reply.id
+    → WasSent (issued_in world.history.items) world.frames number status id
+taken-sent world call reply may number status id e =
+    record {
+      call = call;
+      among = open-sent call.name world.history.items call may.is_open;
+      has_number = sym (numbers e);
+      reply = reply;
+      sent = may.was_sent;
+      has_status = sym (statuses e);
+      has_id = sym (ids e);
+    }
+  where
+    numbers : Accepted number status id ≡ Accepted call.number reply.status reply.id → number ≡ call.number
+    numbers h = cc
+
+    statuses : Accepted number status id ≡ Accepted call.number reply.status reply.id → status ≡ reply.status
+    statuses h = cc
+
+    ids : Accepted number status id ≡ Accepted call.number reply.status reply.id → id ≡ reply.id
+    ids h = cc
+
+-- a delivery is none of the orchestrator's
+with_frame-history : (reply : Option Frame) (world : World) → (with_frame reply world).history ≡ world.history
+with_frame-history None world = refl
+with_frame-history (Some frame) world = refl
+
+same-history : (config : Config) (world : World) (frame : Frame) → (answered config world frame).history ≡ world.history
+same-history config world frame = by frame.party
+  where
+    at_node : (id : List ℕ) (o : Option NodeState) → (answered_by_node id world frame o).history ≡ world.history
+    at_node id None = refl
+    at_node id (Some state) = with_frame-history (node.fenced id state frame).reply (with_node id (node.fenced id state frame).state world)
+
+    by : (party : Party) → (answered_by config world frame party).history ≡ world.history
+    by Controller = with_frame-history (controller.fenced config world.controller frame).reply (record world { controller = (controller.fenced config world.controller frame).state })
+    by (Node id) = at_node id (node_state id world)
+
+pub chosen-right : PluginLaws → (config : Config) (world : World) (choice : Choice) → IsRight config world → MayChoose world choice → IsRight config (chosen config world choice)
+chosen-right laws config world (Sends call) right may = sent-right laws config world call right may
+chosen-right laws config world (Closes number) right may =
+    record {
+      good = record {
+        reached = record { controller = right.good.reached.controller; nodes = right.good.reached.nodes; alike = right.good.reached.alike };
+        well = noted-well world (Closed number) refl right.good.well (λ n status id e. absurd (clash n status id e));
+      };
+      last = right.last;
+    }
+  where
+    clash : (n : Number) (status : Status) (id : Option ℕ) → Accepted n status id ≡ Closed number → ⊥
+    clash n status id e = cc
+chosen-right laws config world (Takes call reply) right may =
+    record {
+      good = record {
+        reached = record { controller = right.good.reached.controller; nodes = right.good.reached.nodes; alike = right.good.reached.alike };
+        well = noted-well world (Accepted call.number reply.status reply.id) refl right.good.well (taken-sent world call reply may);
+      };
+      last = right.last;
+    }
+chosen-right laws config world (Notes name goal) right may =
+    record {
+      good = record {
+        reached = record { controller = right.good.reached.controller; nodes = right.good.reached.nodes; alike = right.good.reached.alike };
+        well = noted-well world (Noted name goal) refl right.good.well (λ n status id e. absurd (clash n status id e));
+      };
+      last = right.last;
+    }
+  where
+    clash : (n : Number) (status : Status) (id : Option ℕ) → Accepted n status id ≡ Noted name goal → ⊥
+    clash n status id e = cc
+chosen-right laws config world (Starts session) right may =
+    record {
+      good = record {
+        reached = record { controller = right.good.reached.controller; nodes = right.good.reached.nodes; alike = right.good.reached.alike };
+        well = noted-well world (Started session) refl right.good.well (λ n status id e. absurd (clash n status id e));
+      };
+      last = λ call among. inr (started-last world.history session right.last may call among);
+    }
+  where
+    clash : (n : Number) (status : Status) (id : Option ℕ) → Accepted n status id ≡ Started session → ⊥
+    clash n status id e = cc
+chosen-right laws config world (Answers frame) right may =
+    record {
+      good = frame-got laws config world frame right.good may;
+      last = subst IsLast (sym (same-history config world frame)) right.last;
+    }
+
+-- the first world
+empty-node : (config : Config) (id : List ℕ) (state : NodeState) → node_state id (empty_world config) ≡ Some state → state ≡ empty_node
+empty-node config id state h = let found = found-at id (empty_world config) state h in sym found.3 ∙ new config.nodes found.0 found.1
+  where
+    new : (entries : List NodeSlots) (at : NodeAt) → IsAmong at (map new_node entries) → at.state ≡ empty_node
+    new [] at among = absurd among
+    new (entry ∷ entries) at (inl e) = ap (λ (n : NodeAt). n.state) e
+    new (entry ∷ entries) at (inr there) = new entries at there
+
+empty-view : PluginLaws → (config : Config) → IsEmpty (view_of (empty_world config))
+empty-view laws config = record { held = λ key. (at (party_of key)).held key; is_spent = λ key. (at (party_of key)).is_spent key; kept = λ key. (at (party_of key)).kept key }
+  where
+    node : (id : List ℕ) (o : Option NodeState) → node_state id (empty_world config) ≡ o → IsEmpty (node_view id o)
+    node id None e = record { held = λ key. refl; is_spent = λ key number. refl; kept = λ key. refl }
+    node id (Some state) e = subst (λ (s : NodeState). IsEmpty (node_view id (Some s))) (sym (empty-node config id state e)) (laws.node.empty id)
+
+    at : (party : Party) → IsEmpty (plugin_view (empty_world config) party)
+    at Controller = laws.controller.empty
+    at (Node id) = node id (node_state id (empty_world config)) refl
+
+pub empty-right : PluginLaws → (config : Config) → IsRight config (empty_world config)
+empty-right laws config =
+    let empty = empty-view laws config in
+    record {
+      good = record {
+        reached = empty-reached config;
+        well = record {
+          truth = record {
+            calls = λ frame c among is. absurd among;
+            replies = λ number party kind reply among. absurd among;
+            ids = λ number party kind reply among ok. absurd among;
+            kept = λ key k is. absurd (clash k (sym (empty.kept key) ∙ is));
+            numbers = tt;
+            spent = λ call key reply among of ok. absurd among;
+            told = λ call key reply found ok. absurd (none_is_call call found);
+            untouched = λ key none. empty.held key;
+          };
+          closed = all-closed laws (empty_world config);
+          named = record { own = λ call among. absurd among; made = λ call reply id create required limit capabilities among is ok given. absurd among };
+          names = laws.names.named config [];
+          heard = λ number status id among. absurd among;
+          stands = λ id node capability standing. absurd (nothing empty id node capability standing);
+        };
+      };
+      last = λ call among. absurd among;
+    }
+  where
+    clash : (k : Kept) → None ≡ Some k → ⊥
+    clash k e = cc
+
+    none_is_call : (call : Issued) → None ≡ Some call → ⊥
+    none_is_call call e = cc
+
+    none_is_form : (form : Form) → None ≡ Some form → ⊥
+    none_is_form form e = cc
+
+    nothing : IsEmpty (view_of (empty_world config)) → (id : ℕ) (node : List ℕ) (capability : Capability) → IsStanding [] (view_of (empty_world config)) id node capability → ⊥
+    nothing empty id node capability (inl held) = none_is_form (StagedAs capability) (sym (empty.held (Staged id node)) ∙ held)
+    nothing empty id node capability (inr may) = may.among
+
+-- every world to which choices lead
+pub all-right : PluginLaws → (config : Config) (world : World) (choices : List Choice) → IsRight config world → MayChooseAll config world choices → IsRight config (chosen_all config world choices)
+all-right laws config world [] right may = right
+all-right laws config world (choice ∷ choices) right may = all-right laws config (chosen config world choice) choices (chosen-right laws config world choice right may.0) may.1

@@ -1,0 +1,83 @@
+-- Every world to which guarded choices lead is safe.
+use Rattle.std.proofs.Common.{◌≡◌, ℕ, List, Bool, true, false, cond, refl, sym, ◌∙◌, ap, subst, inl}
+use Rattle.std.specs.Prelude.{Option, Some, None, option_map, find, ◌==◌, ◌&&◌}
+use Rattle.std.proofs.lemmas.Bool.{and_parts, eqb-true}
+use Rattle.csi_types.specs.declared.capability.Capability.{Capability}
+use Rattle.csi_types.specs.declared.holding.Holding.{Holding}
+use Rattle.csi_types.specs.Config.{Config}
+use Rattle.csi_types.specs.Key.{Form, AttachedAs, StagedAs, Attached, Staged, asked}
+use Rattle.csi_types.specs.Lists.{IsAmong}
+use Rattle.csi_types.specs.Same.{same_text}
+use Rattle.csi_types.proofs.Among.{each_of, among-find}
+use Rattle.csi_types.proofs.Equality.{same_text-tells}
+use Rattle.csi_types.proofs.Lists.{find-passes}
+use Rattle.csi_controller.specs.State.{ControllerState, is_held_at, holding_at}
+use Rattle.csi_node.specs.State.{NodeState, StagedVolume, empty_node, staged_of}
+use Rattle.csi_node.specs.Fenced as node
+use Rattle.csi_orchestrator.specs.Readings.{issued_in}
+use Rattle.csi_world.specs.World.{NodeAt, World, empty_world}
+use Rattle.csi_world.specs.Step.{Choice, MayChooseAll, chosen_all}
+use Rattle.csi_world.specs.Safe.{IsAttachedAs, IsStagedWhereAttached, Safe}
+use Rattle.csi_world.specs.Laws.{PluginsAreSafe}
+use Rattle.csi_world.proofs.WorldView.{node_view, view_of}
+use Rattle.csi_world.proofs.Issued.{is_of}
+use Rattle.csi_world.proofs.Heard.{success-ok}
+use Rattle.csi_world.proofs.Recorded.{recorded}
+use Rattle.csi_world.proofs.Reached.{IsNodeOfFrames}
+use Rattle.csi_world.proofs.Deliveries.{PluginLaws}
+use Rattle.csi_world.proofs.Choices.{IsRight, empty-right, all-right}
+use Rattle.csi_world.proofs.PluginSafety.{plugins_are_safe}
+
+-- what the controller holds so is in its list
+held-there : (world : World) (id : ℕ) (at : List ℕ) (capability : Capability) (readonly : Bool) → (view_of world).held (Attached id at) ≡ Some (AttachedAs capability readonly) → IsAttachedAs world id at capability
+held-there world id at capability readonly h = by (holding_at id at world.controller) refl h
+  where
+    clash : None ≡ Some (AttachedAs capability readonly) → ⊥
+    clash e = cc
+
+    same : (holding : Holding) → Some (AttachedAs holding.capability holding.readonly) ≡ Some (AttachedAs capability readonly) → holding.capability ≡ capability
+    same holding e = cc
+
+    by : (o : Option Holding) → holding_at id at world.controller ≡ o → option_map (λ (holding : Holding). AttachedAs holding.capability holding.readonly) o ≡ Some (AttachedAs capability readonly) → IsAttachedAs world id at capability
+    by None e h = absurd (clash h)
+    by (Some holding) e h =
+        let parts = and_parts (holding.volume == id) (same_text holding.node at) (find-passes (is_held_at id at) world.controller.holdings holding e) in
+        record {
+          holding = holding;
+          is_held = among-find (is_held_at id at) world.controller.holdings holding e;
+          of_volume = eqb-true holding.volume id parts.0;
+          at_node = (same_text-tells holding.node at).0 parts.1;
+          same_capability = same holding h;
+        }
+
+-- what is staged in a node's list is staged as its view has it
+staged-seen : PluginLaws → (config : Config) (world : World) (at : NodeAt) (staged : StagedVolume) → IsRight config world → IsAmong at world.nodes → IsAmong staged at.state.staged
+    → (view_of world).held (Staged staged.volume at.id) ≡ Some (StagedAs staged.capability)
+staged-seen laws config world at staged right there among =
+    let of = each_of IsNodeOfFrames world.nodes at right.good.reached.nodes there in
+    let found : staged_of staged.volume at.state ≡ Some staged.capability
+    = subst (λ (s : NodeState). staged_of staged.volume s ≡ Some staged.capability) (sym of.1) (laws.node.found at.id of.0 staged (subst (λ (s : NodeState). IsAmong staged s.staged) of.1 among)) in
+    ap (λ o. (node_view at.id o).held (Staged staged.volume at.id)) (right.good.reached.alike at there)
+    ∙ ap (λ b. cond b (option_map StagedAs (staged_of staged.volume at.state)) None) ((same_text-tells at.id at.id).1 refl)
+    ∙ ap (option_map StagedAs) found
+
+staged-attached : PluginLaws → (config : Config) (world : World) → IsRight config world → IsStagedWhereAttached world
+staged-attached laws config world right at staged there among =
+    let well = right.good.well in
+    let attached = well.stands staged.volume at.id staged.capability (inl (staged-seen laws config world at staged right there among)) in
+    let ok = success-ok world.history.items (issued_in world.history.items) world.frames attached.call well.heard well.truth.numbers (among-find (is_of (Attached staged.volume at.id)) (issued_in world.history.items) attached.call attached.found) attached.success in
+    held-there world staged.volume at.id staged.capability attached.readonly
+    (well.truth.told attached.call (Attached staged.volume at.id) ok.0 attached.found ok.1 ∙ ap (λ c. asked c ok.0) attached.publishes)
+
+pub worlds_are_safe : PluginLaws → (config : Config) (choices : List Choice) → MayChooseAll config (empty_world config) choices → Safe (chosen_all config (empty_world config) choices)
+worlds_are_safe laws config choices may =
+    let world : World = chosen_all config (empty_world config) choices in
+    let right = all-right laws config (empty_world config) choices (empty-right laws config) may in
+    let plugins = plugins_are_safe config choices may in
+    record {
+      exclusive = plugins.exclusive;
+      staged_where_attached = staged-attached laws config world right;
+      published_where_staged = plugins.published_where_staged;
+      attached_while_live = plugins.attached_while_live;
+      recorded_right = recorded world right.good.well;
+    }
