@@ -1,3 +1,4 @@
+pub mod Moves
 pub mod Facts
 pub mod Lists
 pub mod OneRow
