@@ -56,7 +56,8 @@ module _ (node : List ℕ) (state : NodeState) (number : Number) (call : Call) w
       by true spent true same = repeated kept is (sym ((same_number-tells number kept.number).0 same)) (spent_is ∙ spent)
       by true spent false other = stale (spent_is ∙ spent)
 
-  call_passes : (kept : Option Kept) → kept_for call state ≡ kept → Passage node state number call (fenced_call node state number call kept)
+  -- by what is kept in its row
+  pub call_passes : (kept : Option Kept) → kept_for call state ≡ kept → Passage node state number call (fenced_call node state number call kept)
   call_passes None is = carried_passes (ap (λ (o : Option Kept). is_spent (last_of o) number) is)
   call_passes (Some kept) is = judged_passes kept is
 
