@@ -14,6 +14,7 @@ use Rattle.csi_node.specs.State.{NodeState, StagedVolume, PublishedVolume, is_pu
 use Rattle.csi_node.specs.Table.{Outcome, Change, Stays, Stages, Unstages, Publishes, Unpublishes, refused, met, done, changed}
 use Rattle.csi_node.specs.View.{held_on, key_of}
 use Rattle.csi_node.proofs.Finds.{not_passed, passed_not, no_fact, find-append_other}
+use Rattle.csi_node.proofs.Things.{here}
 use Rattle.csi_node.proofs.Moves.{Move, refuses, was_staged, stages, unstages, was_published, publishes, was_unpublished, unpublishes, stage_call, publish_call}
 
 -- after an OK the thing is as asked, after a refusal as it was, and other things are as they were
@@ -32,9 +33,6 @@ is_not a b other same = clash (sym ((same_key-tells a b).1 same) ∙ other)
   where
     clash : true ≡ false → ⊥
     clash h = cc
-
-here : (node : List ℕ) → same_text node node ≡ true
-here node = (same_text-tells node node).1 refl
 
 -- a place is this node, or nothing is there
 by_place : (b : Bool) (x y : Option Form) → (b ≡ true → x ≡ y) → cond b x None ≡ cond b y None
@@ -109,10 +107,10 @@ module _ (node : List ℕ) (state : NodeState) where
       let place = (same_text-tells there node).0 same in
       ap published_form
       (find-filter (is_published_at volume aim) (λ (p : PublishedVolume). not (is_published_at id target p)) state.published (λ p found. passed_not (is_published_at id target p) (λ h.
-      let here = is_at volume aim p found in
-      let at = is_at id target p h in
-      let number = sym here.0 ∙ at.0 in
-      let end = sym here.1 ∙ at.1 in
+      let first = is_at volume aim p found in
+      let second = is_at id target p h in
+      let number = sym first.0 ∙ second.0 in
+      let end = sym first.1 ∙ second.1 in
       is_not (Published volume there aim) (Published id node target) differ (λ i. Published (number i) (place i) (end i))))))
 
   pub effect : (call : Call) (outcome : Outcome) → Move state call outcome → EffectAt node state call outcome (key_of node call)

@@ -84,7 +84,7 @@ other_id other id n differ same = by (n == id) refl
 keep-other : (id other : ℕ) (kept : Kept) (state : NodeState) → (other == id) ≡ false → kept_in_row other (keep (Some id) kept state) ≡ kept_in_row other state
 keep-other id other kept state differ =
     let found : (rows : List Answered) → find (λ row. row.id == other) (filter (λ row. not (row.id == id)) rows) ≡ find (λ row. row.id == other) rows =
-        λ rows. find-filter (λ (row : Answered). row.id == other) (λ (row : Answered). not (row.id == id)) rows (λ row same. other_id other id row.id differ same) in
+    λ rows. find-filter (λ (row : Answered). row.id == other) (λ (row : Answered). not (row.id == id)) rows (λ row same. other_id other id row.id differ same) in
     ap (option_map (λ (row : Answered). row.kept))
     (sym (found (keep (Some id) kept state).rows) ∙ ap (find (λ (row : Answered). row.id == other)) (keep-others (Some id) kept state) ∙ found state.rows)
 

@@ -26,4 +26,3 @@ spent_still (Some last) number earlier fresh spent = by (is_before last number) 
     by b first false then = refl
     by true first true then = clash (sym (ap not (before-trans last number earlier first then)) ∙ spent)
     by false first true then = clash (sym fresh ∙ ap not first)
-

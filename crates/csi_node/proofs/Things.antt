@@ -14,7 +14,8 @@ use Rattle.csi_node.specs.Fenced.{keep}
 use Rattle.csi_node.specs.View.{held_on, kept_in_row, kept_on, key_of}
 use Rattle.csi_node.proofs.Keeping.{keep-either}
 
-here : (node : List ℕ) → same_text node node ≡ true
+-- a node is itself
+pub here : (node : List ℕ) → same_text node node ≡ true
 here node = (same_text-tells node node).1 refl
 
 -- the volume whose row tells what is kept for a thing, if the thing is on this node
@@ -103,4 +104,3 @@ held_none node (Exists name) = refl
 held_none node (Attached id there) = refl
 held_none node (Staged id there) = either_way (same_text there node) None
 held_none node (Published id there target) = either_way (same_text there node) None
-

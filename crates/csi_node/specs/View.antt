@@ -53,7 +53,7 @@ key_of node (calls.NodeUnpublishVolume id target) = Some (Published id node targ
 abbrev pub IsDeliveredTo : List ℕ → NodeState → Number → Call → Type 0
 IsDeliveredTo node state number call =
     IsDelivered (Node node) number call (key_of node call) (view_of node state) (view_of node (fenced node state (call_frame number (Node node) call)).state)
-        (fenced node state (call_frame number (Node node) call)).reply
+    (fenced node state (call_frame number (Node node) call)).reply
 
 -- in every state that frames lead to, whichever call comes next: it is delivered as the laws say; and a new node has
 -- nothing, and what came before a spent number is spent
