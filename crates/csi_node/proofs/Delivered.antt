@@ -1,5 +1,5 @@
 -- A call that is delivered to a node is carried out there, or rests.
-use Rattle.std.proofs.Common.{◌≡◌, ◌⊎◌, ℕ, List, true, false, refl, sym, ◌∙◌, ap, subst, inl, inr}
+use Rattle.std.proofs.Common.{◌≡◌, ◌⊎◌, ℕ, List, Bool, true, false, refl, sym, ◌∙◌, ap, subst, inl, inr}
 use Rattle.std.specs.Prelude.{Option, Some, None, option_map, find, ◌==◌, IsTrue, codes}
 use Rattle.csi_types.proofs.Spent.{spent-earlier}
 use Rattle.csi_types.specs.declared.number.Number.{Number}
@@ -47,22 +47,29 @@ module _ (node : List ℕ) (state : NodeState) (number : Number) (call : Call) (
   abbrev replied : Kind → Reply → Delivery
   replied kind reply = record { number = number; call = call; kind = kind; reply = reply }
 
+  -- the numbers that are spent for a thing, by what is kept for it
+  abbrev spent_on : NodeState → Key → Number → Bool
+  spent_on at other earlier = is_spent (last_of (kept_on node at other)) earlier
+
+  spent_by : {kept old : Option Kept} (earlier : Number) → kept ≡ old → is_spent (last_of kept) earlier ≡ is_spent (last_of old) earlier
+  spent_by earlier same = ap (λ (o : Option Kept). is_spent (last_of o) earlier) same
+
   rests : (kind : Kind) (reply : Reply) → is_spent (last_of (kept_for call state)) number ≡ true
       → (reply.status ≡ Ok → kept_for call state ≡ Some (record { number = number; kind = kind; reply = reply }))
       → Rests key (replied kind reply) (view_of node state) (view_of node state)
   rests kind reply spent kept =
       record {
-        was_spent = ap (λ (o : Option Kept). is_spent (last_of o) number) is_kept ∙ spent;
+        was_spent = spent_by number is_kept ∙ spent;
         was_kept = λ ok. is_kept ∙ kept ok;
         same = same_view (view_of node state);
       }
 
-  refused_acts : (reply : Reply) → is_spent (last_of (kept_for call state)) number ≡ false → (reply.status ≡ Ok → ⊥)
+  full_acts : (reply : Reply) → is_spent (last_of (kept_for call state)) number ≡ false → (reply.status ≡ Ok → ⊥)
       → Acts key (replied (kind_of call) reply) (view_of node state) (view_of node state)
-  refused_acts reply fresh not_ok =
+  full_acts reply fresh not_ok =
       record {
         of_its_kind = refl;
-        was_fresh = ap (λ (o : Option Kept). is_spent (last_of o) number) is_kept ∙ fresh;
+        was_fresh = spent_by number is_kept ∙ fresh;
         done = λ ok. absurd (not_ok ok);
         spent = λ ok. absurd (not_ok ok);
         refused = λ _. refl;
@@ -92,12 +99,14 @@ module _ (node : List ℕ) (state : NodeState) (number : Number) (call : Call) (
     own_kept : kept_at (Some for.volume) after ≡ Some kept
     own_kept = keep-own for.volume kept changes
 
-    -- what is kept for a thing was kept before, or is this call, and then the thing is of the same volume
-    either : (other : Key) → (kept_on node after other ≡ kept_on node state other) ⊎ ((kept_on node after other ≡ Some kept) × (kept_on node state other ≡ kept_for call state))
-    either other = by (kept_either for.volume kept changes (row_id node other))
+    -- what is kept for a thing was kept before; or it is this call, and the thing is of the call's volume
+    abbrev IsKept : Key → Type 0
+    IsKept other = (kept_on node after other ≡ kept_on node state other) ⊎ ((kept_on node after other ≡ Some kept) × (kept_on node state other ≡ kept_for call state))
+
+    is_kept_after : (other : Key) → IsKept other
+    is_kept_after other = by (kept_either for.volume kept changes (row_id node other))
       where
-        by : (kept_at (row_id node other) after ≡ kept_at (row_id node other) changes) ⊎ (row_id node other ≡ Some for.volume)
-            → (kept_on node after other ≡ kept_on node state other) ⊎ ((kept_on node after other ≡ Some kept) × (kept_on node state other ≡ kept_for call state))
+        by : (kept_at (row_id node other) after ≡ kept_at (row_id node other) changes) ⊎ (row_id node other ≡ Some for.volume) → IsKept other
         by (inl same) = inl (kept_on-at node after other ∙ same ∙ kept_before (row_id node other) ∙ sym (kept_on-at node state other))
         by (inr e) = inr (
           kept_on-at node after other ∙ ap (λ (o : Option ℕ). kept_at o after) e ∙ own_kept,
@@ -107,34 +116,26 @@ module _ (node : List ℕ) (state : NodeState) (number : Number) (call : Call) (
     own : kept_on node after key ≡ Some kept
     own = kept_on-at node after key ∙ ap (λ (o : Option ℕ). kept_at o after) for.is_row ∙ own_kept
 
-    still : (other : Key) (earlier : Number) → is_spent (last_of (kept_on node state other)) earlier ≡ true → is_spent (last_of (kept_on node after other)) earlier ≡ true
-    still other earlier spent = by (either other)
-      where
-        by : (kept_on node after other ≡ kept_on node state other) ⊎ ((kept_on node after other ≡ Some kept) × (kept_on node state other ≡ kept_for call state)) → is_spent (last_of (kept_on node after other)) earlier ≡ true
-        by (inl same) = ap (λ (o : Option Kept). is_spent (last_of o) earlier) same ∙ spent
-        by (inr e) =
-            ap (λ (o : Option Kept). is_spent (last_of o) earlier) e.0
-            ∙ spent_still (last_of (kept_for call state)) number earlier fresh (sym (ap (λ (o : Option Kept). is_spent (last_of o) earlier) e.1) ∙ spent)
+    still : (other : Key) (earlier : Number) → IsKept other → spent_on state other earlier ≡ true → spent_on after other earlier ≡ true
+    still other earlier (inl same) spent = spent_by earlier same ∙ spent
+    still other earlier (inr e) spent = spent_by earlier e.0 ∙ spent_still (last_of (kept_for call state)) number earlier fresh (sym (spent_by earlier e.1) ∙ spent)
 
-    keeps : (other : Key) → (kept_on node after other ≡ kept_on node state other) ⊎ (kept_on node after other ≡ Some kept)
-    keeps other = by (either other)
-      where
-        by : (kept_on node after other ≡ kept_on node state other) ⊎ ((kept_on node after other ≡ Some kept) × (kept_on node state other ≡ kept_for call state)) → (kept_on node after other ≡ kept_on node state other) ⊎ (kept_on node after other ≡ Some kept)
-        by (inl same) = inl same
-        by (inr e) = inr e.0
+    keeps : (other : Key) → IsKept other → (kept_on node after other ≡ kept_on node state other) ⊎ (kept_on node after other ≡ Some kept)
+    keeps other (inl same) = inl same
+    keeps other (inr e) = inr e.0
 
     acts : Acts key (replied (kind_of call) (lifecycle_row state call).reply) (view_of node state) (view_of node after)
     acts =
         let does = effect_for node state call key for.is_key in
         record {
           of_its_kind = refl;
-          was_fresh = ap (λ (o : Option Kept). is_spent (last_of o) number) is_kept ∙ fresh;
+          was_fresh = spent_by number is_kept ∙ fresh;
           done = λ ok. held_after key ∙ does.done ok;
-          spent = λ _. ap (λ (o : Option Kept). is_spent (last_of o) number) own ∙ answered_spent number;
+          spent = λ _. spent_by number own ∙ answered_spent number;
           refused = λ not_ok. held_after key ∙ does.refused not_ok;
           others = λ other differ. held_after other ∙ does.others other differ;
-          stays_spent = still;
-          keeps = keeps;
+          stays_spent = λ other earlier spent. still other earlier (is_kept_after other) spent;
+          keeps = λ other. keeps other (is_kept_after other);
         }
 
     carried_acts : Acts key (replied (kind_of call) (lifecycle_row state call).reply) (view_of node state) (view_of node (state_then state number call))
@@ -164,7 +165,7 @@ module _ (node : List ℕ) (state : NodeState) (number : Number) (call : Call) (
     reply = plain_reply ResourceExhausted (codes "rows");
     is_answer = refl;
     becomes = becomes (kind_of call) (plain_reply ResourceExhausted (codes "rows")) (view_of node state)
-        (inl (refused_acts (plain_reply ResourceExhausted (codes "rows")) fresh (λ ok. refused_status ok)));
+        (inl (full_acts (plain_reply ResourceExhausted (codes "rows")) fresh (λ ok. refused_status ok)));
   }
   delivered_by _ (carried fresh room) = record {
     kind = kind_of call;
