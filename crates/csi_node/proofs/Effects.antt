@@ -1,7 +1,7 @@
 -- What an outcome of the table does to the things of a node.
 use Rattle.std.proofs.Common.{◌≡◌, ◌≢◌, ℕ, List, Bool, true, false, cond, not, refl, sym, ◌∙◌, ap}
 use Rattle.std.specs.Prelude.{Option, Some, None, option_map, find, ◌==◌}
-use Rattle.std.proofs.lemmas.Bool.{and_parts, and_from, eqb-true, eq-eqb}
+use Rattle.std.proofs.lemmas.Bool.{and_parts, eqb-true, eq-eqb}
 use Rattle.csi_types.proofs.Among.{find-filter}
 use Rattle.csi_types.proofs.Equality.{same_text-tells, same_key-tells}
 use Rattle.csi_types.proofs.Lists.{find-append_one, find-filter_not}
@@ -15,7 +15,7 @@ use Rattle.csi_node.specs.Table.{Outcome, Change, Stays, Stages, Unstages, Publi
 use Rattle.csi_node.specs.View.{held_on, key_of}
 use Rattle.csi_node.proofs.Finds.{not_passed, passed_not, no_fact, find-append_other}
 use Rattle.csi_node.proofs.Things.{here}
-use Rattle.csi_node.proofs.Moves.{Move, refuses, was_staged, stages, unstages, was_published, publishes, was_unpublished, unpublishes, stage_call, publish_call}
+use Rattle.csi_node.proofs.Moves.{Move, at_itself, refuses, was_staged, stages, unstages, was_published, publishes, was_unpublished, unpublishes, stage_call, publish_call}
 
 -- after an OK the thing is as asked, after a refusal as it was, and other things are as they were
 pub record Effect (node : List ℕ) (state : NodeState) (call : Call) (outcome : Outcome) (key : Key) : Type 0 where
@@ -44,9 +44,6 @@ is_at : (id : ℕ) (target : List ℕ) (p : PublishedVolume) → is_published_at
 is_at id target p h =
     let parts = and_parts (p.volume == id) (same_text p.target target) h in
     (eqb-true p.volume id parts.0, (same_text-tells p.target target).0 parts.1)
-
-at_itself : (p : PublishedVolume) → is_published_at p.volume p.target p ≡ true
-at_itself p = and_from (p.volume == p.volume) (same_text p.target p.target) (eq-eqb p.volume p.volume refl) ((same_text-tells p.target p.target).1 refl)
 
 -- how what is found is held
 abbrev staged_form : Option StagedVolume → Option Form

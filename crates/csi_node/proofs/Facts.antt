@@ -2,7 +2,7 @@
 use Rattle.std.proofs.Common.{◌≡◌, ◌≢◌, ℕ, List, [], Bool, true, false, cond, not, refl, sym, ap, subst}
 use Rattle.std.specs.Prelude.{Option, Some, None, option_map, find, filter, ◌==◌, ◌&&◌, codes}
 use Rattle.std.proofs.lemmas.Bool.{eq-eqb}
-use Rattle.csi_types.proofs.Equality.{same_text-tells, same_capability-tells}
+use Rattle.csi_types.proofs.Equality.{same_capability-tells}
 use Rattle.csi_types.specs.declared.capability.Capability.{Capability}
 use Rattle.csi_types.specs.declared.call.Call.{Call}
 use Rattle.csi_types.specs.declared.call.Call.TheVariants as calls
@@ -14,7 +14,7 @@ use Rattle.csi_node.specs.State.{NodeState, Answered, StagedVolume, PublishedVol
 use Rattle.csi_node.specs.Table.{Outcome, Change, Stays, Stages, Unstages, Publishes, Unpublishes, refused, met, done, begins_with_slash, stage, unstage, publish_at_target, publish, unpublish, lifecycle_row, changed}
 use Rattle.csi_node.specs.Laws.{is_another, IsDone}
 use Rattle.csi_node.proofs.Finds.{no_fact}
-use Rattle.csi_node.proofs.Moves.{Move, refuses, was_staged, stages, unstages, was_published, publishes, was_unpublished, unpublishes, lifecycle_moves, stage_call, publish_call}
+use Rattle.csi_node.proofs.Moves.{Move, at_itself, refuses, was_staged, stages, unstages, was_published, publishes, was_unpublished, unpublishes, lifecycle_moves, stage_call, publish_call}
 use Rattle.csi_types.proofs.Lists.{find-append_one, find-filter_not, filter-append_one, filter-filter, filter-not_none}
 
 -- the table would answer this call OK, and change nothing
@@ -60,9 +60,6 @@ not_at : (a b : Bool) → not a ≡ true → not (a && b) ≡ true
 not_at true b h = cc
 not_at false b h = refl
 
-itself_at : (p : PublishedVolume) → is_published_at p.volume p.target p ≡ true
-itself_at p = let text : same_text p.target p.target ≡ true = (same_text-tells p.target p.target).1 refl in rw (same_id p.volume) text
-
 move_facts : (state : NodeState) (call : Call) (outcome : Outcome) → Move state call outcome → Facts state call outcome
 unfolding IsReady
 move_facts state _ _ (refuses call status detail not_ok) = refused_facts state call status detail not_ok
@@ -79,7 +76,7 @@ move_facts state _ _ (unstages id none) =
 move_facts state _ _ (was_published p slash is) = met_facts state (publish_call p) (is, slash)
 move_facts state _ _ (publishes p fits) =
     done_facts state (publish_call p) (Publishes p)
-    (find-append_one (is_published_at p.volume p.target) state.published p (itself_at p) fits.free, fits.slash)
+    (find-append_one (is_published_at p.volume p.target) state.published p (at_itself p) fits.free, fits.slash)
     (record { staged = refl; published = filter-append_one (λ (q : PublishedVolume). not (q.volume == p.volume)) state.published p (not_another p.volume) })
 move_facts state _ _ (was_unpublished id target none) = met_facts state (calls.NodeUnpublishVolume id target) none
 move_facts state _ _ (unpublishes id target there is) =

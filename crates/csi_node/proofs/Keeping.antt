@@ -2,6 +2,7 @@
 use Rattle.std.proofs.Common.{◌≡◌, ◌⊎◌, ℕ, List, Bool, true, false, cond, not, refl, sym, ◌∙◌, ap, inl, inr}
 use Rattle.std.specs.Prelude.{Option, Some, None, option_map, find, filter, ◌==◌}
 use Rattle.std.proofs.lemmas.Bool.{eq-eqb, eqb-true}
+use Rattle.csi_node.proofs.Finds.{passed_not}
 use Rattle.csi_types.proofs.Among.{find-filter}
 use Rattle.csi_types.proofs.Lists.{find-append_one, filter-append_one, filter-map, find-map, find-passes}
 use Rattle.csi_types.specs.Fence.{Kept}
@@ -70,15 +71,11 @@ row_kept id kept rows (Some row) h =
 pub keep-own : (id : ℕ) (kept : Kept) (state : NodeState) → kept_in_row id (keep (Some id) kept state) ≡ Some kept
 keep-own id kept state = row_kept id kept state.rows (row_with_id id state) refl
 
-other_id : (other id n : ℕ) → (other == id) ≡ false → (n == other) ≡ true → not (n == id) ≡ true
-other_id other id n differ same = by (n == id) refl
-  where
-    clash : true ≡ false → ⊥
-    clash h = cc
+not_both : true ≡ false → ⊥
+not_both h = cc
 
-    by : (b : Bool) → (n == id) ≡ b → not b ≡ true
-    by false h = refl
-    by true h = absurd (clash (sym (eq-eqb other id (sym (eqb-true n other same) ∙ eqb-true n id h)) ∙ differ))
+other_id : (other id n : ℕ) → (other == id) ≡ false → (n == other) ≡ true → not (n == id) ≡ true
+other_id other id n differ same = passed_not (n == id) (λ h. not_both (sym (eq-eqb other id (sym (eqb-true n other same) ∙ eqb-true n id h)) ∙ differ))
 
 -- another volume's row is found as it was
 keep-other : (id other : ℕ) (kept : Kept) (state : NodeState) → (other == id) ≡ false → kept_in_row other (keep (Some id) kept state) ≡ kept_in_row other state

@@ -2,7 +2,7 @@
 -- the table isn't unfolded again.
 use Rattle.std.proofs.Common.{◌≡◌, ℕ, List, [], ◌∷◌, Bool, true, false, cond, not, refl, sym, ◌∙◌, ap}
 use Rattle.std.specs.Prelude.{Option, Some, None, ◌==◌, ◌&&◌, nat_le, length, codes}
-use Rattle.std.proofs.lemmas.Bool.{and_parts, eqb-true}
+use Rattle.std.proofs.lemmas.Bool.{and_parts, and_from, eqb-true, eq-eqb}
 use Rattle.csi_types.proofs.Equality.{same_text-tells, same_capability-tells}
 use Rattle.csi_types.proofs.Lists.{find-passes}
 use Rattle.csi_types.specs.declared.capability.Capability.{Capability}
@@ -79,6 +79,10 @@ same_flag-then : (a b : Bool) → same_flag a b ≡ true → a ≡ b
 same_flag-then true b h = sym h
 same_flag-then false true h = cc
 same_flag-then false false h = refl
+
+-- what is published is at its own target
+pub at_itself : (p : PublishedVolume) → is_published_at p.volume p.target p ≡ true
+at_itself p = and_from (p.volume == p.volume) (same_text p.target p.target) (eq-eqb p.volume p.volume refl) ((same_text-tells p.target p.target).1 refl)
 
 -- what is published at the target with these arguments is this
 same_published : (p there : PublishedVolume) → is_published_at p.volume p.target there ≡ true → (same_capability there.capability p.capability && same_flag there.readonly p.readonly) ≡ true → there ≡ p
