@@ -1,20 +1,21 @@
 -- What is so of each outcome of the node's table.
-use Rattle.std.proofs.Common.{◌≡◌, ◌≢◌, ℕ, List, [], ◌∷◌, Bool, true, false, cond, not, refl, sym, ◌∙◌, ap, subst}
-use Rattle.std.specs.Prelude.{Option, Some, None, option_map, find, filter, ◌==◌, ◌&&◌, nat_le, length, codes}
-use Rattle.std.proofs.lemmas.Bool.{and_parts, eqb-true, eq-eqb}
-use Rattle.csi_types.proofs.Equality.{same_text-tells, same_capability-tells}
+use Rattle.std.proofs.Common.{◌≡◌, ◌≢◌, ℕ, List, [], Bool, true, false, cond, not, refl, sym, ap, subst}
+use Rattle.std.specs.Prelude.{Option, Some, None, option_map, find, filter, ◌==◌, ◌&&◌, codes}
+use Rattle.std.proofs.lemmas.Bool.{eq-eqb}
+use Rattle.csi_types.proofs.Equality.{same_capability-tells}
 use Rattle.csi_types.specs.declared.capability.Capability.{Capability}
 use Rattle.csi_types.specs.declared.call.Call.{Call}
 use Rattle.csi_types.specs.declared.call.Call.TheVariants as calls
 use Rattle.csi_types.specs.declared.status.Status.{Status}
-use Rattle.csi_types.specs.declared.status.Status.TheVariants.{Ok, InvalidArgument, AlreadyExists, ResourceExhausted, FailedPrecondition, Unimplemented}
+use Rattle.csi_types.specs.declared.status.Status.TheVariants.{Ok, InvalidArgument, AlreadyExists}
 use Rattle.csi_types.specs.Replies.{ok_reply}
 use Rattle.csi_types.specs.Same.{same_text, same_flag, same_capability}
-use Rattle.csi_types.specs.Sharing.{allows_one_target}
 use Rattle.csi_node.specs.State.{NodeState, Answered, StagedVolume, PublishedVolume, staged_of, published_of, published_at, is_published_at, volume_of}
-use Rattle.csi_node.specs.Table.{Outcome, Change, Stays, Stages, Unstages, Publishes, Unpublishes, refused, met, done, begins_with_slash, stage, unstage, publish_new, publish_staged, publish_at_target, publish, unpublish, lifecycle_row, changed}
+use Rattle.csi_node.specs.Table.{Outcome, Change, Stays, Stages, Unstages, Publishes, Unpublishes, refused, met, done, begins_with_slash, stage, unstage, publish_at_target, publish, unpublish, lifecycle_row, changed}
 use Rattle.csi_node.specs.Laws.{is_another, IsDone}
-use Rattle.csi_types.proofs.Lists.{find-append_one, find-filter_not, filter-append_one, filter-filter, filter-not_none, find-passes}
+use Rattle.csi_node.proofs.Finds.{no_fact}
+use Rattle.csi_node.proofs.Moves.{Move, at_itself, refuses, was_staged, stages, unstages, was_published, publishes, was_unpublished, unpublishes, lifecycle_moves, stage_call, publish_call}
+use Rattle.csi_types.proofs.Lists.{find-append_one, find-filter_not, filter-append_one, filter-filter, filter-not_none}
 
 -- the table would answer this call OK, and change nothing
 pub IsReady : NodeState → Call → Type 0
@@ -37,21 +38,6 @@ pub record Facts (state : NodeState) (call : Call) (outcome : Outcome) : Type 0 
   pub ready : outcome.reply.status ≡ Ok → IsReady (changed state outcome.change) call
   pub others : LeavesRest state (changed state outcome.change) call
 
-invalid : InvalidArgument ≡ Ok → ⊥
-invalid h = cc
-
-exists : AlreadyExists ≡ Ok → ⊥
-exists h = cc
-
-exhausted : ResourceExhausted ≡ Ok → ⊥
-exhausted h = cc
-
-failed : FailedPrecondition ≡ Ok → ⊥
-failed h = cc
-
-unimplemented : Unimplemented ≡ Ok → ⊥
-unimplemented h = cc
-
 refused_facts : (state : NodeState) (call : Call) (status : Status) (detail : List ℕ) → (status ≡ Ok → ⊥) → Facts state call (refused status detail)
 refused_facts state call status detail not_ok =
     record { stays = λ h. refl; plain = λ h. absurd (not_ok h); ready = λ h. absurd (not_ok h); others = record { staged = refl; published = refl } }
@@ -64,140 +50,44 @@ done_facts : (state : NodeState) (call : Call) (change : Change) → IsReady (ch
 done_facts state call change ready others =
     record { stays = λ h. absurd (h refl); plain = λ h. refl; ready = λ h. ready; others = others }
 
-by_if : (state : NodeState) (call : Call) (b : Bool) (x y : Outcome) → (b ≡ true → Facts state call x) → (b ≡ false → Facts state call y) → Facts state call (cond b x y)
-by_if state call true x y f g = f refl
-by_if state call false x y f g = g refl
-
-no_volume : {X Y : Type 0} (f : X → Y) (o : Option X) → option_map f o ≡ None → o ≡ None
-no_volume f None h = refl
-no_volume f (Some x) h = cc
-
 same_id : (id : ℕ) → (id == id) ≡ true
 same_id id = eq-eqb id id refl
 
 not_another : (id : ℕ) → not (id == id) ≡ false
 not_another id = rw (same_id id) refl
 
-stage_facts : (state : NodeState) (id : ℕ) (capability : Capability) (o : Option Capability) → staged_of id state ≡ o
-    → Facts state (calls.NodeStageVolume id capability) (stage (record { volume = id; capability = capability }) o)
-unfolding IsReady
-stage_facts state id capability None is =
-    let staged : StagedVolume = record { volume = id; capability = capability } in
-    let none = no_volume (λ (staged : StagedVolume). staged.capability) (find (λ (staged : StagedVolume). staged.volume == id) state.staged) is in
-    let found = find-append_one (λ (staged : StagedVolume). staged.volume == id) state.staged staged (same_id id) none in
-    done_facts state (calls.NodeStageVolume id capability) (Stages staged) (ap (option_map (λ (staged : StagedVolume). staged.capability)) found)
-    (record { staged = filter-append_one (λ (staged : StagedVolume). not (staged.volume == id)) state.staged staged (not_another id); published = refl })
-stage_facts state id capability (Some here) is =
-    by_if state (calls.NodeStageVolume id capability) (same_capability here capability) met (refused AlreadyExists (codes "staged otherwise"))
-    (λ same. met_facts state (calls.NodeStageVolume id capability) (is ∙ ap Some ((same_capability-tells here capability).0 same)))
-    (λ _. refused_facts state (calls.NodeStageVolume id capability) AlreadyExists (codes "staged otherwise") exists)
+not_at : (a b : Bool) → not a ≡ true → not (a && b) ≡ true
+not_at true b h = cc
+not_at false b h = refl
 
-unstage_facts : (state : NodeState) (id : ℕ) (targets : List PublishedVolume) → published_of id state ≡ targets → Facts state (calls.NodeUnstageVolume id) (unstage id targets)
+move_facts : (state : NodeState) (call : Call) (outcome : Outcome) → Move state call outcome → Facts state call outcome
 unfolding IsReady
-unstage_facts state id (first ∷ others) is = refused_facts state (calls.NodeUnstageVolume id) FailedPrecondition first.target failed
-unstage_facts state id [] is =
+move_facts state _ _ (refuses call status detail not_ok) = refused_facts state call status detail not_ok
+move_facts state _ _ (was_staged staged is) = met_facts state (stage_call staged) is
+move_facts state _ _ (stages staged none) =
+    let free = no_fact (λ (s : StagedVolume). s.capability) (find (λ (s : StagedVolume). s.volume == staged.volume) state.staged) none in
+    let found = find-append_one (λ (s : StagedVolume). s.volume == staged.volume) state.staged staged (same_id staged.volume) free in
+    done_facts state (stage_call staged) (Stages staged) (ap (option_map (λ (s : StagedVolume). s.capability)) found)
+    (record { staged = filter-append_one (λ (s : StagedVolume). not (s.volume == staged.volume)) state.staged staged (not_another staged.volume); published = refl })
+move_facts state _ _ (unstages id none) =
     done_facts state (calls.NodeUnstageVolume id) (Unstages id)
-    (ap (option_map (λ (staged : StagedVolume). staged.capability)) (find-filter_not (λ (staged : StagedVolume). staged.volume == id) state.staged), is)
-    (record { staged = filter-filter (λ (staged : StagedVolume). not (staged.volume == id)) (λ (staged : StagedVolume). not (staged.volume == id)) state.staged (λ x h. h); published = refl })
-
-itself_at : (id : ℕ) (target : List ℕ) (capability : Capability) (readonly : Bool) → is_published_at id target (record { volume = id; target = target; capability = capability; readonly = readonly }) ≡ true
-itself_at id target capability readonly = let text : same_text target target ≡ true = (same_text-tells target target).1 refl in rw (same_id id) text
-
-publish_done : (state : NodeState) (id : ℕ) (target : List ℕ) (capability : Capability) (readonly : Bool) → begins_with_slash target ≡ true → published_at id target state ≡ None
-    → Facts state (calls.NodePublishVolume id target capability readonly) (done (Publishes (record { volume = id; target = target; capability = capability; readonly = readonly })))
-unfolding IsReady
-publish_done state id target capability readonly slash none =
-    let published : PublishedVolume = record { volume = id; target = target; capability = capability; readonly = readonly } in
-    done_facts state (calls.NodePublishVolume id target capability readonly) (Publishes published)
-    (find-append_one (is_published_at id target) state.published published (itself_at id target capability readonly) none, slash)
-    (record { staged = refl; published = filter-append_one (λ (published : PublishedVolume). not (published.volume == id)) state.published published (not_another id) })
-
-same_flag-then : (a b : Bool) → same_flag a b ≡ true → a ≡ b
-same_flag-then true b h = sym h
-same_flag-then false true h = cc
-same_flag-then false false h = refl
-
--- what is published at the target with these arguments is this
-same_published : (id : ℕ) (target : List ℕ) (capability : Capability) (readonly : Bool) (there : PublishedVolume) → is_published_at id target there ≡ true
-    → (same_capability there.capability capability && same_flag there.readonly readonly) ≡ true → there ≡ record { volume = id; target = target; capability = capability; readonly = readonly }
-same_published id target capability readonly there here same =
-    let place = and_parts (there.volume == id) (same_text there.target target) here in
-    let way = and_parts (same_capability there.capability capability) (same_flag there.readonly readonly) same in
-    let volume = eqb-true there.volume id place.0 in
-    let aim = (same_text-tells there.target target).0 place.1 in
-    let as_asked = (same_capability-tells there.capability capability).0 way.0 in
-    let flag = same_flag-then there.readonly readonly way.1 in
-    λ i. record { volume = volume i; target = aim i; capability = as_asked i; readonly = flag i }
-
--- the call that publishes this
-abbrev publish_call : PublishedVolume → Call
-publish_call p = calls.NodePublishVolume p.volume p.target p.capability p.readonly
-
-publish_new_facts : (state : NodeState) (p : PublishedVolume) (targets : List PublishedVolume) → begins_with_slash p.target ≡ true → published_at p.volume p.target state ≡ None
-    → Facts state (publish_call p) (publish_new p targets)
-publish_new_facts state p [] slash none = publish_done state p.volume p.target p.capability p.readonly slash none
-publish_new_facts state p (first ∷ others) slash none =
-    by_if state (publish_call p) (allows_one_target p.capability.mode) (refused FailedPrecondition first.target) _
-    (λ _. refused_facts state (publish_call p) FailedPrecondition first.target failed)
-    (λ _. by_if state (publish_call p) (nat_le 16 (length (first ∷ others))) (refused ResourceExhausted (codes "targets")) (done (Publishes p))
-    (λ _. refused_facts state (publish_call p) ResourceExhausted (codes "targets") exhausted)
-    (λ _. publish_done state p.volume p.target p.capability p.readonly slash none))
-
-publish_staged_facts : (state : NodeState) (p : PublishedVolume) (o : Option Capability) → begins_with_slash p.target ≡ true → published_at p.volume p.target state ≡ None
-    → Facts state (publish_call p) (publish_staged state p o)
-publish_staged_facts state p None slash none = refused_facts state (publish_call p) FailedPrecondition (codes "not staged") failed
-publish_staged_facts state p (Some capability) slash none =
-    by_if state (publish_call p) (not (same_capability capability p.capability)) (refused FailedPrecondition (codes "staged otherwise")) (publish_new p (published_of p.volume state))
-    (λ _. refused_facts state (publish_call p) FailedPrecondition (codes "staged otherwise") failed)
-    (λ _. publish_new_facts state p (published_of p.volume state) slash none)
-
-publish_met : (state : NodeState) (p : PublishedVolume) → begins_with_slash p.target ≡ true → published_at p.volume p.target state ≡ Some p → Facts state (publish_call p) met
-unfolding IsReady
-publish_met state p slash there = met_facts state (publish_call p) (there, slash)
-
-publish_at_facts : (state : NodeState) (p : PublishedVolume) (o : Option PublishedVolume) → begins_with_slash p.target ≡ true → published_at p.volume p.target state ≡ o
-    → Facts state (publish_call p) (publish_at_target state p o)
-publish_at_facts state p None slash is = publish_staged_facts state p (staged_of p.volume state) slash is
-publish_at_facts state p (Some there) slash is =
-    by_if state (publish_call p) (same_capability there.capability p.capability && same_flag there.readonly p.readonly) met (refused AlreadyExists (codes "published otherwise"))
-    (λ same.
-    let here = find-passes (is_published_at p.volume p.target) state.published there is in
-    publish_met state p slash (is ∙ ap Some (same_published p.volume p.target p.capability p.readonly there here same)))
-    (λ _. refused_facts state (publish_call p) AlreadyExists (codes "published otherwise") exists)
-
-not_false : (b : Bool) → not b ≡ false → b ≡ true
-not_false true h = refl
-not_false false h = cc
-
-publish_facts : (state : NodeState) (p : PublishedVolume) → Facts state (publish_call p) (publish state p)
-publish_facts state p =
-    by_if state (publish_call p) (not (begins_with_slash p.target)) (refused InvalidArgument (codes "target")) (publish_at_target state p (published_at p.volume p.target state))
-    (λ _. refused_facts state (publish_call p) InvalidArgument (codes "target") invalid)
-    (λ slash. publish_at_facts state p (published_at p.volume p.target state) (not_false (begins_with_slash p.target) slash) refl)
-
-not_both : (a b : Bool) → not a ≡ true → not (a && b) ≡ true
-not_both true b h = cc
-not_both false b h = refl
-
-unpublish_facts : (state : NodeState) (id : ℕ) (target : List ℕ) (o : Option PublishedVolume) → published_at id target state ≡ o → Facts state (calls.NodeUnpublishVolume id target) (unpublish id target o)
-unfolding IsReady
-unpublish_facts state id target None is = met_facts state (calls.NodeUnpublishVolume id target) is
-unpublish_facts state id target (Some there) is =
+    (ap (option_map (λ (s : StagedVolume). s.capability)) (find-filter_not (λ (s : StagedVolume). s.volume == id) state.staged), none)
+    (record { staged = filter-filter (λ (s : StagedVolume). not (s.volume == id)) (λ (s : StagedVolume). not (s.volume == id)) state.staged (λ s h. h); published = refl })
+move_facts state _ _ (was_published p slash is) = met_facts state (publish_call p) (is, slash)
+move_facts state _ _ (publishes p fits) =
+    done_facts state (publish_call p) (Publishes p)
+    (find-append_one (is_published_at p.volume p.target) state.published p (at_itself p) fits.free, fits.slash)
+    (record { staged = refl; published = filter-append_one (λ (q : PublishedVolume). not (q.volume == p.volume)) state.published p (not_another p.volume) })
+move_facts state _ _ (was_unpublished id target none) = met_facts state (calls.NodeUnpublishVolume id target) none
+move_facts state _ _ (unpublishes id target there is) =
     done_facts state (calls.NodeUnpublishVolume id target) (Unpublishes id target) (find-filter_not (is_published_at id target) state.published)
     (record {
       staged = refl;
-      published = filter-filter (λ (p : PublishedVolume). not (p.volume == id)) (λ (p : PublishedVolume). not (is_published_at id target p)) state.published (λ p h. not_both (p.volume == id) (same_text p.target target) h);
+      published = filter-filter (λ (p : PublishedVolume). not (p.volume == id)) (λ (p : PublishedVolume). not (is_published_at id target p)) state.published (λ p h. not_at (p.volume == id) (same_text p.target target) h);
     })
 
 pub lifecycle_facts : (state : NodeState) (call : Call) → Facts state call (lifecycle_row state call)
-lifecycle_facts state (calls.NodeStageVolume id capability) = stage_facts state id capability (staged_of id state) refl
-lifecycle_facts state (calls.NodeUnstageVolume id) = unstage_facts state id (published_of id state) refl
-lifecycle_facts state (calls.NodePublishVolume id target capability readonly) = publish_facts state (record { volume = id; target = target; capability = capability; readonly = readonly })
-lifecycle_facts state (calls.NodeUnpublishVolume id target) = unpublish_facts state id target (published_at id target state) refl
-lifecycle_facts state (calls.CreateVolume name required limit capabilities) = refused_facts state (calls.CreateVolume name required limit capabilities) Unimplemented [] unimplemented
-lifecycle_facts state (calls.DeleteVolume id) = refused_facts state (calls.DeleteVolume id) Unimplemented [] unimplemented
-lifecycle_facts state (calls.ControllerPublishVolume id node capability readonly) = refused_facts state (calls.ControllerPublishVolume id node capability readonly) Unimplemented [] unimplemented
-lifecycle_facts state (calls.ControllerUnpublishVolume id node) = refused_facts state (calls.ControllerUnpublishVolume id node) Unimplemented [] unimplemented
+lifecycle_facts state call = move_facts state call (lifecycle_row state call) (lifecycle_moves state call)
 
 -- what is ready is answered OK, with a change that changes nothing
 pub record IsMet (state : NodeState) (outcome : Outcome) : Type 0 where
@@ -217,7 +107,7 @@ ready_stage state id capability o is =
 
 ready_unstage : (state : NodeState) (id : ℕ) (targets : List PublishedVolume) → targets ≡ [] → staged_of id state ≡ None → IsMet state (unstage id targets)
 ready_unstage state id targets is none =
-    let found = no_volume (λ (staged : StagedVolume). staged.capability) (find (λ (staged : StagedVolume). staged.volume == id) state.staged) none in
+    let found = no_fact (λ (staged : StagedVolume). staged.capability) (find (λ (staged : StagedVolume). staged.volume == id) state.staged) none in
     subst (λ (targets : List PublishedVolume). IsMet state (unstage id targets)) (sym is)
     (record { is_ok = refl; staged = filter-not_none (λ (staged : StagedVolume). staged.volume == id) state.staged found; published = refl })
 

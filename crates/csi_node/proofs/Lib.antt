@@ -1,3 +1,11 @@
+pub mod Moves
+pub mod Finds
+pub mod Keeping
+pub mod Passages
+pub mod Effects
+pub mod Numbers
+pub mod Things
+pub mod Delivered
 pub mod Facts
 pub mod Lists
 pub mod OneRow

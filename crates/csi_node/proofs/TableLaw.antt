@@ -1,7 +1,6 @@
 -- The laws of the node's table, from what is so of each of its outcomes.
-use Rattle.std.proofs.Common.{◌≡◌, ℕ, List, Bool, true, false, cond, not, refl, sym, ◌∙◌, ap, subst}
-use Rattle.std.specs.Prelude.{Option, Some, None, option_map, is_none, find, filter, ◌==◌, codes}
-use Rattle.std.proofs.lemmas.Bool.{eq-eqb}
+use Rattle.std.proofs.Common.{◌≡◌, ℕ, List, Bool, true, false, refl, sym, ◌∙◌, ap, subst}
+use Rattle.std.specs.Prelude.{Option, Some, None, option_map, is_none, filter, codes}
 use Rattle.csi_types.proofs.Equality.{same_text-tells}
 use Rattle.csi_types.specs.declared.number.Number.{Number}
 use Rattle.csi_types.specs.declared.call.Call.{Call}
@@ -15,22 +14,12 @@ use Rattle.csi_types.specs.Number.{IsBefore}
 use Rattle.csi_types.specs.Replies.{ok_reply, call_frame, reply_frame}
 use Rattle.csi_types.specs.Same.{same_text}
 use Rattle.csi_node.specs.State.{NodeState, Answered, row_with_id, row_of_volume, row_for, volume_of}
-use Rattle.csi_node.specs.Table.{Outcome, Change, Stays, Stages, Unstages, Publishes, Unpublishes, refused, lifecycle_row, node_row, has_no_room, changed}
-use Rattle.csi_node.specs.Fenced.{Fenced, fenced, fenced_call, kept_for, kept_in, kept_rows, keep, carried_out}
+use Rattle.csi_node.specs.Table.{Outcome, Change, refused, lifecycle_row, node_row, has_no_room, changed}
+use Rattle.csi_node.specs.Fenced.{Fenced, fenced, fenced_call, kept_for, kept_rows, keep, carried_out}
 use Rattle.csi_node.specs.Laws.{IsLetThrough, IsSameApart, IsDone, IsIdempotent, LeavesOthers, IsLawful, is_another, reply_at, state_after}
-use Rattle.csi_types.proofs.Lists.{find-append_one, filter-append_one, filter-map, find-map, find-passes}
+use Rattle.csi_node.proofs.Keeping.{keep-staged, keep-published, keep-others, keep-own, changed-rows}
+use Rattle.csi_node.proofs.Passages.{kept_of, state_then, done_then}
 use Rattle.csi_node.proofs.Facts.{IsReady, lifecycle_facts, ready_met, ready_kept, ready_volume, ready_done}
-
--- what is kept of a call that the table carries out, and what the node does then
-abbrev kept_of : NodeState → Number → Call → Kept
-kept_of state number call = record { number = number; kind = kind_of call; reply = (lifecycle_row state call).reply }
-
-abbrev state_then : NodeState → Number → Call → NodeState
-state_then state number call = keep (volume_of call) (kept_of state number call) (changed state (lifecycle_row state call).change)
-
-abbrev done_then : List ℕ → NodeState → Number → Call → Fenced
-done_then node state number call =
-    record { reply = Some (reply_frame number (Node node) (kind_of call) (lifecycle_row state call).reply); state = state_then state number call }
 
 let_through : (node : List ℕ) (state : NodeState) (number : Number) (call : Call) (kept : Option Kept) → verdict_of (option_map (λ k. k.number) kept) number ≡ Fresh
     → fenced_call node state number call kept ≡ carried_out node state number call (node_row state call)
@@ -57,66 +46,11 @@ row_without state call h = rw h refl
 state_without : (node : List ℕ) (state : NodeState) (number : Number) (call : Call) (outcome : Outcome) → has_no_room state call ≡ true → (carried_out node state number call outcome).state ≡ state
 state_without node state number call outcome h = rw h refl
 
--- what is kept changes the rows alone
-keep-staged : (volume : Option ℕ) (kept : Kept) (state : NodeState) → (keep volume kept state).staged ≡ state.staged
-keep-staged None kept state = refl
-keep-staged (Some id) kept state = refl
-
-keep-published : (volume : Option ℕ) (kept : Kept) (state : NodeState) → (keep volume kept state).published ≡ state.published
-keep-published None kept state = refl
-keep-published (Some id) kept state = refl
-
-changed-rows : (state : NodeState) (change : Change) → (changed state change).rows ≡ state.rows
-changed-rows state Stays = refl
-changed-rows state (Stages staged) = refl
-changed-rows state (Unstages id) = refl
-changed-rows state (Publishes published) = refl
-changed-rows state (Unpublishes id target) = refl
-
--- the rows of other volumes
-kept_in-id : (id : ℕ) (kept : Kept) (row : Answered) → (kept_in id kept row).id ≡ row.id
-kept_in-id id kept row = by (row.id == id)
-  where
-    by : (b : Bool) → (cond b (record row { kept = kept }) row).id ≡ row.id
-    by true = refl
-    by false = refl
-
-not_true : (b : Bool) → not b ≡ true → b ≡ false
-not_true true h = cc
-not_true false h = refl
-
-kept_in-other : (id : ℕ) (kept : Kept) (row : Answered) → not (row.id == id) ≡ true → kept_in id kept row ≡ row
-kept_in-other id kept row h = let other : (row.id == id) ≡ false = not_true (row.id == id) h in rw other refl
-
-other_rows : (id : ℕ) (kept : Kept) (rows : List Answered) (o : Option Answered)
-    → filter (λ (row : Answered). not (row.id == id)) (kept_rows id kept rows o) ≡ filter (λ (row : Answered). not (row.id == id)) rows
-other_rows id kept rows None =
-    let self : (id == id) ≡ true = eq-eqb id id refl in
-    filter-append_one (λ (row : Answered). not (row.id == id)) rows (record { id = id; kept = kept }) (rw self refl)
-other_rows id kept rows (Some row) =
-    filter-map (λ (row : Answered). not (row.id == id)) (kept_in id kept) rows (λ row. ap (λ n. not (n == id)) (kept_in-id id kept row)) (kept_in-other id kept)
-
-keep-others : (volume : Option ℕ) (kept : Kept) (state : NodeState)
-    → filter (λ row. is_another volume row.id) (keep volume kept state).rows ≡ filter (λ row. is_another volume row.id) state.rows
-keep-others None kept state = refl
-keep-others (Some id) kept state = other_rows id kept state.rows (row_with_id id state)
-
 -- the row of the call's volume keeps the call
-row_kept : (id : ℕ) (kept : Kept) (rows : List Answered) (o : Option Answered) → find (λ (row : Answered). row.id == id) rows ≡ o
-    → option_map (λ (row : Answered). row.kept) (find (λ (row : Answered). row.id == id) (kept_rows id kept rows o)) ≡ Some kept
-row_kept id kept rows None h =
-    let self : (id == id) ≡ true = eq-eqb id id refl in
-    ap (option_map (λ (row : Answered). row.kept)) (find-append_one (λ (row : Answered). row.id == id) rows (record { id = id; kept = kept }) self h)
-row_kept id kept rows (Some row) h =
-    let moved = find-map (λ (row : Answered). row.id == id) (kept_in id kept) rows (λ row. ap (λ n. n == id) (kept_in-id id kept row)) in
-    let own : (row.id == id) ≡ true = find-passes (λ (row : Answered). row.id == id) rows row h in
-    let here : (kept_in id kept row).kept ≡ kept = rw own refl in
-    ap (option_map (λ (row : Answered). row.kept)) (moved ∙ ap (option_map (kept_in id kept)) h) ∙ ap Some here
-
 volume_kept : (volume : Option ℕ) (id : ℕ) (kept : Kept) (state : NodeState) → volume ≡ Some id
     → option_map (λ (row : Answered). row.kept) (row_of_volume volume (keep volume kept state)) ≡ Some kept
 volume_kept None id kept state h = cc
-volume_kept (Some other) id kept state h = row_kept other kept state.rows (row_with_id other state) refl
+volume_kept (Some other) id kept state h = keep-own other kept state
 
 found_then : {X Y : Type 0} (f : X → Y) (o : Option X) (y : Y) → option_map f o ≡ Some y → is_none o ≡ false
 found_then f None y h = cc

@@ -1,6 +1,6 @@
 -- A node seen thing by thing, and what a call that is delivered to it does there: what is safe of a world is told by
 -- this alone. This profile's own.
-use Rattle.std.specs.Prelude.{◌≡◌, ℕ, List, Bool, Option, Some, None, option_map, if◌then◌else◌, IsTrue}
+use Rattle.std.specs.Prelude.{ℕ, List, Option, Some, None, option_map, if◌then◌else◌, IsTrue}
 use Rattle.csi_types.specs.declared.number.Number.{Number}
 use Rattle.csi_types.specs.declared.call.Call.{Call}
 use Rattle.csi_types.specs.declared.call.Call.TheVariants as calls
@@ -54,7 +54,7 @@ key_of node (calls.NodeUnpublishVolume id target) = Some (Published id node targ
 abbrev pub IsDeliveredTo : List ℕ → NodeState → Number → Call → Type 0
 IsDeliveredTo node state number call =
     IsDelivered (Node node) number call (key_of node call) (view_of node state) (view_of node (fenced node state (call_frame number (Node node) call)).state)
-        (fenced node state (call_frame number (Node node) call)).reply
+    (fenced node state (call_frame number (Node node) call)).reply
 
 -- in every state that frames lead to, whichever call comes next: it is delivered as the laws say, and each staged volume
 -- is found as it is staged; and a new node has nothing, and what came before a spent number is spent

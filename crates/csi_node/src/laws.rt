@@ -1,6 +1,7 @@
 //! The laws of the node's table.
 ghost use Rattle.csi_node.specs.Laws.{NodeTableLaw};
 ghost use Rattle.csi_node.specs.Safe.{NodeSafetyLaw};
+ghost use Rattle.csi_node.specs.View.{NodeDeliveryLaw};
 
 /// A law, and nothing that runs: in every state that frames lead to, and for every call that the table
 /// answers there, a refusal changes nothing, a success brings about what the call asks, the same call again
@@ -14,4 +15,12 @@ pub fn table_law()
 /// (CSI's spec.md, "Volume Lifecycle", and "NodePublishVolume" on several targets).
 pub fn safety_law()
     ensures { NodeSafetyLaw }
+{}
+
+/// A law, and nothing that runs: in every state that frames lead to, each call that comes is carried out or
+/// isn't. One that is carried out leaves its thing as it asks and its number spent, or is refused; other
+/// things stay as they were. One that isn't changes nothing, and gets the reply that was kept for its number,
+/// or that it is stale (CSI's spec.md, "Concurrency" and "Volume Lifecycle").
+pub fn delivery_law()
+    ensures { NodeDeliveryLaw }
 {}

@@ -1,0 +1,94 @@
+-- What is kept of a call changes the row of its volume, and nothing else.
+use Rattle.std.proofs.Common.{◌≡◌, ◌⊎◌, ℕ, List, Bool, true, false, cond, not, refl, sym, ◌∙◌, ap, inl, inr}
+use Rattle.std.specs.Prelude.{Option, Some, None, option_map, find, filter, ◌==◌}
+use Rattle.std.proofs.lemmas.Bool.{eq-eqb, eqb-true}
+use Rattle.csi_node.proofs.Finds.{passed_not}
+use Rattle.csi_types.proofs.Among.{find-filter}
+use Rattle.csi_types.proofs.Lists.{find-append_one, filter-append_one, filter-map, find-map, find-passes}
+use Rattle.csi_types.specs.Fence.{Kept}
+use Rattle.csi_node.specs.State.{NodeState, Answered, row_with_id}
+use Rattle.csi_node.specs.Table.{Change, Stays, Stages, Unstages, Publishes, Unpublishes, changed}
+use Rattle.csi_node.specs.Fenced.{kept_in, kept_rows, keep}
+use Rattle.csi_node.specs.Laws.{is_another}
+use Rattle.csi_node.specs.View.{kept_in_row}
+
+pub keep-staged : (volume : Option ℕ) (kept : Kept) (state : NodeState) → (keep volume kept state).staged ≡ state.staged
+keep-staged None kept state = refl
+keep-staged (Some id) kept state = refl
+
+pub keep-published : (volume : Option ℕ) (kept : Kept) (state : NodeState) → (keep volume kept state).published ≡ state.published
+keep-published None kept state = refl
+keep-published (Some id) kept state = refl
+
+-- a change isn't one of the rows
+pub changed-rows : (state : NodeState) (change : Change) → (changed state change).rows ≡ state.rows
+changed-rows state Stays = refl
+changed-rows state (Stages staged) = refl
+changed-rows state (Unstages id) = refl
+changed-rows state (Publishes published) = refl
+changed-rows state (Unpublishes id target) = refl
+
+-- the rows of other volumes
+kept_in-id : (id : ℕ) (kept : Kept) (row : Answered) → (kept_in id kept row).id ≡ row.id
+kept_in-id id kept row = by (row.id == id)
+  where
+    by : (b : Bool) → (cond b (record row { kept = kept }) row).id ≡ row.id
+    by true = refl
+    by false = refl
+
+not_true : (b : Bool) → not b ≡ true → b ≡ false
+not_true true h = cc
+not_true false h = refl
+
+kept_in-other : (id : ℕ) (kept : Kept) (row : Answered) → not (row.id == id) ≡ true → kept_in id kept row ≡ row
+kept_in-other id kept row h = let other : (row.id == id) ≡ false = not_true (row.id == id) h in rw other refl
+
+other_rows : (id : ℕ) (kept : Kept) (rows : List Answered) (o : Option Answered)
+    → filter (λ (row : Answered). not (row.id == id)) (kept_rows id kept rows o) ≡ filter (λ (row : Answered). not (row.id == id)) rows
+other_rows id kept rows None =
+    let self : (id == id) ≡ true = eq-eqb id id refl in
+    filter-append_one (λ (row : Answered). not (row.id == id)) rows (record { id = id; kept = kept }) (rw self refl)
+other_rows id kept rows (Some row) =
+    filter-map (λ (row : Answered). not (row.id == id)) (kept_in id kept) rows (λ row. ap (λ n. not (n == id)) (kept_in-id id kept row)) (kept_in-other id kept)
+
+pub keep-others : (volume : Option ℕ) (kept : Kept) (state : NodeState)
+    → filter (λ row. is_another volume row.id) (keep volume kept state).rows ≡ filter (λ row. is_another volume row.id) state.rows
+keep-others None kept state = refl
+keep-others (Some id) kept state = other_rows id kept state.rows (row_with_id id state)
+
+-- the row of the call's volume keeps the call
+row_kept : (id : ℕ) (kept : Kept) (rows : List Answered) (o : Option Answered) → find (λ (row : Answered). row.id == id) rows ≡ o
+    → option_map (λ (row : Answered). row.kept) (find (λ (row : Answered). row.id == id) (kept_rows id kept rows o)) ≡ Some kept
+row_kept id kept rows None h =
+    let self : (id == id) ≡ true = eq-eqb id id refl in
+    ap (option_map (λ (row : Answered). row.kept)) (find-append_one (λ (row : Answered). row.id == id) rows (record { id = id; kept = kept }) self h)
+row_kept id kept rows (Some row) h =
+    let moved = find-map (λ (row : Answered). row.id == id) (kept_in id kept) rows (λ row. ap (λ n. n == id) (kept_in-id id kept row)) in
+    let own : (row.id == id) ≡ true = find-passes (λ (row : Answered). row.id == id) rows row h in
+    let here : (kept_in id kept row).kept ≡ kept = rw own refl in
+    ap (option_map (λ (row : Answered). row.kept)) (moved ∙ ap (option_map (kept_in id kept)) h) ∙ ap Some here
+
+pub keep-own : (id : ℕ) (kept : Kept) (state : NodeState) → kept_in_row id (keep (Some id) kept state) ≡ Some kept
+keep-own id kept state = row_kept id kept state.rows (row_with_id id state) refl
+
+not_both : true ≡ false → ⊥
+not_both h = cc
+
+other_id : (other id n : ℕ) → (other == id) ≡ false → (n == other) ≡ true → not (n == id) ≡ true
+other_id other id n differ same = passed_not (n == id) (λ h. not_both (sym (eq-eqb other id (sym (eqb-true n other same) ∙ eqb-true n id h)) ∙ differ))
+
+-- another volume's row is found as it was
+keep-other : (id other : ℕ) (kept : Kept) (state : NodeState) → (other == id) ≡ false → kept_in_row other (keep (Some id) kept state) ≡ kept_in_row other state
+keep-other id other kept state differ =
+    let found : (rows : List Answered) → find (λ row. row.id == other) (filter (λ row. not (row.id == id)) rows) ≡ find (λ row. row.id == other) rows =
+    λ rows. find-filter (λ (row : Answered). row.id == other) (λ (row : Answered). not (row.id == id)) rows (λ row same. other_id other id row.id differ same) in
+    ap (option_map (λ (row : Answered). row.kept))
+    (sym (found (keep (Some id) kept state).rows) ∙ ap (find (λ (row : Answered). row.id == other)) (keep-others (Some id) kept state) ∙ found state.rows)
+
+-- a row keeps what it kept, or is the volume's, which keeps the call
+pub keep-either : (id other : ℕ) (kept : Kept) (state : NodeState) → (kept_in_row other (keep (Some id) kept state) ≡ kept_in_row other state) ⊎ (other ≡ id)
+keep-either id other kept state = by (other == id) refl
+  where
+    by : (b : Bool) → (other == id) ≡ b → (kept_in_row other (keep (Some id) kept state) ≡ kept_in_row other state) ⊎ (other ≡ id)
+    by true same = inr (eqb-true other id same)
+    by false differ = inl (keep-other id other kept state differ)

@@ -1,0 +1,106 @@
+-- The things of a node, and the rows that tell what is kept for them.
+use Rattle.std.proofs.Common.{◌≡◌, ◌⊎◌, ℕ, List, Bool, true, false, cond, refl, ◌∙◌, ap, inl, inr}
+use Rattle.std.specs.Prelude.{Option, Some, None, IsTrue}
+use Rattle.csi_types.proofs.Equality.{same_text-tells}
+use Rattle.csi_types.specs.declared.call.Call.{Call}
+use Rattle.csi_types.specs.declared.call.Call.TheVariants as calls
+use Rattle.csi_types.specs.declared.call.Party.TheVariants.{Node}
+use Rattle.csi_types.specs.Call.{kind_of, is_party_of}
+use Rattle.csi_types.specs.Fence.{Kept}
+use Rattle.csi_types.specs.Key.{Key, Exists, Attached, Staged, Published}
+use Rattle.csi_types.specs.Same.{same_text}
+use Rattle.csi_node.specs.State.{NodeState, empty_node, volume_of}
+use Rattle.csi_node.specs.Fenced.{keep}
+use Rattle.csi_node.specs.View.{held_on, kept_in_row, kept_on, key_of}
+use Rattle.csi_node.proofs.Keeping.{keep-either}
+
+-- a node is itself
+pub here : (node : List ℕ) → same_text node node ≡ true
+here node = (same_text-tells node node).1 refl
+
+-- the volume whose row tells what is kept for a thing, if the thing is on this node
+abbrev pub row_id : List ℕ → Key → Option ℕ
+row_id node (Exists name) = None
+row_id node (Attached id there) = None
+row_id node (Staged id there) = cond (same_text there node) (Some id) None
+row_id node (Published id there target) = cond (same_text there node) (Some id) None
+
+abbrev pub kept_at : Option ℕ → NodeState → Option Kept
+kept_at None state = None
+kept_at (Some id) state = kept_in_row id state
+
+pub kept_on-at : (node : List ℕ) (state : NodeState) (key : Key) → kept_on node state key ≡ kept_at (row_id node key) state
+kept_on-at node state (Exists name) = refl
+kept_on-at node state (Attached id there) = refl
+kept_on-at node state (Staged id there) = by (same_text there node)
+  where
+    by : (b : Bool) → cond b (kept_in_row id state) None ≡ kept_at (cond b (Some id) None) state
+    by true = refl
+    by false = refl
+kept_on-at node state (Published id there target) = by (same_text there node)
+  where
+    by : (b : Bool) → cond b (kept_in_row id state) None ≡ kept_at (cond b (Some id) None) state
+    by true = refl
+    by false = refl
+
+-- a call to a node is about a thing there, and a volume whose row tells what is kept for both
+pub record IsFor (node : List ℕ) (call : Call) (key : Key) : Type 0 where
+  pub is_key : key_of node call ≡ Some key
+  pub volume : ℕ
+  pub is_volume : volume_of call ≡ Some volume
+  pub is_row : row_id node key ≡ Some volume
+
+staged_for : (node : List ℕ) (call : Call) (id : ℕ) → key_of node call ≡ Some (Staged id node) → volume_of call ≡ Some id → IsFor node call (Staged id node)
+staged_for node call id is_key is_volume = record { is_key = is_key; volume = id; is_volume = is_volume; is_row = rw (here node) refl }
+
+published_for : (node : List ℕ) (call : Call) (id : ℕ) (target : List ℕ) → key_of node call ≡ Some (Published id node target) → volume_of call ≡ Some id → IsFor node call (Published id node target)
+published_for node call id target is_key is_volume = record { is_key = is_key; volume = id; is_volume = is_volume; is_row = rw (here node) refl }
+
+not_its_party : {A : Type 0} → false ≡ true → A
+not_its_party h = cc
+
+-- a controller's call isn't for a node
+pub is_for : (node : List ℕ) (call : Call) → IsTrue (is_party_of (kind_of call) (Node node)) → (key : Key) × IsFor node call key
+is_for node (calls.CreateVolume name required limit capabilities) party = not_its_party party
+is_for node (calls.DeleteVolume id) party = not_its_party party
+is_for node (calls.ControllerPublishVolume id there capability readonly) party = not_its_party party
+is_for node (calls.ControllerUnpublishVolume id there) party = not_its_party party
+is_for node (calls.NodeStageVolume id capability) party = (Staged id node, staged_for node (calls.NodeStageVolume id capability) id refl refl)
+is_for node (calls.NodeUnstageVolume id) party = (Staged id node, staged_for node (calls.NodeUnstageVolume id) id refl refl)
+is_for node (calls.NodePublishVolume id target capability readonly) party =
+    (Published id node target, published_for node (calls.NodePublishVolume id target capability readonly) id target refl refl)
+is_for node (calls.NodeUnpublishVolume id target) party = (Published id node target, published_for node (calls.NodeUnpublishVolume id target) id target refl refl)
+
+-- what is kept of a call isn't one of the things
+pub keep-held : (node : List ℕ) (volume : Option ℕ) (kept : Kept) (state : NodeState) (key : Key) → held_on node (keep volume kept state) key ≡ held_on node state key
+keep-held node None kept state key = refl
+keep-held node (Some id) kept state (Exists name) = refl
+keep-held node (Some id) kept state (Attached volume there) = refl
+keep-held node (Some id) kept state (Staged volume there) = refl
+keep-held node (Some id) kept state (Published volume there target) = refl
+
+-- what is kept is what was kept before, or is looked for in the volume's row
+pub kept_either : (volume : ℕ) (kept : Kept) (state : NodeState) (o : Option ℕ) → (kept_at o (keep (Some volume) kept state) ≡ kept_at o state) ⊎ (o ≡ Some volume)
+kept_either volume kept state None = inl refl
+kept_either volume kept state (Some id) = by (keep-either volume id kept state)
+  where
+    by : (kept_in_row id (keep (Some volume) kept state) ≡ kept_in_row id state) ⊎ (id ≡ volume) → (kept_at (Some id) (keep (Some volume) kept state) ≡ kept_at (Some id) state) ⊎ (Some id ≡ Some volume)
+    by (inl same) = inl same
+    by (inr e) = inr (ap Some e)
+
+pub kept_none : (node : List ℕ) (key : Key) → kept_on node empty_node key ≡ None
+kept_none node key = kept_on-at node empty_node key ∙ by (row_id node key)
+  where
+    by : (o : Option ℕ) → kept_at o empty_node ≡ None
+    by None = refl
+    by (Some id) = refl
+
+either_way : {X : Type 0} (b : Bool) (x : X) → cond b x x ≡ x
+either_way true x = refl
+either_way false x = refl
+
+pub held_none : (node : List ℕ) (key : Key) → held_on node empty_node key ≡ None
+held_none node (Exists name) = refl
+held_none node (Attached id there) = refl
+held_none node (Staged id there) = either_way (same_text there node) None
+held_none node (Published id there target) = either_way (same_text there node) None

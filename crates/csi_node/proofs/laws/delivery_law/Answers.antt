@@ -1,0 +1,12 @@
+-- In every state, whether or not frames lead to it, by what the fence and then the table make of the call.
+use Rattle.csi_node.specs.State.{empty_node}
+use Rattle.csi_node.specs.Fenced.{after_frames}
+use Rattle.csi_node.proofs.Delivered.{empty, closed, delivered}
+use Rattle.csi_node.proofs.laws.delivery_law.Goals as goal
+
+pub returns : goal.returns
+returns c = record {
+  empty = empty;
+  closed = closed;
+  delivered = λ node frames number call party. delivered node (after_frames node empty_node frames) number call party;
+}
