@@ -1,9 +1,10 @@
 -- A call that is delivered to a node is carried out there, or rests.
 use Rattle.std.proofs.Common.{◌≡◌, ◌⊎◌, ℕ, List, Bool, true, false, refl, sym, ◌∙◌, ap, subst, inl, inr}
-use Rattle.std.specs.Prelude.{Option, Some, None, option_map, find, ◌==◌, IsTrue, codes}
+use Rattle.std.specs.Prelude.{Option, Some, None, option_map, find, is_some, not, ◌==◌, IsTrue, codes}
 use Rattle.csi_types.proofs.Spent.{spent-earlier}
 use Rattle.csi_types.specs.declared.number.Number.{Number}
 use Rattle.csi_types.specs.declared.call.Call.{Call}
+use Rattle.csi_types.specs.declared.call.Call.TheVariants as calls
 use Rattle.csi_types.specs.declared.call.Kind.{Kind}
 use Rattle.csi_types.specs.declared.call.Party.TheVariants.{Node}
 use Rattle.csi_types.specs.declared.status.Status.TheVariants.{Ok, Aborted, ResourceExhausted}
@@ -12,14 +13,15 @@ use Rattle.csi_types.specs.Call.{kind_of, is_party_of}
 use Rattle.csi_types.specs.Delivery.{View, Delivery, Acts, Rests, IsSameView, Becomes, IsDelivered, IsEmpty, IsClosed, last_of}
 use Rattle.csi_types.specs.Fence.{Kept, is_spent}
 use Rattle.csi_types.specs.Key.{Key}
+use Rattle.csi_types.specs.Reply.{has_id_by_rule}
 use Rattle.csi_types.specs.Replies.{plain_reply, stale_reply, call_frame}
 use Rattle.csi_node.specs.State.{NodeState, Answered, empty_node, row_of_volume}
-use Rattle.csi_node.specs.Table.{lifecycle_row, changed}
+use Rattle.csi_node.specs.Table.{Outcome, lifecycle_row, changed}
 use Rattle.csi_node.specs.Fenced.{Fenced, fenced, kept_for, keep}
 use Rattle.csi_node.specs.View.{held_on, kept_on, view_of, key_of, IsDeliveredTo}
 use Rattle.csi_node.proofs.Effects.{Effect, EffectAt, effect}
 use Rattle.csi_node.proofs.Keeping.{keep-own, changed-rows}
-use Rattle.csi_node.proofs.Moves.{lifecycle_moves}
+use Rattle.csi_node.proofs.Moves.{Move, refuses, was_staged, stages, unstages, was_published, publishes, was_unpublished, unpublishes, lifecycle_moves}
 use Rattle.csi_node.proofs.Passages.{Passage, stale, repeated, no_room, carried, passes, kept_of, state_then}
 use Rattle.csi_node.proofs.Numbers.{answered_spent, spent_still}
 use Rattle.csi_node.proofs.Things.{row_id, kept_at, kept_on-at, IsFor, is_for, keep-held, kept_either, kept_none, held_none}
@@ -32,6 +34,30 @@ aborted h = cc
 
 same_view : (view : View) → IsSameView view view
 same_view view = record { held = λ key. refl; is_spent = λ key number. refl; kept = λ key. refl }
+
+no_key : (key : Key) → None ≡ Some key → ⊥
+no_key key h = cc
+
+-- no call of a node's is answered with an id
+reply_id : (state : NodeState) (call : Call) (outcome : Outcome) → Move state call outcome → outcome.reply.id ≡ None
+reply_id state _ _ (refuses call status detail not_ok) = refl
+reply_id state _ _ (was_staged staged is) = refl
+reply_id state _ _ (stages staged none) = refl
+reply_id state _ _ (unstages id none) = refl
+reply_id state _ _ (was_published p slash is) = refl
+reply_id state _ _ (publishes p fits) = refl
+reply_id state _ _ (was_unpublished id target none) = refl
+reply_id state _ _ (unpublishes id target there is) = refl
+
+without_id : (node : List ℕ) (call : Call) (key : Key) (reply : Reply) → key_of node call ≡ Some key → reply.id ≡ None → IsTrue (has_id_by_rule (kind_of call) reply)
+without_id node (calls.NodeStageVolume id capability) key reply is none = ap (λ (o : Option ℕ). not (is_some o)) none
+without_id node (calls.NodeUnstageVolume id) key reply is none = ap (λ (o : Option ℕ). not (is_some o)) none
+without_id node (calls.NodePublishVolume id target capability readonly) key reply is none = ap (λ (o : Option ℕ). not (is_some o)) none
+without_id node (calls.NodeUnpublishVolume id target) key reply is none = ap (λ (o : Option ℕ). not (is_some o)) none
+without_id node (calls.CreateVolume name required limit capabilities) key reply is none = absurd (no_key key is)
+without_id node (calls.DeleteVolume id) key reply is none = absurd (no_key key is)
+without_id node (calls.ControllerPublishVolume id there capability readonly) key reply is none = absurd (no_key key is)
+without_id node (calls.ControllerUnpublishVolume id there) key reply is none = absurd (no_key key is)
 
 effect_for : (node : List ℕ) (state : NodeState) (call : Call) (key : Key) → key_of node call ≡ Some key → Effect node state call (lifecycle_row state call) key
 effect_for node state call key is = subst (EffectAt node state call (lifecycle_row state call)) is (effect node state call (lifecycle_row state call) (lifecycle_moves state call))
@@ -69,6 +95,7 @@ module _ (node : List ℕ) (state : NodeState) (number : Number) (call : Call) (
   full_acts reply fresh not_ok =
       record {
         of_its_kind = refl;
+        with_id = λ ok. absurd (not_ok ok);
         was_fresh = spent_by number is_kept ∙ fresh;
         done = λ ok. absurd (not_ok ok);
         spent = λ ok. absurd (not_ok ok);
@@ -129,6 +156,7 @@ module _ (node : List ℕ) (state : NodeState) (number : Number) (call : Call) (
         let does = effect_for node state call key for.is_key in
         record {
           of_its_kind = refl;
+          with_id = λ ok. without_id node call key (lifecycle_row state call).reply for.is_key (reply_id state call (lifecycle_row state call) (lifecycle_moves state call));
           was_fresh = spent_by number is_kept ∙ fresh;
           done = λ ok. held_after key ∙ does.done ok;
           spent = λ _. spent_by number own ∙ answered_spent number;

@@ -20,3 +20,4 @@ pub mod Frames
 pub mod Safety
 pub mod TableLaw
 pub mod SafeStates
+pub mod StagedOnce

@@ -2,6 +2,7 @@
 use Rattle.csi_node.specs.State.{empty_node}
 use Rattle.csi_node.specs.Fenced.{after_frames}
 use Rattle.csi_node.proofs.Delivered.{empty, closed, delivered}
+use Rattle.csi_node.proofs.StagedOnce.{all_found}
 use Rattle.csi_node.proofs.laws.delivery_law.Goals as goal
 
 pub returns : goal.returns
@@ -9,4 +10,5 @@ returns c = record {
   empty = empty;
   closed = closed;
   delivered = λ node frames number call party. delivered node (after_frames node empty_node frames) number call party;
+  found = all_found;
 }

@@ -1,0 +1,123 @@
+-- In a node's state each volume is staged at most once: what the list has is what is found, whatever frames came.
+use Rattle.std.proofs.Common.{◌≡◌, ◌⊎◌, ℕ, List, [], ◌∷◌, ◌++◌, Bool, true, false, cond, not, refl, sym, ◌∙◌, ap, subst, inl, inr}
+use Rattle.std.specs.Prelude.{Option, Some, None, option_map, find, filter, ◌==◌}
+use Rattle.std.proofs.lemmas.Bool.{eqb-true, eq-eqb, false≢true}
+use Rattle.csi_types.proofs.Among.{among-either, among-filter, find-filter}
+use Rattle.csi_types.proofs.Lists.{find-append, or_else, or_else-some, or_else-none}
+use Rattle.csi_types.specs.declared.capability.Capability.{Capability}
+use Rattle.csi_types.specs.declared.number.Number.{Number}
+use Rattle.csi_types.specs.declared.call.Call.{Call}
+use Rattle.csi_types.specs.declared.call.Party.{Party}
+use Rattle.csi_types.specs.declared.call.Party.TheVariants.{Controller, Node}
+use Rattle.csi_types.specs.declared.frame.Body.{Body}
+use Rattle.csi_types.specs.declared.frame.Body.TheVariants as bodies
+use Rattle.csi_types.specs.Fence.{Kept}
+use Rattle.csi_types.specs.Frame.{Frame}
+use Rattle.csi_types.specs.Lists.{IsAmong}
+use Rattle.csi_types.specs.Same.{same_text}
+use Rattle.csi_node.specs.State.{NodeState, StagedVolume, empty_node, staged_of, volume_of}
+use Rattle.csi_node.specs.Table.{Outcome, Change, Stages, Unstages, lifecycle_row, changed}
+use Rattle.csi_node.specs.Fenced.{Fenced, keep, fenced_call, kept_for, fenced_parts, fenced, after_frames}
+use Rattle.csi_node.proofs.Moves.{Move, refuses, was_staged, stages, unstages, was_published, publishes, was_unpublished, unpublishes, lifecycle_moves}
+use Rattle.csi_node.proofs.Passages.{Passage, stale, repeated, no_room, carried, call_passes, kept_of}
+
+-- each staged volume is found as it is staged
+abbrev pub AreFound : NodeState → Type 0
+AreFound state = (staged : StagedVolume) → IsAmong staged state.staged → staged_of staged.volume state ≡ Some staged.capability
+
+-- what passes a filter
+passes-filter : {X : Type 0} (p : X → Bool) (xs : List X) (x : X) → IsAmong x (filter p xs) → p x ≡ true
+passes-filter p [] x among = absurd among
+passes-filter p (y ∷ ys) x among = by (p y) refl among (passes-filter p ys x)
+  where
+    by : (b : Bool) → p y ≡ b → IsAmong x (cond b (y ∷ filter p ys) (filter p ys)) → (IsAmong x (filter p ys) → p x ≡ true) → p x ≡ true
+    by true e (inl same) rest = ap p same ∙ e
+    by true e (inr there) rest = rest there
+    by false e there rest = rest there
+
+capability_of : StagedVolume → Capability
+capability_of staged = staged.capability
+
+none-mapped : (o : Option StagedVolume) → option_map (λ (s : StagedVolume). s.capability) o ≡ None → o ≡ None
+none-mapped None h = refl
+none-mapped (Some s) h = absurd (clash h)
+  where
+    clash : Some s.capability ≡ None → ⊥
+    clash e = cc
+
+stages-found : (state : NodeState) (new : StagedVolume) → staged_of new.volume state ≡ None → AreFound state → AreFound (changed state (Stages new))
+stages-found state new none found staged among = by (among-either state.staged new staged among)
+  where
+    is_of : ℕ → StagedVolume → Bool
+    is_of id s = s.volume == id
+
+    old : (o other : Option StagedVolume) → option_map (λ (s : StagedVolume). s.capability) o ≡ Some staged.capability → option_map (λ (s : StagedVolume). s.capability) (or_else o other) ≡ Some staged.capability
+    old None other h = absurd (clash h)
+      where
+        clash : None ≡ Some staged.capability → ⊥
+        clash e = cc
+    old (Some s) other h = ap (option_map (λ (s : StagedVolume). s.capability)) (or_else-some (Some s) other s refl) ∙ h
+
+    now : staged_of new.volume (changed state (Stages new)) ≡ Some new.capability
+    now =
+        ap (option_map (λ (s : StagedVolume). s.capability)) (find-append (is_of new.volume) state.staged new)
+        ∙ ap (option_map (λ (s : StagedVolume). s.capability)) (or_else-none (find (is_of new.volume) state.staged) (cond (new.volume == new.volume) (Some new) None) (none-mapped (find (is_of new.volume) state.staged) none))
+        ∙ ap (λ b. option_map (λ (s : StagedVolume). s.capability) (cond b (Some new) None)) (eq-eqb new.volume new.volume refl)
+
+    by : IsAmong staged state.staged ⊎ (staged ≡ new) → staged_of staged.volume (changed state (Stages new)) ≡ Some staged.capability
+    by (inl there) =
+        ap (option_map (λ (s : StagedVolume). s.capability)) (find-append (is_of staged.volume) state.staged new)
+        ∙ old (find (is_of staged.volume) state.staged) (cond (new.volume == staged.volume) (Some new) None) (found staged there)
+    by (inr e) = subst (λ (s : StagedVolume). staged_of s.volume (changed state (Stages new)) ≡ Some s.capability) (sym e) now
+
+unstages-found : (state : NodeState) (id : ℕ) → AreFound state → AreFound (changed state (Unstages id))
+unstages-found state id found staged among =
+    ap (option_map (λ (s : StagedVolume). s.capability)) (find-filter (λ (s : StagedVolume). s.volume == staged.volume) (λ (s : StagedVolume). not (s.volume == id)) state.staged left)
+    ∙ found staged (among-filter (λ (s : StagedVolume). not (s.volume == id)) state.staged staged among)
+  where
+    stays : not (staged.volume == id) ≡ true
+    stays = passes-filter (λ (s : StagedVolume). not (s.volume == id)) state.staged staged among
+
+    left : (s : StagedVolume) → (s.volume == staged.volume) ≡ true → not (s.volume == id) ≡ true
+    left s same = ap (λ n. not (n == id)) (eqb-true s.volume staged.volume same) ∙ stays
+
+move-found : (state : NodeState) (call : Call) (outcome : Outcome) → Move state call outcome → AreFound state → AreFound (changed state outcome.change)
+move-found state _ _ (refuses call status detail not_ok) found = found
+move-found state _ _ (was_staged staged is) found = found
+move-found state _ _ (stages staged none) found = stages-found state staged none found
+move-found state _ _ (unstages id none) found = unstages-found state id found
+move-found state _ _ (was_published p slash is) found = found
+move-found state _ _ (publishes p fits) found = found
+move-found state _ _ (was_unpublished id target none) found = found
+move-found state _ _ (unpublishes id target there is) found = found
+
+-- what is kept touches the rows alone
+keep-found : (volume : Option ℕ) (kept : Kept) (state : NodeState) → AreFound state → AreFound (keep volume kept state)
+keep-found None kept state found = found
+keep-found (Some id) kept state found = found
+
+passage-found : (node : List ℕ) (state : NodeState) (number : Number) (call : Call) (fenced : Fenced) → Passage node state number call fenced → AreFound state → AreFound fenced.state
+passage-found node state number call _ (stale spent) found = found
+passage-found node state number call _ (repeated kept is same spent) found = found
+passage-found node state number call _ (no_room fresh full) found = found
+passage-found node state number call _ (carried fresh room) found =
+    keep-found (volume_of call) (kept_of state number call) (changed state (lifecycle_row state call).change) (move-found state call (lifecycle_row state call) (lifecycle_moves state call) found)
+
+by_place : (b : Bool) (x y : Fenced) → AreFound x.state → AreFound y.state → AreFound (cond b x y).state
+by_place true x y f g = f
+by_place false x y f g = g
+
+parts-found : (node : List ℕ) (state : NodeState) (number : Number) (party : Party) (body : Body) → AreFound state → AreFound (fenced_parts node state number party body).state
+parts-found node state number Controller body found = found
+parts-found node state number (Node id) (bodies.Reply kind reply) found = found
+parts-found node state number (Node id) (bodies.Call call) found =
+    by_place (same_text id node) _ _
+    (passage-found node state number call (fenced_call node state number call (kept_for call state)) (call_passes node state number call (kept_for call state) refl) found)
+    found
+
+frames-found : (node : List ℕ) (state : NodeState) (frames : List Frame) → AreFound state → AreFound (after_frames node state frames)
+frames-found node state [] found = found
+frames-found node state (frame ∷ frames) found = frames-found node (fenced node state frame).state frames (parts-found node state frame.number frame.party frame.body found)
+
+pub all_found : (node : List ℕ) (frames : List Frame) → AreFound (after_frames node empty_node frames)
+all_found node frames = frames-found node empty_node frames (λ staged among. absurd among)
