@@ -11,6 +11,7 @@ pub mod Views
 pub mod Copies
 pub mod Exclusive
 pub mod Attached
+pub mod Moves
 pub mod Orderly
 pub mod Facts
 pub mod TableLaw
