@@ -22,7 +22,7 @@ use Rattle.csi_types.specs.Same.{same_text, same_capability, has_capability}
 use Rattle.csi_controller.specs.State.{Volume, ControllerState, volume_named, live_volume, holdings_of, is_held_at, holding_at, is_row_for}
 use Rattle.csi_controller.specs.Table.{Outcome, Stays, Makes, Ends, Attaches, Detaches, refused, met, done, serves, create_named, create, delete_live, delete, is_full, attach, publish_held, publish, unpublish, controller_row, ended, changed}
 use Rattle.csi_controller.specs.Laws.{IsDone, is_of_another}
-use Rattle.csi_controller.proofs.Orderly.{IsOrderly, changed_orderly}
+use Rattle.csi_controller.proofs.Orderly.{IsOrderly, named_by_id, made_orderly}
 
 -- what the call asks is so, and the table answers it so again and changes nothing
 pub record IsReady (config : Config) (state : ControllerState) (call : Call) (reply : Reply) : Type 0 where
@@ -106,7 +106,7 @@ create_ready config state name required limit first others volume bad none named
     record {
       is_done = record {
         volume = volume;
-        is_live = find-and (λ (v : Volume). v.id == volume.id) (λ (v : Volume). v.is_live) state.volumes volume (orderly.by_id name volume named) live;
+        is_live = find-and (λ (v : Volume). v.id == volume.id) (λ (v : Volume). v.is_live) state.volumes volume (named_by_id state name volume orderly named) live;
         has_id = refl;
         has_name = (same_text-tells volume.name name).0 passes;
         not_below = leb-true required volume.capacity range.0;
@@ -153,7 +153,7 @@ create_made config state name required limit first others bad none unnamed order
       stays = λ h. absurd (h refl);
       ready = λ h kept. create_ready config (changed state kept (Makes name (wanted required limit) (first ∷ others))) name required limit first others (volume kept) bad none
           (find-append_one (λ (v : Volume). same_text v.name name) state.volumes (volume kept) self unnamed) refl (serving kept)
-          (changed_orderly state kept (Makes name (wanted required limit) (first ∷ others)) orderly);
+          (made_orderly state (volume kept) refl unnamed orderly);
       others = λ kept. record { volumes = filter-append_one (λ (v : Volume). not (same_text v.name name)) state.volumes (volume kept) (rw self refl); holdings = refl };
     }
 

@@ -12,6 +12,8 @@ pub mod Copies
 pub mod Exclusive
 pub mod Attached
 pub mod Moves
+pub mod Finds
+pub mod Frames
 pub mod Orderly
 pub mod Facts
 pub mod TableLaw
