@@ -15,6 +15,7 @@ pub mod Moves
 pub mod Finds
 pub mod Frames
 pub mod Orderly
+pub mod Names
 pub mod Facts
 pub mod TableLaw
 pub mod SafeStates

@@ -1,6 +1,7 @@
 //! The laws of the controller's table.
 ghost use Rattle.csi_controller.specs.Laws.{ControllerTableLaw};
 ghost use Rattle.csi_controller.specs.Safe.{ControllerSafetyLaw};
+ghost use Rattle.csi_controller.specs.View.{ControllerNamesLaw};
 
 /// A law, and nothing that runs: in every state that frames lead to, and for every call that the table
 /// answers there, a refusal changes nothing, a success brings about what the call asks, the same call again
@@ -15,4 +16,11 @@ pub fn table_law()
 /// `AccessMode`, and "Volume Lifecycle").
 pub fn safety_law()
     ensures { ControllerSafetyLaw }
+{}
+
+/// A law, and nothing that runs: in every state that frames lead to, a volume that is found by its name is found
+/// by its id, and the other way round, and a name that got an id keeps it, whatever frame comes (this profile's
+/// own).
+pub fn names_law()
+    ensures { ControllerNamesLaw }
 {}
