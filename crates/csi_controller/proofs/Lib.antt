@@ -16,6 +16,7 @@ pub mod Finds
 pub mod Frames
 pub mod Orderly
 pub mod Names
+pub mod Things
 pub mod Facts
 pub mod TableLaw
 pub mod SafeStates
