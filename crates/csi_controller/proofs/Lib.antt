@@ -17,6 +17,8 @@ pub mod Frames
 pub mod Orderly
 pub mod Names
 pub mod Things
+pub mod LastCalls
+pub mod Delivered
 pub mod Facts
 pub mod TableLaw
 pub mod SafeStates

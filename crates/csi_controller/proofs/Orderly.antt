@@ -116,6 +116,20 @@ kept_same call kept k volume = by (is_row_for call volume)
     by true = refl
     by false = refl
 
+-- by id and name alone it is told whose row a volume is
+pub same_row : (call : Call) (v w : Volume) → w.id ≡ v.id → w.name ≡ v.name → is_row_for call w ≡ is_row_for call v
+same_row (calls.CreateVolume name required limit capabilities) v w id named = ap (λ n. same_text n name) named
+same_row (calls.DeleteVolume id') v w id named = ap (λ n. n == id') id
+same_row (calls.ControllerPublishVolume id' node capability readonly) v w id named = ap (λ n. n == id') id
+same_row (calls.ControllerUnpublishVolume id' node) v w id named = ap (λ n. n == id') id
+same_row (calls.NodeStageVolume id' capability) v w id named = ap (λ n. n == id') id
+same_row (calls.NodeUnstageVolume id') v w id named = ap (λ n. n == id') id
+same_row (calls.NodePublishVolume id' target capability readonly) v w id named = ap (λ n. n == id') id
+same_row (calls.NodeUnpublishVolume id' target) v w id named = ap (λ n. n == id') id
+
+pub kept_in-row : (call : Call) (kept : Kept) (v : Volume) → is_row_for call (kept_in call kept v) ≡ is_row_for call v
+kept_in-row call kept v = same_row call v (kept_in call kept v) (ap (λ (w : Volume). w.id) (kept_same call kept kept v)) (ap (λ (w : Volume). w.name) (kept_same call kept kept v))
+
 pub keep_leaves : (call : Call) (kept : Kept) → LeavesNames (kept_in call kept)
 keep_leaves call kept =
     record { ids = λ v. ap (λ (v : Volume). v.id) (kept_same call kept kept v); names = λ v. ap (λ (v : Volume). v.name) (kept_same call kept kept v) }

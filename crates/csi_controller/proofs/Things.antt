@@ -209,10 +209,10 @@ detached_things state id node kept = record {
     others (Published other there target) h = refl
 
 -- the key that a call has
-at_key : (P : Key → Type 0) (k key : Key) → Some k ≡ Some key → P k → P key
+pub at_key : (P : Key → Type 0) (k key : Key) → Some k ≡ Some key → P k → P key
 at_key P k key e p = subst P (some_is k key e) p
 
-by_volume : (P : Key → Type 0) (f : Volume → Key) (o : Option Volume) (key : Key) → option_map f o ≡ Some key → ((v : Volume) → o ≡ Some v → P (f v)) → P key
+pub by_volume : (P : Key → Type 0) (f : Volume → Key) (o : Option Volume) (key : Key) → option_map f o ≡ Some key → ((v : Volume) → o ≡ Some v → P (f v)) → P key
 by_volume P f None key e g = absurd (none_is_some key e)
 by_volume P f (Some v) key e g = at_key P (f v) key e (g v refl)
 
