@@ -39,7 +39,7 @@ same_things key call reply state done = record { done = done; refused = λ h. re
 live_with_name : (state : ControllerState) (name : List ℕ) (volume : Volume) → volume_named name state ≡ Some volume → volume.is_live ≡ true → live_named name state ≡ Some volume
 live_with_name state name volume is live = find-and (λ (v : Volume). same_text v.name name) (λ (v : Volume). v.is_live) state.volumes volume is live
 
-first_fails : (a b : Bool) → a ≡ false → (a && b) ≡ false
+pub first_fails : (a b : Bool) → a ≡ false → (a && b) ≡ false
 first_fails true b h = absurd (true_is_false h)
 first_fails false b h = refl
 
