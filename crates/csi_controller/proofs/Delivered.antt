@@ -1,10 +1,9 @@
 -- A call that is delivered acts or rests.
-use Rattle.std.proofs.Common.{◌≡◌, ◌≢◌, ◌⊎◌, ℕ, List, [], Bool, true, false, not, cond, refl, sym, ◌∙◌, ap, subst, inl, inr, arith}
+use Rattle.std.proofs.Common.{◌≡◌, ◌⊎◌, ℕ, List, Bool, true, false, not, refl, sym, ◌∙◌, ap, subst, inl, inr, arith}
 use Rattle.std.specs.Prelude.{Option, Some, None, option_map, is_some, find, ◌==◌, ◌&&◌, IsTrue}
 use Rattle.std.proofs.lemmas.Bool.{and_parts, eqb-true}
 use Rattle.std.proofs.lemmas.Bool.Decides.{nat_tests}
 use Rattle.csi_types.proofs.Among.{among-find, none_passes}
-use Rattle.csi_types.proofs.Equality.{same_number-tells}
 use Rattle.csi_types.proofs.Lists.{find-map, find-passes}
 use Rattle.csi_types.proofs.Order.{before-trans}
 use Rattle.csi_types.proofs.Spent.{spent-earlier}
@@ -18,19 +17,19 @@ use Rattle.csi_types.specs.declared.status.Status.TheVariants.{Ok, Aborted}
 use Rattle.csi_types.specs.declared.reply.Reply.{Reply}
 use Rattle.csi_types.specs.Call.{kind_of, is_party_of}
 use Rattle.csi_types.specs.Config.{Config}
-use Rattle.csi_types.specs.Delivery.{View, Delivery, Acts, Rests, Becomes, IsSameView, IsDelivered, IsEmpty, IsClosed, last_of, kept_of}
+use Rattle.csi_types.specs.Delivery.{Delivery, Acts, Rests, Becomes, IsSameView, IsDelivered, IsEmpty, IsClosed, last_of}
 use Rattle.csi_types.specs.Fence.{Kept, is_spent}
 use Rattle.csi_types.specs.Key.{Key, Exists, Attached, Staged, Published, HasId}
 use Rattle.csi_types.specs.Lists.{IsAmong}
 use Rattle.csi_types.specs.Number.{is_before}
 use Rattle.csi_types.specs.Replies.{stale_reply}
-use Rattle.csi_types.specs.Same.{same_text, same_number}
+use Rattle.csi_types.specs.Same.{same_text}
 use Rattle.csi_controller.specs.State.{Volume, ControllerState, empty_controller, volume_with_id, live_volume, is_held_at, is_row_for, row_for}
 use Rattle.csi_controller.specs.Table.{Outcome, Change, Stays, changed, controller_row}
 use Rattle.csi_controller.specs.Fenced.{Fenced, kept_in, keep, carried_out, fenced_call, kept_for}
 use Rattle.csi_controller.specs.Safe.{IsExclusive}
 use Rattle.csi_controller.specs.View.{held_in, kept_in_row, live_named, view_of, key_of, IsDeliveredTo}
-use Rattle.csi_controller.proofs.Finds.{none_is_some, some_is, true_is_false, find-none, map-none, option_map-map}
+use Rattle.csi_controller.proofs.Finds.{none_is_some, true_is_false, find-none, map-none, option_map-map}
 use Rattle.csi_controller.proofs.LastCalls.{row_of, kept_of_row, IsLater, IsFreshFor, kept_later, kept_after, row_known}
 use Rattle.csi_controller.proofs.Moves.{Move, was_refused, was_found, was_made, was_ended, was_ended_before, was_attached, was_attached_before, was_detached, was_detached_before, moved, Judgement, was_first, was_fresh, was_repeated, was_stale, was_judged}
 use Rattle.csi_controller.proofs.Orderly.{IsOrderly, kept_same, keep_leaves, live_with_id, is_row}

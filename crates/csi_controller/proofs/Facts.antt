@@ -1,6 +1,6 @@
 -- What is so of each outcome of the controller's table.
-use Rattle.std.proofs.Common.{◌≡◌, ◌≢◌, ◌⊎◌, ℕ, ◌≤◌, ◌^◌, List, [], ◌∷◌, Bool, true, false, cond, not, refl, sym, ◌∙◌, ap, subst, inl, inr, arith}
-use Rattle.std.specs.Prelude.{Option, Some, None, find, filter, ◌==◌, ◌&&◌, ◌||◌, nat_le, nat_lt, length, codes, IsTrue}
+use Rattle.std.proofs.Common.{◌≡◌, ◌≢◌, ◌⊎◌, ℕ, ◌≤◌, List, [], ◌∷◌, Bool, true, false, cond, not, refl, sym, ap, subst, inl, inr, arith}
+use Rattle.std.specs.Prelude.{Some, None, filter, ◌==◌, ◌&&◌, ◌||◌, nat_le, codes, IsTrue}
 use Rattle.std.specs.List.{list_all, AllByRecursion}
 use Rattle.std.proofs.lemmas.Bool.{and_parts, and_from, or_cases, eqb-true, eq-eqb, leb-true}
 use Rattle.std.proofs.lemmas.Bool.Decides.{nat_tests}
@@ -11,16 +11,16 @@ use Rattle.csi_types.specs.declared.holding.Holding.{Holding}
 use Rattle.csi_types.specs.declared.call.Call.{Call}
 use Rattle.csi_types.specs.declared.call.Call.TheVariants as calls
 use Rattle.csi_types.specs.declared.status.Status.{Status}
-use Rattle.csi_types.specs.declared.status.Status.TheVariants.{Ok, InvalidArgument, NotFound, AlreadyExists, ResourceExhausted, FailedPrecondition, OutOfRange, Unimplemented}
+use Rattle.csi_types.specs.declared.status.Status.TheVariants.{Ok, InvalidArgument, NotFound, AlreadyExists, OutOfRange}
 use Rattle.csi_types.specs.declared.reply.Reply.{Reply}
 use Rattle.csi_types.specs.Capacity.{is_bad_range, is_empty_range, wanted}
 use Rattle.csi_types.specs.Config.{Config, has_node}
 use Rattle.csi_types.specs.Fence.{Kept}
-use Rattle.csi_types.specs.Holding.{same_holding, is_compatible}
+use Rattle.csi_types.specs.Holding.{same_holding}
 use Rattle.csi_types.specs.Replies.{ok_reply, ok_reply_with}
 use Rattle.csi_types.specs.Same.{same_text, same_capability, has_capability}
-use Rattle.csi_controller.specs.State.{Volume, ControllerState, volume_named, live_volume, holdings_of, is_held_at, holding_at, is_row_for}
-use Rattle.csi_controller.specs.Table.{Outcome, Stays, Makes, Ends, Attaches, Detaches, refused, met, done, serves, create_named, create, delete_live, delete, is_full, attach, publish_held, publish, unpublish, controller_row, ended, changed}
+use Rattle.csi_controller.specs.State.{Volume, ControllerState, volume_named, live_volume, is_held_at, holding_at, is_row_for}
+use Rattle.csi_controller.specs.Table.{Outcome, Stays, Makes, Ends, Attaches, Detaches, refused, met, done, serves, create_named, create, delete, publish_held, publish, unpublish, controller_row, ended, changed}
 use Rattle.csi_controller.specs.Laws.{IsDone, is_of_another}
 use Rattle.csi_controller.proofs.Moves.{Move, CanAttach, publish_call, was_refused, was_found, was_made, was_ended, was_ended_before, was_attached, was_attached_before, was_detached, was_detached_before, moved}
 use Rattle.csi_controller.proofs.Orderly.{IsOrderly, named_by_id, made_orderly, end_leaves}

@@ -1,6 +1,6 @@
 -- Searches of lists, where only what is among them is known, and tests of texts.
 use Rattle.std.proofs.Common.{◌≡◌, List, [], ◌∷◌, ◌++◌, map, ℕ, Bool, true, false, cond, refl, sym, ◌∙◌, ap, inl, inr}
-use Rattle.std.specs.Prelude.{Option, Some, None, option_map, find, ◌&&◌}
+use Rattle.std.specs.Prelude.{Option, Some, None, option_map, find}
 use Rattle.csi_types.proofs.Equality.{same_text-tells}
 use Rattle.csi_types.specs.Lists.{IsAmong}
 use Rattle.csi_types.specs.Same.{same_text}

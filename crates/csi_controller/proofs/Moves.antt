@@ -1,5 +1,5 @@
 -- The controller's table and its fence, opened once: each answer that they give, and what is so where they give it.
-use Rattle.std.proofs.Common.{◌≡◌, ℕ, ◌^◌, List, [], ◌∷◌, Bool, true, false, cond, not, refl, sym, ◌∙◌, ap}
+use Rattle.std.proofs.Common.{◌≡◌, ℕ, ◌^◌, List, [], ◌∷◌, Bool, true, false, cond, not, refl, ◌∙◌, ap}
 use Rattle.std.specs.Prelude.{Option, Some, None, option_map, find, ◌||◌, nat_le, nat_lt, length, codes}
 use Rattle.csi_types.proofs.Equality.{same_holding-tells, same_number-tells}
 use Rattle.csi_types.specs.declared.capability.Capability.{Capability}
@@ -7,14 +7,13 @@ use Rattle.csi_types.specs.declared.holding.Holding.{Holding}
 use Rattle.csi_types.specs.declared.number.Number.{Number}
 use Rattle.csi_types.specs.declared.call.Call.{Call}
 use Rattle.csi_types.specs.declared.call.Call.TheVariants as calls
-use Rattle.csi_types.specs.declared.fence.Verdict.{Verdict}
 use Rattle.csi_types.specs.declared.fence.Verdict.TheVariants.{Stale, Repeated, Fresh}
 use Rattle.csi_types.specs.declared.status.Status.{Status}
 use Rattle.csi_types.specs.declared.status.Status.TheVariants.{Ok, InvalidArgument, NotFound, AlreadyExists, ResourceExhausted, FailedPrecondition, OutOfRange, Unimplemented}
 use Rattle.csi_types.specs.Call.{kind_of}
 use Rattle.csi_types.specs.Capacity.{is_bad_range, is_empty_range, wanted}
 use Rattle.csi_types.specs.Config.{Config, has_node}
-use Rattle.csi_types.specs.Fence.{Kept, is_spent, verdict_of, verdict_of_spent}
+use Rattle.csi_types.specs.Fence.{is_spent, verdict_of_spent}
 use Rattle.csi_types.specs.Holding.{same_holding, is_compatible}
 use Rattle.csi_types.specs.Replies.{ok_reply_with, stale_reply}
 use Rattle.csi_types.specs.Same.{same_number, has_capability}

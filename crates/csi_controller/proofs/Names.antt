@@ -1,6 +1,6 @@
 -- Names and ids belong together, and a name that got an id keeps it.
-use Rattle.std.proofs.Common.{◌≡◌, ℕ, List, [], ◌∷◌, ◌++◌, ◌<◌, map, refl, sym, ◌∙◌, ap, subst}
-use Rattle.std.specs.Prelude.{Option, Some, None, option_map, find, ◌==◌}
+use Rattle.std.proofs.Common.{◌≡◌, ℕ, List, ◌<◌, map, refl, ◌∙◌, ap, subst}
+use Rattle.std.specs.Prelude.{Option, Some, None, option_map, ◌==◌}
 use Rattle.std.proofs.lemmas.Bool.{eqb-true}
 use Rattle.csi_types.proofs.Among.{among-find}
 use Rattle.csi_types.proofs.Lists.{find-map, find-append, find-passes, or_else, or_else-some}
@@ -10,7 +10,7 @@ use Rattle.csi_types.specs.Config.{Config}
 use Rattle.csi_types.specs.Fence.{Kept}
 use Rattle.csi_types.specs.Frame.{Frame}
 use Rattle.csi_types.specs.Same.{same_text}
-use Rattle.csi_controller.specs.State.{Volume, ControllerState, empty_controller, volume_named, volume_with_id}
+use Rattle.csi_controller.specs.State.{Volume, ControllerState, empty_controller, volume_named}
 use Rattle.csi_controller.specs.Table.{Change, Stays, Makes, Ends, Attaches, Detaches, changed, ended, controller_row}
 use Rattle.csi_controller.specs.Fenced.{fenced, carried_out, kept_in, after_frames}
 use Rattle.csi_controller.specs.View.{AreNamed, id_named}

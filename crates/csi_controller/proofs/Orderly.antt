@@ -1,7 +1,7 @@
 -- What is so of the volumes of each state that frames reach: each is the one of its name and the one of its id, and
 -- its id was given.
 use Rattle.std.proofs.Common.{◌≡◌, ◌⊎◌, ℕ, ◌+◌, ◌<◌, List, [], ◌∷◌, ◌++◌, map, Bool, true, false, cond, refl, sym, ◌∙◌, ap, subst, inl, inr, arith}
-use Rattle.std.specs.Prelude.{Option, Some, None, option_map, find, ◌==◌, ◌&&◌}
+use Rattle.std.specs.Prelude.{Some, None, option_map, ◌==◌, ◌&&◌}
 use Rattle.std.proofs.lemmas.Bool.{and_parts, eqb-true, eq-eqb, ne_eqb}
 use Rattle.csi_types.proofs.Among.{among-either, among-find}
 use Rattle.csi_types.proofs.Equality.{same_text-tells}
@@ -16,9 +16,9 @@ use Rattle.csi_types.specs.Lists.{IsAmong}
 use Rattle.csi_types.specs.Same.{same_text}
 use Rattle.csi_controller.specs.State.{Volume, ControllerState, empty_controller, volume_named, volume_with_id, live_volume, is_row_for, row_for}
 use Rattle.csi_controller.specs.Table.{Outcome, ended, changed, controller_row}
-use Rattle.csi_controller.specs.Fenced.{kept_in, keep, carried_out, after_frames}
+use Rattle.csi_controller.specs.Fenced.{kept_in, carried_out, after_frames}
 use Rattle.csi_controller.specs.Laws.{keeping}
-use Rattle.csi_controller.proofs.Finds.{some_is, find-none, among-map}
+use Rattle.csi_controller.proofs.Finds.{find-none, among-map}
 use Rattle.csi_controller.proofs.Frames.{frames_keep}
 use Rattle.csi_controller.proofs.Moves.{Move, was_refused, was_found, was_made, was_ended, was_ended_before, was_attached, was_attached_before, was_detached, was_detached_before, moved}
 

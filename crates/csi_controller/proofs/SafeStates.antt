@@ -1,6 +1,6 @@
 -- In a controller's state two holdings of one volume are apart, and what is held is live, whatever frames came.
-use Rattle.std.proofs.Common.{◌≡◌, ◌≢◌, ◌⊎◌, ℕ, ◌^◌, List, [], ◌∷◌, Bool, true, false, cond, not, refl, sym, ◌∙◌, ap, subst, inl, inr}
-use Rattle.std.specs.Prelude.{Option, Some, None, option_map, is_some, find, ◌==◌, ◌&&◌, ◌||◌, nat_le, nat_lt, length, codes, IsTrue, IsSome}
+use Rattle.std.proofs.Common.{◌≡◌, ◌≢◌, ◌⊎◌, ℕ, List, [], ◌∷◌, Bool, true, false, cond, not, refl, sym, ◌∙◌, ap, subst, inl, inr}
+use Rattle.std.specs.Prelude.{Option, Some, None, option_map, is_some, find, ◌==◌, ◌&&◌, ◌||◌, IsTrue, IsSome}
 use Rattle.std.proofs.lemmas.Bool.{and_parts, eqb-true, eq-eqb}
 use Rattle.csi_types.proofs.Equality.{same_text-tells}
 use Rattle.csi_types.proofs.Lists.{find-append, find-map, or_else, or_else-some}
@@ -8,25 +8,16 @@ use Rattle.csi_types.specs.declared.capability.Capability.{Capability}
 use Rattle.csi_types.specs.declared.holding.Holding.{Holding}
 use Rattle.csi_types.specs.declared.number.Number.{Number}
 use Rattle.csi_types.specs.declared.call.Call.{Call}
-use Rattle.csi_types.specs.declared.call.Call.TheVariants as calls
-use Rattle.csi_types.specs.declared.call.Party.{Party}
-use Rattle.csi_types.specs.declared.call.Party.TheVariants.{Controller, Node}
-use Rattle.csi_types.specs.declared.frame.Body.{Body}
-use Rattle.csi_types.specs.declared.frame.Body.TheVariants as bodies
-use Rattle.csi_types.specs.declared.fence.Verdict.{Verdict}
-use Rattle.csi_types.specs.declared.fence.Verdict.TheVariants.{Stale, Repeated, Fresh}
-use Rattle.csi_types.specs.declared.status.Status.TheVariants.{InvalidArgument, NotFound, AlreadyExists, ResourceExhausted, OutOfRange}
-use Rattle.csi_types.specs.Capacity.{is_bad_range, is_empty_range, wanted}
-use Rattle.csi_types.specs.Config.{Config, has_node}
-use Rattle.csi_types.specs.Fence.{Kept, verdict_of}
+use Rattle.csi_types.specs.Capacity.{wanted}
+use Rattle.csi_types.specs.Config.{Config}
+use Rattle.csi_types.specs.Fence.{Kept}
 use Rattle.csi_types.specs.Frame.{Frame}
 use Rattle.csi_types.specs.Holding.{same_holding, is_compatible, is_second_writer, AreApart}
-use Rattle.csi_types.specs.Replies.{ok_reply_with}
-use Rattle.csi_types.specs.Same.{same_text, has_capability}
+use Rattle.csi_types.specs.Same.{same_text}
 use Rattle.csi_types.specs.Sharing.{is_single_node, is_multi_node, is_single_writer, writes}
-use Rattle.csi_controller.specs.State.{Volume, ControllerState, empty_controller, volume_named, live_volume, holdings_of, is_held_at, holding_at, is_row_for}
-use Rattle.csi_controller.specs.Table.{Outcome, Change, Stays, Makes, Ends, Attaches, Detaches, refused, met, done, serves, create_named, create, delete_live, delete, is_full, attach, publish_held, publish, unpublish, controller_row, ended, changed}
-use Rattle.csi_controller.specs.Fenced.{kept_in, keep, kept_for, carried_out, judged, fenced_call, fenced_parts, fenced, after_frames}
+use Rattle.csi_controller.specs.State.{Volume, ControllerState, empty_controller, live_volume, holdings_of, is_held_at, holding_at, is_row_for}
+use Rattle.csi_controller.specs.Table.{Outcome, Change, Stays, Makes, Ends, Attaches, Detaches, controller_row, ended, changed}
+use Rattle.csi_controller.specs.Fenced.{kept_in, keep, carried_out, fenced, after_frames}
 use Rattle.csi_types.specs.Lists.{IsAmong}
 use Rattle.csi_controller.specs.Safe.{AreExclusive, IsExclusive}
 use Rattle.csi_controller.proofs.Frames as each

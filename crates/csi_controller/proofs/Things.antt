@@ -1,8 +1,8 @@
 -- What each move of the table does to the things of a controller.
-use Rattle.std.proofs.Common.{◌≡◌, ◌≢◌, ℕ, List, [], ◌∷◌, ◌++◌, map, filter, Bool, true, false, cond, not, refl, sym, ◌∙◌, ap, subst}
-use Rattle.std.specs.Prelude.{Option, Some, None, option_map, find, ◌==◌, ◌&&◌}
+use Rattle.std.proofs.Common.{◌≡◌, ◌≢◌, ℕ, List, ◌∷◌, map, Bool, true, false, not, refl, sym, ◌∙◌, ap, subst}
+use Rattle.std.specs.Prelude.{Option, Some, None, option_map, ◌==◌, ◌&&◌}
 use Rattle.std.proofs.lemmas.Bool.{and_parts, and_from, eqb-true, eq-eqb}
-use Rattle.csi_types.proofs.Among.{among-find, find-filter, none_passes}
+use Rattle.csi_types.proofs.Among.{find-filter, none_passes}
 use Rattle.csi_types.proofs.Equality.{same_text-tells}
 use Rattle.csi_types.proofs.Lists.{find-append_one, find-filter_not, find-and, find-passes}
 use Rattle.csi_types.specs.declared.capability.Capability.{Capability}
@@ -19,11 +19,11 @@ use Rattle.csi_types.specs.Lists.{IsAmong}
 use Rattle.csi_types.specs.Replies.{ok_reply, ok_reply_with}
 use Rattle.csi_types.specs.Same.{same_text}
 use Rattle.csi_controller.specs.State.{Volume, ControllerState, volume_named, volume_with_id, live_volume, is_held_at, holding_at}
-use Rattle.csi_controller.specs.Table.{Outcome, Stays, Makes, Ends, Attaches, Detaches, changed, ended}
+use Rattle.csi_controller.specs.Table.{Outcome, Makes, Ends, Attaches, Detaches, changed, ended}
 use Rattle.csi_controller.specs.View.{live_named, held_in, key_of}
 use Rattle.csi_controller.proofs.Finds.{some_is, none_is_some, true_is_false, find-none, find-append_other, find-map_among, among-map, option_map-map, text-turned}
 use Rattle.csi_controller.proofs.Moves.{Move, publish_call, was_refused, was_found, was_made, was_ended, was_ended_before, was_attached, was_attached_before, was_detached, was_detached_before}
-use Rattle.csi_controller.proofs.Orderly.{IsOrderly, is_named, is_with_id, live_with_id, with_id_by_name, end_leaves}
+use Rattle.csi_controller.proofs.Orderly.{IsOrderly, is_named, is_with_id, with_id_by_name, end_leaves}
 
 -- after an OK the thing is as asked, after a refusal as it was, and other things are as they were
 pub record Does (key : Key) (call : Call) (reply : Reply) (old new : ControllerState) : Type 0 where
