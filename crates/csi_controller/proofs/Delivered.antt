@@ -1,7 +1,7 @@
 -- A call that is delivered acts or rests.
 use Rattle.std.proofs.Common.{◌≡◌, ◌⊎◌, ℕ, List, Bool, true, false, not, refl, sym, ◌∙◌, ap, subst, inl, inr, arith}
 use Rattle.std.specs.Prelude.{Option, Some, None, option_map, is_some, find, ◌==◌, ◌&&◌, IsTrue}
-use Rattle.std.proofs.lemmas.Bool.{and_parts, eqb-true}
+use Rattle.std.proofs.lemmas.Bool.{and_parts, eqb-true, not-false, not-true, true≢false}
 use Rattle.std.proofs.lemmas.Bool.Decides.{nat_tests}
 use Rattle.csi_types.proofs.Among.{among-find, none_passes}
 use Rattle.csi_types.proofs.Lists.{find-map, find-passes}
@@ -29,7 +29,7 @@ use Rattle.csi_controller.specs.Table.{Outcome, Change, Stays, changed, controll
 use Rattle.csi_controller.specs.Fenced.{Fenced, kept_in, keep, carried_out, fenced_call, kept_for}
 use Rattle.csi_controller.specs.Safe.{IsExclusive}
 use Rattle.csi_controller.specs.View.{held_in, kept_in_row, live_named, view_of, key_of, IsDeliveredTo}
-use Rattle.csi_controller.proofs.Finds.{none_is_some, true_is_false, find-none, map-none, option_map-map}
+use Rattle.csi_controller.proofs.Finds.{none_is_some, find-none, map-none, option_map-map}
 use Rattle.csi_controller.proofs.LastCalls.{row_of, kept_of_row, IsLater, IsFreshFor, kept_later, kept_after, row_known}
 use Rattle.csi_controller.proofs.Moves.{Move, was_refused, was_found, was_made, was_ended, was_ended_before, was_attached, was_attached_before, was_detached, was_detached_before, moved, Judgement, was_first, was_fresh, was_repeated, was_stale, was_judged}
 use Rattle.csi_controller.proofs.Orderly.{IsOrderly, kept_same, keep_leaves, live_with_id, is_row}
@@ -69,22 +69,14 @@ held_keep call kept state (Attached id node) = refl
 held_keep call kept state (Staged id node) = refl
 held_keep call kept state (Published id node target) = refl
 
-not_false : (b : Bool) → not b ≡ false → b ≡ true
-not_false true h = refl
-not_false false h = cc
-
-not_true : (b : Bool) → not b ≡ true → b ≡ false
-not_true true h = cc
-not_true false h = refl
-
 -- a number that isn't spent comes after each that is
 spent_on : (old : Option Kept) (kept : Kept) (number : Number) → is_spent (last_of old) kept.number ≡ false → is_spent (last_of old) number ≡ true → is_spent (Some kept.number) number ≡ true
-spent_on None kept number fresh spent = absurd (true_is_false (sym spent))
+spent_on None kept number fresh spent = absurd (true≢false (sym spent))
 spent_on (Some last) kept number fresh spent = by (is_before kept.number number) refl
   where
     by : (b : Bool) → is_before kept.number number ≡ b → not (is_before kept.number number) ≡ true
     by false e = ap not e
-    by true e = absurd (true_is_false (sym (before-trans last.number kept.number number (not_false (is_before last.number kept.number) fresh) e) ∙ not_true (is_before last.number number) spent))
+    by true e = absurd (true≢false (sym (before-trans last.number kept.number number (not-false (is_before last.number kept.number) fresh) e) ∙ not-true (is_before last.number number) spent))
 
 later_spent : (kept : Kept) (old new : Option Kept) (number : Number) → IsLater kept old new → IsTrue (is_spent (last_of old) number) → IsTrue (is_spent (last_of new) number)
 later_spent kept old new number (inl same) spent = subst (λ (o : Option Kept). IsTrue (is_spent (last_of o) number)) (sym same) spent
@@ -168,10 +160,10 @@ row_unknown state (calls.CreateVolume name required limit capabilities) party no
 row_unknown state (calls.DeleteVolume id) party none = none_mapped (λ (v : Volume). Exists v.name) (volume_with_id id state) none
 row_unknown state (calls.ControllerPublishVolume id node capability readonly) party none = none_mapped (λ v. Attached id node) (volume_with_id id state) none
 row_unknown state (calls.ControllerUnpublishVolume id node) party none = none_mapped (λ v. Attached id node) (volume_with_id id state) none
-row_unknown state (calls.NodeStageVolume id capability) party none = absurd (true_is_false (sym party))
-row_unknown state (calls.NodeUnstageVolume id) party none = absurd (true_is_false (sym party))
-row_unknown state (calls.NodePublishVolume id target capability readonly) party none = absurd (true_is_false (sym party))
-row_unknown state (calls.NodeUnpublishVolume id target) party none = absurd (true_is_false (sym party))
+row_unknown state (calls.NodeStageVolume id capability) party none = absurd (true≢false (sym party))
+row_unknown state (calls.NodeUnstageVolume id) party none = absurd (true≢false (sym party))
+row_unknown state (calls.NodePublishVolume id target capability readonly) party none = absurd (true≢false (sym party))
+row_unknown state (calls.NodeUnpublishVolume id target) party none = absurd (true≢false (sym party))
 
 -- what is attached has a row
 held_known : (state : ControllerState) (id : ℕ) (node : List ℕ) (held : Holding) → IsExclusive state → find (is_held_at id node) state.holdings ≡ Some held → volume_with_id id state ≡ None → ⊥
@@ -180,7 +172,7 @@ held_known state id node held safe is none =
     let live = safe.attached_while_live held (among-find (is_held_at id node) state.holdings held is) in
     let dead : live_volume held.volume state ≡ None = subst (λ n. live_volume n state ≡ None) (sym (eqb-true held.volume id at.0))
     (find-none (λ (v : Volume). (v.id == id) && v.is_live) state.volumes (λ v among. first_fails (v.id == id) v.is_live (none_passes (λ (u : Volume). u.id == id) state.volumes v none among))) in
-    true_is_false (sym live ∙ ap is_some dead)
+    true≢false (sym live ∙ ap is_some dead)
 
 -- the table changes nothing of a thing that isn't known
 unknown_stays : (config : Config) (state : ControllerState) (call : Call) (outcome : Outcome) → IsOrderly state → IsExclusive state → IsTrue (is_party_of (kind_of call) Controller) → row_for call state ≡ None

@@ -2,7 +2,7 @@
 use Rattle.std.proofs.Common.{◌≡◌, ◌≢◌, ◌⊎◌, ℕ, ◌≤◌, List, [], ◌∷◌, Bool, true, false, cond, not, refl, sym, ap, subst, inl, inr, arith}
 use Rattle.std.specs.Prelude.{Some, None, filter, ◌==◌, ◌&&◌, ◌||◌, nat_le, codes, IsTrue}
 use Rattle.std.specs.List.{list_all, AllByRecursion}
-use Rattle.std.proofs.lemmas.Bool.{and_parts, and_from, or_cases, eqb-true, eq-eqb, leb-true}
+use Rattle.std.proofs.lemmas.Bool.{and_parts, and_from, or_cases, eqb-true, eq-eqb, leb-true, not-true}
 use Rattle.std.proofs.lemmas.Bool.Decides.{nat_tests}
 use Rattle.csi_types.proofs.Equality.{same_text-tells, same_capability-tells, same_holding-tells}
 use Rattle.csi_types.proofs.Lists.{find-append_one, find-filter_not, filter-append_one, filter-filter, filter-map, find-passes, find-and, find-map_none}
@@ -141,12 +141,8 @@ ended_not_live id volume = by (volume.id == id) refl
     by true h = rw h refl
     by false h = rw h refl
 
-not_true : (b : Bool) → not b ≡ true → b ≡ false
-not_true true h = cc
-not_true false h = refl
-
 ended-other : (id : ℕ) (volume : Volume) → not (volume.id == id) ≡ true → ended id volume ≡ volume
-ended-other id volume h = let other : (volume.id == id) ≡ false = not_true (volume.id == id) h in rw other refl
+ended-other id volume h = let other : (volume.id == id) ≡ false = not-true (volume.id == id) h in rw other refl
 
 delete_ready : (config : Config) (state : ControllerState) (id : ℕ) → live_volume id state ≡ None → IsReady config state (calls.DeleteVolume id) ok_reply
 delete_ready config state id none = record { is_done = none; again = ap (delete state id) none }

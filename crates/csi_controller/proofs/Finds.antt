@@ -1,6 +1,7 @@
 -- Searches of lists, where only what is among them is known, and tests of texts.
 use Rattle.std.proofs.Common.{◌≡◌, List, [], ◌∷◌, ◌++◌, map, ℕ, Bool, true, false, cond, refl, sym, ◌∙◌, ap, inl, inr}
 use Rattle.std.specs.Prelude.{Option, Some, None, option_map, find}
+use Rattle.std.proofs.lemmas.Bool.{true≢false}
 use Rattle.csi_types.proofs.Equality.{same_text-tells}
 use Rattle.csi_types.specs.Lists.{IsAmong}
 use Rattle.csi_types.specs.Same.{same_text}
@@ -10,9 +11,6 @@ none_is_some x h = cc
 
 pub some_is : {X : Type 0} (x y : X) → Some x ≡ Some y → x ≡ y
 some_is x y h = cc
-
-pub true_is_false : true ≡ false → ⊥
-true_is_false h = cc
 
 -- none is found where none passes
 pub find-none : {X : Type 0} (p : X → Bool) (xs : List X) → ((x : X) → IsAmong x xs → p x ≡ false) → find p xs ≡ None
@@ -70,5 +68,5 @@ text-turned a b = by (same_text a b) (same_text b a) refl refl
     by : (s t : Bool) → same_text a b ≡ s → same_text b a ≡ t → s ≡ t
     by true true e h = refl
     by false false e h = refl
-    by true false e h = absurd (true_is_false (sym ((same_text-tells b a).1 (sym ((same_text-tells a b).0 e))) ∙ h))
-    by false true e h = absurd (true_is_false (sym ((same_text-tells a b).1 (sym ((same_text-tells b a).0 h))) ∙ e))
+    by true false e h = absurd (true≢false (sym ((same_text-tells b a).1 (sym ((same_text-tells a b).0 e))) ∙ h))
+    by false true e h = absurd (true≢false (sym ((same_text-tells a b).1 (sym ((same_text-tells b a).0 h))) ∙ e))

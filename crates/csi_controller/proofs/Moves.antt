@@ -1,6 +1,7 @@
 -- The controller's table and its fence, opened once: each answer that they give, and what is so where they give it.
 use Rattle.std.proofs.Common.{◌≡◌, ℕ, ◌^◌, List, [], ◌∷◌, Bool, true, false, cond, not, refl, ◌∙◌, ap}
 use Rattle.std.specs.Prelude.{Option, Some, None, option_map, find, ◌||◌, nat_le, nat_lt, length, codes}
+use Rattle.std.proofs.lemmas.Bool.{not-false}
 use Rattle.csi_types.proofs.Equality.{same_holding-tells, same_number-tells}
 use Rattle.csi_types.specs.declared.capability.Capability.{Capability}
 use Rattle.csi_types.specs.declared.holding.Holding.{Holding}
@@ -58,10 +59,6 @@ by_if : (config : Config) (state : ControllerState) (call : Call) (b : Bool) (x 
 by_if config state call true x y f g = f refl
 by_if config state call false x y f g = g refl
 
-not_false : (b : Bool) → not b ≡ false → b ≡ true
-not_false true h = refl
-not_false false h = cc
-
 invalid : InvalidArgument ≡ Ok → ⊥
 invalid h = cc
 
@@ -96,7 +93,7 @@ create_named_moves config state name required limit first others (Some volume) r
     let call = calls.CreateVolume name required limit (first ∷ others) in
     by_if config state call (not volume.is_live) (refused AlreadyExists (codes "name")) _ (λ _. was_refused call AlreadyExists (codes "name") exists)
     (λ live. by_if config state call (serves volume required limit (first ∷ others)) (record { reply = ok_reply_with volume.id; change = Stays }) (refused AlreadyExists (codes "name"))
-    (λ serving. was_found name required limit first others volume range is (not_false volume.is_live live) serving)
+    (λ serving. was_found name required limit first others volume range is (not-false volume.is_live live) serving)
     (λ _. was_refused call AlreadyExists (codes "name") exists))
 
 create_moves : (config : Config) (state : ControllerState) (name : List ℕ) (required limit : ℕ) (capabilities : List Capability)
@@ -145,7 +142,7 @@ publish_moves config state holding (Some volume) is =
     (λ node. by_if config state call (not (has_capability volume.capabilities holding.capability)) (refused InvalidArgument (codes "capability")) (publish_held config state holding (holding_at holding.volume holding.node state))
     (λ _. was_refused call InvalidArgument (codes "capability") invalid)
     (λ capable. publish_held_moves config state holding volume (holding_at holding.volume holding.node state)
-    (record { live = is; node = not_false (has_node holding.node config.nodes) node; capable = not_false (has_capability volume.capabilities holding.capability) capable }) refl))
+    (record { live = is; node = not-false (has_node holding.node config.nodes) node; capable = not-false (has_capability volume.capabilities holding.capability) capable }) refl))
 
 unpublish_moves : (config : Config) (state : ControllerState) (id : ℕ) (node : List ℕ) (o : Option Holding) → holding_at id node state ≡ o
     → Move config state (calls.ControllerUnpublishVolume id node) (unpublish id node o)

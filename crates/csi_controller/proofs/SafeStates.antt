@@ -1,7 +1,7 @@
 -- In a controller's state two holdings of one volume are apart, and what is held is live, whatever frames came.
 use Rattle.std.proofs.Common.{◌≡◌, ◌≢◌, ◌⊎◌, ℕ, List, [], ◌∷◌, Bool, true, false, cond, not, refl, sym, ◌∙◌, ap, subst, inl, inr}
 use Rattle.std.specs.Prelude.{Option, Some, None, option_map, is_some, find, ◌==◌, ◌&&◌, ◌||◌, IsTrue, IsSome}
-use Rattle.std.proofs.lemmas.Bool.{and_parts, eqb-true, eq-eqb}
+use Rattle.std.proofs.lemmas.Bool.{and_parts, eqb-true, eq-eqb, not-false, not-true, true≢false}
 use Rattle.csi_types.proofs.Equality.{same_text-tells}
 use Rattle.csi_types.proofs.Lists.{find-append, find-map, or_else, or_else-some}
 use Rattle.csi_types.specs.declared.capability.Capability.{Capability}
@@ -20,6 +20,7 @@ use Rattle.csi_controller.specs.Table.{Outcome, Change, Stays, Makes, Ends, Atta
 use Rattle.csi_controller.specs.Fenced.{kept_in, keep, carried_out, fenced, after_frames}
 use Rattle.csi_types.specs.Lists.{IsAmong}
 use Rattle.csi_controller.specs.Safe.{AreExclusive, IsExclusive}
+use Rattle.csi_controller.proofs.Finds.{text-turned}
 use Rattle.csi_controller.proofs.Frames as each
 use Rattle.csi_controller.proofs.Moves.{Move, was_refused, was_found, was_made, was_ended, was_ended_before, was_attached, was_attached_before, was_detached, was_detached_before, moved}
 use Rattle.csi_types.proofs.Among.{among-either, among-filter, in_filter, none_passes, none_kept, two-append, two-filter}
@@ -84,33 +85,12 @@ ends_keeps state id is = λ kept safe. record {
 }
 
 -- ControllerPublishVolume
-not_one : (b : Bool) → not b ≡ false → b ≡ true
-not_one true h = refl
-not_one false h = cc
-
-not_zero : (b : Bool) → not b ≡ true → b ≡ false
-not_zero true h = cc
-not_zero false h = refl
-
 both_false : (a b : Bool) → a ≡ true → (a && b) ≡ false → b ≡ false
 both_false true b h e = e
 both_false false b h e = cc
 
 other_node : (a b : List ℕ) → same_text a b ≡ false → a ≢ b
-other_node a b differ e = clash (sym ((same_text-tells a b).1 e) ∙ differ)
-  where
-    clash : true ≡ false → ⊥
-    clash h = cc
-
-turned : (a b : List ℕ) → same_text a b ≡ false → same_text b a ≡ false
-turned a b differ = by (same_text b a) refl
-  where
-    clash : true ≡ false → ⊥
-    clash h = cc
-
-    by : (t : Bool) → same_text b a ≡ t → t ≡ false
-    by false h = refl
-    by true h = absurd (clash (sym ((same_text-tells a b).1 (sym ((same_text-tells b a).0 h))) ∙ differ))
+other_node a b differ e = true≢false (sym ((same_text-tells a b).1 e) ∙ differ)
 
 one_writer-from : (wa wb sa sb : Bool) → not (wb && wa && (sb || sa)) ≡ true → IsTrue sa ⊎ IsTrue sb → IsTrue wa → IsTrue wb → ⊥
 one_writer-from true true true true h s a b = cc
@@ -124,14 +104,14 @@ one_writer-from false wb sa sb h s a b = cc
 -- a holding at another node that can be held with the new one is apart from it
 apart : (new old : Holding) → same_text old.node new.node ≡ false → is_compatible new old ≡ true → AreApart old new
 apart new old nodes can =
-    let away : same_text new.node old.node ≡ false = turned old.node new.node nodes in
+    let away : same_text new.node old.node ≡ false = text-turned new.node old.node ∙ nodes in
     let parted : (is_multi_node new.capability.mode && is_multi_node old.capability.mode && not (is_second_writer new old)) ≡ true = shared away can in
     let writers = and_parts (is_multi_node new.capability.mode && is_multi_node old.capability.mode) (not (is_second_writer new old)) parted in
     let modes = and_parts (is_multi_node new.capability.mode) (is_multi_node old.capability.mode) writers.0 in
     record {
       nodes = other_node old.node new.node nodes;
-      first_shared = not_zero (is_single_node old.capability.mode) modes.1;
-      second_shared = not_zero (is_single_node new.capability.mode) modes.0;
+      first_shared = not-true (is_single_node old.capability.mode) modes.1;
+      second_shared = not-true (is_single_node new.capability.mode) modes.0;
       one_writer = one_writer-from (writes old.capability.mode old.readonly) (writes new.capability.mode new.readonly) (is_single_writer old.capability.mode) (is_single_writer new.capability.mode) writers.1;
     }
   where
@@ -148,7 +128,7 @@ attaches_keeps state holding volume live none can kept safe = record {
       let nodes : same_text old.node holding.node ≡ false = both_false (old.volume == holding.volume) (same_text old.node holding.node) of_volume not_held in
       let listed = in_filter (λ (h : Holding). h.volume == holding.volume) state.holdings old among of_volume in
       let fits = none_passes (λ (other : Holding). not (is_compatible holding other)) (holdings_of holding.volume state) old can listed in
-      apart holding old nodes (not_one (is_compatible holding old) fits));
+      apart holding old nodes (not-false (is_compatible holding old) fits));
   attached_while_live = λ h among. is_live h safe (among-either state.holdings holding h among);
 }
   where

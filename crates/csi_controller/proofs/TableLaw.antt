@@ -2,6 +2,7 @@
 use Rattle.std.proofs.Common.{◌≡◌, ◌⊎◌, ◌≤◌, ℕ, List, [], ◌∷◌, map, Bool, true, false, cond, not, refl, sym, ◌∙◌, ap, subst}
 use Rattle.std.specs.Prelude.{Option, Some, None, option_map, ◌==◌, ◌&&◌, ◌||◌, nat_le, nat_lt, length, codes, ◌^◌, IsTrue}
 use Rattle.std.specs.List.{AllByRecursion}
+use Rattle.std.proofs.lemmas.Bool.{not-true}
 use Rattle.csi_types.proofs.Lists.{find-map, find-passes, filter-map, map-map}
 use Rattle.csi_types.specs.declared.capability.Capability.{Capability}
 use Rattle.csi_types.specs.declared.holding.Holding.{Holding}
@@ -144,12 +145,8 @@ once_more config next kept later call reply before ready =
     is_carried_out config after later call (is_later_through call kept next later before) ∙ ap (carried_out after later call) row in
     (ap (λ (f : Fenced). f.reply) e, subst (λ (f : Fenced). IsSameApart after f.state) (sym e) (same_keep call (record { number = later; kind = kind_of call; reply = reply }) after))
 
-not_true : (b : Bool) → not b ≡ true → b ≡ false
-not_true true h = cc
-not_true false h = refl
-
 kept_in-other : (call : Call) (kept : Kept) (v : Volume) → not (is_row_for call v) ≡ true → kept_in call kept v ≡ v
-kept_in-other call kept v h = let other : is_row_for call v ≡ false = not_true (is_row_for call v) h in rw other refl
+kept_in-other call kept v h = let other : is_row_for call v ≡ false = not-true (is_row_for call v) h in rw other refl
 
 pub is_lawful : (config : Config) (state : ControllerState) (number : Number) (call : Call) → IsOrderly state → IsLetThrough state number call → IsLawful config state number call
 is_lawful config state number call orderly through =

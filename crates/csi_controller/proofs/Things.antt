@@ -1,7 +1,7 @@
 -- What each move of the table does to the things of a controller.
 use Rattle.std.proofs.Common.{◌≡◌, ◌≢◌, ℕ, List, ◌∷◌, map, Bool, true, false, not, refl, sym, ◌∙◌, ap, subst}
 use Rattle.std.specs.Prelude.{Option, Some, None, option_map, ◌==◌, ◌&&◌}
-use Rattle.std.proofs.lemmas.Bool.{and_parts, and_from, eqb-true, eq-eqb}
+use Rattle.std.proofs.lemmas.Bool.{and_parts, and_from, eqb-true, eq-eqb, true≢false}
 use Rattle.csi_types.proofs.Among.{find-filter, none_passes}
 use Rattle.csi_types.proofs.Equality.{same_text-tells}
 use Rattle.csi_types.proofs.Lists.{find-append_one, find-filter_not, find-and, find-passes}
@@ -21,7 +21,7 @@ use Rattle.csi_types.specs.Same.{same_text}
 use Rattle.csi_controller.specs.State.{Volume, ControllerState, volume_named, volume_with_id, live_volume, is_held_at, holding_at}
 use Rattle.csi_controller.specs.Table.{Outcome, Makes, Ends, Attaches, Detaches, changed, ended}
 use Rattle.csi_controller.specs.View.{live_named, held_in, key_of}
-use Rattle.csi_controller.proofs.Finds.{some_is, none_is_some, true_is_false, find-none, find-append_other, find-map_among, among-map, option_map-map, text-turned}
+use Rattle.csi_controller.proofs.Finds.{some_is, none_is_some, find-none, find-append_other, find-map_among, among-map, option_map-map, text-turned}
 use Rattle.csi_controller.proofs.Moves.{Move, publish_call, was_refused, was_found, was_made, was_ended, was_ended_before, was_attached, was_attached_before, was_detached, was_detached_before}
 use Rattle.csi_controller.proofs.Orderly.{IsOrderly, is_named, is_with_id, with_id_by_name, end_leaves}
 
@@ -40,7 +40,7 @@ live_with_name : (state : ControllerState) (name : List ℕ) (volume : Volume) �
 live_with_name state name volume is live = find-and (λ (v : Volume). same_text v.name name) (λ (v : Volume). v.is_live) state.volumes volume is live
 
 pub first_fails : (a b : Bool) → a ≡ false → (a && b) ≡ false
-first_fails true b h = absurd (true_is_false h)
+first_fails true b h = absurd (true≢false h)
 first_fails false b h = refl
 
 second_fails : (a b : Bool) → (a ≡ true → b ≡ false) → (a && b) ≡ false
@@ -109,7 +109,7 @@ ended_things state id volume kept orderly is = record { done = λ h. ap (option_
         other_name : (v : Volume) → IsAmong v state.volumes → (v.id == id) ≡ false → (b : Bool) → same_text v.name volume.name ≡ b → b ≡ false
         other_name v among differs false h = refl
         other_name v among differs true h =
-            absurd (true_is_false (sym (has_own_id state id volume is) ∙ ap (λ (u : Volume). u.id == id) (sym (same_named state id volume v orderly is among h)) ∙ differs))
+            absurd (true≢false (sym (has_own_id state id volume is) ∙ ap (λ (u : Volume). u.id == id) (sym (same_named state id volume v orderly is among h)) ∙ differs))
 
     gone : live_named volume.name (changed state kept (Ends id)) ≡ None
     gone = find-none (λ (v : Volume). same_text v.name volume.name && v.is_live) (map (ended id) state.volumes)
@@ -141,7 +141,7 @@ ended_before_things state id volume orderly is none =
   where
     not_live : (a b : Bool) → a ≡ true → (a && b) ≡ false → b ≡ false
     not_live true b h e = e
-    not_live false b h e = absurd (true_is_false (sym h))
+    not_live false b h e = absurd (true≢false (sym h))
 
     dead : (v : Volume) → IsAmong v state.volumes → same_text v.name volume.name ≡ true → v.is_live ≡ false
     dead v among same =
@@ -156,7 +156,7 @@ held_elsewhere holding id node differs = by (holding.volume == id) (same_text ho
     by false b h k = refl
     by true false h k = refl
     by true true h k =
-        absurd (true_is_false
+        absurd (true≢false
         (sym (and_from (id == holding.volume) (same_text node holding.node) (eq-eqb id holding.volume (sym (eqb-true holding.volume id h))) (text-turned node holding.node ∙ k)) ∙ differs))
 
 itself_at : (holding : Holding) → is_held_at holding.volume holding.node holding ≡ true
@@ -191,7 +191,7 @@ at_both id node other there holding differs at = by (is_held_at id node holding)
         let away = and_parts (holding.volume == other) (same_text holding.node there) at in
         let ids : other ≡ id = sym (eqb-true holding.volume other away.0) ∙ eqb-true holding.volume id here.0 in
         let nodes : there ≡ node = sym ((same_text-tells holding.node there).0 away.1) ∙ (same_text-tells holding.node node).0 here.1 in
-        absurd (true_is_false (sym (and_from (other == id) (same_text there node) (eq-eqb other id ids) ((same_text-tells there node).1 nodes)) ∙ differs))
+        absurd (true≢false (sym (and_from (other == id) (same_text there node) (eq-eqb other id ids) ((same_text-tells there node).1 nodes)) ∙ differs))
 
 detached_things : (state : ControllerState) (id : ℕ) (node : List ℕ) (kept : Kept)
     → Does (Attached id node) (calls.ControllerUnpublishVolume id node) ok_reply state (changed state kept (Detaches id node))
