@@ -29,11 +29,11 @@ use Rattle.csi_controller.specs.Table.{Outcome, Change, Stays, changed, controll
 use Rattle.csi_controller.specs.Fenced.{Fenced, kept_in, keep, carried_out, fenced_call, kept_for}
 use Rattle.csi_controller.specs.Safe.{IsExclusive}
 use Rattle.csi_controller.specs.View.{held_in, kept_in_row, live_named, view_of, key_of, IsDeliveredTo}
-use Rattle.csi_controller.proofs.Finds.{none_is_some, find-none, map-none, option_map-map}
+use Rattle.csi_controller.proofs.Finds.{first_fails, none_is_some, find-none, map-none, option_map-map}
 use Rattle.csi_controller.proofs.LastCalls.{row_of, kept_of_row, IsLater, IsFreshFor, kept_later, kept_after, row_known}
 use Rattle.csi_controller.proofs.Moves.{Move, was_refused, was_found, was_made, was_ended, was_ended_before, was_attached, was_attached_before, was_detached, was_detached_before, moved, Judgement, was_first, was_fresh, was_repeated, was_stale, was_judged}
 use Rattle.csi_controller.proofs.Orderly.{IsOrderly, kept_same, keep_leaves, live_with_id, is_row}
-use Rattle.csi_controller.proofs.Things.{does, first_fails}
+use Rattle.csi_controller.proofs.Things.{does}
 
 pub empty_view : IsEmpty (view_of empty_controller)
 empty_view = record { held = held; is_spent = λ key number. spent key number; kept = kept }

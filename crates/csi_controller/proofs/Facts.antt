@@ -5,7 +5,7 @@ use Rattle.std.specs.List.{list_all, AllByRecursion}
 use Rattle.std.proofs.lemmas.Bool.{and_parts, and_from, or_cases, eqb-true, eq-eqb, leb-true, not-true}
 use Rattle.std.proofs.lemmas.Bool.Decides.{nat_tests}
 use Rattle.csi_types.proofs.Equality.{same_text-tells, same_capability-tells, same_holding-tells}
-use Rattle.csi_types.proofs.Lists.{find-append_one, find-filter_not, filter-append_one, filter-filter, filter-map, find-passes, find-and, find-map_none}
+use Rattle.csi_types.proofs.Lists.{find-append_one, filter-append_one, filter-filter, filter-map, find-passes, find-and, find-map_none}
 use Rattle.csi_types.specs.declared.capability.Capability.{Capability}
 use Rattle.csi_types.specs.declared.holding.Holding.{Holding}
 use Rattle.csi_types.specs.declared.call.Call.{Call}
@@ -22,6 +22,7 @@ use Rattle.csi_types.specs.Same.{same_text, same_capability, has_capability}
 use Rattle.csi_controller.specs.State.{Volume, ControllerState, volume_named, live_volume, is_held_at, holding_at, is_row_for}
 use Rattle.csi_controller.specs.Table.{Outcome, Stays, Makes, Ends, Attaches, Detaches, refused, met, done, serves, create_named, create, delete, publish_held, publish, unpublish, controller_row, ended, changed}
 use Rattle.csi_controller.specs.Laws.{IsDone, is_of_another}
+use Rattle.csi_controller.proofs.Finds.{find-filtered}
 use Rattle.csi_controller.proofs.Moves.{Move, CanAttach, publish_call, was_refused, was_found, was_made, was_ended, was_ended_before, was_attached, was_attached_before, was_detached, was_detached_before, moved}
 use Rattle.csi_controller.proofs.Orderly.{IsOrderly, named_by_id, made_orderly, end_leaves}
 
@@ -197,7 +198,7 @@ detached_facts : (config : Config) (state : ControllerState) (id : ℕ) (node : 
 detached_facts config state id node =
     record {
       stays = λ h. absurd (h refl);
-      ready = λ h kept. unpublish_ready config (changed state kept (Detaches id node)) id node (find-filter_not (is_held_at id node) state.holdings);
+      ready = λ h kept. unpublish_ready config (changed state kept (Detaches id node)) id node (find-filtered (is_held_at id node) (λ (h : Holding). not (is_held_at id node h)) state.holdings (λ h k. not-true (is_held_at id node h) k));
       others = λ kept. record {
         volumes = refl;
         holdings = filter-filter (λ (h : Holding). not (h.volume == id)) (λ (h : Holding). not (is_held_at id node h)) state.holdings (λ h k. not_both (h.volume == id) (same_text h.node node) k);

@@ -1,6 +1,6 @@
 -- Searches of lists, where only what is among them is known, and tests of texts.
 use Rattle.std.proofs.Common.{◌≡◌, List, [], ◌∷◌, ◌++◌, map, ℕ, Bool, true, false, cond, refl, sym, ◌∙◌, ap, inl, inr}
-use Rattle.std.specs.Prelude.{Option, Some, None, option_map, find}
+use Rattle.std.specs.Prelude.{Option, Some, None, option_map, find, filter, ◌&&◌}
 use Rattle.std.proofs.lemmas.Bool.{true≢false}
 use Rattle.csi_types.proofs.Equality.{same_text-tells}
 use Rattle.csi_types.specs.Lists.{IsAmong}
@@ -16,6 +16,20 @@ some_is x y h = cc
 pub find-none : {X : Type 0} (p : X → Bool) (xs : List X) → ((x : X) → IsAmong x xs → p x ≡ false) → find p xs ≡ None
 find-none p [] f = refl
 find-none p (x ∷ xs) f = let first : p x ≡ false = f x (inl refl) in rw first (find-none p xs (λ y among. f y (inr among)))
+
+-- both don't pass where the first doesn't
+pub first_fails : (a b : Bool) → a ≡ false → (a && b) ≡ false
+first_fails true b h = absurd (true≢false h)
+first_fails false b h = refl
+
+-- none is found where none that is kept passes
+pub find-filtered : {X : Type 0} (p q : X → Bool) (xs : List X) → ((x : X) → q x ≡ true → p x ≡ false) → find p (filter q xs) ≡ None
+find-filtered p q [] f = refl
+find-filtered p q (x ∷ xs) f = by (q x) (f x) (find-filtered p q xs f)
+  where
+    by : (b : Bool) → (b ≡ true → p x ≡ false) → find p (filter q xs) ≡ None → find p (cond b (x ∷ filter q xs) (filter q xs)) ≡ None
+    by false g h = h
+    by true g h = let fails : p x ≡ false = g refl in rw fails h
 
 -- one that doesn't pass was added
 pub find-append_other : {X : Type 0} (p : X → Bool) (xs : List X) (x : X) → p x ≡ false → find p (xs ++ x ∷ []) ≡ find p xs

@@ -21,7 +21,7 @@ use Rattle.csi_types.specs.Same.{same_text}
 use Rattle.csi_controller.specs.State.{Volume, ControllerState, volume_named, volume_with_id, live_volume, is_held_at, holding_at}
 use Rattle.csi_controller.specs.Table.{Outcome, Makes, Ends, Attaches, Detaches, changed, ended}
 use Rattle.csi_controller.specs.View.{live_named, held_in, key_of}
-use Rattle.csi_controller.proofs.Finds.{some_is, none_is_some, find-none, find-append_other, find-map_among, among-map, option_map-map, text-turned}
+use Rattle.csi_controller.proofs.Finds.{first_fails, some_is, none_is_some, find-none, find-append_other, find-map_among, among-map, option_map-map, text-turned}
 use Rattle.csi_controller.proofs.Moves.{Move, publish_call, was_refused, was_found, was_made, was_ended, was_ended_before, was_attached, was_attached_before, was_detached, was_detached_before}
 use Rattle.csi_controller.proofs.Orderly.{IsOrderly, is_named, is_with_id, with_id_by_name, end_leaves}
 
@@ -38,10 +38,6 @@ same_things key call reply state done = record { done = done; refused = λ h. re
 -- the live volume of a name
 live_with_name : (state : ControllerState) (name : List ℕ) (volume : Volume) → volume_named name state ≡ Some volume → volume.is_live ≡ true → live_named name state ≡ Some volume
 live_with_name state name volume is live = find-and (λ (v : Volume). same_text v.name name) (λ (v : Volume). v.is_live) state.volumes volume is live
-
-pub first_fails : (a b : Bool) → a ≡ false → (a && b) ≡ false
-first_fails true b h = absurd (true≢false h)
-first_fails false b h = refl
 
 second_fails : (a b : Bool) → (a ≡ true → b ≡ false) → (a && b) ≡ false
 second_fails true b f = f refl
