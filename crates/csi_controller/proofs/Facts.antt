@@ -1,28 +1,30 @@
 -- What is so of each outcome of the controller's table.
-use Rattle.std.proofs.Common.{◌≡◌, ◌≢◌, ◌⊎◌, ℕ, ◌≤◌, ◌^◌, List, [], ◌∷◌, Bool, true, false, cond, not, refl, sym, ◌∙◌, ap, subst, inl, inr, arith}
-use Rattle.std.specs.Prelude.{Option, Some, None, find, filter, ◌==◌, ◌&&◌, ◌||◌, nat_le, nat_lt, length, codes, IsTrue}
+use Rattle.std.proofs.Common.{◌≡◌, ◌≢◌, ◌⊎◌, ℕ, ◌≤◌, List, [], ◌∷◌, Bool, true, false, cond, not, refl, sym, ap, subst, inl, inr, arith}
+use Rattle.std.specs.Prelude.{Some, None, filter, ◌==◌, ◌&&◌, ◌||◌, nat_le, codes, IsTrue}
 use Rattle.std.specs.List.{list_all, AllByRecursion}
-use Rattle.std.proofs.lemmas.Bool.{and_parts, and_from, or_cases, eqb-true, eq-eqb, leb-true}
+use Rattle.std.proofs.lemmas.Bool.{and_parts, and_from, or_cases, eqb-true, eq-eqb, leb-true, not-true}
 use Rattle.std.proofs.lemmas.Bool.Decides.{nat_tests}
 use Rattle.csi_types.proofs.Equality.{same_text-tells, same_capability-tells, same_holding-tells}
-use Rattle.csi_types.proofs.Lists.{find-append_one, find-filter_not, filter-append_one, filter-filter, filter-map, find-passes, find-and, find-map_none}
+use Rattle.csi_types.proofs.Lists.{find-append_one, filter-append_one, filter-filter, filter-map, find-passes, find-and, find-map_none}
 use Rattle.csi_types.specs.declared.capability.Capability.{Capability}
 use Rattle.csi_types.specs.declared.holding.Holding.{Holding}
 use Rattle.csi_types.specs.declared.call.Call.{Call}
 use Rattle.csi_types.specs.declared.call.Call.TheVariants as calls
 use Rattle.csi_types.specs.declared.status.Status.{Status}
-use Rattle.csi_types.specs.declared.status.Status.TheVariants.{Ok, InvalidArgument, NotFound, AlreadyExists, ResourceExhausted, FailedPrecondition, OutOfRange, Unimplemented}
+use Rattle.csi_types.specs.declared.status.Status.TheVariants.{Ok, InvalidArgument, NotFound, AlreadyExists, OutOfRange}
 use Rattle.csi_types.specs.declared.reply.Reply.{Reply}
 use Rattle.csi_types.specs.Capacity.{is_bad_range, is_empty_range, wanted}
 use Rattle.csi_types.specs.Config.{Config, has_node}
 use Rattle.csi_types.specs.Fence.{Kept}
-use Rattle.csi_types.specs.Holding.{same_holding, is_compatible}
+use Rattle.csi_types.specs.Holding.{same_holding}
 use Rattle.csi_types.specs.Replies.{ok_reply, ok_reply_with}
 use Rattle.csi_types.specs.Same.{same_text, same_capability, has_capability}
-use Rattle.csi_controller.specs.State.{Volume, ControllerState, volume_named, live_volume, holdings_of, is_held_at, holding_at, is_row_for}
-use Rattle.csi_controller.specs.Table.{Outcome, Stays, Makes, Ends, Attaches, Detaches, refused, met, done, serves, create_named, create, delete_live, delete, is_full, attach, publish_held, publish, unpublish, controller_row, ended, changed}
+use Rattle.csi_controller.specs.State.{Volume, ControllerState, volume_named, live_volume, is_held_at, holding_at, is_row_for}
+use Rattle.csi_controller.specs.Table.{Outcome, Stays, Makes, Ends, Attaches, Detaches, refused, met, done, serves, create_named, create, delete, publish_held, publish, unpublish, controller_row, ended, changed}
 use Rattle.csi_controller.specs.Laws.{IsDone, is_of_another}
-use Rattle.csi_controller.proofs.Orderly.{IsOrderly, changed_orderly}
+use Rattle.csi_controller.proofs.Finds.{find-filtered}
+use Rattle.csi_controller.proofs.Moves.{Move, CanAttach, publish_call, was_refused, was_found, was_made, was_ended, was_ended_before, was_attached, was_attached_before, was_detached, was_detached_before, moved}
+use Rattle.csi_controller.proofs.Orderly.{IsOrderly, named_by_id, made_orderly, end_leaves}
 
 -- what the call asks is so, and the table answers it so again and changes nothing
 pub record IsReady (config : Config) (state : ControllerState) (call : Call) (reply : Reply) : Type 0 where
@@ -39,27 +41,6 @@ pub record Facts (config : Config) (state : ControllerState) (call : Call) (outc
   pub ready : outcome.reply.status ≡ Ok → (kept : Kept) → IsReady config (changed state kept outcome.change) call outcome.reply
   pub others : (kept : Kept) → LeavesRest state (changed state kept outcome.change) call
 
-invalid : InvalidArgument ≡ Ok → ⊥
-invalid h = cc
-
-unfound : NotFound ≡ Ok → ⊥
-unfound h = cc
-
-exists : AlreadyExists ≡ Ok → ⊥
-exists h = cc
-
-exhausted : ResourceExhausted ≡ Ok → ⊥
-exhausted h = cc
-
-failed : FailedPrecondition ≡ Ok → ⊥
-failed h = cc
-
-out_of_range : OutOfRange ≡ Ok → ⊥
-out_of_range h = cc
-
-unimplemented : Unimplemented ≡ Ok → ⊥
-unimplemented h = cc
-
 refused_facts : (config : Config) (state : ControllerState) (call : Call) (status : Status) (detail : List ℕ) → (status ≡ Ok → ⊥) → Facts config state call (refused status detail)
 refused_facts config state call status detail not_ok =
     record { stays = λ h. refl; ready = λ h. absurd (not_ok h); others = λ kept. record { volumes = refl; holdings = refl } }
@@ -67,10 +48,6 @@ refused_facts config state call status detail not_ok =
 same_facts : (config : Config) (state : ControllerState) (call : Call) (reply : Reply) → IsReady config state call reply → Facts config state call (record { reply = reply; change = Stays })
 same_facts config state call reply ready =
     record { stays = λ h. refl; ready = λ h kept. ready; others = λ kept. record { volumes = refl; holdings = refl } }
-
-by_if : (config : Config) (state : ControllerState) (call : Call) (b : Bool) (x y : Outcome) → (b ≡ true → Facts config state call x) → (b ≡ false → Facts config state call y) → Facts config state call (cond b x y)
-by_if config state call true x y f g = f refl
-by_if config state call false x y f g = g refl
 
 -- CreateVolume
 create_found : (config : Config) (state : ControllerState) (name : List ℕ) (required limit : ℕ) (first : Capability) (others : List Capability) (volume : Volume)
@@ -106,7 +83,7 @@ create_ready config state name required limit first others volume bad none named
     record {
       is_done = record {
         volume = volume;
-        is_live = find-and (λ (v : Volume). v.id == volume.id) (λ (v : Volume). v.is_live) state.volumes volume (orderly.by_id name volume named) live;
+        is_live = find-and (λ (v : Volume). v.id == volume.id) (λ (v : Volume). v.is_live) state.volumes volume (named_by_id state name volume orderly named) live;
         has_id = refl;
         has_name = (same_text-tells volume.name name).0 passes;
         not_below = leb-true required volume.capacity range.0;
@@ -153,40 +130,9 @@ create_made config state name required limit first others bad none unnamed order
       stays = λ h. absurd (h refl);
       ready = λ h kept. create_ready config (changed state kept (Makes name (wanted required limit) (first ∷ others))) name required limit first others (volume kept) bad none
           (find-append_one (λ (v : Volume). same_text v.name name) state.volumes (volume kept) self unnamed) refl (serving kept)
-          (changed_orderly state kept (Makes name (wanted required limit) (first ∷ others)) orderly);
+          (made_orderly state (volume kept) refl unnamed orderly);
       others = λ kept. record { volumes = filter-append_one (λ (v : Volume). not (same_text v.name name)) state.volumes (volume kept) (rw self refl); holdings = refl };
     }
-
-create_named_facts : (config : Config) (state : ControllerState) (name : List ℕ) (required limit : ℕ) (first : Capability) (others : List Capability) (o : Option Volume)
-    → is_bad_range required limit ≡ false → is_empty_range required limit ≡ false → volume_named name state ≡ o → IsOrderly state
-    → Facts config state (calls.CreateVolume name required limit (first ∷ others)) (create_named config state name required limit (first ∷ others) o)
-create_named_facts config state name required limit first others None bad none is orderly =
-    by_if config state (calls.CreateVolume name required limit (first ∷ others)) (nat_lt config.greatest (wanted required limit)) (refused OutOfRange (codes "range")) _
-    (λ _. refused_facts config state (calls.CreateVolume name required limit (first ∷ others)) OutOfRange (codes "range") out_of_range)
-    (λ _. by_if config state (calls.CreateVolume name required limit (first ∷ others)) (nat_le 4096 (length state.volumes) || nat_le (2 ^ 64) state.next_id) (refused ResourceExhausted (codes "volumes")) _
-    (λ _. refused_facts config state (calls.CreateVolume name required limit (first ∷ others)) ResourceExhausted (codes "volumes") exhausted)
-    (λ _. create_made config state name required limit first others bad none is orderly))
-create_named_facts config state name required limit first others (Some volume) bad none is orderly =
-    by_if config state (calls.CreateVolume name required limit (first ∷ others)) (not volume.is_live) (refused AlreadyExists (codes "name")) _
-    (λ _. refused_facts config state (calls.CreateVolume name required limit (first ∷ others)) AlreadyExists (codes "name") exists)
-    (λ live. by_if config state (calls.CreateVolume name required limit (first ∷ others)) (serves volume required limit (first ∷ others)) (record { reply = ok_reply_with volume.id; change = Stays }) (refused AlreadyExists (codes "name"))
-    (λ serving. same_facts config state (calls.CreateVolume name required limit (first ∷ others)) (ok_reply_with volume.id)
-    (create_ready config state name required limit first others volume bad none is (is_live volume.is_live live) serving orderly))
-    (λ _. refused_facts config state (calls.CreateVolume name required limit (first ∷ others)) AlreadyExists (codes "name") exists))
-  where
-    is_live : (b : Bool) → not b ≡ false → b ≡ true
-    is_live true h = refl
-    is_live false h = cc
-
-create_facts : (config : Config) (state : ControllerState) (name : List ℕ) (required limit : ℕ) (capabilities : List Capability) → IsOrderly state
-    → Facts config state (calls.CreateVolume name required limit capabilities) (create config state name required limit capabilities)
-create_facts config state name required limit [] orderly = refused_facts config state (calls.CreateVolume name required limit []) InvalidArgument (codes "capabilities") invalid
-create_facts config state name required limit (first ∷ others) orderly =
-    by_if config state (calls.CreateVolume name required limit (first ∷ others)) (is_bad_range required limit) (refused InvalidArgument (codes "capacity")) _
-    (λ _. refused_facts config state (calls.CreateVolume name required limit (first ∷ others)) InvalidArgument (codes "capacity") invalid)
-    (λ bad. by_if config state (calls.CreateVolume name required limit (first ∷ others)) (is_empty_range required limit) (refused OutOfRange (codes "range")) (create_named config state name required limit (first ∷ others) (volume_named name state))
-    (λ _. refused_facts config state (calls.CreateVolume name required limit (first ∷ others)) OutOfRange (codes "range") out_of_range)
-    (λ none. create_named_facts config state name required limit first others (volume_named name state) bad none refl orderly))
 
 -- DeleteVolume
 ended_not_live : (id : ℕ) (volume : Volume) → ((ended id volume).id == id) && (ended id volume).is_live ≡ false
@@ -196,44 +142,21 @@ ended_not_live id volume = by (volume.id == id) refl
     by true h = rw h refl
     by false h = rw h refl
 
-ended-id : (id : ℕ) (volume : Volume) → (ended id volume).id ≡ volume.id
-ended-id id volume = by (volume.id == id)
-  where
-    by : (b : Bool) → (cond b (record volume { is_live = false }) volume).id ≡ volume.id
-    by true = refl
-    by false = refl
-
-not_true : (b : Bool) → not b ≡ true → b ≡ false
-not_true true h = cc
-not_true false h = refl
-
-not_false : (b : Bool) → not b ≡ false → b ≡ true
-not_false true h = refl
-not_false false h = cc
-
 ended-other : (id : ℕ) (volume : Volume) → not (volume.id == id) ≡ true → ended id volume ≡ volume
-ended-other id volume h = let other : (volume.id == id) ≡ false = not_true (volume.id == id) h in rw other refl
+ended-other id volume h = let other : (volume.id == id) ≡ false = not-true (volume.id == id) h in rw other refl
 
 delete_ready : (config : Config) (state : ControllerState) (id : ℕ) → live_volume id state ≡ None → IsReady config state (calls.DeleteVolume id) ok_reply
 delete_ready config state id none = record { is_done = none; again = ap (delete state id) none }
 
-delete_live_facts : (config : Config) (state : ControllerState) (id : ℕ) (held : List Holding) → Facts config state (calls.DeleteVolume id) (delete_live id held)
-delete_live_facts config state id (holding ∷ others) = refused_facts config state (calls.DeleteVolume id) FailedPrecondition holding.node failed
-delete_live_facts config state id [] =
+ended_facts : (config : Config) (state : ControllerState) (id : ℕ) → Facts config state (calls.DeleteVolume id) (done (Ends id))
+ended_facts config state id =
     record {
       stays = λ h. absurd (h refl);
       ready = λ h kept. delete_ready config (changed state kept (Ends id)) id (find-map_none (λ (v : Volume). (v.id == id) && v.is_live) (ended id) state.volumes (ended_not_live id));
-      others = λ kept. record { volumes = filter-map (λ (v : Volume). not (v.id == id)) (ended id) state.volumes (λ v. ap (λ n. not (n == id)) (ended-id id v)) (ended-other id); holdings = refl };
+      others = λ kept. record { volumes = filter-map (λ (v : Volume). not (v.id == id)) (ended id) state.volumes (λ v. ap (λ n. not (n == id)) ((end_leaves id).ids v)) (ended-other id); holdings = refl };
     }
 
-delete_facts : (config : Config) (state : ControllerState) (id : ℕ) (o : Option Volume) → live_volume id state ≡ o → Facts config state (calls.DeleteVolume id) (delete state id o)
-delete_facts config state id None is = same_facts config state (calls.DeleteVolume id) ok_reply (delete_ready config state id is)
-delete_facts config state id (Some volume) is = delete_live_facts config state id (holdings_of id state)
-
 -- ControllerPublishVolume
-abbrev publish_call : Holding → Call
-publish_call holding = calls.ControllerPublishVolume holding.volume holding.node holding.capability holding.readonly
-
 publish_ready : (config : Config) (state : ControllerState) (holding : Holding) (volume : Volume) → live_volume holding.volume state ≡ Some volume → has_node holding.node config.nodes ≡ true
     → has_capability volume.capabilities holding.capability ≡ true → holding_at holding.volume holding.node state ≡ Some holding → IsReady config state (publish_call holding) ok_reply
 publish_ready config state holding volume live node capable held =
@@ -254,35 +177,14 @@ itself_at holding = and_from _ _ (eq-eqb holding.volume holding.volume refl) ((s
 not_another : (id : ℕ) → not (id == id) ≡ false
 not_another id = let self : (id == id) ≡ true = eq-eqb id id refl in rw self refl
 
-attach_facts : (config : Config) (state : ControllerState) (holding : Holding) (volume : Volume) (o : Option Holding) → live_volume holding.volume state ≡ Some volume → has_node holding.node config.nodes ≡ true
-    → has_capability volume.capabilities holding.capability ≡ true → holding_at holding.volume holding.node state ≡ None → Facts config state (publish_call holding) (attach config state holding o)
-attach_facts config state holding volume (Some other) live node capable none = refused_facts config state (publish_call holding) FailedPrecondition other.node failed
-attach_facts config state holding volume None live node capable none =
-    by_if config state (publish_call holding) (is_full config state holding.volume holding.node) (refused ResourceExhausted (codes "slots")) (done (Attaches holding))
-    (λ _. refused_facts config state (publish_call holding) ResourceExhausted (codes "slots") exhausted)
-    (λ _. record {
+attached_facts : (config : Config) (state : ControllerState) (holding : Holding) (volume : Volume) → CanAttach config state holding volume → holding_at holding.volume holding.node state ≡ None
+    → Facts config state (publish_call holding) (done (Attaches holding))
+attached_facts config state holding volume can none =
+    record {
       stays = λ h. absurd (h refl);
-      ready = λ h kept. publish_ready config (changed state kept (Attaches holding)) holding volume live node capable (find-append_one (is_held_at holding.volume holding.node) state.holdings holding (itself_at holding) none);
+      ready = λ h kept. publish_ready config (changed state kept (Attaches holding)) holding volume can.live can.node can.capable (find-append_one (is_held_at holding.volume holding.node) state.holdings holding (itself_at holding) none);
       others = λ kept. record { volumes = refl; holdings = filter-append_one (λ (h : Holding). not (h.volume == holding.volume)) state.holdings holding (not_another holding.volume) };
-    })
-
-publish_held_facts : (config : Config) (state : ControllerState) (holding : Holding) (volume : Volume) (o : Option Holding) → live_volume holding.volume state ≡ Some volume → has_node holding.node config.nodes ≡ true
-    → has_capability volume.capabilities holding.capability ≡ true → holding_at holding.volume holding.node state ≡ o → Facts config state (publish_call holding) (publish_held config state holding o)
-publish_held_facts config state holding volume None live node capable is =
-    attach_facts config state holding volume (find (λ other. not (is_compatible holding other)) (holdings_of holding.volume state)) live node capable is
-publish_held_facts config state holding volume (Some held) live node capable is =
-    by_if config state (publish_call holding) (same_holding held holding) met (refused AlreadyExists (codes "held otherwise"))
-    (λ same. same_facts config state (publish_call holding) ok_reply (publish_ready config state holding volume live node capable (is ∙ ap Some ((same_holding-tells held holding).0 same))))
-    (λ _. refused_facts config state (publish_call holding) AlreadyExists (codes "held otherwise") exists)
-
-publish_facts : (config : Config) (state : ControllerState) (holding : Holding) (o : Option Volume) → live_volume holding.volume state ≡ o → Facts config state (publish_call holding) (publish config state holding o)
-publish_facts config state holding None is = refused_facts config state (publish_call holding) NotFound (codes "volume") unfound
-publish_facts config state holding (Some volume) is =
-    by_if config state (publish_call holding) (not (has_node holding.node config.nodes)) (refused NotFound (codes "node")) _
-    (λ _. refused_facts config state (publish_call holding) NotFound (codes "node") unfound)
-    (λ node. by_if config state (publish_call holding) (not (has_capability volume.capabilities holding.capability)) (refused InvalidArgument (codes "capability")) (publish_held config state holding (holding_at holding.volume holding.node state))
-    (λ _. refused_facts config state (publish_call holding) InvalidArgument (codes "capability") invalid)
-    (λ capable. publish_held_facts config state holding volume (holding_at holding.volume holding.node state) is (not_false (has_node holding.node config.nodes) node) (not_false (has_capability volume.capabilities holding.capability) capable) refl))
+    }
 
 -- ControllerUnpublishVolume
 unpublish_ready : (config : Config) (state : ControllerState) (id : ℕ) (node : List ℕ) → holding_at id node state ≡ None → IsReady config state (calls.ControllerUnpublishVolume id node) ok_reply
@@ -292,25 +194,31 @@ not_both : (a b : Bool) → not a ≡ true → not (a && b) ≡ true
 not_both true b h = cc
 not_both false b h = refl
 
-unpublish_facts : (config : Config) (state : ControllerState) (id : ℕ) (node : List ℕ) (o : Option Holding) → holding_at id node state ≡ o → Facts config state (calls.ControllerUnpublishVolume id node) (unpublish id node o)
-unpublish_facts config state id node None is = same_facts config state (calls.ControllerUnpublishVolume id node) ok_reply (unpublish_ready config state id node is)
-unpublish_facts config state id node (Some held) is =
+detached_facts : (config : Config) (state : ControllerState) (id : ℕ) (node : List ℕ) → Facts config state (calls.ControllerUnpublishVolume id node) (done (Detaches id node))
+detached_facts config state id node =
     record {
       stays = λ h. absurd (h refl);
-      ready = λ h kept. unpublish_ready config (changed state kept (Detaches id node)) id node (find-filter_not (is_held_at id node) state.holdings);
+      ready = λ h kept. unpublish_ready config (changed state kept (Detaches id node)) id node (find-filtered (is_held_at id node) (λ (h : Holding). not (is_held_at id node h)) state.holdings (λ h k. not-true (is_held_at id node h) k));
       others = λ kept. record {
         volumes = refl;
         holdings = filter-filter (λ (h : Holding). not (h.volume == id)) (λ (h : Holding). not (is_held_at id node h)) state.holdings (λ h k. not_both (h.volume == id) (same_text h.node node) k);
       };
     }
 
+-- of each move
+move_facts : (config : Config) (state : ControllerState) (call : Call) (outcome : Outcome) → IsOrderly state → Move config state call outcome → Facts config state call outcome
+move_facts config state call outcome orderly (was_refused _ status detail not_ok) = refused_facts config state call status detail not_ok
+move_facts config state call outcome orderly (was_found name required limit first others volume range is live serving) =
+    same_facts config state call outcome.reply (create_ready config state name required limit first others volume range.ordered range.not_empty is live serving orderly)
+move_facts config state call outcome orderly (was_made name required limit first others range unnamed) =
+    create_made config state name required limit first others range.ordered range.not_empty unnamed orderly
+move_facts config state call outcome orderly (was_ended id volume live free) = ended_facts config state id
+move_facts config state call outcome orderly (was_ended_before id none) = same_facts config state call ok_reply (delete_ready config state id none)
+move_facts config state call outcome orderly (was_attached holding volume can free fits) = attached_facts config state holding volume can free
+move_facts config state call outcome orderly (was_attached_before holding volume can held) =
+    same_facts config state call ok_reply (publish_ready config state holding volume can.live can.node can.capable held)
+move_facts config state call outcome orderly (was_detached id node held is) = detached_facts config state id node
+move_facts config state call outcome orderly (was_detached_before id node none) = same_facts config state call ok_reply (unpublish_ready config state id node none)
+
 pub row_facts : (config : Config) (state : ControllerState) (call : Call) → IsOrderly state → Facts config state call (controller_row config state call)
-row_facts config state (calls.CreateVolume name required limit capabilities) orderly = create_facts config state name required limit capabilities orderly
-row_facts config state (calls.DeleteVolume id) orderly = delete_facts config state id (live_volume id state) refl
-row_facts config state (calls.ControllerPublishVolume id node capability readonly) orderly =
-    publish_facts config state (record { volume = id; node = node; capability = capability; readonly = readonly }) (live_volume id state) refl
-row_facts config state (calls.ControllerUnpublishVolume id node) orderly = unpublish_facts config state id node (holding_at id node state) refl
-row_facts config state (calls.NodeStageVolume id capability) orderly = refused_facts config state (calls.NodeStageVolume id capability) Unimplemented [] unimplemented
-row_facts config state (calls.NodeUnstageVolume id) orderly = refused_facts config state (calls.NodeUnstageVolume id) Unimplemented [] unimplemented
-row_facts config state (calls.NodePublishVolume id target capability readonly) orderly = refused_facts config state (calls.NodePublishVolume id target capability readonly) Unimplemented [] unimplemented
-row_facts config state (calls.NodeUnpublishVolume id target) orderly = refused_facts config state (calls.NodeUnpublishVolume id target) Unimplemented [] unimplemented
+row_facts config state call orderly = move_facts config state call (controller_row config state call) orderly (moved config state call)

@@ -11,7 +11,14 @@ pub mod Views
 pub mod Copies
 pub mod Exclusive
 pub mod Attached
+pub mod Moves
+pub mod Finds
+pub mod Frames
 pub mod Orderly
+pub mod Names
+pub mod Things
+pub mod LastCalls
+pub mod Delivered
 pub mod Facts
 pub mod TableLaw
 pub mod SafeStates

@@ -1,7 +1,8 @@
 -- The laws of the controller's table, from what is so of each of its outcomes.
-use Rattle.std.proofs.Common.{◌≡◌, ◌⊎◌, ◌≤◌, ℕ, List, [], ◌∷◌, map, Bool, true, false, cond, not, refl, sym, ◌∙◌, ap, subst}
+use Rattle.std.proofs.Common.{◌≡◌, ◌⊎◌, ◌≤◌, ℕ, List, [], ◌∷◌, map, true, false, cond, not, refl, sym, ◌∙◌, ap, subst}
 use Rattle.std.specs.Prelude.{Option, Some, None, option_map, ◌==◌, ◌&&◌, ◌||◌, nat_le, nat_lt, length, codes, ◌^◌, IsTrue}
 use Rattle.std.specs.List.{AllByRecursion}
+use Rattle.std.proofs.lemmas.Bool.{not-true}
 use Rattle.csi_types.proofs.Lists.{find-map, find-passes, filter-map, map-map}
 use Rattle.csi_types.specs.declared.capability.Capability.{Capability}
 use Rattle.csi_types.specs.declared.holding.Holding.{Holding}
@@ -23,23 +24,10 @@ use Rattle.csi_controller.specs.State.{Volume, ControllerState, volume_named, li
 use Rattle.csi_controller.specs.Table.{Outcome, Change, Stays, Makes, refused, create_named, delete, publish, controller_row, changed}
 use Rattle.csi_controller.specs.Fenced.{Fenced, fenced, fenced_call, kept_for, kept_in, keep, carried_out}
 use Rattle.csi_controller.specs.Laws.{IsLetThrough, IsSameApart, IsDone, IsMadeAs, IsIdempotent, LeavesOthers, IsLawful, reply_at, state_after, keeping}
-use Rattle.csi_controller.proofs.Orderly.{IsOrderly, kept_same}
+use Rattle.csi_controller.proofs.Orderly.{IsOrderly, kept_same, kept_in-row}
 use Rattle.csi_controller.proofs.Facts.{IsReady, row_facts}
 
--- what is kept changes no volume's row, and no answer of the table
-same_row : (call : Call) (v w : Volume) → w.id ≡ v.id → w.name ≡ v.name → is_row_for call w ≡ is_row_for call v
-same_row (calls.CreateVolume name required limit capabilities) v w id named = ap (λ n. same_text n name) named
-same_row (calls.DeleteVolume id') v w id named = ap (λ n. n == id') id
-same_row (calls.ControllerPublishVolume id' node capability readonly) v w id named = ap (λ n. n == id') id
-same_row (calls.ControllerUnpublishVolume id' node) v w id named = ap (λ n. n == id') id
-same_row (calls.NodeStageVolume id' capability) v w id named = ap (λ n. n == id') id
-same_row (calls.NodeUnstageVolume id') v w id named = ap (λ n. n == id') id
-same_row (calls.NodePublishVolume id' target capability readonly) v w id named = ap (λ n. n == id') id
-same_row (calls.NodeUnpublishVolume id' target) v w id named = ap (λ n. n == id') id
-
-kept_in-row : (call : Call) (kept : Kept) (v : Volume) → is_row_for call (kept_in call kept v) ≡ is_row_for call v
-kept_in-row call kept v = same_row call v (kept_in call kept v) (ap (λ (w : Volume). w.id) (kept_same call kept kept v)) (ap (λ (w : Volume). w.name) (kept_same call kept kept v))
-
+-- what is kept changes no answer of the table
 length-map : (f : Volume → Volume) (xs : List Volume) → length (map f xs) ≡ length xs
 length-map f [] = refl
 length-map f (x ∷ xs) = let rest = length-map f xs in cc
@@ -157,12 +145,8 @@ once_more config next kept later call reply before ready =
     is_carried_out config after later call (is_later_through call kept next later before) ∙ ap (carried_out after later call) row in
     (ap (λ (f : Fenced). f.reply) e, subst (λ (f : Fenced). IsSameApart after f.state) (sym e) (same_keep call (record { number = later; kind = kind_of call; reply = reply }) after))
 
-not_true : (b : Bool) → not b ≡ true → b ≡ false
-not_true true h = cc
-not_true false h = refl
-
 kept_in-other : (call : Call) (kept : Kept) (v : Volume) → not (is_row_for call v) ≡ true → kept_in call kept v ≡ v
-kept_in-other call kept v h = let other : is_row_for call v ≡ false = not_true (is_row_for call v) h in rw other refl
+kept_in-other call kept v h = let other : is_row_for call v ≡ false = not-true (is_row_for call v) h in rw other refl
 
 pub is_lawful : (config : Config) (state : ControllerState) (number : Number) (call : Call) → IsOrderly state → IsLetThrough state number call → IsLawful config state number call
 is_lawful config state number call orderly through =

@@ -1,7 +1,6 @@
 -- A controller seen thing by thing, and what a call that is delivered to it does there: what is safe of a world is
 -- told by this alone. This profile's own.
-use Rattle.std.specs.Prelude.{◌≡◌, ◌<◌, ℕ, List, Bool, ◌&&◌, find, Option, Some, None, option_map, IsTrue}
-use Rattle.csi_types.specs.declared.holding.Holding.{Holding}
+use Rattle.std.specs.Prelude.{◌≡◌, ◌<◌, ℕ, List, ◌&&◌, find, Option, Some, None, option_map, IsTrue}
 use Rattle.csi_types.specs.declared.number.Number.{Number}
 use Rattle.csi_types.specs.declared.call.Call.{Call}
 use Rattle.csi_types.specs.declared.call.Call.TheVariants as calls
@@ -54,7 +53,7 @@ key_of state (calls.NodeUnpublishVolume id target) = None
 abbrev pub IsDeliveredTo : Config → ControllerState → Number → Call → Type 0
 IsDeliveredTo config state number call =
     IsDelivered Controller number call (key_of state call) (view_of state) (view_of (fenced config state (call_frame number Controller call)).state)
-        (fenced config state (call_frame number Controller call)).reply
+    (fenced config state (call_frame number Controller call)).reply
 
 -- in every state that frames lead to, whichever call comes next: it is delivered as the laws say; and a new
 -- controller has nothing, and what came before a spent number is spent

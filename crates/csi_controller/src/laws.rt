@@ -1,6 +1,7 @@
 //! The laws of the controller's table.
 ghost use Rattle.csi_controller.specs.Laws.{ControllerTableLaw};
 ghost use Rattle.csi_controller.specs.Safe.{ControllerSafetyLaw};
+ghost use Rattle.csi_controller.specs.View.{ControllerDeliveryLaw, ControllerNamesLaw};
 
 /// A law, and nothing that runs: in every state that frames lead to, and for every call that the table
 /// answers there, a refusal changes nothing, a success brings about what the call asks, the same call again
@@ -15,4 +16,20 @@ pub fn table_law()
 /// `AccessMode`, and "Volume Lifecycle").
 pub fn safety_law()
     ensures { ControllerSafetyLaw }
+{}
+
+/// A law, and nothing that runs: in every state that frames lead to, whichever call comes next is either carried
+/// out, and then its number wasn't spent, an `Ok` leaves its thing as asked and the number spent, a refusal leaves
+/// the thing as it was, and other things are as they were; or it isn't, since its number was spent, and then
+/// nothing changes, and an `Ok` is the reply that was kept for that number (CSI's spec.md, "Concurrency"; the
+/// numbers are this profile's own).
+pub fn delivery_law()
+    ensures { ControllerDeliveryLaw }
+{}
+
+/// A law, and nothing that runs: in every state that frames lead to, a volume that is found by its name is found
+/// by its id, and the other way round, and a name that got an id keeps it, whatever frame comes (this profile's
+/// own).
+pub fn names_law()
+    ensures { ControllerNamesLaw }
 {}

@@ -13,7 +13,7 @@ mod rows;
 pub use controller::Controller;
 pub use fault::CoreFault;
 pub use law::exclusive_law;
-pub use laws::{safety_law, table_law};
+pub use laws::{delivery_law, names_law, safety_law, table_law};
 pub use record::ControllerRecord;
 pub use row::{ControllerRow, NodeHolding};
 

@@ -1,0 +1,191 @@
+-- The controller's table and its fence, opened once: each answer that they give, and what is so where they give it.
+use Rattle.std.proofs.Common.{◌≡◌, ℕ, ◌^◌, List, [], ◌∷◌, Bool, true, false, cond, not, refl, ◌∙◌, ap}
+use Rattle.std.specs.Prelude.{Option, Some, None, option_map, find, ◌||◌, nat_le, nat_lt, length, codes}
+use Rattle.std.proofs.lemmas.Bool.{not-false}
+use Rattle.csi_types.proofs.Equality.{same_holding-tells, same_number-tells}
+use Rattle.csi_types.specs.declared.capability.Capability.{Capability}
+use Rattle.csi_types.specs.declared.holding.Holding.{Holding}
+use Rattle.csi_types.specs.declared.number.Number.{Number}
+use Rattle.csi_types.specs.declared.call.Call.{Call}
+use Rattle.csi_types.specs.declared.call.Call.TheVariants as calls
+use Rattle.csi_types.specs.declared.fence.Verdict.TheVariants.{Stale, Repeated, Fresh}
+use Rattle.csi_types.specs.declared.status.Status.{Status}
+use Rattle.csi_types.specs.declared.status.Status.TheVariants.{Ok, InvalidArgument, NotFound, AlreadyExists, ResourceExhausted, FailedPrecondition, OutOfRange, Unimplemented}
+use Rattle.csi_types.specs.Call.{kind_of}
+use Rattle.csi_types.specs.Capacity.{is_bad_range, is_empty_range, wanted}
+use Rattle.csi_types.specs.Config.{Config, has_node}
+use Rattle.csi_types.specs.Fence.{is_spent, verdict_of_spent}
+use Rattle.csi_types.specs.Holding.{same_holding, is_compatible}
+use Rattle.csi_types.specs.Replies.{ok_reply_with, stale_reply}
+use Rattle.csi_types.specs.Same.{same_number, has_capability}
+use Rattle.csi_controller.specs.State.{Volume, ControllerState, volume_named, live_volume, holdings_of, holding_at, row_for}
+use Rattle.csi_controller.specs.Table.{Outcome, Stays, Makes, Ends, Attaches, Detaches, refused, met, done, serves, create_named, create, delete_live, delete, is_full, attach, publish_held, publish, unpublish, controller_row}
+use Rattle.csi_controller.specs.Fenced.{Fenced, answered_only, carried_out, judged, fenced_call, kept_for}
+
+-- a range that can be met
+pub record IsRange (required limit : ℕ) : Type 0 where
+  pub ordered : is_bad_range required limit ≡ false
+  pub not_empty : is_empty_range required limit ≡ false
+
+-- a live volume, a node that is configured, and a capability that the volume has
+pub record CanAttach (config : Config) (state : ControllerState) (holding : Holding) (volume : Volume) : Type 0 where
+  pub live : live_volume holding.volume state ≡ Some volume
+  pub node : has_node holding.node config.nodes ≡ true
+  pub capable : has_capability volume.capabilities holding.capability ≡ true
+
+-- the call that asks for this holding
+abbrev pub publish_call : Holding → Call
+publish_call holding = calls.ControllerPublishVolume holding.volume holding.node holding.capability holding.readonly
+
+-- what the table answers to a call
+pub data Move (config : Config) (state : ControllerState) : Call → Outcome → Type 0 where
+  was_refused : (call : Call) (status : Status) (detail : List ℕ) → (status ≡ Ok → ⊥) → Move config state call (refused status detail)
+  was_found : (name : List ℕ) (required limit : ℕ) (first : Capability) (others : List Capability) (volume : Volume)
+      → IsRange required limit → volume_named name state ≡ Some volume → volume.is_live ≡ true → serves volume required limit (first ∷ others) ≡ true
+      → Move config state (calls.CreateVolume name required limit (first ∷ others)) (record { reply = ok_reply_with volume.id; change = Stays })
+  was_made : (name : List ℕ) (required limit : ℕ) (first : Capability) (others : List Capability)
+      → IsRange required limit → volume_named name state ≡ None
+      → Move config state (calls.CreateVolume name required limit (first ∷ others)) (record { reply = ok_reply_with state.next_id; change = Makes name (wanted required limit) (first ∷ others) })
+  was_ended : (id : ℕ) (volume : Volume) → live_volume id state ≡ Some volume → holdings_of id state ≡ [] → Move config state (calls.DeleteVolume id) (done (Ends id))
+  was_ended_before : (id : ℕ) → live_volume id state ≡ None → Move config state (calls.DeleteVolume id) met
+  was_attached : (holding : Holding) (volume : Volume) → CanAttach config state holding volume → holding_at holding.volume holding.node state ≡ None
+      → find (λ other. not (is_compatible holding other)) (holdings_of holding.volume state) ≡ None → Move config state (publish_call holding) (done (Attaches holding))
+  was_attached_before : (holding : Holding) (volume : Volume) → CanAttach config state holding volume → holding_at holding.volume holding.node state ≡ Some holding
+      → Move config state (publish_call holding) met
+  was_detached : (id : ℕ) (node : List ℕ) (held : Holding) → holding_at id node state ≡ Some held → Move config state (calls.ControllerUnpublishVolume id node) (done (Detaches id node))
+  was_detached_before : (id : ℕ) (node : List ℕ) → holding_at id node state ≡ None → Move config state (calls.ControllerUnpublishVolume id node) met
+
+by_if : (config : Config) (state : ControllerState) (call : Call) (b : Bool) (x y : Outcome) → (b ≡ true → Move config state call x) → (b ≡ false → Move config state call y) → Move config state call (cond b x y)
+by_if config state call true x y f g = f refl
+by_if config state call false x y f g = g refl
+
+invalid : InvalidArgument ≡ Ok → ⊥
+invalid h = cc
+
+unfound : NotFound ≡ Ok → ⊥
+unfound h = cc
+
+exists : AlreadyExists ≡ Ok → ⊥
+exists h = cc
+
+exhausted : ResourceExhausted ≡ Ok → ⊥
+exhausted h = cc
+
+failed : FailedPrecondition ≡ Ok → ⊥
+failed h = cc
+
+out_of_range : OutOfRange ≡ Ok → ⊥
+out_of_range h = cc
+
+unimplemented : Unimplemented ≡ Ok → ⊥
+unimplemented h = cc
+
+create_named_moves : (config : Config) (state : ControllerState) (name : List ℕ) (required limit : ℕ) (first : Capability) (others : List Capability) (o : Option Volume)
+    → IsRange required limit → volume_named name state ≡ o
+    → Move config state (calls.CreateVolume name required limit (first ∷ others)) (create_named config state name required limit (first ∷ others) o)
+create_named_moves config state name required limit first others None range is =
+    let call = calls.CreateVolume name required limit (first ∷ others) in
+    by_if config state call (nat_lt config.greatest (wanted required limit)) (refused OutOfRange (codes "range")) _ (λ _. was_refused call OutOfRange (codes "range") out_of_range)
+    (λ _. by_if config state call (nat_le 4096 (length state.volumes) || nat_le (2 ^ 64) state.next_id) (refused ResourceExhausted (codes "volumes")) _
+    (λ _. was_refused call ResourceExhausted (codes "volumes") exhausted)
+    (λ _. was_made name required limit first others range is))
+create_named_moves config state name required limit first others (Some volume) range is =
+    let call = calls.CreateVolume name required limit (first ∷ others) in
+    by_if config state call (not volume.is_live) (refused AlreadyExists (codes "name")) _ (λ _. was_refused call AlreadyExists (codes "name") exists)
+    (λ live. by_if config state call (serves volume required limit (first ∷ others)) (record { reply = ok_reply_with volume.id; change = Stays }) (refused AlreadyExists (codes "name"))
+    (λ serving. was_found name required limit first others volume range is (not-false volume.is_live live) serving)
+    (λ _. was_refused call AlreadyExists (codes "name") exists))
+
+create_moves : (config : Config) (state : ControllerState) (name : List ℕ) (required limit : ℕ) (capabilities : List Capability)
+    → Move config state (calls.CreateVolume name required limit capabilities) (create config state name required limit capabilities)
+create_moves config state name required limit [] = was_refused (calls.CreateVolume name required limit []) InvalidArgument (codes "capabilities") invalid
+create_moves config state name required limit (first ∷ others) =
+    let call = calls.CreateVolume name required limit (first ∷ others) in
+    by_if config state call (is_bad_range required limit) (refused InvalidArgument (codes "capacity")) _ (λ _. was_refused call InvalidArgument (codes "capacity") invalid)
+    (λ ordered. by_if config state call (is_empty_range required limit) (refused OutOfRange (codes "range")) (create_named config state name required limit (first ∷ others) (volume_named name state))
+    (λ _. was_refused call OutOfRange (codes "range") out_of_range)
+    (λ not_empty. create_named_moves config state name required limit first others (volume_named name state) (record { ordered = ordered; not_empty = not_empty }) refl))
+
+delete_live_moves : (config : Config) (state : ControllerState) (id : ℕ) (volume : Volume) (held : List Holding) → live_volume id state ≡ Some volume → holdings_of id state ≡ held
+    → Move config state (calls.DeleteVolume id) (delete_live id held)
+delete_live_moves config state id volume [] live is = was_ended id volume live is
+delete_live_moves config state id volume (holding ∷ others) live is = was_refused (calls.DeleteVolume id) FailedPrecondition holding.node failed
+
+delete_moves : (config : Config) (state : ControllerState) (id : ℕ) (o : Option Volume) → live_volume id state ≡ o → Move config state (calls.DeleteVolume id) (delete state id o)
+delete_moves config state id None is = was_ended_before id is
+delete_moves config state id (Some volume) is = delete_live_moves config state id volume (holdings_of id state) is refl
+
+attach_moves : (config : Config) (state : ControllerState) (holding : Holding) (volume : Volume) (o : Option Holding) → CanAttach config state holding volume
+    → holding_at holding.volume holding.node state ≡ None → find (λ other. not (is_compatible holding other)) (holdings_of holding.volume state) ≡ o
+    → Move config state (publish_call holding) (attach config state holding o)
+attach_moves config state holding volume (Some other) can free is = was_refused (publish_call holding) FailedPrecondition other.node failed
+attach_moves config state holding volume None can free is =
+    by_if config state (publish_call holding) (is_full config state holding.volume holding.node) (refused ResourceExhausted (codes "slots")) (done (Attaches holding))
+    (λ _. was_refused (publish_call holding) ResourceExhausted (codes "slots") exhausted)
+    (λ _. was_attached holding volume can free is)
+
+publish_held_moves : (config : Config) (state : ControllerState) (holding : Holding) (volume : Volume) (o : Option Holding) → CanAttach config state holding volume
+    → holding_at holding.volume holding.node state ≡ o → Move config state (publish_call holding) (publish_held config state holding o)
+publish_held_moves config state holding volume None can is =
+    attach_moves config state holding volume (find (λ other. not (is_compatible holding other)) (holdings_of holding.volume state)) can is refl
+publish_held_moves config state holding volume (Some held) can is =
+    by_if config state (publish_call holding) (same_holding held holding) met (refused AlreadyExists (codes "held otherwise"))
+    (λ same. was_attached_before holding volume can (is ∙ ap Some ((same_holding-tells held holding).0 same)))
+    (λ _. was_refused (publish_call holding) AlreadyExists (codes "held otherwise") exists)
+
+publish_moves : (config : Config) (state : ControllerState) (holding : Holding) (o : Option Volume) → live_volume holding.volume state ≡ o
+    → Move config state (publish_call holding) (publish config state holding o)
+publish_moves config state holding None is = was_refused (publish_call holding) NotFound (codes "volume") unfound
+publish_moves config state holding (Some volume) is =
+    let call = publish_call holding in
+    by_if config state call (not (has_node holding.node config.nodes)) (refused NotFound (codes "node")) _ (λ _. was_refused call NotFound (codes "node") unfound)
+    (λ node. by_if config state call (not (has_capability volume.capabilities holding.capability)) (refused InvalidArgument (codes "capability")) (publish_held config state holding (holding_at holding.volume holding.node state))
+    (λ _. was_refused call InvalidArgument (codes "capability") invalid)
+    (λ capable. publish_held_moves config state holding volume (holding_at holding.volume holding.node state)
+    (record { live = is; node = not-false (has_node holding.node config.nodes) node; capable = not-false (has_capability volume.capabilities holding.capability) capable }) refl))
+
+unpublish_moves : (config : Config) (state : ControllerState) (id : ℕ) (node : List ℕ) (o : Option Holding) → holding_at id node state ≡ o
+    → Move config state (calls.ControllerUnpublishVolume id node) (unpublish id node o)
+unpublish_moves config state id node None is = was_detached_before id node is
+unpublish_moves config state id node (Some held) is = was_detached id node held is
+
+-- every answer of the table is one of these
+pub moved : (config : Config) (state : ControllerState) (call : Call) → Move config state call (controller_row config state call)
+moved config state (calls.CreateVolume name required limit capabilities) = create_moves config state name required limit capabilities
+moved config state (calls.DeleteVolume id) = delete_moves config state id (live_volume id state) refl
+moved config state (calls.ControllerPublishVolume id node capability readonly) =
+    publish_moves config state (record { volume = id; node = node; capability = capability; readonly = readonly }) (live_volume id state) refl
+moved config state (calls.ControllerUnpublishVolume id node) = unpublish_moves config state id node (holding_at id node state) refl
+moved config state (calls.NodeStageVolume id capability) = was_refused (calls.NodeStageVolume id capability) Unimplemented [] unimplemented
+moved config state (calls.NodeUnstageVolume id) = was_refused (calls.NodeUnstageVolume id) Unimplemented [] unimplemented
+moved config state (calls.NodePublishVolume id target capability readonly) = was_refused (calls.NodePublishVolume id target capability readonly) Unimplemented [] unimplemented
+moved config state (calls.NodeUnpublishVolume id target) = was_refused (calls.NodeUnpublishVolume id target) Unimplemented [] unimplemented
+
+-- what the fence makes of a call, by the call's row if it has one
+pub data Judgement (config : Config) (state : ControllerState) (number : Number) (call : Call) : Fenced → Type 0 where
+  was_first : row_for call state ≡ None → Judgement config state number call (carried_out state number call (controller_row config state call))
+  was_fresh : (row : Volume) → row_for call state ≡ Some row → is_spent (Some row.kept.number) number ≡ false
+      → Judgement config state number call (carried_out state number call (controller_row config state call))
+  was_repeated : (row : Volume) → row_for call state ≡ Some row → is_spent (Some row.kept.number) number ≡ true → number ≡ row.kept.number
+      → Judgement config state number call (answered_only state number row.kept.kind row.kept.reply)
+  was_stale : (row : Volume) → row_for call state ≡ Some row → is_spent (Some row.kept.number) number ≡ true
+      → Judgement config state number call (answered_only state number (kind_of call) stale_reply)
+
+spent_judged : (config : Config) (state : ControllerState) (number : Number) (call : Call) (row : Volume) (b : Bool) → row_for call state ≡ Some row → is_spent (Some row.kept.number) number ≡ true
+    → same_number number row.kept.number ≡ b → Judgement config state number call (judged config state number call row.kept (cond b Repeated Stale))
+spent_judged config state number call row true is spent same = was_repeated row is spent ((same_number-tells number row.kept.number).0 same)
+spent_judged config state number call row false is spent same = was_stale row is spent
+
+row_judged : (config : Config) (state : ControllerState) (number : Number) (call : Call) (row : Volume) (b : Bool) → row_for call state ≡ Some row → is_spent (Some row.kept.number) number ≡ b
+    → Judgement config state number call (judged config state number call row.kept (cond b (verdict_of_spent (Some row.kept.number) number) Fresh))
+row_judged config state number call row true is spent = spent_judged config state number call row (same_number number row.kept.number) is spent refl
+row_judged config state number call row false is spent = was_fresh row is spent
+
+by_row : (config : Config) (state : ControllerState) (number : Number) (call : Call) (o : Option Volume) → row_for call state ≡ o
+    → Judgement config state number call (fenced_call config state number call (option_map (λ volume. volume.kept) o))
+by_row config state number call None is = was_first is
+by_row config state number call (Some row) is = row_judged config state number call row (is_spent (Some row.kept.number) number) is refl
+
+-- each call is judged so
+pub was_judged : (config : Config) (state : ControllerState) (number : Number) (call : Call) → Judgement config state number call (fenced_call config state number call (kept_for call state))
+was_judged config state number call = by_row config state number call (row_for call state) refl
