@@ -23,6 +23,7 @@ use Rattle.csi_types.specs.Key.{Key, Exists, Attached, Staged, Published, HasId}
 use Rattle.csi_types.specs.Lists.{IsAmong}
 use Rattle.csi_types.specs.Number.{is_before}
 use Rattle.csi_types.specs.Replies.{stale_reply}
+use Rattle.csi_types.specs.Reply.{has_id_by_rule}
 use Rattle.csi_types.specs.Same.{same_text}
 use Rattle.csi_controller.specs.State.{Volume, ControllerState, empty_controller, volume_with_id, live_volume, is_held_at, is_row_for, row_for}
 use Rattle.csi_controller.specs.Table.{Outcome, Change, Stays, changed, controller_row}
@@ -109,6 +110,18 @@ told number call reply = record { number = number; call = call; kind = kind_of c
 known_kept : (state : ControllerState) (call : Call) (key : Key) → IsOrderly state → key_of state call ≡ Some key → kept_in_row state key ≡ kept_for call state
 known_kept state call key orderly is = kept_of_row state key ∙ ap (option_map (λ (v : Volume). v.kept)) (row_known state call key orderly is)
 
+-- an OK has an id where it is to CreateVolume
+with_id : (config : Config) (state : ControllerState) (call : Call) (outcome : Outcome) → Move config state call outcome → outcome.reply.status ≡ Ok → IsTrue (has_id_by_rule (kind_of call) outcome.reply)
+with_id config state _ _ (was_refused call status detail not_ok) ok = absurd (not_ok ok)
+with_id config state _ _ (was_found name required limit first others volume range named live serving) ok = refl
+with_id config state _ _ (was_made name required limit first others range unnamed) ok = refl
+with_id config state _ _ (was_ended id volume live free) ok = refl
+with_id config state _ _ (was_ended_before id dead) ok = refl
+with_id config state _ _ (was_attached holding volume can free fits) ok = refl
+with_id config state _ _ (was_attached_before holding volume can held) ok = refl
+with_id config state _ _ (was_detached id node held there) ok = refl
+with_id config state _ _ (was_detached_before id node free) ok = refl
+
 -- a fresh call acts
 acts : (config : Config) (state : ControllerState) (number : Number) (call : Call) (key : Key) (outcome : Outcome) → IsOrderly state → key_of state call ≡ Some key → Move config state call outcome
     → is_spent (last_of (kept_for call state)) number ≡ false → Acts key (told number call outcome.reply) (view_of state) (view_of (carried_out state number call outcome).state)
@@ -120,6 +133,7 @@ acts config state number call key outcome orderly is move fresh =
     let later = λ (other : Key). kept_later call kept state outcome.change other (fresh_rows kept.kind kept.reply other) in
     record {
       of_its_kind = refl;
+      with_id = λ ok. with_id config state call outcome move ok;
       was_fresh = ap (λ (o : Option Kept). is_spent (last_of o) number) (known_kept state call key orderly is) ∙ fresh;
       done = λ ok. same key ∙ does_so.done ok;
       spent = λ ok. subst (λ (o : Option Kept). IsTrue (is_spent (last_of o) number)) (sym (kept_after config state key call outcome kept orderly is move ok rows)) (own_spent number);

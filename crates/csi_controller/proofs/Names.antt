@@ -1,7 +1,7 @@
 -- Names and ids belong together, and a name that got an id keeps it.
 use Rattle.std.proofs.Common.{◌≡◌, ℕ, List, ◌<◌, map, refl, ◌∙◌, ap, subst}
-use Rattle.std.specs.Prelude.{Option, Some, None, option_map, ◌==◌}
-use Rattle.std.proofs.lemmas.Bool.{eqb-true}
+use Rattle.std.specs.Prelude.{Option, Some, None, option_map, ◌==◌, ◌&&◌}
+use Rattle.std.proofs.lemmas.Bool.{and_parts, eqb-true}
 use Rattle.csi_types.proofs.Among.{among-find}
 use Rattle.csi_types.proofs.Lists.{find-map, find-append, find-passes, or_else, or_else-some}
 use Rattle.csi_types.specs.declared.number.Number.{Number}
@@ -16,12 +16,14 @@ use Rattle.csi_controller.specs.Fenced.{fenced, carried_out, kept_in, after_fram
 use Rattle.csi_controller.specs.View.{AreNamed, id_named}
 use Rattle.csi_controller.proofs.Finds.{option_map-map}
 use Rattle.csi_controller.proofs.Frames.{frame_keeps}
-use Rattle.csi_controller.proofs.Orderly.{IsOrderly, reached_orderly, named_by_id, with_id_by_name, LeavesNames, keep_leaves, end_leaves}
+use Rattle.csi_controller.proofs.Orderly.{IsOrderly, reached_orderly, named_by_id, with_id_by_name, is_named, LeavesNames, keep_leaves, end_leaves}
 
 are_named : (state : ControllerState) → IsOrderly state → AreNamed state
 are_named state orderly = record {
   by_id = λ name volume is. named_by_id state name volume orderly is;
   by_name = λ id volume is. with_id_by_name state id volume orderly is;
+  live = λ name volume is. is_named state name volume orderly (among-find (λ (v : Volume). same_text v.name name && v.is_live) state.volumes volume is)
+      (and_parts (same_text volume.name name) volume.is_live (find-passes (λ (v : Volume). same_text v.name name && v.is_live) state.volumes volume is)).0;
   given = λ id volume is. subst (λ n. n < state.next_id) (eqb-true volume.id id (find-passes (λ (v : Volume). v.id == id) state.volumes volume is))
       (orderly volume (among-find (λ (v : Volume). v.id == id) state.volumes volume is)).given;
 }
