@@ -17,18 +17,24 @@ use Rattle.csi_node.specs.State.{NodeState, StagedVolume, staged_of}
 use Rattle.csi_node.specs.Fenced as node
 use Rattle.csi_world.specs.World.{NodeAt, World, new_node, empty_world, node_state, with_state, with_node, with_frame}
 use Rattle.csi_world.specs.Step.{Choice, Sends, Closes, Takes, Notes, Starts, Answers, MayChooseAll, answered_by_node, answered_by, chosen, chosen_all}
-use Rattle.csi_world.specs.Laws.{PluginsAreSafe}
+use Rattle.csi_world.specs.Safe.{IsExclusive, IsPublishedWhereStaged, IsAttachedWhileLive}
 use Rattle.csi_types.proofs.Among.{each_of, among-find}
 use Rattle.csi_node.proofs.SafeStates as nodes
 use Rattle.csi_node.specs.Safe.{IsPublishedRight}
 use Rattle.csi_controller.proofs.SafeStates as controllers
-use Rattle.csi_controller.specs.Safe.{IsExclusive}
+use Rattle.csi_controller.specs.Safe as controller_safe
+
+-- what the plugins keep by themselves
+pub record PluginsAreSafe (world : World) : Type 0 where
+  pub exclusive : IsExclusive world
+  pub published_where_staged : IsPublishedWhereStaged world
+  pub attached_while_live : IsAttachedWhileLive world
 
 abbrev IsRight : NodeAt → Type 0
 IsRight n = IsPublishedRight n.state
 
 record IsKept (world : World) : Type 0 where
-  pub controller : IsExclusive world.controller
+  pub controller : controller_safe.IsExclusive world.controller
   pub nodes : AllByRecursion IsRight world.nodes
 
 new_nodes : (entries : List NodeSlots) → AllByRecursion IsRight (map new_node entries)

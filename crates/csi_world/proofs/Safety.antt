@@ -18,7 +18,6 @@ use Rattle.csi_orchestrator.specs.Readings.{issued_in}
 use Rattle.csi_world.specs.World.{NodeAt, World, empty_world}
 use Rattle.csi_world.specs.Step.{Choice, MayChooseAll, chosen_all}
 use Rattle.csi_world.specs.Safe.{IsAttachedAs, IsStagedWhereAttached, Safe}
-use Rattle.csi_world.specs.Laws.{PluginsAreSafe}
 use Rattle.csi_world.proofs.WorldView.{node_view, view_of}
 use Rattle.csi_world.proofs.Issued.{is_of}
 use Rattle.csi_world.proofs.Heard.{success-ok}

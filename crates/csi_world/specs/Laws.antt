@@ -6,7 +6,7 @@ use Rattle.csi_node.specs.Laws.{NodeTableLaw}
 use Rattle.csi_world.specs.declared.event.Event.{Event}
 use Rattle.csi_world.specs.World.{World, empty_world}
 use Rattle.csi_world.specs.Step.{Choice, MayChoose, chosen, Step, MayChooseAll, chosen_all}
-use Rattle.csi_world.specs.Safe.{Safe, IsExclusive, IsPublishedWhereStaged, IsAttachedWhileLive}
+use Rattle.csi_world.specs.Safe.{Safe}
 use Rattle.csi_world.specs.After.{after}
 
 -- a fact of every world to which steps lead, for every configuration
@@ -14,17 +14,7 @@ abbrev pub HoldsInEveryWorld : (World → Type 0) → Type 0
 HoldsInEveryWorld P =
     (config : Config) (choices : List Choice) → MayChooseAll config (empty_world config) choices → P (chosen_all config (empty_world config) choices)
 
--- what the plugins keep by themselves
-pub record PluginsAreSafe (world : World) : Type 0 where
-  pub exclusive : IsExclusive world
-  pub published_where_staged : IsPublishedWhereStaged world
-  pub attached_while_live : IsAttachedWhileLive world
-
--- whatever an orchestrator does that keeps the guards, and whatever the network does
-abbrev pub PluginSafetyLaw : Type 0
-PluginSafetyLaw = HoldsInEveryWorld PluginsAreSafe
-
--- every clause of safety
+-- every clause of safety, whatever an orchestrator does that keeps the guards, and whatever the network does
 abbrev pub SafetyLaw : Type 0
 SafetyLaw = HoldsInEveryWorld Safe
 
@@ -56,10 +46,6 @@ ChoicesAreSteps = (config : Config) (world : World) (choice : Choice) → MayCho
 abbrev pub EmptyIsSafe : Type 0
 EmptyIsSafe = (config : Config) → Safe (empty_world config)
 
--- that runs are safe follows from the two laws on steps
+-- that runs are safe follows where they are made of steps
 abbrev pub RunsFollow : Type 0
-RunsFollow = SafetyLaw → RunsAreSteps → RunsAreSafe
-
--- that the plugins are safe is a part of safety
-abbrev pub PluginsFollow : Type 0
-PluginsFollow = SafetyLaw → PluginSafetyLaw
+RunsFollow = RunsAreSteps → RunsAreSafe

@@ -1,5 +1,5 @@
 //! Laws of worlds. Each function proves a statement, and does nothing.
-ghost use Rattle.csi_world.specs.Laws.{ChoicesAreSteps, EmptyIsSafe, RunsFollow, PluginSafetyLaw, PluginsFollow, TableLaw};
+ghost use Rattle.csi_world.specs.Laws.{ChoicesAreSteps, EmptyIsSafe, RunsFollow, SafetyLaw, TableLaw};
 
 fn choices_are_steps()
     ensures { ChoicesAreSteps }
@@ -11,11 +11,9 @@ fn empty_is_safe()
 
 fn runs_follow()
     ensures { RunsFollow }
-{}
-
-fn plugins_follow()
-    ensures { PluginsFollow }
-{}
+{
+    safety_law();
+}
 
 /// A law, and nothing that runs: in every state of a controller or of a node that frames lead to, and for
 /// every call that its table answers there, a refusal changes nothing, a success brings about what the call
@@ -28,11 +26,18 @@ pub fn table_law()
     csi_node::table_law();
 }
 
-/// A law, and nothing that runs: in every world that any orchestrator and any network lead to, two holdings of
-/// one volume are at different nodes, neither of them in a mode for one node, and no two write where one of
-/// their modes has a single writer; what is published at a node is staged there in the same capability; and
-/// what is attached wasn't deleted. It holds whatever calls the orchestrator sends, and whichever frames are
-/// lost, late, repeated or out of order (CSI's spec.md, "CreateVolume", `AccessMode`, and "Volume Lifecycle").
+/// A law, and nothing that runs: in every world to which an orchestrator that keeps the guards and any network
+/// lead, two holdings of one volume are at different nodes, neither of them in a mode for one node, and no two
+/// write where one of their modes has a single writer; what is staged at a node is attached there, and what is
+/// published is staged there, in the same capability; what is attached wasn't deleted; and what the
+/// orchestrator's history tells as done or undone is so. It holds whichever guarded calls are sent, given up
+/// and sent again, whichever frames are lost, late, repeated or out of order, and wherever sessions start anew
+/// (CSI's spec.md, "CreateVolume", `AccessMode`, and "Volume Lifecycle"; the guards are those of
+/// `csi_orchestrator`).
 pub fn safety_law()
-    ensures { PluginSafetyLaw }
-{}
+    ensures { SafetyLaw }
+{
+    csi_controller::delivery_law();
+    csi_controller::names_law();
+    csi_node::delivery_law();
+}

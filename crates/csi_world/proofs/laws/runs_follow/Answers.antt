@@ -4,6 +4,6 @@ use Rattle.csi_world.specs.Safe.{Safe}
 use Rattle.csi_world.proofs.laws.runs_follow.Goals as goal
 
 pub returns : goal.returns
-returns c law steps config events count =
+returns c steps config events count =
     let made = steps config (take count events) in
-    subst Safe made.same_world (law config made.choices made.may)
+    subst Safe made.same_world (c.safety_law.ensures config made.choices made.may)

@@ -1,6 +1,6 @@
--- The plugins keep these by themselves.
-use Rattle.csi_world.proofs.PluginSafety.{plugins_are_safe}
+-- By the plugins' laws.
+use Rattle.csi_world.proofs.Safety.{worlds_are_safe}
 use Rattle.csi_world.proofs.laws.safety_law.Goals as goal
 
 pub returns : goal.returns
-returns c = plugins_are_safe
+returns c = worlds_are_safe (record { controller = c.delivery_law.ensures; names = c.names_law.ensures; node = c.delivery_law-2.ensures })
