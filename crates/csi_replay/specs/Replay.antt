@@ -2,28 +2,24 @@
 use Rattle.std.specs.Prelude.{◌≡◌, ◌≢◌, ℕ, ◌+◌, ◌≤◌, List, [], ◌∷◌, ◌++◌, length, take}
 use Rattle.std.specs.Option.{option_to_list}
 use Rattle.std.specs.List.{flat_map}
+use Rattle.csi_types.specs.Config.{Config}
 use Rattle.csi_types.specs.Frame.{Frame}
 use Rattle.csi_frames.specs.declared.fault.FaultKind.{FaultKind}
 use Rattle.csi_frames.specs.Spelling.{spelling}
 use Rattle.csi_frames.specs.Fault.{IsFaulty}
+use Rattle.csi_controller.specs.State.{ControllerState, empty_controller}
+use Rattle.csi_controller.specs.Fenced.{fenced}
 use Rattle.csi_replay.specs.declared.answers.AnswerFault.{AnswerFault}
 use Rattle.csi_replay.specs.declared.answers.AnswerFault.TheVariants as faults
-use Rattle.csi_replay.specs.ControllerState.{Config, ControllerState, empty_controller}
-use Rattle.csi_replay.specs.ControllerSteps.{fenced}
 
--- the greatest capacity that a call may name, 2^63 - 1
+-- the greatest capacity that a call may name, 2^63 - 1, and no nodes
 abbrev pub replay_config : Config
-replay_config = record { greatest = 9223372036854775807 }
+replay_config = record { greatest = 9223372036854775807; nodes = [] }
 
 -- the replies to these frames, one after another
 abbrev pub replies_from : ControllerState → List Frame → List Frame
 replies_from state [] = []
 replies_from state (frame ∷ frames) = option_to_list (fenced replay_config state frame).reply ++ replies_from (fenced replay_config state frame).state frames
-
--- the state after them
-abbrev pub state_after : ControllerState → List Frame → ControllerState
-state_after state [] = state
-state_after state (frame ∷ frames) = state_after (fenced replay_config state frame).state frames
 
 -- the spellings of a new controller's replies
 unfoldable pub answered : List Frame → List ℕ

@@ -4,7 +4,6 @@
 mod answers;
 mod command_line;
 mod commands;
-mod controller;
 mod ending;
 mod lines;
 mod reading;

@@ -19,8 +19,12 @@ const CREATE: &str =
 
 const CREATED: &str = "0000001d 01 81 0000000000000001 0000000000000001 00 00 0000000000000001 00";
 
+// ControllerPublishVolume of id 1 at `n1` under (1, 2), for a block device of mode 1, and its refusal: NotFound, `node`.
 const CONTROLLER_PUBLISH: &str =
     "00000021 01 03 0000000000000001 0000000000000002 00 0000000000000001 026e31 0001 00";
+
+const NO_NODE: &str =
+    "00000021 01 83 0000000000000001 0000000000000002 00 05 0000000000000000 04 6e6f6465";
 
 const NODE_PUBLISH: &str =
     "00000024 01 07 0000000000000001 0000000000000004 01 026e31 0000000000000001 022f61 0001 01";
@@ -171,7 +175,41 @@ fn a_create_is_refused(rt: HostRuntime) -> Result<(), Fail> {
 fn what_is_for_others_gets_nothing(rt: HostRuntime) -> Result<(), Fail> {
     answers(&rt, &[DELETED], &[], Ending::Done)?;
     answers(&rt, &[NODE_PUBLISH], &[], Ending::Done)?;
-    answers(&rt, &[CONTROLLER_PUBLISH], &[], Ending::Done)
+    answers(
+        &rt,
+        &[CREATE, NODE_PUBLISH, CREATED, DELETE],
+        &[CREATED, DELETED],
+        Ending::Done,
+    )
+}
+
+#[test]
+fn a_volume_is_not_attached_without_nodes(rt: HostRuntime) -> Result<(), Fail> {
+    answers(
+        &rt,
+        &[CREATE, CONTROLLER_PUBLISH],
+        &[CREATED, NO_NODE],
+        Ending::Done,
+    )?;
+    // The refusal is kept: the same call gets it again, and an earlier number is stale.
+    let stale =
+        "00000022 01 81 0000000000000001 0000000000000001 00 0a 0000000000000000 05 7374616c65";
+    answers(
+        &rt,
+        &[CREATE, CONTROLLER_PUBLISH, CONTROLLER_PUBLISH, CREATE],
+        &[CREATED, NO_NODE, NO_NODE, stale],
+        Ending::Done,
+    )
+}
+
+#[test]
+fn attachments_of_an_unknown_volume_are_answered(rt: HostRuntime) -> Result<(), Fail> {
+    let no_volume =
+        "00000023 01 83 0000000000000001 0000000000000002 00 05 0000000000000000 06 766f6c756d65";
+    answers(&rt, &[CONTROLLER_PUBLISH], &[no_volume], Ending::Done)?;
+    let unpublish = "0000001e 01 04 0000000000000001 0000000000000002 00 0000000000000001 026e31";
+    let unpublished = "0000001d 01 84 0000000000000001 0000000000000002 00 00 0000000000000000 00";
+    answers(&rt, &[unpublish], &[unpublished], Ending::Done)
 }
 
 #[test]
