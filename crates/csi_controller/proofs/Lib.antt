@@ -9,6 +9,7 @@ pub mod Made
 pub mod Called
 pub mod Views
 pub mod Copies
+pub mod Apart
 pub mod Exclusive
 pub mod Attached
 pub mod Moves

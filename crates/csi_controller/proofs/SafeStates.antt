@@ -20,7 +20,7 @@ use Rattle.csi_controller.specs.Table.{Outcome, Change, Stays, Makes, Ends, Atta
 use Rattle.csi_controller.specs.Fenced.{kept_in, keep, carried_out, fenced, after_frames}
 use Rattle.csi_types.specs.Lists.{IsAmong}
 use Rattle.csi_controller.specs.Safe.{AreExclusive, IsExclusive}
-use Rattle.csi_controller.proofs.Finds.{text-turned}
+use Rattle.csi_controller.proofs.Apart.{apart}
 use Rattle.csi_controller.proofs.Frames as each
 use Rattle.csi_controller.proofs.Moves.{Move, was_refused, was_found, was_made, was_ended, was_ended_before, was_attached, was_attached_before, was_detached, was_detached_before, moved}
 use Rattle.csi_types.proofs.Among.{among-either, among-filter, in_filter, none_passes, none_kept, two-append, two-filter}
@@ -88,35 +88,6 @@ ends_keeps state id is = λ kept safe. record {
 both_false : (a b : Bool) → a ≡ true → (a && b) ≡ false → b ≡ false
 both_false true b h e = e
 both_false false b h e = cc
-
-other_node : (a b : List ℕ) → same_text a b ≡ false → a ≢ b
-other_node a b differ e = true≢false (sym ((same_text-tells a b).1 e) ∙ differ)
-
-one_writer-from : (wa wb sa sb : Bool) → not (wb && wa && (sb || sa)) ≡ true → IsTrue sa ⊎ IsTrue sb → IsTrue wa → IsTrue wb → ⊥
-one_writer-from true true true true h s a b = cc
-one_writer-from true true true false h s a b = cc
-one_writer-from true true false true h s a b = cc
-one_writer-from true true false false h (inl e) a b = cc
-one_writer-from true true false false h (inr e) a b = cc
-one_writer-from true false sa sb h s a b = cc
-one_writer-from false wb sa sb h s a b = cc
-
--- a holding at another node that can be held with the new one is apart from it
-apart : (new old : Holding) → same_text old.node new.node ≡ false → is_compatible new old ≡ true → AreApart old new
-apart new old nodes can =
-    let away : same_text new.node old.node ≡ false = text-turned new.node old.node ∙ nodes in
-    let parted : (is_multi_node new.capability.mode && is_multi_node old.capability.mode && not (is_second_writer new old)) ≡ true = shared away can in
-    let writers = and_parts (is_multi_node new.capability.mode && is_multi_node old.capability.mode) (not (is_second_writer new old)) parted in
-    let modes = and_parts (is_multi_node new.capability.mode) (is_multi_node old.capability.mode) writers.0 in
-    record {
-      nodes = other_node old.node new.node nodes;
-      first_shared = not-true (is_single_node old.capability.mode) modes.1;
-      second_shared = not-true (is_single_node new.capability.mode) modes.0;
-      one_writer = one_writer-from (writes old.capability.mode old.readonly) (writes new.capability.mode new.readonly) (is_single_writer old.capability.mode) (is_single_writer new.capability.mode) writers.1;
-    }
-  where
-    shared : same_text new.node old.node ≡ false → is_compatible new old ≡ true → (is_multi_node new.capability.mode && is_multi_node old.capability.mode && not (is_second_writer new old)) ≡ true
-    shared away can = subst (λ (b : Bool). cond b (same_holding new old) (is_multi_node new.capability.mode && is_multi_node old.capability.mode && not (is_second_writer new old)) ≡ true) away can
 
 attaches_keeps : (state : ControllerState) (holding : Holding) (volume : Volume) → live_volume holding.volume state ≡ Some volume → holding_at holding.volume holding.node state ≡ None
     → find (λ other. not (is_compatible holding other)) (holdings_of holding.volume state) ≡ None → Keeps state (Attaches holding)

@@ -1,7 +1,11 @@
-//! The laws of the controller's table.
+//! The laws of the controller.
+ghost use Rattle.std.specs.List.{AllByRecursion};
+ghost use Rattle.csi_controller.specs.Exclusive.{IsRowExclusive};
 ghost use Rattle.csi_controller.specs.Laws.{ControllerTableLaw};
 ghost use Rattle.csi_controller.specs.Safe.{ControllerSafetyLaw};
 ghost use Rattle.csi_controller.specs.View.{ControllerDeliveryLaw, ControllerNamesLaw};
+
+use crate::controller::Controller;
 
 /// A law, and nothing that runs: in every state that frames lead to, and for every call that the table
 /// answers there, a refusal changes nothing, a success brings about what the call asks, the same call again
@@ -33,3 +37,12 @@ pub fn delivery_law()
 pub fn names_law()
     ensures { ControllerNamesLaw }
 {}
+
+/// A law, and nothing that runs: in every controller, however it was made, two holdings of one volume are at
+/// different nodes, in modes for several nodes, and don't both write where one of the modes has a single writer
+/// (`AccessMode` of CSI's spec.md, "CreateVolume"); and a volume that was deleted is held nowhere.
+pub fn exclusive_law(controller: &Controller)
+    ensures { AllByRecursion IsRowExclusive controller.now.rows }
+{
+    controller.assert_sound();
+}

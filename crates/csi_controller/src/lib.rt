@@ -4,7 +4,6 @@
 
 mod controller;
 mod fault;
-mod law;
 mod laws;
 mod record;
 mod row;
@@ -12,8 +11,7 @@ mod rows;
 
 pub use controller::Controller;
 pub use fault::CoreFault;
-pub use law::exclusive_law;
-pub use laws::{delivery_law, names_law, safety_law, table_law};
+pub use laws::{delivery_law, exclusive_law, names_law, safety_law, table_law};
 pub use record::ControllerRecord;
 pub use row::{ControllerRow, NodeHolding};
 

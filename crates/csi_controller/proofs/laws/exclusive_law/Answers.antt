@@ -1,12 +1,12 @@
 -- By the rules of each row.
 use Rattle.csi_controller.specs.declared.row.ControllerRow.{ControllerRow}
 use Rattle.csi_controller.specs.Core.{IsSoundRow}
-use Rattle.csi_controller.specs.Exclusive.{IsExclusive}
+use Rattle.csi_controller.specs.Exclusive.{IsRowExclusive}
 use Rattle.csi_controller.proofs.FirstAt.{All-weaker}
 use Rattle.csi_controller.proofs.Exclusive.{row-exclusive}
-use Rattle.csi_controller.proofs.law.exclusive_law.Goals as goal
+use Rattle.csi_controller.proofs.laws.exclusive_law.Goals as goal
 
 pub returns : goal.returns
 returns c =
     let parts = c.args.controller.now in
-    All-weaker (IsSoundRow parts.next_id) IsExclusive parts.rows (row-exclusive parts.next_id) c.assert_sound.ensures.each
+    All-weaker (IsSoundRow parts.next_id) IsRowExclusive parts.rows (row-exclusive parts.next_id) c.assert_sound.ensures.each
