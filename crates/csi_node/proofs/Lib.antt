@@ -9,6 +9,7 @@ pub mod Places
 pub mod Rules
 pub mod Calls
 pub mod Frames
-pub mod Safety
+pub mod SafeRows
+pub mod Listed
 pub mod TableLaw
 pub mod SafeStates
