@@ -17,7 +17,8 @@ pub mod Places
 pub mod Rules
 pub mod Calls
 pub mod Frames
-pub mod Safety
+pub mod SafeRows
+pub mod Listed
 pub mod TableLaw
 pub mod SafeStates
 pub mod StagedOnce

@@ -21,7 +21,7 @@ use Rattle.csi_node.specs.declared.line.Line.TheVariants.{Refused, Met, Done}
 use Rattle.csi_node.specs.State.{NodeState, StagedVolume, PublishedVolume, is_published_at, volume_of}
 use Rattle.csi_node.specs.Table.{Change, Outcome, lifecycle_row, changed, begins_with_slash}
 use Rattle.csi_node.specs.Lines.{outcome_shown, reply_shown, WhereDone, is_done}
-use Rattle.csi_node.specs.OneRow.{RowShown, alone, staged_by, published_so, published_by, target_among, row_changed, change_of, CanChange, AreApart, AreAbsolute, TargetsFit, IsRow, IsAfter}
+use Rattle.csi_node.specs.OneRow.{RowShown, alone, staged_by, published_so, published_by, target_among, row_changed, change_of, CanChange, AreDistinct, AreAbsolute, TargetsFit, IsRow, IsAfter}
 use Rattle.csi_node.proofs.Lists.{filter-of_map, filter-same, find-none_in_filter}
 
 itself : (id : ℕ) → (id == id) ≡ true
@@ -91,9 +91,9 @@ alone-changed row (calls.ControllerPublishVolume id node capability readonly) vo
 alone-changed row (calls.ControllerUnpublishVolume id node) volume fits can = absurd can
 
 -- rules of targets
-append_apart : (targets : List NodeTarget) (one : NodeTarget) → AreApart targets → target_among targets one.target ≡ None → AreApart (targets ++ one ∷ [])
-append_apart [] one apart none = (refl, tt)
-append_apart (first ∷ rest) one apart none = (step (same_text first.target one.target) refl none, append_apart rest one apart.1 (later (same_text first.target one.target) none))
+append_distinct : (targets : List NodeTarget) (one : NodeTarget) → AreDistinct targets → target_among targets one.target ≡ None → AreDistinct (targets ++ one ∷ [])
+append_distinct [] one distinct none = (refl, tt)
+append_distinct (first ∷ rest) one distinct none = (step (same_text first.target one.target) refl none, append_distinct rest one distinct.1 (later (same_text first.target one.target) none))
   where
     later : (b : Bool) → cond b (Some first) (target_among rest one.target) ≡ None → target_among rest one.target ≡ None
     later true h = let clash : Some first ≡ None = h in cc
@@ -106,18 +106,18 @@ append_apart (first ∷ rest) one apart none = (step (same_text first.target one
     step true e h = let clash : Some first ≡ None = h in cc
     step false e h =
         let found = find-append (λ (there : NodeTarget). same_text there.target first.target) rest one in
-        found ∙ or_none _ _ apart.0 (ap (λ (b : Bool). cond b (Some one) None) (other e))
+        found ∙ or_none _ _ distinct.0 (ap (λ (b : Bool). cond b (Some one) None) (other e))
 
 append_absolute : (targets : List NodeTarget) (one : NodeTarget) → AreAbsolute targets → begins_with_slash one.target ≡ true → AreAbsolute (targets ++ one ∷ [])
 append_absolute [] one all h = (h, tt)
 append_absolute (first ∷ rest) one all h = (all.0, append_absolute rest one all.1 h)
 
-filter_apart : (p : NodeTarget → Bool) (targets : List NodeTarget) → AreApart targets → AreApart (filter p targets)
-filter_apart p [] apart = tt
-filter_apart p (first ∷ rest) apart = step (p first) (filter_apart p rest apart.1)
+filter_distinct : (p : NodeTarget → Bool) (targets : List NodeTarget) → AreDistinct targets → AreDistinct (filter p targets)
+filter_distinct p [] distinct = tt
+filter_distinct p (first ∷ rest) distinct = step (p first) (filter_distinct p rest distinct.1)
   where
-    step : (b : Bool) → AreApart (filter p rest) → AreApart (cond b (first ∷ filter p rest) (filter p rest))
-    step true h = (find-none_in_filter (λ there. same_text there.target first.target) p rest apart.0, h)
+    step : (b : Bool) → AreDistinct (filter p rest) → AreDistinct (cond b (first ∷ filter p rest) (filter p rest))
+    step true h = (find-none_in_filter (λ there. same_text there.target first.target) p rest distinct.0, h)
     step false h = h
 
 filter_absolute : (p : NodeTarget → Bool) (targets : List NodeTarget) → AreAbsolute targets → AreAbsolute (filter p targets)
@@ -137,7 +137,7 @@ filter_shorter p (first ∷ rest) = step (p first) (filter_shorter p rest)
     step false h = omega arith
 
 no_targets : (staged : Option Capability) → TargetsFit staged []
-no_targets staged = record { unstaged = λ _. refl; absolute = tt; apart = tt; single = λ capability is one. omega arith; limit = omega arith }
+no_targets staged = record { unstaged = λ _. refl; absolute = tt; distinct = tt; single = λ capability is one. omega arith; limit = omega arith }
 
 some_is_not_none : {X : Type 0} (x : X) (o : Option X) → o ≡ Some x → o ≡ None → ⊥
 some_is_not_none x o a b = cc
@@ -149,7 +149,7 @@ fits-changed row (calls.NodeUnstageVolume id) fits can = rw can (no_targets None
 fits-changed row (calls.NodePublishVolume id target capability readonly) fits can = record {
   unstaged = λ none. absurd (some_is_not_none capability row.staged can.staged none);
   absolute = append_absolute row.targets _ fits.absolute can.absolute;
-  apart = append_apart row.targets _ fits.apart can.«new»;
+  distinct = append_distinct row.targets _ fits.distinct can.«new»;
   single = λ other is one.
       let same : other ≡ capability = same_some other capability (sym is ∙ can.staged) in
       let none : row.targets ≡ [] = can.single (ap (λ (c : Capability). allows_one_target c.mode) (sym same) ∙ one) in
@@ -159,7 +159,7 @@ fits-changed row (calls.NodePublishVolume id target capability readonly) fits ca
 fits-changed row (calls.NodeUnpublishVolume id target) fits can = record {
   unstaged = λ none. ap (filter (λ there. not (same_text there.target target))) (fits.unstaged none);
   absolute = filter_absolute _ row.targets fits.absolute;
-  apart = filter_apart _ row.targets fits.apart;
+  distinct = filter_distinct _ row.targets fits.distinct;
   single = λ capability is one. let few = fits.single capability is one in omega (arith, filter_shorter (λ there. not (same_text there.target target)) row.targets);
   limit = let few = fits.limit in omega (arith, filter_shorter (λ there. not (same_text there.target target)) row.targets);
 }

@@ -6,7 +6,6 @@ pub mod OneRow
 pub mod Lines
 pub mod Record
 pub mod Views
-pub mod Safety
 pub mod Laws
 pub mod Rows
 pub mod Safe

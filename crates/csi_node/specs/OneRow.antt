@@ -94,9 +94,9 @@ abbrev pub target_among : List NodeTarget → List ℕ → Option NodeTarget
 target_among targets target = find (λ there. same_text there.target target) targets
 
 -- no two targets are the same
-abbrev pub AreApart : List NodeTarget → Type 0
-AreApart [] = Unit {0}
-AreApart (target ∷ targets) = (target_among targets target.target ≡ None) × AreApart targets
+abbrev pub AreDistinct : List NodeTarget → Type 0
+AreDistinct [] = Unit {0}
+AreDistinct (target ∷ targets) = (target_among targets target.target ≡ None) × AreDistinct targets
 
 -- each target is a path from the root
 abbrev pub AreAbsolute : List NodeTarget → Type 0
@@ -107,7 +107,7 @@ AreAbsolute (target ∷ targets) = (begins_with_slash target.target ≡ true) ×
 pub record TargetsFit (staged : Option Capability) (targets : List NodeTarget) : Type 0 where
   pub unstaged : staged ≡ None → targets ≡ []
   pub absolute : AreAbsolute targets
-  pub apart : AreApart targets
+  pub distinct : AreDistinct targets
   pub single : (capability : Capability) → staged ≡ Some capability → allows_one_target capability.mode ≡ true → length targets ≤ 1
   pub limit : length targets ≤ 16
 

@@ -1,7 +1,11 @@
-//! The laws of the node's table.
+//! The laws of the node's table, and of every node.
 ghost use Rattle.csi_node.specs.Laws.{NodeTableLaw};
-ghost use Rattle.csi_node.specs.Safe.{NodeSafetyLaw};
+ghost use Rattle.csi_node.specs.Safe.{NodeSafetyLaw, IsPublishedRight};
+ghost use Rattle.csi_node.specs.Shown.{Shows};
+ghost use Rattle.csi_node.specs.State.{NodeState};
 ghost use Rattle.csi_node.specs.View.{NodeDeliveryLaw};
+
+use crate::node::Node;
 
 /// A law, and nothing that runs: in every state that frames lead to, and for every call that the table
 /// answers there, a refusal changes nothing, a success brings about what the call asks, the same call again
@@ -24,3 +28,13 @@ pub fn safety_law()
 pub fn delivery_law()
     ensures { NodeDeliveryLaw }
 {}
+
+/// A law, and nothing that runs: in every state that a node shows, whatever it was asked and whichever record it
+/// was made of, what is published is staged in the same capability, and a volume in a mode that allows one
+/// target is published at one at most (CSI's spec.md, "Volume Lifecycle", and "NodePublishVolume" on several
+/// targets).
+pub fn publishing_law(node: &Node)
+    ensures { (state : NodeState) → Shows node.now.rows state → IsPublishedRight state }
+{
+    node.assert_rules();
+}

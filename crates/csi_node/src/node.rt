@@ -53,11 +53,10 @@ fn is_same_node(a: &NodeId, b: &NodeId) -> bool
 
 impl Node {
     ghost use Rattle.csi_node.specs.Fenced.{fenced};
-    ghost use Rattle.csi_node.specs.Record.{parts, is_call_for};
+    ghost use Rattle.csi_node.specs.Record.{parts, is_call_for, IsRecord};
     ghost use Rattle.csi_node.specs.OneRow.{shown, alone};
     ghost use Rattle.std.specs.List.{flat_map};
-    ghost use Rattle.csi_node.specs.Safety.{IsSafe};
-    ghost use Rattle.csi_node.specs.Views.{staged_shown, published_shown};
+    ghost use Rattle.csi_node.specs.Views.{staged_shown, published_shown, ListsStaged, ListsPublished};
     ghost use Rattle.csi_node.specs.Shown.{Shows, row_in, answered_of_row};
     ghost use Rattle.csi_node.specs.State.{NodeState, empty_node, row_with_id};
 
@@ -131,20 +130,30 @@ impl Node {
         self.record.row(id)
     }
 
-    /// What is staged, by rising id. The node stays as it is. An `Err` is an allocation that was refused.
+    /// What is staged, each volume once, by rising id. The node stays as it is. An `Err` is an allocation that was
+    /// refused.
     pub fn staged(&self) -> Result<Vec<Staged>, CoreFault>
-        ensures { IfOk result (λ list. map staged_shown list.items ≡ flat_map (λ row. (alone (shown row)).staged) self.now.rows) }
+        ensures list { IfOk result (λ list. map staged_shown list.items ≡ flat_map (λ row. (alone (shown row)).staged) self.now.rows) }
+        ensures shows { (state : NodeState) → Shows self.now.rows state →
+            IfOk result (λ list. ListsStaged (map staged_shown list.items) state) }
     {
         staged_in(self.alloc, self.record.rows())
     }
 
-    /// What is published, by rising id and then in the order in which it was published. The node stays as it is. An
-    /// `Err` is an allocation that was refused. In every state that a node shows, what is published is staged in the
-    /// same capability, and a mode that allows one target has at most one.
+    /// What is published, each target once, by rising id and then in the order in which it was published. The node
+    /// stays as it is. An `Err` is an allocation that was refused.
     pub fn published(&self) -> Result<Vec<Published>, CoreFault>
         ensures list { IfOk result (λ list. map published_shown list.items ≡ flat_map (λ row. (alone (shown row)).published) self.now.rows) }
-        ensures safe { (state : NodeState) → Shows self.now.rows state → IsSafe state }
+        ensures shows { (state : NodeState) → Shows self.now.rows state →
+            IfOk result (λ list. ListsPublished (map published_shown list.items) state) }
     {
         published_in(self.alloc, self.record.rows())
+    }
+
+    // Nothing that runs: the rules of the rows hold.
+    pub(crate) fn assert_rules(&self)
+        ensures { IsRecord (parts self.now.rows) }
+    {
+        let _rows = self.record.rows();
     }
 }

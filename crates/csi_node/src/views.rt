@@ -1,8 +1,8 @@
 //! What is staged and published on a node, as lists.
 ghost use Rattle.std.specs.Prelude.{◌≡◌, ◌++◌, ◌∷◌, [], map, Some, IfOk, OnOk};
 ghost use Rattle.std.specs.List.{flat_map};
-ghost use Rattle.csi_node.specs.OneRow.{shown, alone};
-ghost use Rattle.csi_node.specs.Views.{staged_shown, published_shown, published_of_target};
+ghost use Rattle.csi_node.specs.OneRow.{shown, alone, published_so};
+ghost use Rattle.csi_node.specs.Views.{staged_shown, published_shown};
 
 use crate::entries::{Published, Staged};
 use crate::fault::CoreFault;
@@ -42,7 +42,7 @@ fn push_target(
     capability: &Capability,
     target: &NodeTarget,
 ) -> Result<(), CoreFault>
-    ensures { OnOk result (map published_shown list.new.items ≡ map published_shown list.old.items ++ published_of_target id capability.now target.now ∷ []) }
+    ensures { OnOk result (map published_shown list.new.items ≡ map published_shown list.old.items ++ published_so id capability.now target.now ∷ []) }
 {
     let capability = capability.clone()?;
     let readonly = target.readonly;
@@ -63,7 +63,7 @@ fn push_targets(
     capability: &Capability,
     targets: &[NodeTarget],
 ) -> Result<(), CoreFault>
-    ensures { OnOk result (map published_shown list.new.items ≡ map published_shown list.old.items ++ map (published_of_target id capability.now) targets.now) }
+    ensures { OnOk result (map published_shown list.new.items ≡ map published_shown list.old.items ++ map (published_so id capability.now) targets.now) }
 {
     for target in targets {
         push_target(list, id, capability, target)?;

@@ -1,5 +1,10 @@
-use Rattle.csi_node.proofs.Safety.{safe-from}
+use Rattle.std.proofs.lemmas.Result.{IfOk-weaker}
+use Rattle.std.specs.Prelude.{map}
+use Rattle.csi_node.specs.Views.{published_shown}
+use Rattle.csi_node.proofs.Listed.{lists-published}
 use Rattle.csi_node.proofs.node.Node.published.Goals as goal
 
-pub returns-clause-safe : goal.returns-clause-safe
-returns-clause-safe c = λ state shows. safe-from c.args.self.now.rows state (rw c.self.view_is at c.rows.ensures.rules) shows
+pub returns-clause-shows : goal.returns-clause-shows
+returns-clause-shows c = λ state shows.
+    IfOk-weaker c.published_in.result _ _
+    (λ list is. lists-published c.args.self.now.rows state (map published_shown list.items) (rw c.self.view_is at c.rows.ensures.rules) shows (rw (c.rows.ensures.value, c.self.view_is) at is)) c.published_in.ensures

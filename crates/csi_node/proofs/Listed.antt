@@ -1,0 +1,208 @@
+-- What the rows of a record have, one row after another, is what the states that they show have, by rising id.
+use Rattle.std.proofs.Common.{◌≡◌, ℕ, suc, ◌<◌, List, [], ◌∷◌, ◌++◌, map, Bool, true, false, cond, length, refl, sym, ◌∙◌, ap, subst, arith}
+use Rattle.std.specs.Prelude.{Option, Some, None, filter, ◌==◌}
+use Rattle.std.specs.List.{flat_map, AllByRecursion}
+use Rattle.std.proofs.lemmas.Bool.{eq-eqb, eqb-true, ne_eqb}
+use Rattle.std.proofs.lemmas.List.{append-nil}
+use Rattle.std.proofs.lemmas.List.Elements.{filter-append}
+use Rattle.std.proofs.lemmas.List.Folds.{flat_map-map}
+use Rattle.csi_types.specs.declared.capability.Capability.{Capability}
+use Rattle.csi_types.specs.Lists.{EachTwo}
+use Rattle.csi_node.specs.declared.row.NodeRow.{NodeRow}
+use Rattle.csi_node.specs.declared.row.NodeTarget.{NodeTarget}
+use Rattle.csi_node.specs.State.{NodeState, StagedVolume, PublishedVolume}
+use Rattle.csi_node.specs.Shown.{Shows}
+use Rattle.csi_node.specs.OneRow.{RowShown, shown, alone, staged_by, published_by, published_so}
+use Rattle.csi_node.specs.Record.{parts, id_at, IsRecord}
+use Rattle.csi_node.specs.Views.{IsStagedBefore, IsPublishedBefore, ListsStaged, ListsPublished}
+use Rattle.csi_node.proofs.Steps.{ShowsAll, row_of, alone_in, all-from_shows}
+use Rattle.csi_node.proofs.Rules.{IsRising}
+
+-- each of two lists
+each-append : {X : Type 0} (P : X → Type 0) (xs ys : List X) → AllByRecursion P xs → AllByRecursion P ys → AllByRecursion P (xs ++ ys)
+each-append P [] ys first second = second
+each-append P (x ∷ xs) ys first second = (first.0, each-append P xs ys first.1 second)
+
+-- any two of two lists
+two-join : {X : Type 0} (R : X → X → Type 0) (xs ys : List X) → EachTwo R xs → EachTwo R ys → AllByRecursion (λ x. AllByRecursion (R x) ys) xs → EachTwo R (xs ++ ys)
+two-join R [] ys first second across = second
+two-join R (x ∷ xs) ys first second across = (each-append (R x) xs ys first.0 across.0, two-join R xs ys first.1 second across.1)
+
+-- a fact of each that follows from another
+each-weaker : {X : Type 0} (P Q : X → Type 0) (xs : List X) → ((x : X) → P x → Q x) → AllByRecursion P xs → AllByRecursion Q xs
+each-weaker P Q [] f all = tt
+each-weaker P Q (x ∷ xs) f all = (f x all.0, each-weaker P Q xs f all.1)
+
+filter_each : {X : Type 0} (p : X → Bool) (xs : List X) → AllByRecursion (λ x. p x ≡ true) xs → filter p xs ≡ xs
+filter_each p [] all = refl
+filter_each p (x ∷ xs) all = rw all.0 (ap (λ (rest : List _). x ∷ rest) (filter_each p xs all.1))
+
+filter_no_one : {X : Type 0} (p : X → Bool) (xs : List X) → AllByRecursion (λ x. p x ≡ false) xs → filter p xs ≡ []
+filter_no_one p [] all = refl
+filter_no_one p (x ∷ xs) all = rw all.0 (filter_no_one p xs all.1)
+
+-- the first has the lower id
+abbrev IsRowBefore : RowShown → RowShown → Type 0
+IsRowBefore a b = a.id < b.id
+
+above_first : (id : ℕ) (rows : List RowShown) → ((place : ℕ) → place < length rows → id < id_at rows place) → AllByRecursion (λ (row : RowShown). id < row.id) rows
+above_first id [] above = tt
+above_first id (row ∷ rows) above = (above 0 (omega arith), above_first id rows (λ place within. above (suc place) (omega arith)))
+
+rows_rise : (rows : List RowShown) → IsRising rows → EachTwo IsRowBefore rows
+rows_rise [] rising = tt
+rows_rise (row ∷ rows) rising = (
+  above_first row.id rows (λ place within. rising 0 (suc place) (omega arith) (omega arith)),
+  rows_rise rows (λ i j lt within. rising (suc i) (suc j) (omega arith) (omega arith)),
+)
+
+higher : (n m id : ℕ) → (n == id) ≡ true → n < m → (m == id) ≡ false
+higher n m id same lt = ne_eqb m id (λ e. (let first = eqb-true n id same in omega (arith, first, e, lt)))
+
+-- each is of the volume
+abbrev AreOf : {X : Type 0} → (X → ℕ) → ℕ → List X → Type 0
+AreOf volume id xs = AllByRecursion (λ x. volume x ≡ id) xs
+
+filter_own : {X : Type 0} (volume : X → ℕ) (id own : ℕ) (xs : List X) → (own == id) ≡ true → AreOf volume own xs → filter (λ x. volume x == id) xs ≡ xs
+filter_own volume id own xs same all =
+    filter_each (λ x. volume x == id) xs (each-weaker (λ x. volume x ≡ own) (λ x. (volume x == id) ≡ true) xs (λ x e. eq-eqb (volume x) id (e ∙ eqb-true own id same)) all)
+
+filter_other : {X : Type 0} (volume : X → ℕ) (id own : ℕ) (xs : List X) → (own == id) ≡ false → AreOf volume own xs → filter (λ x. volume x == id) xs ≡ []
+filter_other volume id own xs other all =
+    filter_no_one (λ x. volume x == id) xs (each-weaker (λ x. volume x ≡ own) (λ x. (volume x == id) ≡ false) xs (λ x e. ap (λ n. n == id) e ∙ other) all)
+
+filter_higher : {X : Type 0} (volume : X → ℕ) (id own : ℕ) (xs : List X) → (own == id) ≡ true → AllByRecursion (λ x. own < volume x) xs → filter (λ x. volume x == id) xs ≡ []
+filter_higher volume id own xs same all =
+    filter_no_one (λ x. volume x == id) xs (each-weaker (λ x. own < volume x) (λ x. (volume x == id) ≡ false) xs (λ x lt. higher own (volume x) id same lt) all)
+
+passed : {X : Type 0} (p : X → Bool) (xs : List X) → AllByRecursion (λ x. p x ≡ true) (filter p xs)
+passed p [] = tt
+passed p (x ∷ xs) = step (p x) refl (passed p xs)
+  where
+    step : (b : Bool) → p x ≡ b → AllByRecursion (λ x. p x ≡ true) (filter p xs) → AllByRecursion (λ x. p x ≡ true) (cond b (x ∷ filter p xs) (filter p xs))
+    step true e all = (e, all)
+    step false e all = all
+
+-- what rows have of their volumes, one row after another
+module _ {X : Type 0} (volume : X → ℕ) (part : RowShown → List X) (own : (row : RowShown) → AreOf volume row.id (part row)) where
+  abbrev part_in : Option RowShown → List X
+  part_in None = []
+  part_in (Some row) = part row
+
+  above_all : (id : ℕ) (rows : List RowShown) → AllByRecursion (λ (row : RowShown). id < row.id) rows → AllByRecursion (λ x. id < volume x) (flat_map part rows)
+  above_all id [] above = tt
+  above_all id (row ∷ rows) above =
+      each-append (λ x. id < volume x) (part row) (flat_map part rows)
+      (each-weaker (λ x. volume x ≡ row.id) (λ x. id < volume x) (part row) (λ x e. (let lt = above.0 in omega arith)) (own row))
+      (above_all id rows above.1)
+
+  of_volume : (id : ℕ) (row : RowShown) (rest : List X) (found : Option RowShown) (b : Bool) → (row.id == id) ≡ b → AllByRecursion (λ x. row.id < volume x) rest → filter (λ x. volume x == id) rest ≡ part_in found
+      → filter (λ x. volume x == id) (part row) ++ filter (λ x. volume x == id) rest ≡ part_in (cond b (Some row) found)
+  of_volume id row rest found true same above here =
+      ap (λ (first : List X). first ++ filter (λ x. volume x == id) rest) (filter_own volume id row.id (part row) same (own row))
+      ∙ ap (λ (second : List X). part row ++ second) (filter_higher volume id row.id rest same above)
+      ∙ append-nil (part row)
+  of_volume id row rest found false other above here =
+      ap (λ (first : List X). first ++ filter (λ x. volume x == id) rest) (filter_other volume id row.id (part row) other (own row)) ∙ here
+
+  -- of one volume there is what its row has
+  of_one : (id : ℕ) (rows : List RowShown) → EachTwo IsRowBefore rows → filter (λ x. volume x == id) (flat_map part rows) ≡ part_in (row_of id rows)
+  of_one id [] rise = refl
+  of_one id (row ∷ rows) rise =
+      filter-append (λ x. volume x == id) (part row) (flat_map part rows)
+      ∙ of_volume id row (flat_map part rows) (row_of id rows) (row.id == id) refl (above_all row.id rows rise.0) (of_one id rows rise.1)
+
+  -- any two of all
+  any_two : (R : X → X → Type 0) → ((x y : X) → volume x < volume y → R x y) → ((row : RowShown) → EachTwo R (part row)) → (rows : List RowShown) → EachTwo IsRowBefore rows → EachTwo R (flat_map part rows)
+  any_two R lower within [] rise = tt
+  any_two R lower within (row ∷ rows) rise =
+      two-join R (part row) (flat_map part rows) (within row) (any_two R lower within rows rise.1)
+      (each-weaker (λ x. volume x ≡ row.id) (λ x. AllByRecursion (R x) (flat_map part rows)) (part row)
+      (λ x e. each-weaker (λ y. row.id < volume y) (R x) (flat_map part rows) (λ y lt. lower x y (omega (arith, e, lt))) (above_all row.id rows rise.0))
+      (own row))
+
+staged_own : (id : ℕ) (o : Option Capability) → AreOf (λ (s : StagedVolume). s.volume) id (staged_by id o)
+staged_own id None = tt
+staged_own id (Some capability) = (refl, tt)
+
+staged_once : (id : ℕ) (o : Option Capability) → EachTwo IsStagedBefore (staged_by id o)
+staged_once id None = tt
+staged_once id (Some capability) = (tt, tt)
+
+targets_own : (id : ℕ) (capability : Capability) (targets : List NodeTarget) → AreOf (λ (p : PublishedVolume). p.volume) id (map (published_so id capability) targets)
+targets_own id capability [] = tt
+targets_own id capability (target ∷ targets) = (refl, targets_own id capability targets)
+
+published_own : (id : ℕ) (o : Option Capability) (targets : List NodeTarget) → AreOf (λ (p : PublishedVolume). p.volume) id (published_by id o targets)
+published_own id None targets = tt
+published_own id (Some capability) targets = targets_own id capability targets
+
+none_before : (id : ℕ) (xs : List PublishedVolume) → AreOf (λ (p : PublishedVolume). p.volume) id xs → EachTwo IsPublishedBefore xs
+none_before id [] own = tt
+none_before id (x ∷ xs) own =
+    (each-weaker (λ (p : PublishedVolume). p.volume ≡ id) (IsPublishedBefore x) xs (λ p e. (let first = own.0 in omega (arith, e, first))) own.1, none_before id xs own.1)
+
+-- stagings of one volume are told by their capabilities
+staged_same : (id : ℕ) (xs ys : List StagedVolume) → AreOf (λ (s : StagedVolume). s.volume) id xs → AreOf (λ (s : StagedVolume). s.volume) id ys
+    → map (λ (s : StagedVolume). s.capability) xs ≡ map (λ (s : StagedVolume). s.capability) ys → xs ≡ ys
+staged_same id [] [] own other same = refl
+staged_same id [] (y ∷ ys) own other same = absurd (clash same)
+  where
+    clash : [] ≡ y.capability ∷ map (λ (s : StagedVolume). s.capability) ys → ⊥
+    clash h = cc
+staged_same id (x ∷ xs) [] own other same = absurd (clash same)
+  where
+    clash : x.capability ∷ map (λ (s : StagedVolume). s.capability) xs ≡ [] → ⊥
+    clash h = cc
+staged_same id (x ∷ xs) (y ∷ ys) own other same = joined (first same) (own.0 ∙ sym other.0) (staged_same id xs ys own.1 other.1 (later same))
+  where
+    first : x.capability ∷ map (λ (s : StagedVolume). s.capability) xs ≡ y.capability ∷ map (λ (s : StagedVolume). s.capability) ys → x.capability ≡ y.capability
+    first h = cc
+
+    later : x.capability ∷ map (λ (s : StagedVolume). s.capability) xs ≡ y.capability ∷ map (λ (s : StagedVolume). s.capability) ys → map (λ (s : StagedVolume). s.capability) xs ≡ map (λ (s : StagedVolume). s.capability) ys
+    later h = cc
+
+    joined : x.capability ≡ y.capability → x.volume ≡ y.volume → xs ≡ ys → x ∷ xs ≡ y ∷ ys
+    joined capability volume rest = λ i. (record { volume = volume i; capability = capability i }) ∷ rest i
+
+staged_part : (o : Option RowShown) → part_in (λ (s : StagedVolume). s.volume) (λ row. (alone row).staged) (λ row. staged_own row.id row.staged) o ≡ (alone_in o).staged
+staged_part None = refl
+staged_part (Some row) = refl
+
+published_part : (o : Option RowShown) → part_in (λ (p : PublishedVolume). p.volume) (λ row. (alone row).published) (λ row. published_own row.id row.staged row.targets) o ≡ (alone_in o).published
+published_part None = refl
+published_part (Some row) = refl
+
+module _ (rows : List RowShown) (state : NodeState) (rise : EachTwo IsRowBefore rows) (all : ShowsAll rows state) where
+  staged_of_one : (id : ℕ) → filter (λ (s : StagedVolume). s.volume == id) (flat_map (λ (row : RowShown). (alone row).staged) rows) ≡ filter (λ (s : StagedVolume). s.volume == id) state.staged
+  staged_of_one id =
+      staged_same id _ _
+      (each-weaker (λ (s : StagedVolume). (s.volume == id) ≡ true) (λ (s : StagedVolume). s.volume ≡ id) _ (λ s e. eqb-true s.volume id e) (passed (λ (s : StagedVolume). s.volume == id) (flat_map (λ (row : RowShown). (alone row).staged) rows)))
+      (each-weaker (λ (s : StagedVolume). (s.volume == id) ≡ true) (λ (s : StagedVolume). s.volume ≡ id) _ (λ s e. eqb-true s.volume id e) (passed (λ (s : StagedVolume). s.volume == id) state.staged))
+      (ap (map (λ (s : StagedVolume). s.capability)) (of_one (λ (s : StagedVolume). s.volume) (λ row. (alone row).staged) (λ row. staged_own row.id row.staged) id rows rise ∙ staged_part (row_of id rows)) ∙ all.staged id)
+
+  staged_listed : ListsStaged (flat_map (λ (row : RowShown). (alone row).staged) rows) state
+  staged_listed = record {
+    items = staged_of_one;
+    rising = any_two (λ (s : StagedVolume). s.volume) (λ row. (alone row).staged) (λ row. staged_own row.id row.staged) IsStagedBefore (λ x y lt. lt) (λ row. staged_once row.id row.staged) rows rise;
+  }
+
+  published_listed : ListsPublished (flat_map (λ (row : RowShown). (alone row).published) rows) state
+  published_listed = record {
+    items = λ id.
+        of_one (λ (p : PublishedVolume). p.volume) (λ row. (alone row).published) (λ row. published_own row.id row.staged row.targets) id rows rise
+        ∙ published_part (row_of id rows)
+        ∙ all.published id;
+    rising = any_two (λ (p : PublishedVolume). p.volume) (λ row. (alone row).published) (λ row. published_own row.id row.staged row.targets) IsPublishedBefore (λ x y lt. omega arith)
+        (λ row. none_before row.id (alone row).published (published_own row.id row.staged row.targets)) rows rise;
+  }
+
+pub lists-staged : (rows : List NodeRow) (state : NodeState) (list : List StagedVolume) → IsRecord (parts rows) → Shows rows state → list ≡ flat_map (λ (row : NodeRow). (alone (shown row)).staged) rows → ListsStaged list state
+lists-staged rows state list rules shows is =
+    subst (λ (l : List StagedVolume). ListsStaged l state) (flat_map-map (λ (row : RowShown). (alone row).staged) shown rows ∙ sym is)
+    (staged_listed (parts rows) state (rows_rise (parts rows) rules.rising) (all-from_shows rows state shows))
+
+pub lists-published : (rows : List NodeRow) (state : NodeState) (list : List PublishedVolume) → IsRecord (parts rows) → Shows rows state → list ≡ flat_map (λ (row : NodeRow). (alone (shown row)).published) rows → ListsPublished list state
+lists-published rows state list rules shows is =
+    subst (λ (l : List PublishedVolume). ListsPublished l state) (flat_map-map (λ (row : RowShown). (alone row).published) shown rows ∙ sym is)
+    (published_listed (parts rows) state (rows_rise (parts rows) rules.rising) (all-from_shows rows state shows))
