@@ -8,8 +8,6 @@ use std::alloc::Global;
 use std::process::Abort;
 use std::test::Fail;
 
-mod full;
-mod growths;
 mod records;
 mod worked;
 
