@@ -211,8 +211,7 @@ held-latest name node id call here (x ∷ xs) publishes found = by (touches (thi
     told : (y : Issued) → y.call ≡ calls.ControllerPublishVolume id node here.capability here.readonly → touches (things.Attached name node) y ≡ true → (same_text y.name name ≡ true) × (held_by node y.call ≡ Some here)
     told y is of =
         let whole : (same_text name y.name && same_text node node) ≡ true = sym (ap (λ c. is_thing (things.Attached name node) (thing_at y.name y.party c)) is) ∙ of in
-        let self : same_text node node ≡ true = (same_text-tells node node).1 refl in
-        (
+        let self : same_text node node ≡ true = (same_text-tells node node).1 refl in (
           turned name y.name (and_parts (same_text name y.name) (same_text node node) whole).0,
           ap (held_by node) is ∙ ap (λ b. cond b (Some here) None) self,
         )
