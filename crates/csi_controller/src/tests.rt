@@ -8,6 +8,8 @@ use std::alloc::Global;
 use std::process::Abort;
 use std::test::Fail;
 
+mod full;
+mod growths;
 mod records;
 mod worked;
 
