@@ -43,8 +43,8 @@ abbrev pub kept_of : Delivery → Kept
 kept_of delivery = record { number = delivery.number; kind = delivery.kind; reply = delivery.reply }
 
 -- the call was carried out. Its number wasn't spent. After an OK, which has an id where it must, its thing is as asked
--- and the number is spent; after a refusal the thing is as it was. Other things are as they were, and what was spent stays so. What is kept then was
--- kept before, or is this reply
+-- and the number is spent; after a refusal the thing is as it was. Other things are as they were, and what was spent
+-- stays so. What is kept then was kept before, or is this reply
 pub record Acts (key : Key) (delivery : Delivery) (old new : View) : Type 0 where
   pub of_its_kind : delivery.kind ≡ kind_of delivery.call
   pub with_id : delivery.reply.status ≡ Ok → IsTrue (has_id_by_rule delivery.kind delivery.reply)
