@@ -1,15 +1,14 @@
 -- Each call at its row: what the definitions answer, and the rules of the rows afterwards.
-use Rattle.std.proofs.Common.{◌≡◌, ◌≤◌, ◌<◌, ◌+◌, ◌^◌, ◌%◌, ℕ, Bool, true, false, cond, List, [], ◌∷◌, ◌++◌, get_or, map, length, refl, sym, ◌∙◌, ap, subst, arith}
+use Rattle.std.proofs.Common.{◌≡◌, ◌≤◌, ℕ, zero, suc, Bool, List, [], ◌∷◌, get_or, length, refl, sym, ◌∙◌, ap, subst, arith}
 use Rattle.std.specs.Prelude.{Result, IfOk, OnErr}
 use Rattle.std.specs.declared.result.Result.TheVariants as results
-use Rattle.std.specs.Prelude.{Option, Some, None, option_map, find, filter, position, count_by, ◌==◌, ◌&&◌, ◌||◌, nat_le, IsTrue, codes}
+use Rattle.std.specs.Prelude.{Option, Some, None, option_map, find, position, count_by, ◌==◌, ◌&&◌, ◌||◌, nat_le, IsTrue, codes}
 use Rattle.std.specs.List.{list_any, position_or_len}
 use Rattle.std.proofs.Math.ListN.{set}
-use Rattle.std.proofs.lemmas.Bool.{eq-eqb, eqb-true}
+use Rattle.std.proofs.lemmas.Bool.{eqb-true}
 use Rattle.std.proofs.lemmas.Bool.Decides.{nat_tests}
 use Rattle.csi_types.specs.declared.number.Number.{Number}
 use Rattle.csi_types.specs.declared.capability.Capability.{Capability}
-use Rattle.csi_types.specs.declared.call.Call.{Call}
 use Rattle.csi_types.specs.declared.call.Kind.{Kind}
 use Rattle.csi_types.specs.declared.call.Kind.TheVariants as kinds
 use Rattle.csi_types.specs.declared.call.Call.TheVariants.{CreateVolume, DeleteVolume, ControllerPublishVolume, ControllerUnpublishVolume}
@@ -26,15 +25,15 @@ use Rattle.csi_types.specs.declared.status.Status.TheVariants.{Ok, NotFound}
 use Rattle.csi_types.specs.Same.{same_text}
 use Rattle.csi_controller.specs.declared.row.NodeHolding.{NodeHolding}
 use Rattle.csi_controller.specs.declared.row.ControllerRow.{ControllerRow}
-use Rattle.csi_controller.specs.State.{Volume, ControllerState, volume_named, is_row_for}
-use Rattle.csi_controller.specs.Table.{Outcome, controller_row, is_full, delete, publish, unpublish}
+use Rattle.csi_controller.specs.State.{Volume, ControllerState, volume_named}
+use Rattle.csi_controller.specs.Table.{Outcome, delete, publish, unpublish}
 use Rattle.csi_controller.specs.Fenced.{fenced_call, kept_for}
-use Rattle.csi_controller.specs.Shown.{Shows, volume_of_row}
-use Rattle.csi_controller.specs.Core.{Parts, IsShown, Answers, IsSound, IsSoundRow, AtMostOne, held_by, RowOutcome, RowEnds, outcome_of, RowGives, row_after, create_line, delete_line, publish_line, unpublish_line, IsSameRow, IsAnsweredOk}
+use Rattle.csi_controller.specs.Shown.{volume_of_row}
+use Rattle.csi_controller.specs.Core.{IsShown, Answers, IsSound, IsSoundRow, held_by, RowOutcome, RowAttaches, by_line, RowGives, row_after, create_line, delete_line, publish_line, unpublish_line, fence_answer, IsSameRow, IsAnsweredOk}
 use Rattle.csi_controller.proofs.FirstAt.{IsAt, FirstAt, FirstAt-position, FirstAt-find, FirstAt-is_at, FirstAt-passes, All-at, find-view}
 use Rattle.csi_controller.proofs.Lines.{create-told, delete-told, publish-told, unpublish-told, full-told, sees-row, live-nowhere, held-nowhere}
 use Rattle.csi_controller.proofs.Sound.{sound-after, sound-same, sound-set, rising-one}
-use Rattle.csi_controller.proofs.Fit.{IsGood, create-good, create-ends_not, delete-good, unpublish-good, unpublish-ends_not, publish-good, publish-ends_not}
+use Rattle.csi_controller.proofs.Fit.{IsGood, create-ends_not, unpublish-ends_not, publish-ends_not}
 use Rattle.csi_controller.proofs.Steps.{row-answers, shown-same, nowhere-answers, kept-there}
 
 -- the row that a search by position gives
@@ -158,6 +157,54 @@ publish-answers config n rows state number id wanted place row new frame sound s
     by_id (λ k. Answers (record { config = config; next_id = n; rows = set rows place new }) frame
     (fenced_call config state number (ControllerPublishVolume k wanted.node wanted.capability wanted.readonly) (kept_for (ControllerPublishVolume k wanted.node wanted.capability wanted.readonly) state))) rows place row id at is
     (λ first. publish-own config n rows state number wanted place row new frame sound shown first gives)
+
+-- what the fence answers at a row, which stays as it is
+fence-gives : (number : Number) (kind : Kind) (outcome : RowOutcome) (row : ControllerRow) (frame : Frame) (verdict : Verdict) → Some frame ≡ fence_answer number kind row verdict → RowGives row frame (row_after number kind outcome row verdict)
+fence-gives number kind outcome row frame Stale e = record { reply = cc; volume = refl; items = refl }
+fence-gives number kind outcome row frame Repeated e = record { reply = cc; volume = refl; items = refl }
+fence-gives number kind outcome row frame Fresh e = absurd cc
+
+pub fence-fresh : (number : Number) (kind : Kind) (row : ControllerRow) (verdict : Verdict) (answer : Option Frame) → ((frame : Frame) → answer ≡ Some frame → ⊥) → answer ≡ fence_answer number kind row verdict → verdict ≡ Fresh
+fence-fresh number kind row Stale answer none e = absurd (none _ e)
+fence-fresh number kind row Repeated answer none e = absurd (none _ e)
+fence-fresh number kind row Fresh answer none e = refl
+
+set-own : (rows : List ControllerRow) (place : ℕ) (row : ControllerRow) → IsAt rows place row → set rows place row ≡ rows
+set-own [] place row at = absurd at
+set-own (r ∷ rs) zero row at = ap (λ x. x ∷ rs) (sym at)
+set-own (r ∷ rs) (suc place) row at = ap (λ xs. r ∷ xs) (set-own rs place row at)
+
+-- two that stand at one place
+same-at : {X : Type 0} (xs : List X) (place : ℕ) (x y : X) → IsAt xs place x → IsAt xs place y → x ≡ y
+same-at [] place x y at there = absurd at
+same-at (z ∷ zs) zero x y at there = sym at ∙ there
+same-at (z ∷ zs) (suc place) x y at there = same-at zs place x y at there
+
+-- what the lines answer is what the row does, behind the fence
+pub publish-gives : (rows : List ControllerRow) (id place : ℕ) (row again new : ControllerRow) (frame : Frame) (number : Number) (wanted : NodeHolding) (configured full : Bool) (line : Option Reply)
+    → Some place ≡ position (λ (r : ControllerRow). r.id == id) rows → row ≡ get_or rows place row → again ≡ get_or rows place again
+    → publish_line row wanted configured full ≡ by_line (RowAttaches wanted) line → verdict_of (Some row.last) number ≡ Fresh
+    → RowGives new frame (row_after number kinds.ControllerPublishVolume (by_line (RowAttaches wanted) line) again Fresh)
+    → RowGives new frame (row_after number kinds.ControllerPublishVolume (publish_line row wanted configured full) row (verdict_of (Some row.last) number))
+publish-gives rows id place row again new frame number wanted configured full line at is once_more told fresh gives =
+    let p : ControllerRow → Bool = λ r. r.id == id in
+    let here : ((x : ControllerRow) → x ≡ get_or rows place x → IsAt rows place x) = λ x e. FirstAt-is_at p rows place x (at-place p rows place x at e) in
+    let same : again ≡ row = same-at rows place again row (here again once_more) (here row is) in
+    let own = subst (λ (r : ControllerRow). RowGives new frame (row_after number kinds.ControllerPublishVolume (by_line (RowAttaches wanted) line) r Fresh)) same gives in
+    subst (λ (o : RowOutcome). RowGives new frame (row_after number kinds.ControllerPublishVolume o row (verdict_of (Some row.last) number))) (sym told)
+    (subst (λ (v : Verdict). RowGives new frame (row_after number kinds.ControllerPublishVolume (by_line (RowAttaches wanted) line) row v)) (sym fresh) own)
+
+pub publish-fenced : (config : Config) (n : ℕ) (rows : List ControllerRow) (state : ControllerState) (number : Number) (id : ℕ) (wanted : NodeHolding) (place : ℕ) (row : ControllerRow) (frame : Frame)
+    → IsSound n rows → IsShown (record { config = config; next_id = n; rows = rows }) state → Some place ≡ position (λ (r : ControllerRow). r.id == id) rows → row ≡ get_or rows place row
+    → Some frame ≡ fence_answer number kinds.ControllerPublishVolume row (verdict_of (Some row.last) number)
+    → Answers (record { config = config; next_id = n; rows = rows }) frame
+    (fenced_call config state number (ControllerPublishVolume id wanted.node wanted.capability wanted.readonly) (kept_for (ControllerPublishVolume id wanted.node wanted.capability wanted.readonly) state))
+publish-fenced config n rows state number id wanted place row frame sound shown at is answered =
+    let own : set rows place row ≡ rows = set-own rows place row (FirstAt-is_at (λ (r : ControllerRow). r.id == id) rows place row (at-place (λ (r : ControllerRow). r.id == id) rows place row at is)) in
+    subst (λ (now : List ControllerRow). Answers (record { config = config; next_id = n; rows = now }) frame
+    (fenced_call config state number (ControllerPublishVolume id wanted.node wanted.capability wanted.readonly) (kept_for (ControllerPublishVolume id wanted.node wanted.capability wanted.readonly) state)))
+    own
+    (publish-answers config n rows state number id wanted place row row frame sound shown at is (fence-gives number kinds.ControllerPublishVolume _ row frame (verdict_of (Some row.last) number) answered))
 
 -- a search that gives no place finds nothing
 past-none : (p : ControllerRow → Bool) (rows : List ControllerRow) → length rows ≤ position_or_len p rows → find p rows ≡ None

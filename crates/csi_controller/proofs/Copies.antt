@@ -1,6 +1,6 @@
 -- Rows that say the same show the same state, and keep the same rules.
 use Rattle.std.proofs.Common.{◌≡◌, ◌<◌, ◌≤◌, ℕ, suc, length, arith, Bool, true, false, cond, List, [], ◌∷◌, ◌++◌, map, refl, sym, ◌∙◌, ap, subst}
-use Rattle.std.specs.Prelude.{Option, Some, None, find, ◌==◌}
+use Rattle.std.specs.Prelude.{Some, None, find, ◌==◌}
 use Rattle.std.specs.List.{AllByRecursion}
 use Rattle.csi_types.specs.Config.{Config}
 use Rattle.csi_types.specs.Same.{same_text}

@@ -1,23 +1,22 @@
 -- What the lines of a row answer: no id but CreateVolume's, and changes that the row allows.
-use Rattle.std.proofs.Common.{◌≡◌, ◌<◌, ℕ, Bool, true, false, cond, not, List, [], ◌∷◌, length, refl, sym, ◌∙◌, ap, subst, arith}
+use Rattle.std.proofs.Common.{◌≡◌, ◌<◌, ℕ, Bool, true, false, cond, not, List, [], ◌∷◌, length, refl, sym, subst, arith}
 use Rattle.std.specs.Prelude.{Option, Some, None, find, ◌||◌, nat_le, IsTrue, codes}
 use Rattle.std.proofs.lemmas.Bool.Decides.{nat_tests}
 use Rattle.std.specs.List.{list_any}
 use Rattle.csi_types.specs.declared.capability.Capability.{Capability}
 use Rattle.csi_types.specs.declared.call.Kind.{Kind}
 use Rattle.csi_types.specs.declared.call.Kind.TheVariants.{CreateVolume, DeleteVolume, ControllerPublishVolume, ControllerUnpublishVolume}
-use Rattle.csi_types.specs.declared.reply.Reply.{Reply}
-use Rattle.csi_types.specs.declared.status.Status.TheVariants.{NotFound, InvalidArgument, AlreadyExists, ResourceExhausted, FailedPrecondition, OutOfRange}
+use Rattle.csi_types.specs.declared.status.Status.TheVariants.{InvalidArgument, OutOfRange}
 use Rattle.csi_types.specs.Capacity.{is_bad_range, is_empty_range}
 use Rattle.csi_types.specs.Holding.{is_compatible, same_holding}
-use Rattle.csi_types.specs.Replies.{plain_reply, ok_reply_with}
+use Rattle.csi_types.specs.Replies.{plain_reply}
 use Rattle.csi_types.specs.Reply.{has_id_by_rule}
 use Rattle.csi_types.specs.Same.{same_text, has_capability}
 use Rattle.csi_controller.specs.declared.row.NodeHolding.{NodeHolding}
 use Rattle.csi_controller.specs.declared.row.ControllerRow.{ControllerRow}
 use Rattle.csi_controller.specs.Table.{serves}
 use Rattle.csi_controller.specs.Shown.{volume_of_row}
-use Rattle.csi_controller.specs.Core.{IsFit, held_by, RowChange, RowStays, RowEnds, RowAttaches, RowDetaches, RowOutcome, row_refused, row_done, create_line, again_line, argument_fault, by_fault, delete_line, delete_held, publish_line, held_line, attach_line, unpublish_line}
+use Rattle.csi_controller.specs.Core.{IsFit, held_by, RowStays, RowEnds, RowAttaches, RowDetaches, RowOutcome, create_line, again_line, by_fault, delete_line, delete_held, publish_line, held_line, attach_line, unpublish_line}
 
 either : {X : Type 0} (P : X → Type 0) (b : Bool) (x y : X) → (b ≡ true → P x) → (b ≡ false → P y) → P (cond b x y)
 either P true x y f g = f refl

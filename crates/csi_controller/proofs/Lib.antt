@@ -2,6 +2,7 @@ pub mod FirstAt
 pub mod Holdings
 pub mod Lines
 pub mod Sound
+pub mod Search
 pub mod Steps
 pub mod Fit
 pub mod Calls

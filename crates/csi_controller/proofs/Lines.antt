@@ -1,12 +1,10 @@
 -- What the table answers to a call, by the row that the call has.
-use Rattle.std.proofs.Common.{◌≡◌, ℕ, suc, ◌+◌, Bool, true, false, cond, not, List, [], ◌∷◌, map, length, refl, sym, ◌∙◌, ap, subst}
-use Rattle.std.specs.Prelude.{Option, Some, None, find, filter, option_map, count_by, ◌&&◌, ◌||◌, ◌==◌, nat_le, codes}
+use Rattle.std.proofs.Common.{◌≡◌, ℕ, suc, Bool, true, false, cond, not, List, [], ◌∷◌, map, length, refl, sym, ◌∙◌, ap}
+use Rattle.std.specs.Prelude.{Option, Some, None, find, option_map, count_by, ◌&&◌, ◌||◌, ◌==◌, nat_le, codes}
 use Rattle.std.specs.List.{AllByRecursion, list_any}
-use Rattle.std.proofs.lemmas.Bool.{eqb-true}
 use Rattle.csi_types.specs.declared.capability.Capability.{Capability}
 use Rattle.csi_types.specs.declared.config.NodeSlots.{NodeSlots}
 use Rattle.csi_types.specs.declared.holding.Holding.{Holding}
-use Rattle.csi_types.specs.declared.call.Call.TheVariants.{CreateVolume, DeleteVolume, ControllerPublishVolume, ControllerUnpublishVolume}
 use Rattle.csi_types.specs.declared.status.Status.TheVariants.{AlreadyExists, InvalidArgument, OutOfRange}
 use Rattle.csi_types.specs.Replies.{plain_reply}
 use Rattle.csi_types.specs.Capacity.{is_bad_range, is_empty_range}
@@ -15,11 +13,11 @@ use Rattle.csi_types.specs.Holding.{is_compatible, same_holding}
 use Rattle.csi_types.specs.Same.{same_text, has_capability}
 use Rattle.csi_controller.specs.declared.row.NodeHolding.{NodeHolding}
 use Rattle.csi_controller.specs.declared.row.ControllerRow.{ControllerRow}
-use Rattle.csi_controller.specs.State.{Volume, ControllerState, volume_named, live_volume, holdings_of, holding_at, count_at, is_held_at}
-use Rattle.csi_controller.specs.Table.{Outcome, create, create_named, create_new, delete, delete_live, publish, publish_held, attach, is_full, unpublish, controller_row, met, serves, refused, Stays}
-use Rattle.csi_controller.specs.Shown.{Shows, volume_of_row, holdings_in, holdings_in_row}
-use Rattle.csi_controller.specs.Core.{AtMostOne, IsSoundRow, held_by, RowOutcome, outcome_of, create_line, again_line, argument_fault, by_fault, delete_line, publish_line, held_line, attach_line, unpublish_line, row_done, row_refused, RowStays, RowDetaches}
-use Rattle.csi_controller.proofs.FirstAt.{FirstAt, FirstAt-find, FirstAt-passes, find-and_none, find-and_first, find-view, find-filter}
+use Rattle.csi_controller.specs.State.{Volume, ControllerState, volume_named, live_volume, holdings_of, holding_at}
+use Rattle.csi_controller.specs.Table.{create, create_named, delete, delete_live, publish, publish_held, attach, is_full, unpublish, met, serves, refused}
+use Rattle.csi_controller.specs.Shown.{Shows, volume_of_row, holdings_in}
+use Rattle.csi_controller.specs.Core.{AtMostOne, IsSoundRow, held_by, outcome_of, create_line, again_line, by_fault, delete_line, publish_line, held_line, attach_line, unpublish_line, row_done, row_refused, RowStays, RowDetaches}
+use Rattle.csi_controller.proofs.FirstAt.{FirstAt, FirstAt-find, find-and_none, find-and_first, find-view, find-filter}
 use Rattle.csi_controller.proofs.Holdings.{count-rows}
 
 -- what the searches of the state give at a volume that has this row

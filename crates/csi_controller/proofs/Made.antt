@@ -1,17 +1,15 @@
 -- CreateVolume of a name that has no row.
-use Rattle.std.proofs.Common.{◌≡◌, ◌≤◌, ◌<◌, ◌+◌, ◌^◌, ◌%◌, ℕ, Bool, true, false, cond, List, [], ◌∷◌, ◌++◌, map, length, refl, sym, ◌∙◌, ap, subst, arith}
+use Rattle.std.proofs.Common.{◌≡◌, ◌≤◌, ◌<◌, ◌+◌, ◌%◌, ℕ, Bool, true, false, cond, List, [], ◌∷◌, ◌++◌, map, length, refl, sym, ◌∙◌, ap, subst, arith}
 use Rattle.std.specs.Prelude.{Result, IfOk, OnOk}
 use Rattle.std.specs.declared.result.Result.TheVariants as results
 use Rattle.csi_controller.specs.declared.controller.inner.Core.{Core}
 use Rattle.csi_controller.specs.CoreParts.{parts_of, IsMade}
-use Rattle.std.specs.Prelude.{Option, Some, None, option_map, find, filter, ◌==◌, ◌||◌, nat_le, nat_lt, codes, IsTrue}
+use Rattle.std.specs.Prelude.{Option, Some, None, option_map, find, ◌==◌, ◌||◌, nat_le, nat_lt, codes, IsTrue}
 use Rattle.std.specs.List.{AllByRecursion}
-use Rattle.std.proofs.lemmas.Bool.{eqb-true}
 use Rattle.std.proofs.lemmas.Bool.Decides.{nat_tests}
 use Rattle.std.proofs.lemmas.List.{map-append, length-append}
 use Rattle.csi_types.proofs.Equality.{same_text-tells}
 use Rattle.csi_types.specs.declared.number.Number.{Number}
-use Rattle.csi_types.specs.declared.holding.Holding.{Holding}
 use Rattle.csi_types.specs.declared.capability.Capability.{Capability}
 use Rattle.csi_types.specs.declared.call.Call.{Call}
 use Rattle.csi_types.specs.declared.call.Kind.TheVariants as kinds
@@ -29,11 +27,11 @@ use Rattle.csi_types.specs.Reply.{has_id_by_rule}
 use Rattle.csi_types.specs.Same.{same_text, has_capability}
 use Rattle.csi_controller.specs.declared.row.NodeHolding.{NodeHolding}
 use Rattle.csi_controller.specs.declared.row.ControllerRow.{ControllerRow}
-use Rattle.csi_controller.specs.State.{Volume, ControllerState, volume_named, holdings_of}
-use Rattle.csi_controller.specs.Table.{Outcome, Stays, Makes, create, create_named, controller_row, changed, refused}
-use Rattle.csi_controller.specs.Fenced.{Fenced, fenced_call, kept_for, carried_out, keep, kept_in}
-use Rattle.csi_controller.specs.Shown.{Shows, volume_of_row, holdings_in, holdings_in_row}
-use Rattle.csi_controller.specs.Core.{Parts, IsShown, Answers, IsSound, IsSoundRow, IsRising, AreCompatible, AtMostOne, held_by, next_shown, argument_fault, new_line, made_volume}
+use Rattle.csi_controller.specs.State.{Volume, ControllerState, volume_named}
+use Rattle.csi_controller.specs.Table.{Outcome, Stays, Makes, create, create_named, controller_row, refused}
+use Rattle.csi_controller.specs.Fenced.{fenced_call, kept_for, carried_out, kept_in}
+use Rattle.csi_controller.specs.Shown.{volume_of_row, holdings_in}
+use Rattle.csi_controller.specs.Core.{IsShown, Answers, IsSound, IsSoundRow, IsRising, AreCompatible, AtMostOne, held_by, next_shown, argument_fault, new_line, made_volume}
 use Rattle.csi_controller.proofs.FirstAt.{AtMostOne-append, All-append, All-weaker, map-none, find-view}
 use Rattle.csi_controller.proofs.Lines.{length-view}
 use Rattle.csi_controller.proofs.Steps.{nowhere-answers}

@@ -1,8 +1,7 @@
 -- In a controller's state two holdings of one volume are apart, and what is held is live, whatever frames came.
-use Rattle.std.proofs.Common.{◌≡◌, ◌≢◌, ◌⊎◌, ℕ, List, [], ◌∷◌, Bool, true, false, cond, not, refl, sym, ◌∙◌, ap, subst, inl, inr}
-use Rattle.std.specs.Prelude.{Option, Some, None, option_map, is_some, find, ◌==◌, ◌&&◌, ◌||◌, IsTrue, IsSome}
-use Rattle.std.proofs.lemmas.Bool.{and_parts, eqb-true, eq-eqb, not-false, not-true, true≢false}
-use Rattle.csi_types.proofs.Equality.{same_text-tells}
+use Rattle.std.proofs.Common.{◌≡◌, ◌⊎◌, ℕ, List, [], ◌∷◌, Bool, true, false, cond, not, refl, sym, ◌∙◌, ap, subst, inl, inr}
+use Rattle.std.specs.Prelude.{Option, Some, None, option_map, is_some, find, ◌==◌, ◌&&◌, IsSome}
+use Rattle.std.proofs.lemmas.Bool.{eqb-true, eq-eqb, not-false}
 use Rattle.csi_types.proofs.Lists.{find-append, find-map, or_else, or_else-some}
 use Rattle.csi_types.specs.declared.capability.Capability.{Capability}
 use Rattle.csi_types.specs.declared.holding.Holding.{Holding}
@@ -12,9 +11,8 @@ use Rattle.csi_types.specs.Capacity.{wanted}
 use Rattle.csi_types.specs.Config.{Config}
 use Rattle.csi_types.specs.Fence.{Kept}
 use Rattle.csi_types.specs.Frame.{Frame}
-use Rattle.csi_types.specs.Holding.{same_holding, is_compatible, is_second_writer, AreApart}
+use Rattle.csi_types.specs.Holding.{is_compatible}
 use Rattle.csi_types.specs.Same.{same_text}
-use Rattle.csi_types.specs.Sharing.{is_single_node, is_multi_node, is_single_writer, writes}
 use Rattle.csi_controller.specs.State.{Volume, ControllerState, empty_controller, live_volume, holdings_of, is_held_at, holding_at, is_row_for}
 use Rattle.csi_controller.specs.Table.{Outcome, Change, Stays, Makes, Ends, Attaches, Detaches, controller_row, ended, changed}
 use Rattle.csi_controller.specs.Fenced.{kept_in, keep, carried_out, fenced, after_frames}

@@ -1,15 +1,12 @@
 -- What the definitions answer to a call, and what they make of the state, where a row answers so.
-use Rattle.std.proofs.Common.{◌≡◌, ◌≤◌, ◌<◌, ◌+◌, ◌^◌, ◌%◌, ℕ, zero, suc, Bool, true, false, cond, not, List, [], ◌∷◌, ◌++◌, map, length, refl, sym, ◌∙◌, ap, subst, arith}
-use Rattle.std.specs.Prelude.{Option, Some, None, find, filter, option_map, ◌==◌, ◌&&◌}
+use Rattle.std.proofs.Common.{◌≡◌, ◌≤◌, ◌^◌, ◌%◌, ℕ, zero, suc, Bool, true, false, cond, List, [], ◌∷◌, map, refl, sym, ◌∙◌, ap, subst}
+use Rattle.std.specs.Prelude.{Option, Some, None, find, filter, option_map, ◌==◌}
 use Rattle.std.proofs.Math.ListN.{set}
-use Rattle.std.proofs.lemmas.Bool.{eq-eqb, eqb-true}
-use Rattle.std.proofs.lemmas.List.{map-append}
-use Rattle.csi_types.proofs.Lists.{find-append, or_else-none, or_else-some, or_else}
+use Rattle.std.proofs.lemmas.Bool.{eqb-true}
 use Rattle.csi_types.specs.declared.number.Number.{Number}
 use Rattle.csi_types.specs.declared.holding.Holding.{Holding}
-use Rattle.csi_types.specs.declared.capability.Capability.{Capability}
 use Rattle.csi_types.specs.declared.call.Call.{Call}
-use Rattle.csi_types.specs.declared.call.Call.TheVariants.{CreateVolume, DeleteVolume, ControllerPublishVolume, ControllerUnpublishVolume}
+use Rattle.csi_types.specs.declared.call.Call.TheVariants.{DeleteVolume}
 use Rattle.csi_types.specs.declared.call.Party.TheVariants.{Controller}
 use Rattle.csi_types.specs.declared.fence.Verdict.{Verdict}
 use Rattle.csi_types.specs.declared.fence.Verdict.TheVariants.{Stale, Repeated, Fresh}
@@ -18,14 +15,13 @@ use Rattle.csi_types.specs.Call.{kind_of}
 use Rattle.csi_types.specs.Config.{Config}
 use Rattle.csi_types.specs.Fence.{Kept, verdict_of}
 use Rattle.csi_types.specs.Frame.{Frame}
-use Rattle.csi_types.specs.Replies.{reply_frame, stale_reply}
-use Rattle.csi_controller.specs.declared.row.NodeHolding.{NodeHolding}
+use Rattle.csi_types.specs.Replies.{reply_frame}
 use Rattle.csi_controller.specs.declared.row.ControllerRow.{ControllerRow}
-use Rattle.csi_controller.specs.State.{Volume, ControllerState, holdings_of, is_row_for, row_for}
-use Rattle.csi_controller.specs.Table.{Outcome, Change, Stays, Makes, controller_row, changed, ended}
-use Rattle.csi_controller.specs.Fenced.{Fenced, kept_in, keep, carried_out, answered_only, judged, fenced_call, kept_for}
-use Rattle.csi_controller.specs.Shown.{Shows, volume_of_row, holdings_in, holdings_in_row}
-use Rattle.csi_controller.specs.Core.{Parts, IsShown, Answers, AtMostOne, held_by, RowChange, RowStays, RowEnds, RowAttaches, RowDetaches, RowOutcome, outcome_of, change_of, RowGives, RowAfter, row_after, live_after, items_after, IsSameRow}
+use Rattle.csi_controller.specs.State.{Volume, ControllerState, is_row_for, row_for}
+use Rattle.csi_controller.specs.Table.{Outcome, Stays, controller_row, changed, ended}
+use Rattle.csi_controller.specs.Fenced.{kept_in, keep, carried_out, judged, fenced_call, kept_for}
+use Rattle.csi_controller.specs.Shown.{volume_of_row, holdings_in}
+use Rattle.csi_controller.specs.Core.{IsShown, Answers, AtMostOne, held_by, RowChange, RowStays, RowEnds, RowAttaches, RowDetaches, RowOutcome, outcome_of, change_of, RowGives, row_after, live_after, items_after}
 use Rattle.csi_controller.proofs.FirstAt.{IsAt, FirstAt, FirstAt-find, FirstAt-is_at, FirstAt-only, map-none, map-first, find-set_other, find-set_first, find-view}
 use Rattle.csi_controller.proofs.Holdings.{held_after, row_list-after, own_list-after, other_list-after}
 

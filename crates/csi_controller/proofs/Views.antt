@@ -1,10 +1,10 @@
 -- What the readers show, by the rows.
-use Rattle.std.proofs.Common.{◌≡◌, ℕ, Bool, true, false, List, map, refl, sym, ◌∙◌, ap}
+use Rattle.std.proofs.Common.{◌≡◌, ℕ, List, map, refl, sym, ◌∙◌, ap}
 use Rattle.std.specs.Prelude.{Option, Some, None, option_map, find, ◌==◌}
 use Rattle.csi_types.specs.Same.{same_text}
 use Rattle.csi_controller.specs.declared.row.ControllerRow.{ControllerRow}
 use Rattle.csi_controller.specs.State.{Volume, ControllerState, volume_named}
-use Rattle.csi_controller.specs.Shown.{volume_of_row, holdings_in_row, holdings_in}
+use Rattle.csi_controller.specs.Shown.{volume_of_row, holdings_in_row}
 use Rattle.csi_controller.specs.Core.{Parts, IsShown, held_by}
 use Rattle.csi_controller.specs.Views.{shown_if_live, row_if_live, IsCopyOf, IsRowOf}
 use Rattle.csi_controller.proofs.FirstAt.{find-view}

@@ -1,6 +1,6 @@
 -- How a controller's parts are a state, and what one row answers to a call of its own.
-use Rattle.std.specs.Prelude.{◌≡◌, ℕ, ◌+◌, ◌<◌, ◌≤◌, ◌^◌, ◌==◌, List, [], ◌∷◌, ◌++◌, filter, find, length, Bool, true, false, not, ◌&&◌, ◌||◌, nat_le, nat_lt, Option, Some, None, if◌then◌else◌, codes, IsTrue}
-use Rattle.std.specs.List.{AllByRecursion, list_all, list_any}
+use Rattle.std.specs.Prelude.{◌≡◌, ℕ, ◌<◌, ◌≤◌, ◌^◌, ◌==◌, List, [], ◌∷◌, ◌++◌, filter, find, length, Bool, true, false, not, ◌||◌, nat_le, nat_lt, Option, Some, None, if◌then◌else◌, codes, IsTrue}
+use Rattle.std.specs.List.{AllByRecursion, list_any}
 use Rattle.csi_types.specs.declared.capability.Capability.{Capability}
 use Rattle.csi_types.specs.declared.holding.Holding.{Holding}
 use Rattle.csi_types.specs.declared.number.Number.{Number}
@@ -160,6 +160,11 @@ abbrev pub attach_line : NodeHolding → Bool → Option NodeHolding → RowOutc
 attach_line wanted is_full (Some other) = row_refused FailedPrecondition other.node
 attach_line wanted is_full None =
     if is_full then row_refused ResourceExhausted (codes "slots") else row_done (RowAttaches wanted)
+
+-- a reply that changes nothing, or none where it hangs on the slots alone
+abbrev pub by_slots : NodeHolding → Bool → Option Reply → RowOutcome
+by_slots wanted is_full (Some reply) = record { reply = reply; change = RowStays }
+by_slots wanted is_full None = attach_line wanted is_full None
 
 abbrev pub held_line : ControllerRow → NodeHolding → Bool → Option NodeHolding → RowOutcome
 held_line row wanted is_full (Some held) =

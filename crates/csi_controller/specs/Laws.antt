@@ -1,6 +1,6 @@
 -- Laws that the controller's table keeps, in the words of CSI's spec.md ("idempotent" calls, and what each
 -- call ensures), apart from what is kept of the last call.
-use Rattle.std.specs.Prelude.{◌≡◌, ◌≢◌, ◌⊎◌, ◌≤◌, ℕ, ◌==◌, List, map, filter, Bool, true, not, Option, Some, None, option_map, IsTrue}
+use Rattle.std.specs.Prelude.{◌≡◌, ◌⊎◌, ◌≤◌, ℕ, ◌==◌, List, map, filter, Bool, true, not, Option, Some, None, option_map, IsTrue}
 use Rattle.std.specs.List.{AllByRecursion}
 use Rattle.csi_types.specs.declared.capability.Capability.{Capability}
 use Rattle.csi_types.specs.declared.holding.Holding.{Holding}
@@ -8,18 +8,14 @@ use Rattle.csi_types.specs.declared.number.Number.{Number}
 use Rattle.csi_types.specs.declared.call.Call.{Call}
 use Rattle.csi_types.specs.declared.call.Call.TheVariants as calls
 use Rattle.csi_types.specs.declared.call.Party.TheVariants.{Controller}
-use Rattle.csi_types.specs.declared.status.Status.TheVariants.{Ok}
-use Rattle.csi_types.specs.declared.fence.Verdict.TheVariants.{Fresh}
 use Rattle.csi_types.specs.declared.reply.Reply.{Reply}
-use Rattle.csi_types.specs.Call.{kind_of}
 use Rattle.csi_types.specs.Config.{Config}
 use Rattle.csi_types.specs.Fence as fence
 use Rattle.csi_types.specs.Fence.{Kept}
 use Rattle.csi_types.specs.Lawful as lawful
 use Rattle.csi_types.specs.Lawful.{Plugin}
 use Rattle.csi_types.specs.Frame.{Frame}
-use Rattle.csi_types.specs.Number.{IsBefore}
-use Rattle.csi_types.specs.Replies.{call_frame, reply_frame}
+use Rattle.csi_types.specs.Replies.{call_frame}
 use Rattle.csi_types.specs.Same.{has_capability}
 use Rattle.csi_controller.specs.State.{Volume, ControllerState, empty_controller, live_volume, holding_at, is_row_for}
 use Rattle.csi_controller.specs.Table.{controller_row}

@@ -1,10 +1,10 @@
 //! The controller's rows in a vector, in the order of their ids, and what it does with a call.
-ghost use Rattle.std.specs.Prelude.{◌≡◌, ◌==◌, ◌<◌, ◌&&◌, ◌||◌, ◌∷◌, ℕ, List, Some, None, [], length, position, count_by, nat_le, IfOk, OnErr, OnOk, IsOk, IsTrue, IfErr, MatchResult, option_map};
+ghost use Rattle.std.specs.Prelude.{◌≡◌, ◌==◌, ◌<◌, ◌&&◌, ◌||◌, ◌∷◌, ℕ, List, Some, None, [], length, position, count_by, nat_le, IfOk, OnErr, OnOk, IsOk, IfSome, IsTrue, IfErr, MatchResult, option_map};
 ghost use Rattle.std.specs.List.{find, list_any};
 ghost use Rattle.std.specs.Option.{option_copied};
 ghost use Rattle.csi_controller.specs.Views.{row_if_live, AreSameRows, IsCopyOf};
 ghost use Rattle.csi_types.specs.declared.capability.Capability.{Capability as OneCapability};
-ghost use Rattle.csi_types.specs.declared.call.Kind.TheVariants.{CreateVolume as CreateKind};
+ghost use Rattle.csi_types.specs.declared.call.Kind.TheVariants.{CreateVolume as CreateKind, ControllerPublishVolume as PublishKind};
 ghost use Rattle.csi_types.specs.declared.call.Call.{Call as OneCall};
 ghost use Rattle.csi_types.specs.declared.call.Party.TheVariants.{Controller};
 ghost use Rattle.csi_types.specs.Config.{has_node};
@@ -12,10 +12,12 @@ ghost use Rattle.csi_types.specs.Reply.{has_id_by_rule};
 ghost use Rattle.csi_types.specs.Replies.{ok_reply_with, plain_reply, reply_frame};
 ghost use Rattle.csi_types.specs.Same.{same_text};
 ghost use Rattle.csi_controller.specs.Shown.{volume_of_row};
+ghost use Rattle.csi_controller.specs.Wanted.{wanted_shown};
 ghost use Rattle.csi_controller.specs.Core.{made_volume, IsSameRow};
 
 use super::answer::{done, frame_of, plain};
-use super::lines::{argument_fault, is_held_at};
+use super::fence::fence;
+use super::lines::{argument_fault, is_held_at, publish_by_row};
 use super::new_row::{copied_row, new_row};
 use super::row_calls::{create_again, delete, publish, unpublish};
 use super::wanted::Wanted;
@@ -52,6 +54,8 @@ impl Core {
     ghost use Rattle.csi_controller.specs.Table.{Makes, refused};
     ghost use Rattle.csi_controller.specs.Fenced.{fenced, fenced_call, kept_for};
     ghost use Rattle.csi_controller.specs.Core.{IsShown, IsSound, Answers, IsAnsweredOk, IsUndoing, new_line, next_shown};
+    ghost use Rattle.csi_controller.specs.Core.{by_line, publish_line as publish_told};
+    ghost use Rattle.csi_controller.specs.Core.RowChange.{RowAttaches};
     ghost use Rattle.csi_controller.specs.CoreParts.{parts_of, IsMade};
 
     // Where the row of this name is.
@@ -61,13 +65,14 @@ impl Core {
         self.rows.iter().position(|row| row.name == *name)
     }
 
-    // Where the row of this id is.
+    // Where the row of this id is. It doesn't walk the rows.
     fn place_of_id(&self, id: VolumeId) -> Option<usize>
+        requires { IsSound self.now.next_id self.now.rows.items }
         ensures { result ≡ position (λ row. row.id == id) self.now.rows.items }
     {
         self.rows
-            .iter()
-            .position(|row| row.id.number() == id.number())
+            .binary_search_by_key(&id.number(), |row| row.id.number())
+            .ok()
     }
 
     // How many volumes are held at the node.
@@ -235,6 +240,23 @@ impl Core {
         }
     }
 
+    // What the table's lines for this row answer to ControllerPublishVolume; `None` where it is carried out. The
+    // other rows are counted for the last line alone.
+    fn publish_line(&self, row: &ControllerRow, wanted: Wanted) -> Result<Option<Reply>, CoreFault>
+        ensures ok { IfOk result (λ line. publish_told row.now (wanted_shown wanted.entry) (has_node wanted.entry.node.now self.now.config.nodes)
+            (list_any (λ entry. same_text entry.id wanted.entry.node.now
+            && nat_le entry.slots (count_by (λ row. list_any (λ held. same_text held.node wanted.entry.node.now) row.holdings.items) self.now.rows.items)) self.now.config.nodes
+            || nat_le 64 (length row.now.holdings.items)) ≡ by_line (RowAttaches (wanted_shown wanted.entry)) line) }
+        ensures id { IfOk result (λ line. IfSome line (λ reply. IsTrue (has_id_by_rule PublishKind reply))) }
+    {
+        let alloc = self.alloc;
+        let line = publish_by_row(row, alloc, wanted, self.has_node(wanted.node))?;
+        if line.is_none() && (row.holdings.len() >= 64 || self.is_full(wanted.node)) {
+            return Ok(Some(plain(alloc, Status::ResourceExhausted, "slots")?));
+        }
+        Ok(line)
+    }
+
     // ControllerPublishVolume, behind the fence. A refusal changes nothing.
     fn publish(
         &mut self,
@@ -257,12 +279,14 @@ impl Core {
             capability,
             readonly,
         };
-        let is_configured = self.has_node(node);
-        let is_full = self.is_full(node);
         match self.place_of_id(id) {
             Some(place) => {
-                let row = &mut self.rows[place];
-                publish(row, alloc, number, wanted, is_configured, is_full)
+                let row = &self.rows[place];
+                if let Some(frame) = fence(row, alloc, number, Kind::ControllerPublishVolume)? {
+                    return Ok(frame);
+                }
+                let line = self.publish_line(row, wanted)?;
+                publish(&mut self.rows[place], alloc, number, wanted, line)
             }
             None => {
                 let reply = plain(alloc, Status::NotFound, "volume")?;
@@ -375,19 +399,13 @@ impl Core {
         Ok(copies)
     }
 
-    // The row of this id.
-    fn identified(&self, id: VolumeId) -> Option<&ControllerRow>
-        ensures { option_copied result ≡ find (λ row. row.id == id) self.now.rows.items }
-    {
-        self.rows.iter().find(|row| row.id.number() == id.number())
-    }
-
     /// A copy of the row of this id.
     pub fn row(&self, id: VolumeId) -> Result<Option<ControllerRow>, CoreFault>
+        requires { IsSound self.now.next_id self.now.rows.items }
         ensures { IfOk result (λ copy. IsCopyOf (find (λ row. row.id == id) self.now.rows.items) copy) }
     {
-        match self.identified(id) {
-            Some(row) => Ok(Some(copied_row(row)?)),
+        match self.place_of_id(id) {
+            Some(place) => Ok(Some(copied_row(&self.rows[place])?)),
             None => Ok(None),
         }
     }

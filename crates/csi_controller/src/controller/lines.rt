@@ -1,6 +1,6 @@
 //! What the lines of the table for a volume's row answer: a reply that changes nothing, or `None` where the
 //! call is carried out.
-ghost use Rattle.std.specs.Prelude.{◌≡◌, ℕ, true, IsTrue, IsOk, IfOk, not, ◌&&◌, ◌||◌, nat_le, length, None, IfSome, []};
+ghost use Rattle.std.specs.Prelude.{◌≡◌, ℕ, Bool, true, IsTrue, IsOk, IfOk, not, None, IfSome, []};
 ghost use Rattle.std.specs.List.{find, list_any, list_all};
 ghost use Rattle.std.specs.Option.{option_copied};
 ghost use Rattle.csi_types.specs.declared.call.Kind.TheVariants.{CreateVolume, DeleteVolume, ControllerPublishVolume};
@@ -10,8 +10,8 @@ ghost use Rattle.csi_types.specs.Reply.{has_id_by_rule};
 ghost use Rattle.csi_controller.specs.Table.{serves as is_served};
 ghost use Rattle.csi_controller.specs.Shown.{volume_of_row};
 ghost use Rattle.csi_controller.specs.Wanted.{wanted_shown};
-ghost use Rattle.csi_controller.specs.Core.{held_by, by_line, delete_line as delete_told, again_line as again_told, argument_fault as fault_told, unpublish_line as unpublish_told, publish_line as publish_told, held_line as held_told};
-ghost use Rattle.csi_controller.specs.Core.RowChange.{RowStays, RowEnds, RowAttaches, RowDetaches};
+ghost use Rattle.csi_controller.specs.Core.{held_by, by_line, delete_line as delete_told, again_line as again_told, argument_fault as fault_told, unpublish_line as unpublish_told, publish_line as publish_told, by_slots};
+ghost use Rattle.csi_controller.specs.Core.RowChange.{RowStays, RowEnds};
 
 use super::answer::{done, plain};
 use super::wanted::Wanted;
@@ -170,16 +170,15 @@ fn excluding<'a>(row: &'a ControllerRow, wanted: Wanted) -> Option<&'a NodeHoldi
         .find(|held| !can_hold_with(held, wanted))
 }
 
-/// ControllerPublishVolume of this row's volume, by whether the node is configured, and whether it takes no more
-/// volumes.
-pub fn publish_line(
+/// What this row alone answers to ControllerPublishVolume, by whether the node is configured. `None` where the
+/// volume is to be attached, if there are slots for it.
+pub fn publish_by_row(
     row: &ControllerRow,
     alloc: Global,
     wanted: Wanted,
     is_configured: bool,
-    is_full: bool,
 ) -> Result<Option<Reply>, CoreFault>
-    ensures ok { IfOk result (λ line. publish_told row.now (wanted_shown wanted.entry) is_configured (is_full || nat_le 64 (length row.now.holdings.items)) ≡ by_line (RowAttaches (wanted_shown wanted.entry)) line) }
+    ensures ok { IfOk result (λ line. (is_full : Bool) → publish_told row.now (wanted_shown wanted.entry) is_configured is_full ≡ by_slots (wanted_shown wanted.entry) is_full line) }
     ensures id { IfOk result (λ line. IfSome line (λ reply. IsTrue (has_id_by_rule ControllerPublishVolume reply))) }
 {
     if !row.live {
@@ -197,24 +196,8 @@ pub fn publish_line(
         }
         return Ok(Some(plain(alloc, Status::AlreadyExists, "held otherwise")?));
     }
-    attach_line(row, alloc, wanted, is_full)
-}
-
-// The same, where the volume isn't held at that node.
-fn attach_line(
-    row: &ControllerRow,
-    alloc: Global,
-    wanted: Wanted,
-    is_full: bool,
-) -> Result<Option<Reply>, CoreFault>
-    ensures ok { IfOk result (λ line. held_told row.now (wanted_shown wanted.entry) (is_full || nat_le 64 (length row.now.holdings.items)) None ≡ by_line (RowAttaches (wanted_shown wanted.entry)) line) }
-    ensures id { IfOk result (λ line. IfSome line (λ reply. IsTrue (has_id_by_rule ControllerPublishVolume reply))) }
-{
     if let Some(other) = excluding(row, wanted) {
         return Ok(Some(plain(alloc, Status::FailedPrecondition, other.node.as_str())?));
-    }
-    if is_full || row.holdings.len() >= 64 {
-        return Ok(Some(plain(alloc, Status::ResourceExhausted, "slots")?));
     }
     Ok(None)
 }

@@ -1,20 +1,22 @@
 //! What a row answers to the calls of its volume, behind the fence.
-ghost use Rattle.std.specs.Prelude.{◌≡◌, ◌||◌, ℕ, Some, [], ◌∷◌, ◌++◌, OnOk, not, filter, length, nat_le, IfOk, IsOk, OnErr};
+ghost use Rattle.std.specs.Prelude.{◌≡◌, ℕ, Some, [], ◌∷◌, ◌++◌, OnOk, IfSome, IsTrue, not, filter, IfOk, IsOk, OnErr};
 ghost use Rattle.csi_types.specs.declared.call.Kind.TheVariants.{CreateVolume, DeleteVolume, ControllerPublishVolume, ControllerUnpublishVolume};
 ghost use Rattle.csi_types.specs.declared.fence.Verdict.TheVariants.{Fresh};
 ghost use Rattle.csi_types.specs.declared.status.Status.TheVariants.{Ok as OkStatus};
 ghost use Rattle.csi_types.specs.Fence.{verdict_of};
+ghost use Rattle.csi_types.specs.Reply.{has_id_by_rule};
 ghost use Rattle.csi_types.specs.Same.{same_text};
 ghost use Rattle.csi_controller.specs.Wanted.{wanted_shown};
-ghost use Rattle.csi_controller.specs.Core.{IsSoundRow, IsSameRow, RowGives, row_after, create_line as create_told, delete_line as delete_told, publish_line as publish_told, unpublish_line as unpublish_told};
+ghost use Rattle.csi_controller.specs.Core.{IsSoundRow, IsSameRow, RowGives, row_after, create_line as create_told, delete_line as delete_told, unpublish_line as unpublish_told, by_line};
+ghost use Rattle.csi_controller.specs.Core.RowChange.{RowAttaches};
 
 use super::answer::{done, frame_of};
 use super::fence::{fence, keep};
-use super::lines::{again_line, argument_fault, delete_line, is_held_at, publish_line};
+use super::lines::{again_line, argument_fault, delete_line, is_held_at};
 use super::wanted::Wanted;
 use crate::fault::CoreFault;
 use crate::row::{ControllerRow, NodeHolding};
-use csi_types::{Capability, Frame, Kind, NodeId, Number};
+use csi_types::{Capability, Frame, Kind, NodeId, Number, Reply};
 use std::alloc::Global;
 
 /// CreateVolume of the name of this row. A refusal changes nothing.
@@ -73,25 +75,20 @@ fn add(holdings: &mut Vec<NodeHolding>, wanted: Wanted) -> Result<(), CoreFault>
     Ok(())
 }
 
-/// ControllerPublishVolume of the volume of this row, by whether the node is configured, and whether it takes
-/// no more volumes. A refusal changes nothing.
+/// ControllerPublishVolume of the volume of this row, behind the fence, by what the table's lines answer. A
+/// refusal changes nothing.
 pub fn publish(
     row: &mut ControllerRow,
     alloc: Global,
     number: Number,
     wanted: Wanted,
-    is_configured: bool,
-    is_full: bool,
+    line: Option<Reply>,
 ) -> Result<Frame, CoreFault>
-    requires { (next_id : ℕ) × IsSoundRow next_id row.old }
-    ensures ok { IfOk result (λ frame. RowGives row.new frame (row_after number ControllerPublishVolume
-        (publish_told row.old (wanted_shown wanted.entry) is_configured (is_full || nat_le 64 (length row.old.holdings.items))) row.old (verdict_of (Some row.old.last) number))) }
+    requires { IfSome line (λ reply. IsTrue (has_id_by_rule ControllerPublishVolume reply)) }
+    ensures ok { IfOk result (λ frame. RowGives row.new frame (row_after number ControllerPublishVolume (by_line (RowAttaches (wanted_shown wanted.entry)) line) row.old Fresh)) }
     ensures err { OnErr result (IsSameRow row.old row.new) }
 {
-    if let Some(frame) = fence(row, alloc, number, Kind::ControllerPublishVolume)? {
-        return Ok(frame);
-    }
-    if let Some(reply) = publish_line(row, alloc, wanted, is_configured, is_full)? {
+    if let Some(reply) = line {
         return keep(row, alloc, number, Kind::ControllerPublishVolume, reply);
     }
     let reply = done(alloc, None);

@@ -1,5 +1,4 @@
 -- By the rules of each row.
-use Rattle.csi_controller.specs.declared.row.ControllerRow.{ControllerRow}
 use Rattle.csi_controller.specs.Core.{IsSoundRow}
 use Rattle.csi_controller.specs.Exclusive.{IsRowExclusive}
 use Rattle.csi_controller.proofs.FirstAt.{All-weaker}

@@ -1,7 +1,6 @@
 -- The copies show what the rows show.
-use Rattle.std.proofs.Common.{◌≡◌, sym, ap, subst}
+use Rattle.std.proofs.Common.{sym, subst}
 use Rattle.csi_controller.specs.Core.{Parts, IsShown}
-use Rattle.csi_controller.specs.CoreParts.{parts_of}
 use Rattle.csi_controller.specs.Views.{RecordParts}
 use Rattle.csi_controller.proofs.Copies.{shown-copies, sound-copies}
 use Rattle.csi_controller.proofs.controller.Controller.record.Goals as goal

@@ -1,5 +1,5 @@
 -- By the rows.
-use Rattle.std.proofs.Common.{◌≡◌, sym, subst}
+use Rattle.std.proofs.Common.{sym, subst}
 use Rattle.std.proofs.lemmas.Result.{IfOk-weaker}
 use Rattle.csi_controller.specs.Core.{Parts, IsShown}
 use Rattle.csi_controller.specs.CoreParts.{parts_of}

@@ -1,7 +1,6 @@
 -- CreateVolume of a name that has no row: refused, or made.
-use Rattle.std.proofs.Common.{◌≡◌, ◌∙◌, ap, subst, refl, sym, length, Some, None}
+use Rattle.std.proofs.Common.{◌≡◌, ◌∙◌, ap, subst, sym, length, Some, None}
 use Rattle.std.proofs.lemmas.Result.{IfOk-weaker}
-use Rattle.csi_types.specs.declared.capability.Capability.{Capability}
 use Rattle.csi_types.specs.declared.call.Call.TheVariants.{CreateVolume}
 use Rattle.csi_types.specs.declared.call.Kind.TheVariants as kinds
 use Rattle.csi_types.specs.declared.call.Party.TheVariants.{Controller}
@@ -9,7 +8,7 @@ use Rattle.csi_types.specs.declared.reply.Reply.{Reply}
 use Rattle.csi_types.specs.Replies.{plain_reply, reply_frame}
 use Rattle.csi_controller.specs.Fenced.{fenced_call, kept_for}
 use Rattle.csi_controller.specs.Core.{Parts, Answers, IsSound, argument_fault, next_shown}
-use Rattle.csi_controller.specs.CoreParts.{IsMade, parts_of}
+use Rattle.csi_controller.specs.CoreParts.{parts_of}
 use Rattle.csi_controller.proofs.Calls.{either_way}
 use Rattle.csi_controller.proofs.Made.{fault-answers, refused-answers, made-answers, made-sound, made-well, none-where, ok-both, parts-made}
 use Rattle.csi_controller.proofs.controller.inner.Core.create_new.Goals as goal

@@ -1,17 +1,14 @@
 -- ControllerUnpublishVolume at its row, or with none.
-use Rattle.std.proofs.Common.{◌≡◌, ◌∙◌, ap, refl, sym, Some, None}
+use Rattle.std.proofs.Common.{◌∙◌, ap, refl, Some}
 use Rattle.std.specs.Prelude.{◌==◌}
 use Rattle.std.proofs.lemmas.Result.{IfOk-weaker, on_err_weaker}
 use Rattle.csi_types.specs.declared.call.Party.TheVariants.{Controller}
-use Rattle.csi_types.specs.declared.call.Kind.TheVariants.{CreateVolume, DeleteVolume, ControllerPublishVolume, ControllerUnpublishVolume}
-use Rattle.csi_types.specs.declared.number.Number.{Number}
+use Rattle.csi_types.specs.declared.call.Kind.TheVariants.{ControllerUnpublishVolume}
 use Rattle.csi_types.specs.declared.reply.Reply.{Reply}
 use Rattle.csi_types.specs.Fence.{verdict_of}
 use Rattle.csi_types.specs.Replies.{reply_frame}
-use Rattle.csi_types.specs.Same.{same_text}
-use Rattle.csi_controller.specs.declared.row.NodeHolding.{NodeHolding}
 use Rattle.csi_controller.specs.declared.row.ControllerRow.{ControllerRow}
-use Rattle.csi_controller.specs.Core.{create_line, delete_line, publish_line, unpublish_line}
+use Rattle.csi_controller.specs.Core.{unpublish_line}
 use Rattle.csi_controller.proofs.Fit.{unpublish-good}
 use Rattle.csi_controller.proofs.Calls.{unpublish-answers, unpublish-nowhere, unpublish-let_through, shown-refused, sound-gives, sound-refused, either_way}
 use Rattle.csi_controller.proofs.controller.inner.Core.unpublish.Goals as goal
