@@ -6,7 +6,6 @@ use csi_types::{
 };
 use std::alloc::Global;
 use std::process::Abort;
-use std::test::Fail;
 
 mod full;
 mod growths;
@@ -21,13 +20,14 @@ fn block(mode: Mode) -> Capability {
 }
 
 // A configuration with greatest 1,000 and these nodes.
-fn config(rt: &(impl Abort + AllocGlobal), nodes: &[(&str, u64)]) -> Result<Config, Fail> {
+fn config(rt: &(impl Abort + AllocGlobal), nodes: &[(&str, u64)]) -> Config {
     let mut list = Vec::new(rt.alloc());
     for (id, slots) in nodes {
         let id = NodeId::try_new(rt.alloc(), id).expect(rt, "a node id");
-        list.push(NodeSlots { id, slots: *slots })?;
+        list.push(NodeSlots { id, slots: *slots })
+            .expect(rt, "memory");
     }
-    Ok(Config::try_new(rt.alloc(), 1000, list).expect(rt, "a configuration"))
+    Config::try_new(rt.alloc(), 1000, list).expect(rt, "a configuration")
 }
 
 fn create(
@@ -36,17 +36,17 @@ fn create(
     required: u64,
     limit: u64,
     modes: &[Mode],
-) -> Result<Call, Fail> {
+) -> Call {
     let mut list = Vec::new(rt.alloc());
     for mode in modes {
-        list.push(block(*mode))?;
+        list.push(block(*mode)).expect(rt, "memory");
     }
-    Ok(Call::CreateVolume {
+    Call::CreateVolume {
         name: Name::try_new(rt.alloc(), name).expect(rt, "a name"),
         required,
         limit,
         capabilities: CapabilityList::try_new(list).expect(rt, "capabilities"),
-    })
+    }
 }
 
 fn id(rt: &(impl Abort + AllocGlobal), number: u64) -> VolumeId {
@@ -84,7 +84,7 @@ fn answers(
     status: Status,
     volume: Option<u64>,
     detail: &str,
-) -> Result<(), Fail> {
+) {
     let number = Number {
         session: 1,
         call: number,
@@ -103,5 +103,4 @@ fn answers(
         }
         Body::Call(_) => assert!(rt; false),
     }
-    Ok(())
 }

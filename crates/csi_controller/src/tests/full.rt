@@ -4,19 +4,18 @@ use crate::{Controller, ControllerRecord};
 use csi_types::{Mode, Name, Status};
 use std::alloc::Global;
 use std::process::Abort;
-use std::test::Fail;
 
 const MODE: Mode = Mode::SingleNodeWriter;
 
 // Volumes 1 to 4,096, `v1` to `v4096`, made by calls 1 to 4,096.
-fn full(rt: &(impl Abort + AllocGlobal)) -> Result<Controller, Fail> {
-    let mut c = Controller::new(rt.alloc(), config(rt, &[])?);
+fn full(rt: &(impl Abort + AllocGlobal)) -> Controller {
+    let mut c = Controller::new(rt.alloc(), config(rt, &[]));
     for volume in 1..=4096u64 {
-        let text = format!(in rt.alloc(); "v{volume}")?;
-        let make = create(rt, text.as_str(), 10, 0, &[MODE])?;
-        answers(rt, &mut c, volume, make, Status::Ok, Some(volume), "")?;
+        let text = format!(in rt.alloc(); "v{volume}").expect(rt, "memory");
+        let make = create(rt, text.as_str(), 10, 0, &[MODE]);
+        answers(rt, &mut c, volume, make, Status::Ok, Some(volume), "");
     }
-    Ok(c)
+    c
 }
 
 // The records differ in the row of volume 7 at most, and there in what is kept of the last call.
@@ -35,22 +34,21 @@ fn differ_in_volume_7(rt: &impl Abort, before: &ControllerRecord, after: &Contro
 }
 
 #[test]
-fn a_full_table_takes_no_other_name(rt: HostRuntime) -> Result<(), Fail> {
-    let mut c = full(&rt)?;
+fn a_full_table_takes_no_other_name(rt: HostRuntime) {
+    let mut c = full(&rt);
     let before = c.record(rt.alloc()).expect(&rt, "memory");
     assert_eq!(rt; before.next_id(), 4097);
     assert_eq!(rt; before.rows().len(), 4096);
-    let other = create(&rt, "other", 10, 0, &[MODE])?;
+    let other = create(&rt, "other", 10, 0, &[MODE]);
     let no_room = Status::ResourceExhausted;
-    answers(&rt, &mut c, 4097, other, no_room, None, "volumes")?;
+    answers(&rt, &mut c, 4097, other, no_room, None, "volumes");
     let after = c.record(rt.alloc()).expect(&rt, "memory");
     assert_eq!(rt; after.next_id(), 4097);
     assert!(rt; after.rows() == before.rows());
     let name = Name::try_new(rt.alloc(), "other").expect(&rt, "a name");
     assert_eq!(rt; c.id_of(&name), None);
-    let again = create(&rt, "v7", 10, 0, &[MODE])?;
-    answers(&rt, &mut c, 4098, again, Status::Ok, Some(7), "")?;
+    let again = create(&rt, "v7", 10, 0, &[MODE]);
+    answers(&rt, &mut c, 4098, again, Status::Ok, Some(7), "");
     let last = c.record(rt.alloc()).expect(&rt, "memory");
     differ_in_volume_7(&rt, &before, &last);
-    Ok(())
 }

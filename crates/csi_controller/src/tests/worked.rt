@@ -2,16 +2,15 @@
 use super::{answers, config, create, publish};
 use crate::Controller;
 use csi_types::{Call, Mode, Status};
-use std::test::Fail;
 
 #[test]
-fn one_node_at_a_time(rt: HostRuntime) -> Result<(), Fail> {
-    let nodes = config(&rt, &[("n1", 4), ("n2", 4)])?;
+fn one_node_at_a_time(rt: HostRuntime) {
+    let nodes = config(&rt, &[("n1", 4), ("n2", 4)]);
     let mut c = Controller::new(rt.alloc(), nodes);
     let b1 = Mode::SingleNodeWriter;
     let b3 = Mode::MultiNodeReaderOnly;
-    let make = create(&rt, "v", 10, 0, &[b1, b3])?;
-    answers(&rt, &mut c, 1, make, Status::Ok, Some(1), "")?;
+    let make = create(&rt, "v", 10, 0, &[b1, b3]);
+    answers(&rt, &mut c, 1, make, Status::Ok, Some(1), "");
     answers(
         &rt,
         &mut c,
@@ -20,7 +19,7 @@ fn one_node_at_a_time(rt: HostRuntime) -> Result<(), Fail> {
         Status::Ok,
         None,
         "",
-    )?;
+    );
     let refused = Status::FailedPrecondition;
     answers(
         &rt,
@@ -30,7 +29,7 @@ fn one_node_at_a_time(rt: HostRuntime) -> Result<(), Fail> {
         refused,
         None,
         "n1",
-    )?;
+    );
     answers(
         &rt,
         &mut c,
@@ -43,60 +42,37 @@ fn one_node_at_a_time(rt: HostRuntime) -> Result<(), Fail> {
 }
 
 #[test]
-fn one_writer_at_a_time(rt: HostRuntime) -> Result<(), Fail> {
-    let nodes = config(&rt, &[("n1", 4), ("n2", 4), ("n3", 4), ("n4", 4)])?;
+fn one_writer_at_a_time(rt: HostRuntime) {
+    let nodes = config(&rt, &[("n1", 4), ("n2", 4), ("n3", 4), ("n4", 4)]);
     let mut c = Controller::new(rt.alloc(), nodes);
     let b4 = Mode::MultiNodeSingleWriter;
-    let make = create(&rt, "v", 10, 0, &[b4])?;
-    answers(&rt, &mut c, 1, make, Status::Ok, Some(1), "")?;
-    answers(
-        &rt,
-        &mut c,
-        2,
-        publish(&rt, 1, "n1", b4, true),
-        Status::Ok,
-        None,
-        "",
-    )?;
-    answers(
-        &rt,
-        &mut c,
-        3,
-        publish(&rt, 1, "n2", b4, true),
-        Status::Ok,
-        None,
-        "",
-    )?;
-    answers(
-        &rt,
-        &mut c,
-        4,
-        publish(&rt, 1, "n3", b4, false),
-        Status::Ok,
-        None,
-        "",
-    )?;
-    let refused = Status::FailedPrecondition;
+    let make = create(&rt, "v", 10, 0, &[b4]);
+    answers(&rt, &mut c, 1, make, Status::Ok, Some(1), "");
+    for (number, node, readonly) in [(2, "n1", true), (3, "n2", true), (4, "n3", false)] {
+        let held = publish(&rt, 1, node, b4, readonly);
+        answers(&rt, &mut c, number, held, Status::Ok, None, "");
+    }
+    let second = publish(&rt, 1, "n4", b4, false);
     answers(
         &rt,
         &mut c,
         5,
-        publish(&rt, 1, "n4", b4, false),
-        refused,
+        second,
+        Status::FailedPrecondition,
         None,
         "n3",
-    )
+    );
 }
 
 #[test]
-fn a_node_has_its_slots(rt: HostRuntime) -> Result<(), Fail> {
-    let nodes = config(&rt, &[("n1", 1)])?;
+fn a_node_has_its_slots(rt: HostRuntime) {
+    let nodes = config(&rt, &[("n1", 1)]);
     let mut c = Controller::new(rt.alloc(), nodes);
     let b1 = Mode::SingleNodeWriter;
-    let first = create(&rt, "v", 10, 0, &[b1])?;
-    answers(&rt, &mut c, 1, first, Status::Ok, Some(1), "")?;
-    let second = create(&rt, "w", 10, 0, &[b1])?;
-    answers(&rt, &mut c, 2, second, Status::Ok, Some(2), "")?;
+    let first = create(&rt, "v", 10, 0, &[b1]);
+    answers(&rt, &mut c, 1, first, Status::Ok, Some(1), "");
+    let second = create(&rt, "w", 10, 0, &[b1]);
+    answers(&rt, &mut c, 2, second, Status::Ok, Some(2), "");
     answers(
         &rt,
         &mut c,
@@ -105,7 +81,7 @@ fn a_node_has_its_slots(rt: HostRuntime) -> Result<(), Fail> {
         Status::Ok,
         None,
         "",
-    )?;
+    );
     let full = Status::ResourceExhausted;
     answers(
         &rt,
@@ -115,7 +91,7 @@ fn a_node_has_its_slots(rt: HostRuntime) -> Result<(), Fail> {
         full,
         None,
         "slots",
-    )?;
+    );
     answers(
         &rt,
         &mut c,
@@ -128,46 +104,46 @@ fn a_node_has_its_slots(rt: HostRuntime) -> Result<(), Fail> {
 }
 
 #[test]
-fn a_name_is_used_once(rt: HostRuntime) -> Result<(), Fail> {
-    let mut c = Controller::new(rt.alloc(), config(&rt, &[])?);
+fn a_name_is_used_once(rt: HostRuntime) {
+    let mut c = Controller::new(rt.alloc(), config(&rt, &[]));
     let b1 = Mode::SingleNodeWriter;
     let taken = Status::AlreadyExists;
     answers(
         &rt,
         &mut c,
         1,
-        create(&rt, "v", 10, 0, &[b1])?,
+        create(&rt, "v", 10, 0, &[b1]),
         Status::Ok,
         Some(1),
         "",
-    )?;
+    );
     answers(
         &rt,
         &mut c,
         2,
-        create(&rt, "v", 5, 20, &[b1])?,
+        create(&rt, "v", 5, 20, &[b1]),
         Status::Ok,
         Some(1),
         "",
-    )?;
+    );
     answers(
         &rt,
         &mut c,
         3,
-        create(&rt, "v", 11, 0, &[b1])?,
+        create(&rt, "v", 11, 0, &[b1]),
         taken,
         None,
         "name",
-    )?;
+    );
     let delete = Call::DeleteVolume {
         id: super::id(&rt, 1),
     };
-    answers(&rt, &mut c, 4, delete, Status::Ok, None, "")?;
+    answers(&rt, &mut c, 4, delete, Status::Ok, None, "");
     answers(
         &rt,
         &mut c,
         5,
-        create(&rt, "v", 10, 0, &[b1])?,
+        create(&rt, "v", 10, 0, &[b1]),
         taken,
         None,
         "name",
@@ -175,18 +151,18 @@ fn a_name_is_used_once(rt: HostRuntime) -> Result<(), Fail> {
 }
 
 #[test]
-fn no_node_is_configured(rt: HostRuntime) -> Result<(), Fail> {
-    let mut c = Controller::new(rt.alloc(), config(&rt, &[])?);
+fn no_node_is_configured(rt: HostRuntime) {
+    let mut c = Controller::new(rt.alloc(), config(&rt, &[]));
     let b1 = Mode::SingleNodeWriter;
     answers(
         &rt,
         &mut c,
         1,
-        create(&rt, "v", 10, 0, &[b1])?,
+        create(&rt, "v", 10, 0, &[b1]),
         Status::Ok,
         Some(1),
         "",
-    )?;
+    );
     let publish = publish(&rt, 1, "n1", b1, false);
     answers(&rt, &mut c, 2, publish, Status::NotFound, None, "node")
 }
