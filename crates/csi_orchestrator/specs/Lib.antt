@@ -7,5 +7,6 @@ pub mod Due
 pub mod Commands
 pub mod Moves
 pub mod Agrees
+pub mod Following
 pub mod Laws
 pub mod Rows

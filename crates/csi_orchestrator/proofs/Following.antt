@@ -1,0 +1,563 @@
+-- Why what an orchestrator shows can be kept up item by item.
+use Rattle.std.proofs.Common.{◌≡◌, ◌≢◌, ◌⊎◌, ◌+◌, ℕ, List, [], ◌∷◌, Bool, true, false, cond, refl, sym, ◌∙◌, ap, subst, inl, inr, arith}
+use Rattle.std.specs.Prelude.{Option, Some, None, min, find, filter, filter_map, option_and_then, ◌&&◌, ◌||◌}
+use Rattle.std.specs.List.{list_any, cons_option}
+use Rattle.std.specs.Option.{option_or}
+use Rattle.std.proofs.lemmas.Bool.{false≢true}
+use Rattle.std.proofs.lemmas.Bool.Decides.{nat_tests}
+use Rattle.csi_types.specs.declared.call.Call.{Call}
+use Rattle.csi_types.specs.declared.call.Call.TheVariants as calls
+use Rattle.csi_types.specs.declared.call.Party.{Party}
+use Rattle.csi_types.specs.declared.call.Party.TheVariants.{Controller, Node}
+use Rattle.csi_types.specs.declared.number.Number.{Number}
+use Rattle.csi_types.specs.declared.status.Status.{Status}
+use Rattle.csi_types.specs.Lists.{IsAmong}
+use Rattle.csi_types.specs.Reply.{is_ok_status}
+use Rattle.csi_types.specs.Same.{same_text, same_number}
+use Rattle.csi_types.proofs.Among.{among-find}
+use Rattle.csi_types.proofs.Equality.{same_text-tells, same_number-tells}
+use Rattle.csi_types.proofs.Lists.{find-passes}
+use Rattle.csi_orchestrator.specs.declared.thing.Thing.{Thing}
+use Rattle.csi_orchestrator.specs.declared.thing.Thing.TheVariants.{Exists, Attached, Staged, Published}
+use Rattle.csi_orchestrator.specs.declared.thing.Known.TheVariants.{No, Maybe}
+use Rattle.csi_orchestrator.specs.Thing.{Issued, same_thing, thing_at, is_thing, is_doing, touches}
+use Rattle.csi_orchestrator.specs.History.{Goal, Item, Started, Sent, Accepted, Closed, Noted, Held, Arguments, History, with_items}
+use Rattle.csi_orchestrator.specs.Readings.{newest, issued_in, issued_of, is_success_of, has_success, known_by, known, id_in, id_by, id_of, held_by, noted_for, arguments_in_goal, open_in, open_call, unless, is_number_of, calls_since, last_number, distinct, name_noted}
+use Rattle.csi_orchestrator.specs.WellFormed.{IsNext, AreWellFormed, IsWellFormed}
+use Rattle.csi_orchestrator.specs.Agrees.{View, Agrees}
+use Rattle.csi_orchestrator.specs.Following.{after_started, after_sent, after_accepted, after_closed, after_noted, told, id_brought, DetachesSomething}
+use Rattle.csi_orchestrator.proofs.Numbers.{other-number, sent-before, one-call, some-one, none-some, unless-some, open-sent, fresh-silent, open-silent}
+
+-- texts are compared alike from both sides
+pub same_text-flip : (a b : List ℕ) → same_text a b ≡ same_text b a
+same_text-flip a b = by (same_text a b) (same_text b a) refl refl
+  where
+    by : (s t : Bool) → same_text a b ≡ s → same_text b a ≡ t → s ≡ t
+    by true true e f = refl
+    by false false e f = refl
+    by true false e f = sym ((same_text-tells b a).1 (sym ((same_text-tells a b).0 e))) ∙ f
+    by false true e f = sym e ∙ (same_text-tells a b).1 (sym ((same_text-tells b a).0 f))
+
+-- the name of a thing
+abbrev pub name_in : Thing → List ℕ
+name_in (Exists name) = name
+name_in (Attached name node) = name
+name_in (Staged name node) = name
+name_in (Published name node target) = name
+
+left-true : (a b : Bool) → (a && b) ≡ true → a ≡ true
+left-true true b e = refl
+left-true false b e = e
+
+same_thing-name : (thing other : Thing) → same_thing thing other ≡ true → same_text (name_in thing) (name_in other) ≡ true
+same_thing-name (Exists name) (Exists other) e = e
+same_thing-name (Exists name) (Attached other there) e = absurd (false≢true e)
+same_thing-name (Exists name) (Staged other there) e = absurd (false≢true e)
+same_thing-name (Exists name) (Published other there aim) e = absurd (false≢true e)
+same_thing-name (Attached name node) (Exists other) e = absurd (false≢true e)
+same_thing-name (Attached name node) (Attached other there) e = left-true _ _ e
+same_thing-name (Attached name node) (Staged other there) e = absurd (false≢true e)
+same_thing-name (Attached name node) (Published other there aim) e = absurd (false≢true e)
+same_thing-name (Staged name node) (Exists other) e = absurd (false≢true e)
+same_thing-name (Staged name node) (Attached other there) e = absurd (false≢true e)
+same_thing-name (Staged name node) (Staged other there) e = left-true _ _ e
+same_thing-name (Staged name node) (Published other there aim) e = absurd (false≢true e)
+same_thing-name (Published name node target) (Exists other) e = absurd (false≢true e)
+same_thing-name (Published name node target) (Attached other there) e = absurd (false≢true e)
+same_thing-name (Published name node target) (Staged other there) e = absurd (false≢true e)
+same_thing-name (Published name node target) (Published other there aim) e = left-true _ _ (left-true _ _ e)
+
+is_thing-name : (thing : Thing) (name : List ℕ) (party : Party) (call : Call) → is_thing thing (thing_at name party call) ≡ true → same_text (name_in thing) name ≡ true
+is_thing-name thing name party (calls.CreateVolume create required limit capabilities) e = same_thing-name thing (Exists name) e
+is_thing-name thing name party (calls.DeleteVolume id) e = same_thing-name thing (Exists name) e
+is_thing-name thing name party (calls.ControllerPublishVolume id node capability readonly) e = same_thing-name thing (Attached name node) e
+is_thing-name thing name party (calls.ControllerUnpublishVolume id node) e = same_thing-name thing (Attached name node) e
+is_thing-name thing name (Node node) (calls.NodeStageVolume id capability) e = same_thing-name thing (Staged name node) e
+is_thing-name thing name (Node node) (calls.NodeUnstageVolume id) e = same_thing-name thing (Staged name node) e
+is_thing-name thing name (Node node) (calls.NodePublishVolume id target capability readonly) e = same_thing-name thing (Published name node target) e
+is_thing-name thing name (Node node) (calls.NodeUnpublishVolume id target) e = same_thing-name thing (Published name node target) e
+is_thing-name thing name Controller (calls.NodeStageVolume id capability) e = absurd (false≢true e)
+is_thing-name thing name Controller (calls.NodeUnstageVolume id) e = absurd (false≢true e)
+is_thing-name thing name Controller (calls.NodePublishVolume id target capability readonly) e = absurd (false≢true e)
+is_thing-name thing name Controller (calls.NodeUnpublishVolume id target) e = absurd (false≢true e)
+
+-- a call of a thing is of its name
+pub touches-name : (thing : Thing) (issued : Issued) → touches thing issued ≡ true → same_text issued.name (name_in thing) ≡ true
+touches-name thing issued e = same_text-flip issued.name (name_in thing) ∙ is_thing-name thing issued.name issued.party issued.call e
+
+-- an item that tells of no success changes no mark
+known-quiet : (item : Item) (items : List Item) (thing : Thing) (o : Option Issued) → ((number : Number) → is_success_of number item ≡ false) → known_by (item ∷ items) thing o ≡ known_by items thing o
+known-quiet item items thing None quiet = refl
+known-quiet item items thing (Some issued) quiet = rw (quiet issued.number) refl
+
+-- and no id
+id-quiet : (item : Item) (items : List Item) (issued : Issued) (call : Call) → id_in issued.number item ≡ None → id_by (item ∷ items) issued call ≡ id_by items issued call
+id-quiet item items issued (calls.CreateVolume name required limit capabilities) quiet = rw quiet refl
+id-quiet item items issued (calls.DeleteVolume id) quiet = refl
+id-quiet item items issued (calls.ControllerPublishVolume id node capability readonly) quiet = refl
+id-quiet item items issued (calls.ControllerUnpublishVolume id node) quiet = refl
+id-quiet item items issued (calls.NodeStageVolume id capability) quiet = refl
+id-quiet item items issued (calls.NodeUnstageVolume id) quiet = refl
+id-quiet item items issued (calls.NodePublishVolume id target capability readonly) quiet = refl
+id-quiet item items issued (calls.NodeUnpublishVolume id target) quiet = refl
+
+ids-quiet : (item : Item) (items : List Item) (sent : List Issued) → ((issued : Issued) → IsAmong issued sent → id_in issued.number item ≡ None)
+    → filter_map (λ (issued : Issued). id_by (item ∷ items) issued issued.call) sent ≡ filter_map (λ (issued : Issued). id_by items issued issued.call) sent
+ids-quiet item items [] quiet = refl
+ids-quiet item items (issued ∷ others) quiet =
+    ap (λ o. cons_option o (filter_map (λ (i : Issued). id_by (item ∷ items) i i.call) others)) (id-quiet item items issued issued.call (quiet issued (inl refl)))
+    ∙ ap (cons_option (id_by items issued issued.call)) (ids-quiet item items others (λ i among. quiet i (inr among)))
+
+-- no id was brought yet
+no-id : (items : List Item) (issued : Issued) (call : Call) → filter_map (id_in issued.number) items ≡ [] → id_by items issued call ≡ None
+no-id items issued (calls.CreateVolume name required limit capabilities) none = ap newest none
+no-id items issued (calls.DeleteVolume id) none = refl
+no-id items issued (calls.ControllerPublishVolume id node capability readonly) none = refl
+no-id items issued (calls.ControllerUnpublishVolume id node) none = refl
+no-id items issued (calls.NodeStageVolume id capability) none = refl
+no-id items issued (calls.NodeUnstageVolume id) none = refl
+no-id items issued (calls.NodePublishVolume id target capability readonly) none = refl
+no-id items issued (calls.NodeUnpublishVolume id target) none = refl
+
+-- a session starts
+pub started-follows : (view : View) (history : History) (session : ℕ) → Agrees view history → Agrees (after_started session view) (with_items history (Started session ∷ []))
+started-follows view history session agrees =
+    record {
+      same_last = refl;
+      same_rows = agrees.same_rows;
+      same_marks = λ thing. agrees.same_marks thing ∙ sym (quiet thing);
+      same_ids = λ name. agrees.same_ids name ∙ sym (ap newest (ids-quiet (Started session) history.items (issued_of history name) (λ issued among. refl)));
+      same_goals = agrees.same_goals;
+      same_arguments = agrees.same_arguments;
+      same_holdings = λ name node there. agrees.same_holdings name node (λ e. there (quiet (Attached name node) ∙ e));
+      same_open_calls = λ name. refl;
+      same_counts = agrees.same_counts;
+    }
+  where
+    quiet : (thing : Thing) → known (with_items history (Started session ∷ [])) thing ≡ known history thing
+    quiet thing = known-quiet (Started session) history.items thing (find (touches thing) (issued_in history.items)) (λ number. refl)
+
+-- a call that publishes nothing at the node, and yet is of its attachment, detaches
+attach-held : (name node : List ℕ) (own : List ℕ) (party : Party) (call : Call) → is_thing (Attached name node) (thing_at own party call) ≡ true → held_by node call ≡ None → is_doing call ≡ false
+attach-held name node own party (calls.CreateVolume create required limit capabilities) of none = absurd (false≢true of)
+attach-held name node own party (calls.DeleteVolume id) of none = refl
+attach-held name node own party (calls.ControllerPublishVolume id other capability readonly) of none =
+    let there : same_text other node ≡ true = same_text-flip other node ∙ right (same_text name own) (same_text node other) of in
+    absurd (clash _ (sym none ∙ ap (λ b. cond b (Some (let h : Held = record { capability = capability; readonly = readonly } in h)) None) there))
+  where
+    right : (a b : Bool) → (a && b) ≡ true → b ≡ true
+    right true b e = e
+    right false b e = absurd (false≢true e)
+
+    clash : (h : Held) → None ≡ Some h → ⊥
+    clash h e = cc
+attach-held name node own party (calls.ControllerUnpublishVolume id other) of none = refl
+attach-held name node own (Node there) (calls.NodeStageVolume id capability) of none = absurd (false≢true of)
+attach-held name node own Controller (calls.NodeStageVolume id capability) of none = absurd (false≢true of)
+attach-held name node own party (calls.NodeUnstageVolume id) of none = refl
+attach-held name node own (Node there) (calls.NodePublishVolume id target capability readonly) of none = absurd (false≢true of)
+attach-held name node own Controller (calls.NodePublishVolume id target capability readonly) of none = absurd (false≢true of)
+attach-held name node own party (calls.NodeUnpublishVolume id target) of none = refl
+
+-- a call is sent
+pub sent-follows : (view : View) (history : History) (issued : Issued) → IsWellFormed history → Agrees view history → IsNext (last_number history) issued.number
+    → DetachesSomething history issued → Agrees (after_sent issued view) (with_items history (Sent issued ∷ []))
+sent-follows view history issued form agrees next detaches =
+    record {
+      same_last = refl;
+      same_rows = agrees.same_rows;
+      same_marks = λ thing. mark thing (touches thing issued);
+      same_ids = λ name. agrees.same_ids name ∙ sym (id_kept name (same_text issued.name name));
+      same_goals = agrees.same_goals;
+      same_arguments = agrees.same_arguments;
+      same_holdings = λ name node there. holding name node (same_text issued.name name) refl there;
+      same_open_calls = λ name. ap (λ o. cond (same_text issued.name name) (Some issued) o) (agrees.same_open_calls name);
+      same_counts = λ name. count (same_text issued.name name) (view.counts name) (calls_since name history.items) (agrees.same_counts name);
+    }
+  where
+    later : List Item
+    later = Sent issued ∷ history.items
+
+    silent : (has_success history.items issued.number ≡ false) × (filter_map (id_in issued.number) history.items ≡ [])
+    silent = fresh-silent history.began history.items issued.number form next.later
+
+    mark : (thing : Thing) (b : Bool) → cond b Maybe (view.marks thing) ≡ known_by (Sent issued ∷ history.items) thing (cond b (Some issued) (find (touches thing) (issued_in history.items)))
+    mark thing true = rw (silent.0) refl
+    mark thing false = agrees.same_marks thing ∙ sym (known-quiet (Sent issued) history.items thing (find (touches thing) (issued_in history.items)) (λ number. refl))
+
+    id_kept : (name : List ℕ) (b : Bool)
+        → newest (filter_map (λ (i : Issued). id_by (Sent issued ∷ history.items) i i.call) (cond b (issued ∷ issued_of history name) (issued_of history name))) ≡ id_of history name
+    id_kept name true =
+        ap (λ o. newest (cons_option o (filter_map (λ (i : Issued). id_by (Sent issued ∷ history.items) i i.call) (issued_of history name)))) (no-id (Sent issued ∷ history.items) issued issued.call (silent.1))
+        ∙ ap newest (ids-quiet (Sent issued) history.items (issued_of history name) (λ i among. refl))
+    id_kept name false = ap newest (ids-quiet (Sent issued) history.items (issued_of history name) (λ i among. refl))
+
+    unmarked : (name node : List ℕ) → touches (Attached name node) issued ≡ false → known (with_items history (Sent issued ∷ [])) (Attached name node) ≡ known history (Attached name node)
+    unmarked name node e =
+        ap (λ b. known_by (Sent issued ∷ history.items) (Attached name node) (cond b (Some issued) (find (touches (Attached name node)) (issued_in history.items)))) e
+        ∙ known-quiet (Sent issued) history.items (Attached name node) (find (touches (Attached name node)) (issued_in history.items)) (λ number. refl)
+
+    -- where it may be attached still, it may have been before
+    was_there : (name node : List ℕ) → same_text issued.name name ≡ true → held_by node issued.call ≡ None → known (with_items history (Sent issued ∷ [])) (Attached name node) ≢ No
+        → (b : Bool) → touches (Attached name node) issued ≡ b → known history (Attached name node) ≢ No
+    was_there name node own none there true of =
+        let same : issued.name ≡ name = (same_text-tells issued.name name).0 own in
+        subst (λ n. known history (Attached n node) ≢ No) same
+        (detaches node (subst (λ n. touches (Attached n node) issued ≡ true) (sym same) of) (attach-held name node issued.name issued.party issued.call of none))
+    was_there name node own none there false of = λ e. there (unmarked name node of ∙ e)
+
+    holding : (name node : List ℕ) (b : Bool) → same_text issued.name name ≡ b → known (with_items history (Sent issued ∷ [])) (Attached name node) ≢ No
+        → cond b (option_or (held_by node issued.call) (view.holdings name node)) (view.holdings name node) ≡ newest (filter_map (λ (i : Issued). held_by node i.call) (cond b (issued ∷ issued_of history name) (issued_of history name)))
+    holding name node true own there = by (held_by node issued.call) refl
+      where
+        by : (o : Option Held) → held_by node issued.call ≡ o → option_or o (view.holdings name node) ≡ newest (cons_option o (filter_map (λ (i : Issued). held_by node i.call) (issued_of history name)))
+        by (Some here) e = refl
+        by None e = agrees.same_holdings name node (was_there name node own e there (touches (Attached name node) issued) refl)
+    holding name node false own there = agrees.same_holdings name node (other (touches (Attached name node) issued) refl)
+      where
+        other : (b : Bool) → touches (Attached name node) issued ≡ b → known history (Attached name node) ≢ No
+        other true of = absurd (false≢true (sym own ∙ touches-name (Attached name node) issued of))
+        other false of = λ e. there (unmarked name node of ∙ e)
+
+    count : (b : Bool) (k n : ℕ) → k ≡ min 3 n → cond b (min 3 (1 + k)) k ≡ min 3 (cond b (1 + n) n)
+    count true k n e = grind (arith, nat_tests, e)
+    count false k n e = e
+
+number-same : (number : Number) → same_number number number ≡ true
+number-same number = (same_number-tells number number).1 refl
+
+text-same : (name : List ℕ) → same_text name name ≡ true
+text-same name = (same_text-tells name name).1 refl
+
+-- the open call of a name is closed, and every other one stays open
+unless-follows : (history : History) (issued : Issued) (name : List ℕ) → IsWellFormed history → open_call history issued.name ≡ Some issued
+    → cond (same_text issued.name name) None (open_call history name) ≡ unless issued.number (open_call history name)
+unless-follows history issued name form is_open = by (same_text issued.name name) refl
+  where
+    own : Some issued ≡ open_call history name → None ≡ unless issued.number (open_call history name)
+    own e = subst (λ (o : Option Issued). None ≡ unless issued.number o) e (ap (λ b. cond b None (Some issued)) (sym (number-same issued.number)))
+
+    -- another name's call has another number
+    other : same_text issued.name name ≡ false → (o : Option Issued) → open_call history name ≡ o → o ≡ unless issued.number o
+    other differs None e = refl
+    other differs (Some call) e = by_number (same_number call.number issued.number) refl
+      where
+        by_number : (b : Bool) → same_number call.number issued.number ≡ b → Some call ≡ cond (same_number call.number issued.number) None (Some call)
+        by_number true f =
+            let theirs = open-sent name history.items call e in
+            let ours = open-sent issued.name history.items issued is_open in
+            let same : call ≡ issued = one-call history.began history.items call issued form theirs.0 ours.0 ((same_number-tells call.number issued.number).0 f) in
+            absurd (false≢true (sym differs ∙ ap (λ (c : Issued). same_text c.name name) (sym same) ∙ theirs.1))
+        by_number false f = ap (λ b. cond b None (Some call)) (sym f)
+
+    by : (b : Bool) → same_text issued.name name ≡ b → cond b None (open_call history name) ≡ unless issued.number (open_call history name)
+    by true e = own (sym is_open ∙ ap (open_call history) ((same_text-tells issued.name name).0 e))
+    by false e = other e (open_call history name) refl
+
+-- a call is given up
+pub closed-follows : (view : View) (history : History) (issued : Issued) → IsWellFormed history → Agrees view history → open_call history issued.name ≡ Some issued
+    → Agrees (after_closed issued view) (with_items history (Closed issued.number ∷ []))
+closed-follows view history issued form agrees is_open =
+    record {
+      same_last = agrees.same_last;
+      same_rows = agrees.same_rows;
+      same_marks = λ thing. agrees.same_marks thing ∙ sym (quiet thing);
+      same_ids = λ name. agrees.same_ids name ∙ sym (ap newest (ids-quiet (Closed issued.number) history.items (issued_of history name) (λ i among. refl)));
+      same_goals = agrees.same_goals;
+      same_arguments = agrees.same_arguments;
+      same_holdings = λ name node there. agrees.same_holdings name node (λ e. there (quiet (Attached name node) ∙ e));
+      same_open_calls = λ name. ap (λ o. cond (same_text issued.name name) None o) (agrees.same_open_calls name) ∙ unless-follows history issued name form is_open;
+      same_counts = agrees.same_counts;
+    }
+  where
+    quiet : (thing : Thing) → known (with_items history (Closed issued.number ∷ [])) thing ≡ known history thing
+    quiet thing = known-quiet (Closed issued.number) history.items thing (find (touches thing) (issued_in history.items)) (λ number. refl)
+
+-- the names for which something was noted, however often
+any-distinct : (name : List ℕ) (names : List (List ℕ)) → list_any (same_text name) (distinct names) ≡ list_any (same_text name) names
+any-distinct name [] = refl
+any-distinct name (other ∷ others) = by (list_any (same_text other) others) refl (any-distinct name others)
+  where
+    -- the name is there again
+    again : list_any (same_text other) others ≡ true → (b : Bool) → same_text name other ≡ b → list_any (same_text name) others ≡ (b || list_any (same_text name) others)
+    again there true e = subst (λ n. list_any (same_text n) others ≡ true) (sym ((same_text-tells name other).0 e)) there
+    again there false e = refl
+
+    by : (b : Bool) → list_any (same_text other) others ≡ b → list_any (same_text name) (distinct others) ≡ list_any (same_text name) others
+        → list_any (same_text name) (cond b (distinct others) (other ∷ distinct others)) ≡ (same_text name other || list_any (same_text name) others)
+    by true there rest = rest ∙ again there (same_text name other) refl
+    by false there rest = ap (λ b. same_text name other || b) rest
+
+-- something is noted
+pub noted-follows : (view : View) (history : History) (name : List ℕ) (goal : Option Goal) → Agrees view history → Agrees (after_noted name goal view) (with_items history (Noted name goal ∷ []))
+noted-follows view history name goal agrees =
+    record {
+      same_last = agrees.same_last;
+      same_rows = λ other. row other (same_text name other) refl;
+      same_marks = λ thing. agrees.same_marks thing ∙ sym (quiet thing);
+      same_ids = λ other. agrees.same_ids other ∙ sym (ap newest (ids-quiet (Noted name goal) history.items (issued_of history other) (λ i among. refl)));
+      same_goals = λ other. wanted other (same_text name other);
+      same_arguments = λ other. told_so other (same_text name other);
+      same_holdings = λ other node there. agrees.same_holdings other node (λ e. there (quiet (Attached other node) ∙ e));
+      same_open_calls = agrees.same_open_calls;
+      same_counts = λ other. count (same_text name other) (view.counts other) (calls_since other history.items) (agrees.same_counts other);
+    }
+  where
+    quiet : (thing : Thing) → known (with_items history (Noted name goal ∷ [])) thing ≡ known history thing
+    quiet thing = known-quiet (Noted name goal) history.items thing (find (touches thing) (issued_in history.items)) (λ number. refl)
+
+    row : (other : List ℕ) (b : Bool) → same_text name other ≡ b → cond b true (view.rows other) ≡ list_any (same_text other) (distinct (name ∷ filter_map name_noted history.items))
+    row other b e =
+        by b e ∙ sym (any-distinct other (name ∷ filter_map name_noted history.items))
+      where
+        by : (b : Bool) → same_text name other ≡ b → cond b true (view.rows other) ≡ (same_text other name || list_any (same_text other) (filter_map name_noted history.items))
+        by true f = ap (λ t. t || list_any (same_text other) (filter_map name_noted history.items)) (sym (same_text-flip other name ∙ f))
+        by false f =
+            agrees.same_rows other ∙ any-distinct other (filter_map name_noted history.items)
+            ∙ ap (λ t. t || list_any (same_text other) (filter_map name_noted history.items)) (sym (same_text-flip other name ∙ f))
+
+    wanted : (other : List ℕ) (b : Bool) → cond b goal (view.goals other) ≡ option_and_then (λ (g : Option Goal). g) (newest (cons_option (cond b (Some goal) None) (filter_map (noted_for other) history.items)))
+    wanted other true = refl
+    wanted other false = agrees.same_goals other
+
+    told_so : (other : List ℕ) (b : Bool) → cond b (option_or (arguments_in_goal goal) (view.arguments other)) (view.arguments other)
+        ≡ newest (cons_option (option_and_then arguments_in_goal (cond b (Some goal) None)) (filter_map (λ (item : Item). option_and_then arguments_in_goal (noted_for other item)) history.items))
+    told_so other true = by (arguments_in_goal goal)
+      where
+        by : (o : Option Arguments) → option_or o (view.arguments other) ≡ newest (cons_option o (filter_map (λ (item : Item). option_and_then arguments_in_goal (noted_for other item)) history.items))
+        by (Some arguments) = refl
+        by None = agrees.same_arguments other
+    told_so other false = agrees.same_arguments other
+
+    count : (b : Bool) (k n : ℕ) → k ≡ min 3 n → cond b 0 k ≡ min 3 (cond b 0 n)
+    count true k n e = refl
+    count false k n e = e
+
+passes : {X : Type 0} (p : X → Bool) (xs : List X) (x : X) → IsAmong x (filter p xs) → IsAmong x xs × (p x ≡ true)
+passes p [] x among = absurd among
+passes p (y ∷ ys) x among = by (p y) refl among (passes p ys x)
+  where
+    by : (b : Bool) → p y ≡ b → IsAmong x (cond b (y ∷ filter p ys) (filter p ys)) → (IsAmong x (filter p ys) → IsAmong x ys × (p x ≡ true)) → ((x ≡ y) ⊎ IsAmong x ys) × (p x ≡ true)
+    by true e (inl is) rest = (inl is, ap p is ∙ e)
+    by true e (inr there) rest = let found = rest there in (inr found.0, found.1)
+    by false e there rest = let found = rest there in (inr found.0, found.1)
+
+any-among : {X : Type 0} (p : X → Bool) (xs : List X) (x : X) → IsAmong x xs → p x ≡ true → list_any p xs ≡ true
+any-among p [] x among e = absurd among
+any-among p (y ∷ ys) x (inl is) e = ap (λ b. b || list_any p ys) (ap p (sym is) ∙ e)
+any-among p (y ∷ ys) x (inr there) e = by (p y) (any-among p ys x there e)
+  where
+    by : (b : Bool) → list_any p ys ≡ true → (b || list_any p ys) ≡ true
+    by true h = refl
+    by false h = h
+
+any-none : {X : Type 0} (p : X → Bool) (xs : List X) → ((x : X) → IsAmong x xs → p x ≡ false) → list_any p xs ≡ false
+any-none p [] none = refl
+any-none p (y ∷ ys) none = rw (none y (inl refl)) (any-none p ys (λ x among. none x (inr among)))
+
+and-false : (b : Bool) → (b && false) ≡ false
+and-false true = refl
+and-false false = refl
+
+newest-cons : {X : Type 0} (o : Option X) (xs : List X) → newest (cons_option o xs) ≡ option_or o (newest xs)
+newest-cons None xs = refl
+newest-cons (Some x) xs = refl
+
+same_number-flip : (a b : Number) → same_number a b ≡ same_number b a
+same_number-flip a b = by (same_number a b) (same_number b a) refl refl
+  where
+    by : (s t : Bool) → same_number a b ≡ s → same_number b a ≡ t → s ≡ t
+    by true true e f = refl
+    by false false e f = refl
+    by true false e f = sym ((same_number-tells b a).1 (sym ((same_number-tells a b).0 e))) ∙ f
+    by false true e f = sym e ∙ (same_number-tells a b).1 (sym ((same_number-tells b a).0 f))
+
+-- the open call is the latest of its name
+record IsLatest (name : List ℕ) (items : List Item) (call : Issued) : Type 0 where
+  others : List Issued
+  first : filter (λ (i : Issued). same_text i.name name) (issued_in items) ≡ call ∷ others
+  numbers : (other : Issued) → IsAmong other others → same_number call.number other.number ≡ false
+
+open-latest : (began : Number) (name : List ℕ) (items : List Item) (call : Issued) → AreWellFormed began items → open_in name items ≡ Some call → IsLatest name items call
+open-latest began name [] call form e = absurd (none-some call e)
+open-latest began name (Started session ∷ older) call form e = absurd (none-some call e)
+open-latest began name (Sent issued ∷ older) call form e =
+    let parts = by (same_text issued.name name) e (open-latest began name older call form.1) in
+    record { others = parts.0; first = parts.1; numbers = parts.2 }
+  where
+    differs : (other : Issued) → IsAmong other (filter (λ (i : Issued). same_text i.name name) (issued_in older)) → same_number issued.number other.number ≡ false
+    differs other among =
+        same_number-flip issued.number other.number
+        ∙ other-number other.number issued.number (sent-before began older issued.number other form.1 form.0.0.later (passes (λ (i : Issued). same_text i.name name) (issued_in older) other among).0)
+
+    by : (b : Bool) → cond b (Some issued) (open_in name older) ≡ Some call → (open_in name older ≡ Some call → IsLatest name older call)
+        → (others : List Issued) × (cond b (issued ∷ filter (λ (i : Issued). same_text i.name name) (issued_in older)) (filter (λ (i : Issued). same_text i.name name) (issued_in older)) ≡ call ∷ others)
+        × ((other : Issued) → IsAmong other others → same_number call.number other.number ≡ false)
+    by true f rest =
+        let is : issued ≡ call = some-one issued call f in (
+          filter (λ (i : Issued). same_text i.name name) (issued_in older),
+          ap (λ (c : Issued). c ∷ filter (λ (i : Issued). same_text i.name name) (issued_in older)) is,
+          λ other among. ap (λ (c : Issued). same_number c.number other.number) (sym is) ∙ differs other among,
+        )
+    by false f rest = let latest = rest f in (latest.others, latest.first, latest.numbers)
+open-latest began name (Accepted number status id ∷ older) call form e = let latest = open-latest began name older call form.1 (unless-some number (open_in name older) call e).0 in record { others = latest.others; first = latest.first; numbers = latest.numbers }
+open-latest began name (Closed number ∷ older) call form e = let latest = open-latest began name older call form.1 (unless-some number (open_in name older) call e).0 in record { others = latest.others; first = latest.first; numbers = latest.numbers }
+open-latest began name (Noted other goal ∷ older) call form e = let latest = open-latest began name older call form.1 e in record { others = latest.others; first = latest.first; numbers = latest.numbers }
+
+-- the open call is the latest of each thing that it touches
+latest-touching : (began : Number) (name : List ℕ) (items : List Item) (call : Issued) (thing : Thing) → AreWellFormed began items → open_in name items ≡ Some call → touches thing call ≡ true
+    → find (touches thing) (issued_in items) ≡ Some call
+latest-touching began name [] call thing form e of = absurd (none-some call e)
+latest-touching began name (Started session ∷ older) call thing form e of = absurd (none-some call e)
+latest-touching began name (Sent issued ∷ older) call thing form e of = by (same_text issued.name name) refl e (latest-touching began name older call thing form.1)
+  where
+    own : issued ≡ call → cond (touches thing issued) (Some issued) (find (touches thing) (issued_in older)) ≡ Some call
+    own is = ap (λ b. cond b (Some issued) (find (touches thing) (issued_in older))) (ap (touches thing) is ∙ of) ∙ ap Some is
+
+    -- another name's call doesn't touch it
+    other : same_text issued.name name ≡ false → open_in name older ≡ Some call → (b : Bool) → touches thing issued ≡ b → b ≡ false
+    other differs f true its =
+        let there : same_text call.name name ≡ true = (open-sent name older call f).1 in
+        let theirs : call.name ≡ name = (same_text-tells call.name name).0 there in
+        let ours : call.name ≡ name_in thing = (same_text-tells call.name (name_in thing)).0 (touches-name thing call of) in
+        absurd (false≢true (sym differs ∙ subst (λ n. same_text issued.name n ≡ true) (sym ours ∙ theirs) (touches-name thing issued its)))
+    other differs f false its = refl
+
+    by : (b : Bool) → same_text issued.name name ≡ b → cond b (Some issued) (open_in name older) ≡ Some call
+        → (open_in name older ≡ Some call → touches thing call ≡ true → find (touches thing) (issued_in older) ≡ Some call)
+        → cond (touches thing issued) (Some issued) (find (touches thing) (issued_in older)) ≡ Some call
+    by true s f rest = own (some-one issued call f)
+    by false s f rest = ap (λ b. cond b (Some issued) (find (touches thing) (issued_in older))) (other s f (touches thing issued) refl) ∙ rest f of
+latest-touching began name (Accepted number status id ∷ older) call thing form e of = latest-touching began name older call thing form.1 (unless-some number (open_in name older) call e).0 of
+latest-touching began name (Closed number ∷ older) call thing form e of = latest-touching began name older call thing form.1 (unless-some number (open_in name older) call e).0 of
+latest-touching began name (Noted other goal ∷ older) call thing form e of = latest-touching began name older call thing form.1 e of
+
+-- the id that a success brings
+id-brought : (items : List Item) (issued : Issued) (call : Call) (status : Status) (id : Option ℕ) → is_ok_status status ≡ true → filter_map (id_in issued.number) items ≡ []
+    → id_by (Accepted issued.number status id ∷ items) issued call ≡ id_brought call id
+id-brought items issued (calls.CreateVolume name required limit capabilities) status id fine none =
+    ap (λ b. newest (cons_option (cond (b && is_ok_status status) id None) (filter_map (id_in issued.number) items))) (number-same issued.number)
+    ∙ ap (λ b. newest (cons_option (cond b id None) (filter_map (id_in issued.number) items))) fine
+    ∙ ap (λ xs. newest (cons_option id xs)) none ∙ by id
+  where
+    by : (o : Option ℕ) → newest (cons_option o []) ≡ o
+    by None = refl
+    by (Some x) = refl
+id-brought items issued (calls.DeleteVolume volume) status id fine none = refl
+id-brought items issued (calls.ControllerPublishVolume volume node capability readonly) status id fine none = refl
+id-brought items issued (calls.ControllerUnpublishVolume volume node) status id fine none = refl
+id-brought items issued (calls.NodeStageVolume volume capability) status id fine none = refl
+id-brought items issued (calls.NodeUnstageVolume volume) status id fine none = refl
+id-brought items issued (calls.NodePublishVolume volume target capability readonly) status id fine none = refl
+id-brought items issued (calls.NodeUnpublishVolume volume target) status id fine none = refl
+
+-- a reply is taken
+pub accepted-follows : (view : View) (history : History) (issued : Issued) (status : Status) (id : Option ℕ) → IsWellFormed history → Agrees view history → open_call history issued.name ≡ Some issued
+    → Agrees (after_accepted issued status id view) (with_items history (Accepted issued.number status id ∷ []))
+accepted-follows view history issued status id form agrees is_open =
+    record {
+      same_last = agrees.same_last;
+      same_rows = agrees.same_rows;
+      same_marks = λ thing. mark thing (is_ok_status status) refl (touches thing issued) refl;
+      same_ids = λ name. an_id name (is_ok_status status) refl (same_text issued.name name) refl;
+      same_goals = agrees.same_goals;
+      same_arguments = agrees.same_arguments;
+      same_holdings = λ name node there. agrees.same_holdings name node (was_there name node there (is_ok_status status) refl (touches (Attached name node) issued) refl);
+      same_open_calls = λ name. ap (λ o. cond (same_text issued.name name) None o) (agrees.same_open_calls name) ∙ unless-follows history issued name form is_open;
+      same_counts = λ name. count (is_ok_status status && same_text issued.name name) (view.counts name) (calls_since name history.items) (agrees.same_counts name)
+          ∙ ap (λ b. min 3 (cond (is_ok_status status && b) 0 (calls_since name history.items))) (sym (own_number name (same_text issued.name name) refl));
+    }
+  where
+    item : Item
+    item = Accepted issued.number status id
+
+    sent : IsAmong issued (issued_in history.items)
+    sent = (open-sent issued.name history.items issued is_open).0
+
+    silent : (has_success history.items issued.number ≡ false) × (filter_map (id_in issued.number) history.items ≡ [])
+    silent = open-silent history.began history.items issued.name issued form is_open
+
+    -- another call has another number
+    differs : (call : Issued) → IsAmong call (issued_in history.items) → ((call ≡ issued) → ⊥) → same_number issued.number call.number ≡ false
+    differs call among other = by (same_number issued.number call.number) refl
+      where
+        by : (b : Bool) → same_number issued.number call.number ≡ b → b ≡ false
+        by true e = absurd (other (one-call history.began history.items call issued form among sent (sym ((same_number-tells issued.number call.number).0 e))))
+        by false e = refl
+
+    -- a mark that the reply doesn't tell of
+    untold : (thing : Thing) (o : Option Issued) → find (touches thing) (issued_in history.items) ≡ o → touches thing issued ≡ false → known_by (Accepted issued.number status id ∷ history.items) thing o ≡ known_by history.items thing o
+    untold thing None e of = refl
+    untold thing (Some call) e of =
+        let among = among-find (touches thing) (issued_in history.items) call e in
+        let touched : touches thing call ≡ true = find-passes (touches thing) (issued_in history.items) call e in
+        let other : (call ≡ issued) → ⊥ = λ is. false≢true (sym of ∙ ap (touches thing) (sym is) ∙ touched) in
+        rw (differs call among other) refl
+
+    tells : (thing : Thing) → is_ok_status status ≡ true → touches thing issued ≡ true → known_by (Accepted issued.number status id ∷ history.items) thing (Some issued) ≡ told issued.call
+    tells thing fine of = rw (number-same issued.number, fine, of) refl
+
+    refused : (thing : Thing) → is_ok_status status ≡ false → known (with_items history (Accepted issued.number status id ∷ [])) thing ≡ known history thing
+    refused thing not_fine = known-quiet (Accepted issued.number status id) history.items thing (find (touches thing) (issued_in history.items)) (λ number. ap (λ b. same_number issued.number number && b) not_fine ∙ and-false (same_number issued.number number))
+
+    mark : (thing : Thing) (fine : Bool) → is_ok_status status ≡ fine → (of : Bool) → touches thing issued ≡ of → cond (fine && of) (told issued.call) (view.marks thing) ≡ known (with_items history (Accepted issued.number status id ∷ [])) thing
+    mark thing true e true f =
+        sym (ap (known_by (Accepted issued.number status id ∷ history.items) thing) (latest-touching history.began issued.name history.items issued thing form is_open f) ∙ tells thing e f)
+    mark thing true e false f = agrees.same_marks thing ∙ sym (untold thing (find (touches thing) (issued_in history.items)) refl f)
+    mark thing false e of f = agrees.same_marks thing ∙ sym (refused thing e)
+
+    was_there : (name node : List ℕ) → known (with_items history (Accepted issued.number status id ∷ [])) (Attached name node) ≢ No → (fine : Bool) → is_ok_status status ≡ fine → (of : Bool) → touches (Attached name node) issued ≡ of
+        → known history (Attached name node) ≢ No
+    was_there name node there true e true f =
+        λ was. maybe_not_no (sym (ap (known_by history.items (Attached name node)) (latest-touching history.began issued.name history.items issued (Attached name node) form is_open f) ∙ unheard (Attached name node)) ∙ was)
+      where
+        maybe_not_no : Maybe ≡ No → ⊥
+        maybe_not_no h = cc
+
+        unheard : (thing : Thing) → known_by history.items thing (Some issued) ≡ Maybe
+        unheard thing = rw (silent.0) refl
+    was_there name node there true e false f = λ was. there (untold (Attached name node) (find (touches (Attached name node)) (issued_in history.items)) refl f ∙ was)
+    was_there name node there false e of f = λ was. there (refused (Attached name node) e ∙ was)
+
+    own_number : (name : List ℕ) (b : Bool) → same_text issued.name name ≡ b → is_number_of name history.items issued.number ≡ b
+    own_number name true e = any-among (λ (i : Issued). same_text i.name name && same_number i.number issued.number) (issued_in history.items) issued sent (ap (λ b. b && same_number issued.number issued.number) e ∙ number-same issued.number)
+    own_number name false e = any-none (λ (i : Issued). same_text i.name name && same_number i.number issued.number) (issued_in history.items) (λ call among. by call among (same_text call.name name) refl)
+      where
+        by : (call : Issued) → IsAmong call (issued_in history.items) → (b : Bool) → same_text call.name name ≡ b → (b && same_number call.number issued.number) ≡ false
+        by call among true f = same_number-flip call.number issued.number ∙ differs call among (λ is. false≢true (sym e ∙ ap (λ (c : Issued). same_text c.name name) (sym is) ∙ f))
+        by call among false f = refl
+
+    an_id : (name : List ℕ) (fine : Bool) → is_ok_status status ≡ fine → (own : Bool) → same_text issued.name name ≡ own
+        → cond (fine && own) (option_or (id_brought issued.call id) (view.ids name)) (view.ids name) ≡ id_of (with_items history (Accepted issued.number status id ∷ [])) name
+    an_id name true e true f =
+        ap (option_or (id_brought issued.call id)) (agrees.same_ids name ∙ before) ∙ sym after
+      where
+        latest : IsLatest name history.items issued
+        latest = open-latest history.began name history.items issued form (subst (λ n. open_in n history.items ≡ Some issued) ((same_text-tells issued.name name).0 f) is_open)
+
+        rest : List ℕ
+        rest = filter_map (λ (i : Issued). id_by history.items i i.call) latest.others
+
+        before : id_of history name ≡ newest rest
+        before =
+            ap (λ (sent : List Issued). newest (filter_map (λ (i : Issued). id_by history.items i i.call) sent)) latest.first
+            ∙ ap (λ o. newest (cons_option o rest)) (no-id history.items issued issued.call (silent.1))
+
+        after : id_of (with_items history (Accepted issued.number status id ∷ [])) name ≡ option_or (id_brought issued.call id) (newest rest)
+        after =
+            ap (λ (sent : List Issued). newest (filter_map (λ (i : Issued). id_by (Accepted issued.number status id ∷ history.items) i i.call) sent)) latest.first
+            ∙ ap (λ o. newest (cons_option o (filter_map (λ (i : Issued). id_by (Accepted issued.number status id ∷ history.items) i i.call) latest.others))) (id-brought history.items issued issued.call status id e (silent.1))
+            ∙ ap (λ xs. newest (cons_option (id_brought issued.call id) xs)) (ids-quiet (Accepted issued.number status id) history.items latest.others
+            (λ other among. ap (λ b. cond (b && is_ok_status status) id None) (latest.numbers other among)))
+            ∙ newest-cons (id_brought issued.call id) rest
+    an_id name true e false f =
+        agrees.same_ids name ∙ sym (ap newest (ids-quiet (Accepted issued.number status id) history.items (issued_of history name)
+        (λ other among. let there = passes (λ (i : Issued). same_text i.name name) (issued_in history.items) other among in
+        ap (λ b. cond (b && is_ok_status status) id None) (differs other there.0 (λ is. false≢true (sym f ∙ ap (λ (c : Issued). same_text c.name name) (sym is) ∙ there.1))))))
+    an_id name false e own f =
+        agrees.same_ids name ∙ sym (ap newest (ids-quiet (Accepted issued.number status id) history.items (issued_of history name)
+        (λ other among. ap (λ b. cond (same_number issued.number other.number && b) id None) e ∙ ap (λ b. cond b id None) (and-false (same_number issued.number other.number)))))
+
+    count : (b : Bool) (k n : ℕ) → k ≡ min 3 n → cond b 0 k ≡ min 3 (cond b 0 n)
+    count true k n e = refl
+    count false k n e = e
