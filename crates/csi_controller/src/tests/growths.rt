@@ -77,17 +77,48 @@ fn reply(
     Ok(Frame::reply(call.number(), Party::Controller, kind, reply).expect(rt, "a reply"))
 }
 
+// A controller that made no volume.
+fn empty(rt: &(impl Abort + AllocGlobal)) -> Result<Controller, CoreFault> {
+    Ok(Controller::new(rt.alloc(), config(rt)?))
+}
+
+// A controller that made volume 1.
+fn made(rt: &(impl Abort + AllocGlobal)) -> Result<Controller, CoreFault> {
+    let mut c = empty(rt)?;
+    take(&mut c, &create(rt)?)?;
+    Ok(c)
+}
+
 // A controller whose volume 1 is held at `n1`.
 fn published(rt: &(impl Abort + AllocGlobal)) -> Result<Controller, CoreFault> {
-    let mut c = Controller::new(rt.alloc(), config(rt)?);
-    let _made = c.step(&create(rt)?)?;
-    let _held = c.step(&publish(rt)?)?;
+    let mut c = made(rt)?;
+    take(&mut c, &publish(rt)?)?;
     Ok(c)
+}
+
+// The frame is answered.
+fn take(c: &mut Controller, frame: &Frame) -> Result<(), CoreFault> {
+    let _answer = c.step(frame)?;
+    Ok(())
 }
 
 fn is_record(rt: &impl Abort, record: &ControllerRecord, expected: &ControllerRecord) {
     assert_eq!(rt; record.next_id(), expected.next_id());
     assert!(rt; record.rows() == expected.rows());
+}
+
+// The controller is as it was, and answers the frame so now.
+fn stays_and_answers(
+    rt: &(impl Abort + AllocGlobal),
+    c: &mut Controller,
+    before: &ControllerRecord,
+    frame: &Frame,
+    expected: &Frame,
+) {
+    let after = c.record(rt.alloc()).expect(rt, "memory");
+    is_record(rt, &after, before);
+    let answer = c.step(frame).expect(rt, "memory");
+    assert_eq!(rt; answer.as_ref(), Some(expected));
 }
 
 // The frame gets this reply, or is refused, changes nothing, and gets the reply when it comes again.
@@ -100,29 +131,33 @@ fn answers_or_refuses(
     let before = c.record(rt.alloc())?;
     match c.step(frame) {
         Ok(answer) => assert_eq!(rt; answer.as_ref(), Some(expected)),
-        Err(CoreFault::NoMemory) => {
-            let after = c.record(rt.alloc()).expect(rt, "memory");
-            is_record(rt, &after, &before);
-            let answer = c.step(frame).expect(rt, "memory");
-            assert_eq!(rt; answer.as_ref(), Some(expected));
-        }
+        Err(CoreFault::NoMemory) => stays_and_answers(rt, c, &before, frame, expected),
     }
     Ok(())
 }
 
+// The call gets a reply of this kind, status and detail, or is refused as above.
+fn is_answered(
+    rt: &(impl Abort + AllocGlobal),
+    c: &mut Controller,
+    frame: &Frame,
+    kind: Kind,
+    status: Status,
+    detail: &str,
+) -> Result<(), CoreFault> {
+    let expected = reply(rt, frame, kind, status, detail)?;
+    answers_or_refuses(rt, c, frame, &expected)
+}
+
 fn create_or_refuse(rt: &(impl Abort + AllocGlobal)) -> Result<(), CoreFault> {
-    let frame = create(rt)?;
-    let expected = reply(rt, &frame, Kind::CreateVolume, Status::Ok, "")?;
-    let mut c = Controller::new(rt.alloc(), config(rt)?);
-    answers_or_refuses(rt, &mut c, &frame, &expected)
+    let mut c = empty(rt)?;
+    is_answered(rt, &mut c, &create(rt)?, Kind::CreateVolume, Status::Ok, "")
 }
 
 fn publish_or_refuse(rt: &(impl Abort + AllocGlobal)) -> Result<(), CoreFault> {
-    let frame = publish(rt)?;
-    let expected = reply(rt, &frame, Kind::ControllerPublishVolume, Status::Ok, "")?;
-    let mut c = Controller::new(rt.alloc(), config(rt)?);
-    let _made = c.step(&create(rt)?)?;
-    answers_or_refuses(rt, &mut c, &frame, &expected)
+    let mut c = made(rt)?;
+    let kind = Kind::ControllerPublishVolume;
+    is_answered(rt, &mut c, &publish(rt)?, kind, Status::Ok, "")
 }
 
 // DeleteVolume under this number, answered with this refusal.
@@ -132,10 +167,9 @@ fn refusal_or_refuse(
     status: Status,
     detail: &str,
 ) -> Result<(), CoreFault> {
-    let frame = delete(rt, call_number);
-    let expected = reply(rt, &frame, Kind::DeleteVolume, status, detail)?;
     let mut c = published(rt)?;
-    answers_or_refuses(rt, &mut c, &frame, &expected)
+    let frame = delete(rt, call_number);
+    is_answered(rt, &mut c, &frame, Kind::DeleteVolume, status, detail)
 }
 
 fn record_or_refuse(rt: &(impl Abort + AllocGlobal)) -> Result<(), CoreFault> {
@@ -149,12 +183,27 @@ fn record_or_refuse(rt: &(impl Abort + AllocGlobal)) -> Result<(), CoreFault> {
     Ok(())
 }
 
+// A controller of the other one's record.
+fn opened(rt: &(impl Abort + AllocGlobal), c: &Controller) -> Result<Controller, CoreFault> {
+    let record = c.record(rt.alloc())?;
+    Controller::from_record(rt.alloc(), config(rt)?, record)
+}
+
+fn has_same_record(
+    rt: &(impl Abort + AllocGlobal),
+    a: &Controller,
+    b: &Controller,
+) -> Result<(), CoreFault> {
+    let expected = a.record(rt.alloc())?;
+    let record = b.record(rt.alloc())?;
+    is_record(rt, &record, &expected);
+    Ok(())
+}
+
 fn from_record_or_refuse(rt: &(impl Abort + AllocGlobal)) -> Result<(), CoreFault> {
     let c = published(rt)?;
-    let expected = c.record(rt.alloc())?;
-    let opened = Controller::from_record(rt.alloc(), config(rt)?, c.record(rt.alloc())?)?;
-    is_record(rt, &opened.record(rt.alloc())?, &expected);
-    Ok(())
+    let d = opened(rt, &c)?;
+    has_same_record(rt, &c, &d)
 }
 
 fn attachments_or_refuse(rt: &(impl Abort + AllocGlobal)) -> Result<(), CoreFault> {
