@@ -1,3 +1,4 @@
 pub mod Form
 pub mod Numbers
 pub mod Following
+pub mod Restarting

@@ -1,0 +1,163 @@
+-- What an orchestrator shows of itself, by its rows. This profile's own.
+use Rattle.std.specs.Prelude.{ℕ, List, [], ◌∷◌, map, filter, find, not, Option, Some, None, is_some, option_map, option_and_then, if◌then◌else◌}
+use Rattle.csi_types.specs.declared.number.Number.{Number}
+use Rattle.csi_types.specs.declared.call.Call.TheVariants as calls
+use Rattle.csi_types.specs.declared.call.Party.TheVariants.{Controller, Node}
+use Rattle.csi_types.specs.Same.{same_text}
+use Rattle.csi_orchestrator.specs.declared.row.Goal.{Goal as KeptGoal}
+use Rattle.csi_orchestrator.specs.declared.row.Goal.TheVariants as kept
+use Rattle.csi_orchestrator.specs.declared.row.Aim.{Aim}
+use Rattle.csi_orchestrator.specs.declared.row.Place.{Place}
+use Rattle.csi_orchestrator.specs.declared.row.Row.{Row}
+use Rattle.csi_orchestrator.specs.declared.row.Usage.{Usage as KeptUsage}
+use Rattle.csi_orchestrator.specs.declared.thing.Thing.{Thing}
+use Rattle.csi_orchestrator.specs.declared.thing.Thing.TheVariants.{Exists, Attached, Staged, Published}
+use Rattle.csi_orchestrator.specs.declared.thing.Known.{Known}
+use Rattle.csi_orchestrator.specs.declared.thing.Known.TheVariants.{No}
+use Rattle.csi_orchestrator.specs.Thing.{Issued, name_in, is_yes, is_no}
+use Rattle.csi_orchestrator.specs.History.{Arguments, Usage, Held, Goal, Create, Use, Stop, Delete, History}
+use Rattle.csi_orchestrator.specs.Due.{Due}
+use Rattle.csi_orchestrator.specs.Agrees.{View, Agrees}
+
+-- an orchestrator to its callers: its nodes, the number of its last call (or call 0 of a session without one), and its rows
+pub record Parts : Type 0 where
+  pub nodes : List (List ℕ)
+  pub last : Number
+  pub rows : List Row
+
+-- the entries of a name, of a node and of a target
+abbrev pub row_of : List Row → List ℕ → Option Row
+row_of rows name = find (λ row. same_text row.name name) rows
+
+abbrev pub place_of : Row → List ℕ → Option Place
+place_of row node = find (λ place. same_text place.node node) row.places.items
+
+abbrev pub aim_of : Place → List ℕ → Option Aim
+aim_of place target = find (λ aim. same_text aim.target target) place.aims.items
+
+-- what has no entry isn't so
+abbrev pub mark_in : {X : Type 0} → (X → Known) → Option X → Known
+mark_in mark None = No
+mark_in mark (Some x) = mark x
+
+abbrev pub published_in : List ℕ → Place → Known
+published_in target place = mark_in (λ aim. aim.published) (aim_of place target)
+
+-- what a row knows of a thing of its name
+abbrev pub mark_of : Thing → Row → Known
+mark_of (Exists name) row = row.exists
+mark_of (Attached name node) row = mark_in (λ place. place.attached) (place_of row node)
+mark_of (Staged name node) row = mark_in (λ place. place.staged) (place_of row node)
+mark_of (Published name node target) row = mark_in (published_in target) (place_of row node)
+
+-- what a row was to be created with last
+abbrev pub arguments_in : Row → Arguments
+arguments_in row = record { required = row.arguments.required; limit = row.arguments.limit; capabilities = row.arguments.capabilities }
+
+-- what is wanted of a row's volume
+abbrev pub usage_shown : KeptUsage → Usage
+usage_shown usage = record { node = usage.node; target = usage.target; capability = usage.capability; readonly = usage.readonly }
+
+abbrev pub goal_shown : Row → KeptGoal → Goal
+goal_shown row kept.Create = Create (arguments_in row)
+goal_shown row (kept.Use usage) = Use (usage_shown usage)
+goal_shown row (kept.Stop node target) = Stop node target
+goal_shown row kept.Delete = Delete
+
+abbrev pub goal_in : Row → Option Goal
+goal_in row = option_map (goal_shown row) row.goal
+
+-- how a row's volume is held at a node
+abbrev pub held_at : Place → Held
+held_at place = record { capability = place.capability; readonly = place.readonly }
+
+abbrev pub held_in : Row → List ℕ → Option Held
+held_in row node = option_map held_at (place_of row node)
+
+-- the targets of a node at which it may be published
+abbrev pub aims_in_use : Option Place → List (List ℕ)
+aims_in_use None = []
+aims_in_use (Some place) = map (λ aim. aim.target) (filter (λ aim. not (is_no aim.published)) place.aims.items)
+
+-- the call that is due for a goal of a row
+abbrev pub use_due : Row → Usage → ℕ → Option Due
+use_due row usage id =
+    if not (is_yes (mark_of (Attached row.name usage.node) row)) then
+    Some (record { party = Controller; call = calls.ControllerPublishVolume id usage.node usage.capability usage.readonly })
+    else if not (is_yes (mark_of (Staged row.name usage.node) row)) then
+    Some (record { party = Node usage.node; call = calls.NodeStageVolume id usage.capability })
+    else if not (is_yes (mark_of (Published row.name usage.node usage.target) row)) then
+    Some (record { party = Node usage.node; call = calls.NodePublishVolume id usage.target usage.capability usage.readonly })
+    else None
+
+abbrev pub leave_due : Row → List ℕ → ℕ → List (List ℕ) → Option Due
+leave_due row node id (target ∷ targets) = None
+leave_due row node id [] =
+    if not (is_no (mark_of (Staged row.name node) row)) then Some (record { party = Node node; call = calls.NodeUnstageVolume id })
+    else if not (is_no (mark_of (Attached row.name node) row)) then Some (record { party = Controller; call = calls.ControllerUnpublishVolume id node })
+    else None
+
+abbrev pub stop_due : Row → List ℕ → List ℕ → ℕ → Option Due
+stop_due row node target id =
+    if not (is_no (mark_of (Published row.name node target) row)) then Some (record { party = Node node; call = calls.NodeUnpublishVolume id target })
+    else leave_due row node id (aims_in_use (place_of row node))
+
+abbrev pub delete_due : Row → ℕ → Option Due
+delete_due row id = if is_no row.exists then None else Some (record { party = Controller; call = calls.DeleteVolume id })
+
+abbrev pub create_due : Row → Arguments → Option Due
+create_due row arguments =
+    if is_yes row.exists then None
+    else Some (record { party = Controller; call = calls.CreateVolume row.name arguments.required arguments.limit arguments.capabilities })
+
+abbrev pub due_by : Row → Option Goal → Option Due
+due_by row None = None
+due_by row (Some (Create arguments)) = create_due row arguments
+due_by row (Some (Use usage)) = option_and_then (use_due row usage) row.id
+due_by row (Some (Stop node target)) = option_and_then (stop_due row node target) row.id
+due_by row (Some Delete) = option_and_then (delete_due row) row.id
+
+-- the same, for its own goal
+abbrev pub due_in : Row → Option Due
+due_in row = due_by row (goal_in row)
+
+-- the open call is the one that is due
+abbrev pub issued_as : List ℕ → Option Number → Option Due → Option Issued
+issued_as name None due = None
+issued_as name (Some number) None = None
+issued_as name (Some number) (Some due) = Some (record { name = name; number = number; party = due.party; call = due.call })
+
+abbrev pub open_in_row : Row → Option Issued
+open_in_row row = issued_as row.name row.open_number (due_in row)
+
+-- a row without its open call
+abbrev pub closed : Row → Row
+closed row = record row { open_number = None }
+
+-- the tries of a row, if there is one
+abbrev pub tries_in : Option Row → ℕ
+tries_in None = 0
+tries_in (Some row) = row.tries
+
+-- what they show
+abbrev pub view_of : Parts → View
+view_of parts =
+    record {
+      last = parts.last;
+      rows = λ name. is_some (row_of parts.rows name);
+      marks = λ thing. mark_in (mark_of thing) (row_of parts.rows (name_in thing));
+      ids = λ name. option_and_then (λ row. row.id) (row_of parts.rows name);
+      goals = λ name. option_and_then goal_in (row_of parts.rows name);
+      arguments = λ name. option_map arguments_in (row_of parts.rows name);
+      holdings = λ name node. option_and_then (λ row. held_in row node) (row_of parts.rows name);
+      open_calls = λ name. option_and_then open_in_row (row_of parts.rows name);
+      counts = λ name. tries_in (row_of parts.rows name);
+    }
+
+-- the history is one that they agree with
+abbrev pub AgreesWith : Parts → History → Type 0
+AgreesWith parts history = Agrees (view_of parts) history
+
+-- the parts once every open call was given up
+abbrev pub in_session : ℕ → Parts → Parts
+in_session session parts = record parts { last = record { session = session; call = 0 }; rows = map closed parts.rows }
