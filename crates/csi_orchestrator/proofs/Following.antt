@@ -326,7 +326,7 @@ noted-follows view history name goal agrees =
     count true k n e = refl
     count false k n e = e
 
-passes : {X : Type 0} (p : X → Bool) (xs : List X) (x : X) → IsAmong x (filter p xs) → IsAmong x xs × (p x ≡ true)
+pub passes : {X : Type 0} (p : X → Bool) (xs : List X) (x : X) → IsAmong x (filter p xs) → IsAmong x xs × (p x ≡ true)
 passes p [] x among = absurd among
 passes p (y ∷ ys) x among = by (p y) refl among (passes p ys x)
   where

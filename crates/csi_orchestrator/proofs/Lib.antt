@@ -2,3 +2,4 @@ pub mod Form
 pub mod Numbers
 pub mod Following
 pub mod Restarting
+pub mod DueCalls

@@ -1,8 +1,10 @@
 -- What an orchestrator shows of itself, by its rows. This profile's own.
-use Rattle.std.specs.Prelude.{ℕ, List, [], ◌∷◌, map, filter, find, not, Option, Some, None, is_some, option_map, option_and_then, if◌then◌else◌}
+use Rattle.std.specs.Prelude.{◌≡◌, ℕ, List, [], ◌∷◌, map, filter, find, false, not, Option, Some, None, is_some, option_map, option_and_then, if◌then◌else◌}
+use Rattle.std.specs.List.{AllByRecursion}
 use Rattle.csi_types.specs.declared.number.Number.{Number}
 use Rattle.csi_types.specs.declared.call.Call.TheVariants as calls
 use Rattle.csi_types.specs.declared.call.Party.TheVariants.{Controller, Node}
+use Rattle.csi_types.specs.Lists.{EachTwo}
 use Rattle.csi_types.specs.Same.{same_text}
 use Rattle.csi_orchestrator.specs.declared.row.Goal.{Goal as KeptGoal}
 use Rattle.csi_orchestrator.specs.declared.row.Goal.TheVariants as kept
@@ -16,7 +18,7 @@ use Rattle.csi_orchestrator.specs.declared.thing.Known.{Known}
 use Rattle.csi_orchestrator.specs.declared.thing.Known.TheVariants.{No}
 use Rattle.csi_orchestrator.specs.Thing.{Issued, name_in, is_yes, is_no}
 use Rattle.csi_orchestrator.specs.History.{Arguments, Usage, Held, Goal, Create, Use, Stop, Delete, History}
-use Rattle.csi_orchestrator.specs.Due.{Due}
+use Rattle.csi_orchestrator.specs.Due.{Due, due_call}
 use Rattle.csi_orchestrator.specs.Agrees.{View, Agrees}
 
 -- an orchestrator to its callers: its nodes, the number of its last call (or call 0 of a session without one), and its rows
@@ -161,3 +163,14 @@ AgreesWith parts history = Agrees (view_of parts) history
 -- the parts once every open call was given up
 abbrev pub in_session : ℕ → Parts → Parts
 in_session session parts = record parts { last = record { session = session; call = 0 }; rows = map closed parts.rows }
+
+-- at each node of each row, a target has one entry
+abbrev pub AreAimsApart : List Row → Type 0
+AreAimsApart rows =
+    AllByRecursion (λ (row : Row). AllByRecursion (λ (place : Place). EachTwo (λ (a b : Aim). same_text a.target b.target ≡ false) place.aims.items) row.places.items) rows
+
+-- the call that is due for a name, as the history tells it, is read from the name's row
+abbrev pub DueIsTold : Type 0
+DueIsTold =
+    (parts : Parts) (history : History) (name : List ℕ) → AreAimsApart parts.rows → AgreesWith parts history
+    → due_call history name ≡ option_and_then due_in (row_of parts.rows name)
