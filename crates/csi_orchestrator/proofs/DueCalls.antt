@@ -15,8 +15,6 @@ use Rattle.csi_types.proofs.Lists.{find-passes}
 use Rattle.csi_orchestrator.specs.declared.row.Aim.{Aim}
 use Rattle.csi_orchestrator.specs.declared.row.Goal.{Goal as KeptGoal}
 use Rattle.csi_orchestrator.specs.declared.row.Goal.TheVariants as kept
-use Rattle.csi_orchestrator.specs.declared.row.Place.{Place}
-use Rattle.csi_orchestrator.specs.declared.row.Row.{Row}
 use Rattle.csi_orchestrator.specs.declared.thing.Thing.{Thing}
 use Rattle.csi_orchestrator.specs.declared.thing.Thing.TheVariants.{Exists, Attached, Staged, Published}
 use Rattle.csi_orchestrator.specs.declared.thing.Known.{Known}
@@ -25,7 +23,7 @@ use Rattle.csi_orchestrator.specs.Thing.{Issued, name_in, thing_of, thing_at, is
 use Rattle.csi_orchestrator.specs.History.{Goal, Create, Use, Stop, Delete, Usage, Arguments, Item, History}
 use Rattle.csi_orchestrator.specs.Readings.{known, known_by, id_of, goal_of, issued_in, issued_of, distinct}
 use Rattle.csi_orchestrator.specs.Due.{Due, published_target, targets_in_use, due_create, due_use, due_leave, due_stop, due_delete, due_for, due_call}
-use Rattle.csi_orchestrator.specs.Shown.{Parts, row_of, place_of, aim_of, mark_in, published_in, mark_of, arguments_in, usage_shown, goal_shown, goal_in, aims_in_use, use_due, leave_due, stop_due, delete_due, create_due, due_by, due_in, view_of, AgreesWith, AreAimsApart, DueIsTold}
+use Rattle.csi_orchestrator.specs.Shown.{PlaceShown, RowShown, Parts, row_of, place_of, aim_of, mark_in, published_in, mark_of, arguments_in, usage_shown, goal_shown, goal_in, aims_in_use, use_due, leave_due, stop_due, delete_due, create_due, due_by, due_in, view_of, AgreesWith, AreAimsApart, DueIsTold}
 use Rattle.csi_orchestrator.proofs.Following.{passes, touches-name}
 use Rattle.csi_orchestrator.proofs.Numbers.{none-some, some-one}
 
@@ -145,29 +143,29 @@ not_true true e = absurd (false≢true e)
 not_true false e = refl
 
 -- of a row and a history that agree
-record Tells (row : Row) (history : History) : Type 0 where
+record Tells (row : RowShown) (history : History) : Type 0 where
   marks : (thing : Thing) → name_in thing ≡ row.name → mark_of thing row ≡ known history thing
   own_id : row.id ≡ id_of history row.name
   own_goal : goal_in row ≡ goal_of history row.name
-  apart : AllByRecursion (λ (place : Place). EachTwo (λ (a b : Aim). same_text a.target b.target ≡ false) place.aims.items) row.places.items
+  apart : AllByRecursion (λ (place : PlaceShown). EachTwo (λ (a b : Aim). same_text a.target b.target ≡ false) place.aims) row.places
 
 -- a row without entries in use is of a volume without targets in use
-aims-then : (row : Row) (history : History) (node : List ℕ) → Tells row history → targets_in_use history row.name node ≡ [] → aims_in_use (place_of row node) ≡ []
+aims-then : (row : RowShown) (history : History) (node : List ℕ) → Tells row history → targets_in_use history row.name node ≡ [] → aims_in_use (place_of row node) ≡ []
 aims-then row history node tells none = by (place_of row node) refl
   where
-    by : (o : Option Place) → place_of row node ≡ o → aims_in_use o ≡ []
+    by : (o : Option PlaceShown) → place_of row node ≡ o → aims_in_use o ≡ []
     by None e = refl
     by (Some place) e =
-        first-of (map (λ (a : Aim). a.target) (filter (λ (a : Aim). not (is_no a.published)) place.aims.items))
+        first-of (map (λ (a : Aim). a.target) (filter (λ (a : Aim). not (is_no a.published)) place.aims))
         (λ target among.
-        let from = mapped (λ (a : Aim). a.target) (filter (λ (a : Aim). not (is_no a.published)) place.aims.items) target among in
-        let there = passes (λ (a : Aim). not (is_no a.published)) place.aims.items from.0 from.1 in
-        let own = own-aim place.aims.items from.0 (each_of (λ (p : Place). EachTwo (λ (a b : Aim). same_text a.target b.target ≡ false) p.aims.items) row.places.items place tells.apart (among-find (λ (p : Place). same_text p.node node) row.places.items place e)) there.0 in
+        let from = mapped (λ (a : Aim). a.target) (filter (λ (a : Aim). not (is_no a.published)) place.aims) target among in
+        let there = passes (λ (a : Aim). not (is_no a.published)) place.aims from.0 from.1 in
+        let own = own-aim place.aims from.0 (each_of (λ (p : PlaceShown). EachTwo (λ (a b : Aim). same_text a.target b.target ≡ false) p.aims) row.places place tells.apart (among-find (λ (p : PlaceShown). same_text p.node node) row.places place e)) there.0 in
         let mark : mark_of (Published row.name node (from.0).target) row ≡ (from.0).published = ap (mark_in (published_in (from.0).target)) e ∙ ap (mark_in (λ (a : Aim). a.published)) own in
         let maybe : is_no (known history (Published row.name node (from.0).target)) ≡ false = ap is_no (sym (tells.marks (Published row.name node (from.0).target) refl) ∙ mark) ∙ not_true (is_no (from.0).published) there.1 in
         none-left (from.0).target (targets_in_use history row.name node) none (in-use history row.name node (from.0).target maybe))
 
-targets-then : (row : Row) (history : History) (node : List ℕ) → Tells row history → aims_in_use (place_of row node) ≡ [] → targets_in_use history row.name node ≡ []
+targets-then : (row : RowShown) (history : History) (node : List ℕ) → Tells row history → aims_in_use (place_of row node) ≡ [] → targets_in_use history row.name node ≡ []
 targets-then row history node tells none =
     first-of (targets_in_use history row.name node)
     (λ target among.
@@ -175,23 +173,23 @@ targets-then row history node tells none =
     let maybe : is_no (mark_of (Published row.name node target) row) ≡ false = ap is_no (tells.marks (Published row.name node target) refl) ∙ not_true (is_no (known history (Published row.name node target))) there.1 in
     by target (place_of row node) refl maybe)
   where
-    aimed : (target : List ℕ) (place : Place) → place_of row node ≡ Some place → (o : Option Aim) → aim_of place target ≡ o → is_no (mark_in (λ (a : Aim). a.published) o) ≡ false → ⊥
+    aimed : (target : List ℕ) (place : PlaceShown) → place_of row node ≡ Some place → (o : Option Aim) → aim_of place target ≡ o → is_no (mark_in (λ (a : Aim). a.published) o) ≡ false → ⊥
     aimed target place e None f maybe = false≢true (sym maybe)
     aimed target place e (Some aim) f maybe =
-        let among = among-find (λ (a : Aim). same_text a.target target) place.aims.items aim f in
+        let among = among-find (λ (a : Aim). same_text a.target target) place.aims aim f in
         none-left aim.target (aims_in_use (Some place)) (ap aims_in_use (sym e) ∙ none)
-        (among-map (λ (a : Aim). a.target) (filter (λ (a : Aim). not (is_no a.published)) place.aims.items) aim (in_filter (λ (a : Aim). not (is_no a.published)) place.aims.items aim among (ap not maybe)))
+        (among-map (λ (a : Aim). a.target) (filter (λ (a : Aim). not (is_no a.published)) place.aims) aim (in_filter (λ (a : Aim). not (is_no a.published)) place.aims aim among (ap not maybe)))
 
-    by : (target : List ℕ) (o : Option Place) → place_of row node ≡ o → is_no (mark_in (published_in target) o) ≡ false → ⊥
+    by : (target : List ℕ) (o : Option PlaceShown) → place_of row node ≡ o → is_no (mark_in (published_in target) o) ≡ false → ⊥
     by target None e maybe = false≢true (sym maybe)
     by target (Some place) e maybe = aimed target place e (aim_of place target) refl maybe
 
 -- goal by goal
-use-told : (row : Row) (history : History) (usage : Usage) (id : ℕ) → Tells row history → due_use history row.name usage id ≡ use_due row usage id
+use-told : (row : RowShown) (history : History) (usage : Usage) (id : ℕ) → Tells row history → due_use history row.name usage id ≡ use_due row usage id
 use-told row history usage id tells =
     rw (sym (tells.marks (Attached row.name usage.node) refl), sym (tells.marks (Staged row.name usage.node) refl), sym (tells.marks (Published row.name usage.node usage.target) refl)) refl
 
-leave-told : (row : Row) (history : History) (node : List ℕ) (id : ℕ) → Tells row history → due_leave history row.name node id (targets_in_use history row.name node) ≡ leave_due row node id (aims_in_use (place_of row node))
+leave-told : (row : RowShown) (history : History) (node : List ℕ) (id : ℕ) → Tells row history → due_leave history row.name node id (targets_in_use history row.name node) ≡ leave_due row node id (aims_in_use (place_of row node))
 leave-told row history node id tells = by (targets_in_use history row.name node) (aims_in_use (place_of row node)) refl refl
   where
     clash : {X : Type 0} (x : X) (xs : List X) → x ∷ xs ≡ [] → ⊥
@@ -203,12 +201,12 @@ leave-told row history node id tells = by (targets_in_use history row.name node)
     by (t ∷ ts) [] e f = absurd (clash t ts (sym e ∙ targets-then row history node tells f))
     by (t ∷ ts) (u ∷ us) e f = refl
 
-stop-told : (row : Row) (history : History) (node target : List ℕ) (id : ℕ) → Tells row history → due_stop history row.name node target id ≡ stop_due row node target id
+stop-told : (row : RowShown) (history : History) (node target : List ℕ) (id : ℕ) → Tells row history → due_stop history row.name node target id ≡ stop_due row node target id
 stop-told row history node target id tells =
     ap (λ k. cond (not (is_no k)) (Some (let d : Due = record { party = Node node; call = calls.NodeUnpublishVolume id target } in d)) (due_leave history row.name node id (targets_in_use history row.name node))) (sym (tells.marks (Published row.name node target) refl))
     ∙ ap (λ d. cond (not (is_no (mark_of (Published row.name node target) row))) (Some (let d : Due = record { party = Node node; call = calls.NodeUnpublishVolume id target } in d)) d) (leave-told row history node id tells)
 
-goal-told : (row : Row) (history : History) → Tells row history → (goal : Option KeptGoal) → due_for history row.name (option_map (goal_shown row) goal) ≡ due_by row (option_map (goal_shown row) goal)
+goal-told : (row : RowShown) (history : History) → Tells row history → (goal : Option KeptGoal) → due_for history row.name (option_map (goal_shown row) goal) ≡ due_by row (option_map (goal_shown row) goal)
 goal-told row history tells None = refl
 goal-told row history tells (Some kept.Create) = rw (sym (tells.marks (Exists row.name) refl)) refl
 goal-told row history tells (Some (kept.Use usage)) = ap (option_and_then (due_use history row.name (usage_shown usage))) (sym tells.own_id) ∙ by row.id
@@ -231,19 +229,19 @@ goal-told row history tells (Some kept.Delete) = ap (option_and_then (due_delete
 pub due-told : DueIsTold
 due-told parts history name apart agrees = by (row_of parts.rows name) refl
   where
-    own : (row : Row) → row_of parts.rows name ≡ Some row → row.name ≡ name → Tells row history
+    own : (row : RowShown) → row_of parts.rows name ≡ Some row → row.name ≡ name → Tells row history
     own row e same =
         let there : row_of parts.rows row.name ≡ Some row = ap (row_of parts.rows) same ∙ e in
         record {
           marks = λ thing is. ap (mark_in (mark_of thing)) (sym (ap (row_of parts.rows) is ∙ there)) ∙ agrees.same_marks thing;
-          own_id = ap (option_and_then (λ (r : Row). r.id)) (sym there) ∙ agrees.same_ids row.name;
+          own_id = ap (option_and_then (λ (r : RowShown). r.id)) (sym there) ∙ agrees.same_ids row.name;
           own_goal = ap (option_and_then goal_in) (sym there) ∙ agrees.same_goals row.name;
-          apart = each_of (λ (r : Row). AllByRecursion (λ (place : Place). EachTwo (λ (a b : Aim). same_text a.target b.target ≡ false) place.aims.items) r.places.items) parts.rows row apart (among-find (λ (r : Row). same_text r.name name) parts.rows row e);
+          apart = each_of (λ (r : RowShown). AllByRecursion (λ (place : PlaceShown). EachTwo (λ (a b : Aim). same_text a.target b.target ≡ false) place.aims) r.places) parts.rows row apart (among-find (λ (r : RowShown). same_text r.name name) parts.rows row e);
         }
 
-    by : (o : Option Row) → row_of parts.rows name ≡ o → due_call history name ≡ option_and_then due_in o
+    by : (o : Option RowShown) → row_of parts.rows name ≡ o → due_call history name ≡ option_and_then due_in o
     by None e = ap (due_for history name) (sym (agrees.same_goals name) ∙ ap (option_and_then goal_in) e)
     by (Some row) e =
-        let same : row.name ≡ name = (same_text-tells row.name name).0 (find-passes (λ (r : Row). same_text r.name name) parts.rows row e) in
+        let same : row.name ≡ name = (same_text-tells row.name name).0 (find-passes (λ (r : RowShown). same_text r.name name) parts.rows row e) in
         let tells = own row e same in
         subst (λ n. due_call history n ≡ due_in row) same (ap (due_for history row.name) (sym tells.own_goal) ∙ goal-told row history tells row.goal)

@@ -1,7 +1,6 @@
 -- By the parts.
 use Rattle.std.proofs.Common.{sym, subst}
 use Rattle.std.proofs.lemmas.Result.{on_ok_weaker}
-use Rattle.csi_orchestrator.specs.Core.{parts_of}
 use Rattle.csi_orchestrator.specs.Shown.{Parts, AgreesWith}
 use Rattle.csi_orchestrator.proofs.Restarting.{restart-agrees}
 use Rattle.csi_orchestrator.proofs.orchestrator.Orchestrator.restart.Goals as goal
@@ -9,5 +8,5 @@ use Rattle.csi_orchestrator.proofs.orchestrator.Orchestrator.restart.Goals as go
 pub returns-clause-agrees : goal.returns-clause-agrees
 returns-clause-agrees c = λ history agrees.
     on_ok_weaker c.restart.result
-    (λ facts. restart-agrees (parts_of c.self.inside.core) (parts_of c.restart.new.self) history (subst (λ (p : Parts). AgreesWith p history) (sym c.self.view_is) agrees) facts.0 facts.1)
+    (λ facts. restart-agrees c.self.inside.core c.restart.new.self history (subst (λ (p : Parts). AgreesWith p history) (sym c.self.view_is) agrees) facts)
     c.restart.ensures.ok
