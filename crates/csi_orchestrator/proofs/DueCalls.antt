@@ -1,5 +1,5 @@
 -- Why the call that is due is read from the row.
-use Rattle.std.proofs.Common.{◌≡◌, ◌≢◌, ◌⊎◌, ℕ, List, [], ◌∷◌, Bool, true, false, cond, not, map, refl, sym, ◌∙◌, ap, subst, inl, inr}
+use Rattle.std.proofs.Common.{◌≡◌, ◌⊎◌, ℕ, List, [], ◌∷◌, Bool, true, false, cond, not, map, refl, sym, ◌∙◌, ap, subst, inl, inr}
 use Rattle.std.specs.Prelude.{Option, Some, None, option_map, option_and_then, find, filter, filter_map, ◌&&◌, ◌||◌}
 use Rattle.std.specs.List.{AllByRecursion, list_any, cons_option}
 use Rattle.std.proofs.lemmas.Bool.{false≢true}
@@ -19,13 +19,12 @@ use Rattle.csi_orchestrator.specs.declared.thing.Thing.{Thing}
 use Rattle.csi_orchestrator.specs.declared.thing.Thing.TheVariants.{Exists, Attached, Staged, Published}
 use Rattle.csi_orchestrator.specs.declared.thing.Known.{Known}
 use Rattle.csi_orchestrator.specs.declared.thing.Known.TheVariants.{Yes, No, Maybe}
-use Rattle.csi_orchestrator.specs.Thing.{Issued, name_in, thing_of, thing_at, is_thing, touches, is_yes, is_no}
-use Rattle.csi_orchestrator.specs.History.{Goal, Create, Use, Stop, Delete, Usage, Arguments, Item, History}
+use Rattle.csi_orchestrator.specs.Thing.{Issued, name_in, thing_of, thing_at, is_thing, touches, is_no}
+use Rattle.csi_orchestrator.specs.History.{Usage, History}
 use Rattle.csi_orchestrator.specs.Readings.{known, known_by, id_of, goal_of, issued_in, issued_of, distinct}
-use Rattle.csi_orchestrator.specs.Due.{Due, published_target, targets_in_use, due_create, due_use, due_leave, due_stop, due_delete, due_for, due_call}
-use Rattle.csi_orchestrator.specs.Shown.{PlaceShown, RowShown, Parts, row_of, place_of, aim_of, mark_in, published_in, mark_of, arguments_in, usage_shown, goal_shown, goal_in, aims_in_use, use_due, leave_due, stop_due, delete_due, create_due, due_by, due_in, view_of, AgreesWith, AreAimsApart, DueIsTold}
+use Rattle.csi_orchestrator.specs.Due.{Due, published_target, targets_in_use, due_use, due_leave, due_stop, due_delete, due_for, due_call}
+use Rattle.csi_orchestrator.specs.Shown.{PlaceShown, RowShown, row_of, place_of, aim_of, mark_in, published_in, mark_of, usage_shown, goal_shown, goal_in, aims_in_use, use_due, leave_due, stop_due, delete_due, due_by, due_in, DueIsTold}
 use Rattle.csi_orchestrator.proofs.Following.{passes, touches-name}
-use Rattle.csi_orchestrator.proofs.Numbers.{none-some, some-one}
 
 text-same : (name : List ℕ) → same_text name name ≡ true
 text-same name = (same_text-tells name name).1 refl

@@ -1,6 +1,6 @@
 -- Searches among entries, as they are kept and as they are shown.
-use Rattle.std.proofs.Common.{◌≡◌, ◌++◌, ℕ, List, [], ◌∷◌, Bool, true, false, cond, map, take, drop, refl, sym, ◌∙◌, ap}
-use Rattle.std.specs.Prelude.{Option, Some, None, option_map, find}
+use Rattle.std.proofs.Common.{◌≡◌, ℕ, List, [], ◌∷◌, Bool, true, false, cond, map, refl, ap}
+use Rattle.std.specs.Prelude.{Some, option_map, find}
 use Rattle.csi_types.specs.Same.{same_text}
 use Rattle.csi_orchestrator.specs.declared.row.Place.{Place}
 use Rattle.csi_orchestrator.specs.declared.row.Row.{Row}

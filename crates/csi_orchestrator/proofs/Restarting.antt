@@ -14,7 +14,7 @@ use Rattle.csi_orchestrator.specs.Readings.{last_number}
 use Rattle.csi_orchestrator.specs.Moves.{moved_to, restart}
 use Rattle.csi_orchestrator.specs.Agrees.{Agrees}
 use Rattle.csi_orchestrator.specs.Following.{after_started}
-use Rattle.csi_orchestrator.specs.Shown.{PlaceShown, RowShown, Parts, row_of, mark_in, mark_of, goal_shown, goal_in, arguments_in, held_in, open_in_row, tries_in, closed, without_call, row_shown, view_of, AgreesWith, in_session}
+use Rattle.csi_orchestrator.specs.Shown.{RowShown, Parts, row_of, mark_in, mark_of, goal_shown, goal_in, arguments_in, held_in, open_in_row, tries_in, closed, without_call, row_shown, view_of, AgreesWith, in_session}
 use Rattle.csi_orchestrator.specs.declared.inner.Core.{Core}
 use Rattle.csi_orchestrator.specs.Core.{parts_of}
 use Rattle.csi_orchestrator.proofs.Entries.{shown-closed}

@@ -51,7 +51,13 @@ arguments_shown arguments = record { required = arguments.required; limit = argu
 abbrev pub row_shown : Row → RowShown
 row_shown row =
     record {
-      name = row.name; arguments = arguments_shown row.arguments; id = row.id; exists = row.exists; goal = row.goal; open_number = row.open_number; tries = row.tries;
+      name = row.name;
+      arguments = arguments_shown row.arguments;
+      id = row.id;
+      exists = row.exists;
+      goal = row.goal;
+      open_number = row.open_number;
+      tries = row.tries;
       places = map place_shown row.places.items;
     }
 
