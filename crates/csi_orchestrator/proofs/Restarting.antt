@@ -14,7 +14,7 @@ use Rattle.csi_orchestrator.specs.Readings.{last_number}
 use Rattle.csi_orchestrator.specs.Moves.{moved_to, restart}
 use Rattle.csi_orchestrator.specs.Agrees.{Agrees}
 use Rattle.csi_orchestrator.specs.Following.{after_started}
-use Rattle.csi_orchestrator.specs.Shown.{RowShown, Parts, row_of, mark_in, mark_of, goal_shown, goal_in, arguments_in, held_in, open_in_row, tries_in, closed, without_call, row_shown, view_of, AgreesWith, in_session}
+use Rattle.csi_orchestrator.specs.Shown.{RowShown, Parts, row_of, mark_in, mark_of, goal_shown, goal_in, held_in, open_in_row, tries_in, closed, without_call, row_shown, view_of, AgreesWith, in_session}
 use Rattle.csi_orchestrator.specs.declared.inner.Core.{Core}
 use Rattle.csi_orchestrator.specs.Core.{parts_of}
 use Rattle.csi_orchestrator.proofs.Entries.{shown-closed}
@@ -71,7 +71,7 @@ session-agrees parts history session agrees =
       same_marks = λ thing. ap (mark_in (mark_of thing)) (closed-row parts.rows (name_in thing)) ∙ marks-closed thing (row_of parts.rows (name_in thing)) ∙ agrees.same_marks thing;
       same_ids = λ name. ap (option_and_then (λ (row : RowShown). row.id)) (closed-row parts.rows name) ∙ read-closed_option (λ (row : RowShown). row.id) (row_of parts.rows name) (λ row. refl) ∙ agrees.same_ids name;
       same_goals = λ name. ap (option_and_then goal_in) (closed-row parts.rows name) ∙ read-closed_option goal_in (row_of parts.rows name) (λ row. closed-goal row row.goal) ∙ agrees.same_goals name;
-      same_arguments = λ name. ap (option_map arguments_in) (closed-row parts.rows name) ∙ read-closed arguments_in (row_of parts.rows name) (λ row. refl) ∙ agrees.same_arguments name;
+      same_arguments = λ name. ap (option_map (λ (row : RowShown). row.arguments)) (closed-row parts.rows name) ∙ read-closed (λ (row : RowShown). row.arguments) (row_of parts.rows name) (λ row. refl) ∙ agrees.same_arguments name;
       same_holdings = λ name node there. ap (option_and_then (λ (row : RowShown). held_in row node)) (closed-row parts.rows name) ∙ read-closed_option (λ (row : RowShown). held_in row node) (row_of parts.rows name) (λ row. refl) ∙ agrees.same_holdings name node there;
       same_open_calls = λ name. ap (option_and_then open_in_row) (closed-row parts.rows name) ∙ none-open (row_of parts.rows name) ∙ agrees.same_open_calls name;
       same_counts = λ name. ap tries_in (closed-row parts.rows name) ∙ tries-closed (row_of parts.rows name) ∙ agrees.same_counts name;

@@ -92,16 +92,12 @@ mark_of (Attached name node) row = mark_in (λ place. place.attached) (place_of 
 mark_of (Staged name node) row = mark_in (λ place. place.staged) (place_of row node)
 mark_of (Published name node target) row = mark_in (published_in target) (place_of row node)
 
--- what a row was to be created with last
-abbrev pub arguments_in : RowShown → Arguments
-arguments_in row = row.arguments
-
 -- what is wanted of a row's volume
 abbrev pub usage_shown : KeptUsage → Usage
 usage_shown usage = record { node = usage.node; target = usage.target; capability = usage.capability; readonly = usage.readonly }
 
 abbrev pub goal_shown : RowShown → KeptGoal → Goal
-goal_shown row kept.Create = Create (arguments_in row)
+goal_shown row kept.Create = Create row.arguments
 goal_shown row (kept.Use usage) = Use (usage_shown usage)
 goal_shown row (kept.Stop node target) = Stop node target
 goal_shown row kept.Delete = Delete
@@ -193,7 +189,7 @@ view_of parts =
       marks = λ thing. mark_in (mark_of thing) (row_of parts.rows (name_in thing));
       ids = λ name. option_and_then (λ row. row.id) (row_of parts.rows name);
       goals = λ name. option_and_then goal_in (row_of parts.rows name);
-      arguments = λ name. option_map arguments_in (row_of parts.rows name);
+      arguments = λ name. option_map (λ row. row.arguments) (row_of parts.rows name);
       holdings = λ name node. option_and_then (λ row. held_in row node) (row_of parts.rows name);
       open_calls = λ name. option_and_then open_in_row (row_of parts.rows name);
       counts = λ name. tries_in (row_of parts.rows name);
