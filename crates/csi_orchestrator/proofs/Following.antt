@@ -20,7 +20,7 @@ use Rattle.csi_types.proofs.Lists.{find-passes}
 use Rattle.csi_orchestrator.specs.declared.thing.Thing.{Thing}
 use Rattle.csi_orchestrator.specs.declared.thing.Thing.TheVariants.{Exists, Attached, Staged, Published}
 use Rattle.csi_orchestrator.specs.declared.thing.Known.TheVariants.{No, Maybe}
-use Rattle.csi_orchestrator.specs.Thing.{Issued, same_thing, thing_at, is_thing, is_doing, touches}
+use Rattle.csi_orchestrator.specs.Thing.{Issued, name_in, same_thing, thing_at, is_thing, is_doing, touches}
 use Rattle.csi_orchestrator.specs.History.{Goal, Item, Started, Sent, Accepted, Closed, Noted, Held, Arguments, History, with_items}
 use Rattle.csi_orchestrator.specs.Readings.{newest, issued_in, issued_of, is_success_of, has_success, known_by, known, id_in, id_by, id_of, held_by, noted_for, arguments_in_goal, open_in, open_call, unless, is_number_of, calls_since, last_number, distinct, name_noted}
 use Rattle.csi_orchestrator.specs.WellFormed.{IsNext, AreWellFormed, IsWellFormed}
@@ -37,13 +37,6 @@ same_text-flip a b = by (same_text a b) (same_text b a) refl refl
     by false false e f = refl
     by true false e f = sym ((same_text-tells b a).1 (sym ((same_text-tells a b).0 e))) ∙ f
     by false true e f = sym e ∙ (same_text-tells a b).1 (sym ((same_text-tells b a).0 f))
-
--- the name of a thing
-abbrev pub name_in : Thing → List ℕ
-name_in (Exists name) = name
-name_in (Attached name node) = name
-name_in (Staged name node) = name
-name_in (Published name node target) = name
 
 left-true : (a b : Bool) → (a && b) ≡ true → a ≡ true
 left-true true b e = refl
@@ -333,7 +326,7 @@ noted-follows view history name goal agrees =
     count true k n e = refl
     count false k n e = e
 
-passes : {X : Type 0} (p : X → Bool) (xs : List X) (x : X) → IsAmong x (filter p xs) → IsAmong x xs × (p x ≡ true)
+pub passes : {X : Type 0} (p : X → Bool) (xs : List X) (x : X) → IsAmong x (filter p xs) → IsAmong x xs × (p x ≡ true)
 passes p [] x among = absurd among
 passes p (y ∷ ys) x among = by (p y) refl among (passes p ys x)
   where

@@ -8,5 +8,7 @@ pub mod Commands
 pub mod Moves
 pub mod Agrees
 pub mod Following
+pub mod Shown
+pub mod Core
 pub mod Laws
 pub mod Rows

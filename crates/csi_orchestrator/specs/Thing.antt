@@ -18,6 +18,13 @@ pub record Issued : Type 0 where
   pub party : Party
   pub call : Call
 
+-- the name of a thing's volume
+abbrev pub name_in : Thing → List ℕ
+name_in (Exists name) = name
+name_in (Attached name node) = name
+name_in (Staged name node) = name
+name_in (Published name node target) = name
+
 -- the two are one thing
 abbrev pub same_thing : Thing → Thing → Bool
 same_thing (Exists name) (Exists other) = same_text name other

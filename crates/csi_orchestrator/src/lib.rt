@@ -3,9 +3,15 @@
 #![tactic(auto)]
 
 mod fault;
+mod inner;
 mod laws;
+mod orchestrator;
+mod row;
 mod rows;
+#[cfg(test)]
+mod tests;
 mod thing;
 
 pub use fault::{Heard, OrchFault};
+pub use orchestrator::Orchestrator;
 pub use thing::{Known, Thing};

@@ -1,0 +1,246 @@
+-- Why the call that is due is read from the row.
+use Rattle.std.proofs.Common.{◌≡◌, ◌⊎◌, ℕ, List, [], ◌∷◌, Bool, true, false, cond, not, map, refl, sym, ◌∙◌, ap, subst, inl, inr}
+use Rattle.std.specs.Prelude.{Option, Some, None, option_map, option_and_then, find, filter, filter_map, ◌&&◌, ◌||◌}
+use Rattle.std.specs.List.{AllByRecursion, list_any, cons_option}
+use Rattle.std.proofs.lemmas.Bool.{false≢true}
+use Rattle.csi_types.specs.declared.call.Call.{Call}
+use Rattle.csi_types.specs.declared.call.Call.TheVariants as calls
+use Rattle.csi_types.specs.declared.call.Party.{Party}
+use Rattle.csi_types.specs.declared.call.Party.TheVariants.{Controller, Node}
+use Rattle.csi_types.specs.Lists.{IsAmong, EachTwo}
+use Rattle.csi_types.specs.Same.{same_text}
+use Rattle.csi_types.proofs.Among.{among-find, each_of, in_filter}
+use Rattle.csi_types.proofs.Equality.{same_text-tells}
+use Rattle.csi_types.proofs.Lists.{find-passes}
+use Rattle.csi_orchestrator.specs.declared.row.Aim.{Aim}
+use Rattle.csi_orchestrator.specs.declared.row.Goal.{Goal as KeptGoal}
+use Rattle.csi_orchestrator.specs.declared.row.Goal.TheVariants as kept
+use Rattle.csi_orchestrator.specs.declared.thing.Thing.{Thing}
+use Rattle.csi_orchestrator.specs.declared.thing.Thing.TheVariants.{Exists, Attached, Staged, Published}
+use Rattle.csi_orchestrator.specs.declared.thing.Known.{Known}
+use Rattle.csi_orchestrator.specs.declared.thing.Known.TheVariants.{Yes, No, Maybe}
+use Rattle.csi_orchestrator.specs.Thing.{Issued, name_in, thing_of, thing_at, is_thing, touches, is_no}
+use Rattle.csi_orchestrator.specs.History.{Usage, History}
+use Rattle.csi_orchestrator.specs.Readings.{known, known_by, id_of, goal_of, issued_in, issued_of, distinct}
+use Rattle.csi_orchestrator.specs.Due.{Due, published_target, targets_in_use, due_use, due_leave, due_stop, due_delete, due_for, due_call}
+use Rattle.csi_orchestrator.specs.Shown.{PlaceShown, RowShown, row_of, place_of, aim_of, mark_in, published_in, mark_of, usage_shown, goal_shown, goal_in, aims_in_use, use_due, leave_due, stop_due, delete_due, due_by, due_in, DueIsTold}
+use Rattle.csi_orchestrator.proofs.Following.{passes, touches-name}
+
+text-same : (name : List ℕ) → same_text name name ≡ true
+text-same name = (same_text-tells name name).1 refl
+
+-- what a list has, it has once more where each is there once
+among-distinct : (texts : List (List ℕ)) (text : List ℕ) → IsAmong text texts → IsAmong text (distinct texts)
+among-distinct [] text among = absurd among
+among-distinct (first ∷ others) text among = by (list_any (same_text first) others) refl among (among-distinct others text)
+  where
+    again : (xs : List (List ℕ)) → list_any (same_text first) xs ≡ true → IsAmong first xs
+    again [] e = absurd (false≢true e)
+    again (x ∷ xs) e = pick (same_text first x) refl e (again xs)
+      where
+        pick : (b : Bool) → same_text first x ≡ b → (b || list_any (same_text first) xs) ≡ true → (list_any (same_text first) xs ≡ true → IsAmong first xs) → (first ≡ x) ⊎ IsAmong first xs
+        pick true s f rest = inl ((same_text-tells first x).0 s)
+        pick false s f rest = inr (rest f)
+
+    by : (b : Bool) → list_any (same_text first) others ≡ b → (text ≡ first) ⊎ IsAmong text others → (IsAmong text others → IsAmong text (distinct others)) → IsAmong text (cond b (distinct others) (first ∷ distinct others))
+    by true e (inl is) rest = rest (subst (λ t. IsAmong t others) (sym is) (again others e))
+    by true e (inr there) rest = rest there
+    by false e (inl is) rest = inl is
+    by false e (inr there) rest = inr (rest there)
+
+among-filter_map : {X Y : Type 0} (f : X → Option Y) (xs : List X) (x : X) (y : Y) → IsAmong x xs → f x ≡ Some y → IsAmong y (filter_map f xs)
+among-filter_map f [] x y among e = absurd among
+among-filter_map f (z ∷ zs) x y (inl is) e = subst (λ o. IsAmong y (cons_option o (filter_map f zs))) (sym (ap f (sym is) ∙ e)) (inl refl)
+among-filter_map f (z ∷ zs) x y (inr there) e = by (f z) (among-filter_map f zs x y there e)
+  where
+    by : (o : Option _) → IsAmong y (filter_map f zs) → IsAmong y (cons_option o (filter_map f zs))
+    by None rest = rest
+    by (Some w) rest = inr rest
+
+-- the call that does or undoes a publication has its target
+target-of : (name node target : List ℕ) (own : List ℕ) (party : Party) (call : Call) → is_thing (Published name node target) (thing_at own party call) ≡ true → published_target node (thing_at own party call) ≡ Some target
+target-of name node target own party (calls.CreateVolume create required limit capabilities) of = absurd (false≢true of)
+target-of name node target own party (calls.DeleteVolume id) of = absurd (false≢true of)
+target-of name node target own party (calls.ControllerPublishVolume id other capability readonly) of = absurd (false≢true of)
+target-of name node target own party (calls.ControllerUnpublishVolume id other) of = absurd (false≢true of)
+target-of name node target own Controller (calls.NodeStageVolume id capability) of = absurd (false≢true of)
+target-of name node target own (Node there) (calls.NodeStageVolume id capability) of = absurd (false≢true of)
+target-of name node target own Controller (calls.NodeUnstageVolume id) of = absurd (false≢true of)
+target-of name node target own (Node there) (calls.NodeUnstageVolume id) of = absurd (false≢true of)
+target-of name node target own Controller (calls.NodePublishVolume id aim capability readonly) of = absurd (false≢true of)
+target-of name node target own (Node there) (calls.NodePublishVolume id aim capability readonly) of = aimed (same_text name own) (same_text node there) (same_text target aim) refl refl of
+  where
+    aimed : (a b c : Bool) → same_text node there ≡ b → same_text target aim ≡ c → (a && b && c) ≡ true → cond (same_text there node) (Some aim) None ≡ Some target
+    aimed true true true e f of =
+        ap (λ t. cond t (Some aim) None) ((same_text-tells there node).1 (sym ((same_text-tells node there).0 e))) ∙ ap Some (sym ((same_text-tells target aim).0 f))
+    aimed true true false e f of = absurd (false≢true of)
+    aimed true false c e f of = absurd (false≢true of)
+    aimed false b c e f of = absurd (false≢true of)
+target-of name node target own Controller (calls.NodeUnpublishVolume id aim) of = absurd (false≢true of)
+target-of name node target own (Node there) (calls.NodeUnpublishVolume id aim) of = aimed (same_text name own) (same_text node there) (same_text target aim) refl refl of
+  where
+    aimed : (a b c : Bool) → same_text node there ≡ b → same_text target aim ≡ c → (a && b && c) ≡ true → cond (same_text there node) (Some aim) None ≡ Some target
+    aimed true true true e f of =
+        ap (λ t. cond t (Some aim) None) ((same_text-tells there node).1 (sym ((same_text-tells node there).0 e))) ∙ ap Some (sym ((same_text-tells target aim).0 f))
+    aimed true true false e f of = absurd (false≢true of)
+    aimed true false c e f of = absurd (false≢true of)
+    aimed false b c e f of = absurd (false≢true of)
+
+-- a target at which the volume may be published is in use
+in-use : (history : History) (name node target : List ℕ) → is_no (known history (Published name node target)) ≡ false → IsAmong target (targets_in_use history name node)
+in-use history name node target maybe =
+    in_filter (λ (t : List ℕ). not (is_no (known history (Published name node t)))) _ target
+    (among-distinct _ target (by (find (touches (Published name node target)) (issued_in history.items)) refl maybe)) (ap not maybe)
+  where
+    by : (o : Option Issued) → find (touches (Published name node target)) (issued_in history.items) ≡ o → is_no (known_by history.items (Published name node target) o) ≡ false
+        → IsAmong target (filter_map (λ (i : Issued). published_target node (thing_of i)) (issued_of history name))
+    by None e f = absurd (false≢true (sym f))
+    by (Some issued) e f =
+        let among = among-find (touches (Published name node target)) (issued_in history.items) issued e in
+        let of = find-passes (touches (Published name node target)) (issued_in history.items) issued e in
+        among-filter_map (λ (i : Issued). published_target node (thing_of i)) (issued_of history name) issued target
+        (in_filter (λ (i : Issued). same_text i.name name) (issued_in history.items) issued among (touches-name (Published name node target) issued of))
+        (target-of name node target issued.name issued.party issued.call of)
+
+-- the entry of a target is found by it
+own-aim : (aims : List Aim) (aim : Aim) → EachTwo (λ (a b : Aim). same_text a.target b.target ≡ false) aims → IsAmong aim aims → find (λ (a : Aim). same_text a.target aim.target) aims ≡ Some aim
+own-aim [] aim two among = absurd among
+own-aim (first ∷ others) aim two (inl is) =
+    ap (λ b. cond b (Some first) (find (λ (a : Aim). same_text a.target aim.target) others)) (ap (λ (a : Aim). same_text first.target a.target) is ∙ text-same first.target) ∙ ap Some (sym is)
+own-aim (first ∷ others) aim two (inr there) =
+    ap (λ b. cond b (Some first) (find (λ (a : Aim). same_text a.target aim.target) others)) (each_of (λ (b : Aim). same_text first.target b.target ≡ false) others aim two.0 there)
+    ∙ own-aim others aim two.1 there
+
+among-map : {X Y : Type 0} (f : X → Y) (xs : List X) (x : X) → IsAmong x xs → IsAmong (f x) (map f xs)
+among-map f [] x among = among
+among-map f (y ∷ ys) x (inl is) = inl (ap f is)
+among-map f (y ∷ ys) x (inr there) = inr (among-map f ys x there)
+
+mapped : {X Y : Type 0} (f : X → Y) (xs : List X) (y : Y) → IsAmong y (map f xs) → (x : X) × IsAmong x xs × (f x ≡ y)
+mapped f [] y among = absurd among
+mapped f (x ∷ xs) y (inl is) = (x, inl refl, sym is)
+mapped f (x ∷ xs) y (inr there) = let found = mapped f xs y there in (found.0, inr found.1, found.2)
+
+none-left : {X : Type 0} (x : X) (xs : List X) → xs ≡ [] → IsAmong x xs → ⊥
+none-left x [] e among = among
+none-left x (y ∷ ys) e among = clash e
+  where
+    clash : y ∷ ys ≡ [] → ⊥
+    clash h = cc
+
+first-of : {X : Type 0} (xs : List X) → ((x : X) → IsAmong x xs → ⊥) → xs ≡ []
+first-of [] none = refl
+first-of (x ∷ xs) none = absurd (none x (inl refl))
+
+no_is_no : (k : Known) → is_no k ≡ true → k ≡ No
+no_is_no Yes e = absurd (false≢true e)
+no_is_no No e = refl
+no_is_no Maybe e = absurd (false≢true e)
+
+not_true : (b : Bool) → not b ≡ true → b ≡ false
+not_true true e = absurd (false≢true e)
+not_true false e = refl
+
+-- of a row and a history that agree
+record Tells (row : RowShown) (history : History) : Type 0 where
+  marks : (thing : Thing) → name_in thing ≡ row.name → mark_of thing row ≡ known history thing
+  own_id : row.id ≡ id_of history row.name
+  own_goal : goal_in row ≡ goal_of history row.name
+  apart : AllByRecursion (λ (place : PlaceShown). EachTwo (λ (a b : Aim). same_text a.target b.target ≡ false) place.aims) row.places
+
+-- a row without entries in use is of a volume without targets in use
+aims-then : (row : RowShown) (history : History) (node : List ℕ) → Tells row history → targets_in_use history row.name node ≡ [] → aims_in_use (place_of row node) ≡ []
+aims-then row history node tells none = by (place_of row node) refl
+  where
+    by : (o : Option PlaceShown) → place_of row node ≡ o → aims_in_use o ≡ []
+    by None e = refl
+    by (Some place) e =
+        first-of (map (λ (a : Aim). a.target) (filter (λ (a : Aim). not (is_no a.published)) place.aims))
+        (λ target among.
+        let from = mapped (λ (a : Aim). a.target) (filter (λ (a : Aim). not (is_no a.published)) place.aims) target among in
+        let there = passes (λ (a : Aim). not (is_no a.published)) place.aims from.0 from.1 in
+        let own = own-aim place.aims from.0 (each_of (λ (p : PlaceShown). EachTwo (λ (a b : Aim). same_text a.target b.target ≡ false) p.aims) row.places place tells.apart (among-find (λ (p : PlaceShown). same_text p.node node) row.places place e)) there.0 in
+        let mark : mark_of (Published row.name node (from.0).target) row ≡ (from.0).published = ap (mark_in (published_in (from.0).target)) e ∙ ap (mark_in (λ (a : Aim). a.published)) own in
+        let maybe : is_no (known history (Published row.name node (from.0).target)) ≡ false = ap is_no (sym (tells.marks (Published row.name node (from.0).target) refl) ∙ mark) ∙ not_true (is_no (from.0).published) there.1 in
+        none-left (from.0).target (targets_in_use history row.name node) none (in-use history row.name node (from.0).target maybe))
+
+targets-then : (row : RowShown) (history : History) (node : List ℕ) → Tells row history → aims_in_use (place_of row node) ≡ [] → targets_in_use history row.name node ≡ []
+targets-then row history node tells none =
+    first-of (targets_in_use history row.name node)
+    (λ target among.
+    let there = passes (λ (t : List ℕ). not (is_no (known history (Published row.name node t)))) _ target among in
+    let maybe : is_no (mark_of (Published row.name node target) row) ≡ false = ap is_no (tells.marks (Published row.name node target) refl) ∙ not_true (is_no (known history (Published row.name node target))) there.1 in
+    by target (place_of row node) refl maybe)
+  where
+    aimed : (target : List ℕ) (place : PlaceShown) → place_of row node ≡ Some place → (o : Option Aim) → aim_of place target ≡ o → is_no (mark_in (λ (a : Aim). a.published) o) ≡ false → ⊥
+    aimed target place e None f maybe = false≢true (sym maybe)
+    aimed target place e (Some aim) f maybe =
+        let among = among-find (λ (a : Aim). same_text a.target target) place.aims aim f in
+        none-left aim.target (aims_in_use (Some place)) (ap aims_in_use (sym e) ∙ none)
+        (among-map (λ (a : Aim). a.target) (filter (λ (a : Aim). not (is_no a.published)) place.aims) aim (in_filter (λ (a : Aim). not (is_no a.published)) place.aims aim among (ap not maybe)))
+
+    by : (target : List ℕ) (o : Option PlaceShown) → place_of row node ≡ o → is_no (mark_in (published_in target) o) ≡ false → ⊥
+    by target None e maybe = false≢true (sym maybe)
+    by target (Some place) e maybe = aimed target place e (aim_of place target) refl maybe
+
+-- goal by goal
+use-told : (row : RowShown) (history : History) (usage : Usage) (id : ℕ) → Tells row history → due_use history row.name usage id ≡ use_due row usage id
+use-told row history usage id tells =
+    rw (sym (tells.marks (Attached row.name usage.node) refl), sym (tells.marks (Staged row.name usage.node) refl), sym (tells.marks (Published row.name usage.node usage.target) refl)) refl
+
+leave-told : (row : RowShown) (history : History) (node : List ℕ) (id : ℕ) → Tells row history → due_leave history row.name node id (targets_in_use history row.name node) ≡ leave_due row node id (aims_in_use (place_of row node))
+leave-told row history node id tells = by (targets_in_use history row.name node) (aims_in_use (place_of row node)) refl refl
+  where
+    clash : {X : Type 0} (x : X) (xs : List X) → x ∷ xs ≡ [] → ⊥
+    clash x xs h = cc
+
+    by : (ts us : List (List ℕ)) → targets_in_use history row.name node ≡ ts → aims_in_use (place_of row node) ≡ us → due_leave history row.name node id ts ≡ leave_due row node id us
+    by [] [] e f = rw (sym (tells.marks (Staged row.name node) refl), sym (tells.marks (Attached row.name node) refl)) refl
+    by [] (u ∷ us) e f = absurd (clash u us (sym f ∙ aims-then row history node tells e))
+    by (t ∷ ts) [] e f = absurd (clash t ts (sym e ∙ targets-then row history node tells f))
+    by (t ∷ ts) (u ∷ us) e f = refl
+
+stop-told : (row : RowShown) (history : History) (node target : List ℕ) (id : ℕ) → Tells row history → due_stop history row.name node target id ≡ stop_due row node target id
+stop-told row history node target id tells =
+    ap (λ k. cond (not (is_no k)) (Some (let d : Due = record { party = Node node; call = calls.NodeUnpublishVolume id target } in d)) (due_leave history row.name node id (targets_in_use history row.name node))) (sym (tells.marks (Published row.name node target) refl))
+    ∙ ap (λ d. cond (not (is_no (mark_of (Published row.name node target) row))) (Some (let d : Due = record { party = Node node; call = calls.NodeUnpublishVolume id target } in d)) d) (leave-told row history node id tells)
+
+goal-told : (row : RowShown) (history : History) → Tells row history → (goal : Option KeptGoal) → due_for history row.name (option_map (goal_shown row) goal) ≡ due_by row (option_map (goal_shown row) goal)
+goal-told row history tells None = refl
+goal-told row history tells (Some kept.Create) = rw (sym (tells.marks (Exists row.name) refl)) refl
+goal-told row history tells (Some (kept.Use usage)) = ap (option_and_then (due_use history row.name (usage_shown usage))) (sym tells.own_id) ∙ by row.id
+  where
+    by : (o : Option ℕ) → option_and_then (due_use history row.name (usage_shown usage)) o ≡ option_and_then (use_due row (usage_shown usage)) o
+    by None = refl
+    by (Some id) = use-told row history (usage_shown usage) id tells
+goal-told row history tells (Some (kept.Stop node target)) = ap (option_and_then (due_stop history row.name node target)) (sym tells.own_id) ∙ by row.id
+  where
+    by : (o : Option ℕ) → option_and_then (due_stop history row.name node target) o ≡ option_and_then (stop_due row node target) o
+    by None = refl
+    by (Some id) = stop-told row history node target id tells
+goal-told row history tells (Some kept.Delete) = ap (option_and_then (due_delete history row.name)) (sym tells.own_id) ∙ by row.id
+  where
+    by : (o : Option ℕ) → option_and_then (due_delete history row.name) o ≡ option_and_then (delete_due row) o
+    by None = refl
+    by (Some id) = rw (sym (tells.marks (Exists row.name) refl)) refl
+
+-- by name
+pub due-told : DueIsTold
+due-told parts history name apart agrees = by (row_of parts.rows name) refl
+  where
+    own : (row : RowShown) → row_of parts.rows name ≡ Some row → row.name ≡ name → Tells row history
+    own row e same =
+        let there : row_of parts.rows row.name ≡ Some row = ap (row_of parts.rows) same ∙ e in
+        record {
+          marks = λ thing is. ap (mark_in (mark_of thing)) (sym (ap (row_of parts.rows) is ∙ there)) ∙ agrees.same_marks thing;
+          own_id = ap (option_and_then (λ (r : RowShown). r.id)) (sym there) ∙ agrees.same_ids row.name;
+          own_goal = ap (option_and_then goal_in) (sym there) ∙ agrees.same_goals row.name;
+          apart = each_of (λ (r : RowShown). AllByRecursion (λ (place : PlaceShown). EachTwo (λ (a b : Aim). same_text a.target b.target ≡ false) place.aims) r.places) parts.rows row apart (among-find (λ (r : RowShown). same_text r.name name) parts.rows row e);
+        }
+
+    by : (o : Option RowShown) → row_of parts.rows name ≡ o → due_call history name ≡ option_and_then due_in o
+    by None e = ap (due_for history name) (sym (agrees.same_goals name) ∙ ap (option_and_then goal_in) e)
+    by (Some row) e =
+        let same : row.name ≡ name = (same_text-tells row.name name).0 (find-passes (λ (r : RowShown). same_text r.name name) parts.rows row e) in
+        let tells = own row e same in
+        subst (λ n. due_call history n ≡ due_in row) same (ap (due_for history row.name) (sym tells.own_goal) ∙ goal-told row history tells row.goal)

@@ -1,0 +1,215 @@
+-- What an orchestrator shows of itself, by its rows. This profile's own.
+use Rattle.std.specs.Prelude.{◌≡◌, ℕ, List, [], ◌∷◌, map, filter, find, Bool, false, not, Option, Some, None, is_some, option_map, option_and_then, if◌then◌else◌}
+use Rattle.std.specs.List.{AllByRecursion}
+use Rattle.csi_types.specs.declared.capability.Capability.{Capability}
+use Rattle.csi_types.specs.declared.number.Number.{Number}
+use Rattle.csi_types.specs.declared.call.Call.TheVariants as calls
+use Rattle.csi_types.specs.declared.call.Party.TheVariants.{Controller, Node}
+use Rattle.csi_types.specs.Lists.{EachTwo}
+use Rattle.csi_types.specs.Same.{same_text}
+use Rattle.csi_orchestrator.specs.declared.row.Goal.{Goal as KeptGoal}
+use Rattle.csi_orchestrator.specs.declared.row.Goal.TheVariants as kept
+use Rattle.csi_orchestrator.specs.declared.row.Aim.{Aim}
+use Rattle.csi_orchestrator.specs.declared.row.Arguments.{Arguments as KeptArguments}
+use Rattle.csi_orchestrator.specs.declared.row.Place.{Place}
+use Rattle.csi_orchestrator.specs.declared.row.Row.{Row}
+use Rattle.csi_orchestrator.specs.declared.row.Usage.{Usage as KeptUsage}
+use Rattle.csi_orchestrator.specs.declared.thing.Thing.{Thing}
+use Rattle.csi_orchestrator.specs.declared.thing.Thing.TheVariants.{Exists, Attached, Staged, Published}
+use Rattle.csi_orchestrator.specs.declared.thing.Known.{Known}
+use Rattle.csi_orchestrator.specs.declared.thing.Known.TheVariants.{No}
+use Rattle.csi_orchestrator.specs.Thing.{Issued, name_in, is_yes, is_no}
+use Rattle.csi_orchestrator.specs.History.{Arguments, Usage, Held, Goal, Create, Use, Stop, Delete, History}
+use Rattle.csi_orchestrator.specs.Due.{Due, due_call}
+use Rattle.csi_orchestrator.specs.Agrees.{View, Agrees}
+
+-- a node at which a volume is used, and a volume, as they are shown
+pub record PlaceShown : Type 0 where
+  pub node : List ℕ
+  pub capability : Capability
+  pub readonly : Bool
+  pub attached : Known
+  pub staged : Known
+  pub aims : List Aim
+
+pub record RowShown : Type 0 where
+  pub name : List ℕ
+  pub arguments : Arguments
+  pub id : Option ℕ
+  pub exists : Known
+  pub goal : Option KeptGoal
+  pub open_number : Option Number
+  pub tries : ℕ
+  pub places : List PlaceShown
+
+abbrev pub place_shown : Place → PlaceShown
+place_shown place = record { node = place.node; capability = place.capability; readonly = place.readonly; attached = place.attached; staged = place.staged; aims = place.aims.items }
+
+abbrev pub arguments_shown : KeptArguments → Arguments
+arguments_shown arguments = record { required = arguments.required; limit = arguments.limit; capabilities = arguments.capabilities }
+
+abbrev pub row_shown : Row → RowShown
+row_shown row =
+    record {
+      name = row.name;
+      arguments = arguments_shown row.arguments;
+      id = row.id;
+      exists = row.exists;
+      goal = row.goal;
+      open_number = row.open_number;
+      tries = row.tries;
+      places = map place_shown row.places.items;
+    }
+
+-- an orchestrator to its callers: its nodes, the number of its last call (or call 0 of a session without one), and its rows
+pub record Parts : Type 0 where
+  pub nodes : List (List ℕ)
+  pub last : Number
+  pub rows : List RowShown
+
+-- the entries of a name, of a node and of a target
+abbrev pub row_of : List RowShown → List ℕ → Option RowShown
+row_of rows name = find (λ row. same_text row.name name) rows
+
+abbrev pub place_of : RowShown → List ℕ → Option PlaceShown
+place_of row node = find (λ place. same_text place.node node) row.places
+
+abbrev pub aim_of : PlaceShown → List ℕ → Option Aim
+aim_of place target = find (λ aim. same_text aim.target target) place.aims
+
+-- what has no entry isn't so
+abbrev pub mark_in : {X : Type 0} → (X → Known) → Option X → Known
+mark_in mark None = No
+mark_in mark (Some x) = mark x
+
+abbrev pub published_in : List ℕ → PlaceShown → Known
+published_in target place = mark_in (λ aim. aim.published) (aim_of place target)
+
+-- what a row knows of a thing of its name
+abbrev pub mark_of : Thing → RowShown → Known
+mark_of (Exists name) row = row.exists
+mark_of (Attached name node) row = mark_in (λ place. place.attached) (place_of row node)
+mark_of (Staged name node) row = mark_in (λ place. place.staged) (place_of row node)
+mark_of (Published name node target) row = mark_in (published_in target) (place_of row node)
+
+-- what is wanted of a row's volume
+abbrev pub usage_shown : KeptUsage → Usage
+usage_shown usage = record { node = usage.node; target = usage.target; capability = usage.capability; readonly = usage.readonly }
+
+abbrev pub goal_shown : RowShown → KeptGoal → Goal
+goal_shown row kept.Create = Create row.arguments
+goal_shown row (kept.Use usage) = Use (usage_shown usage)
+goal_shown row (kept.Stop node target) = Stop node target
+goal_shown row kept.Delete = Delete
+
+abbrev pub goal_in : RowShown → Option Goal
+goal_in row = option_map (goal_shown row) row.goal
+
+-- how a row's volume is held at a node
+abbrev pub held_at : PlaceShown → Held
+held_at place = record { capability = place.capability; readonly = place.readonly }
+
+abbrev pub held_in : RowShown → List ℕ → Option Held
+held_in row node = option_map held_at (place_of row node)
+
+-- the targets of a node at which it may be published
+abbrev pub aims_in_use : Option PlaceShown → List (List ℕ)
+aims_in_use None = []
+aims_in_use (Some place) = map (λ aim. aim.target) (filter (λ aim. not (is_no aim.published)) place.aims)
+
+-- the call that is due for a goal of a row
+abbrev pub use_due : RowShown → Usage → ℕ → Option Due
+use_due row usage id =
+    if not (is_yes (mark_of (Attached row.name usage.node) row)) then
+    Some (record { party = Controller; call = calls.ControllerPublishVolume id usage.node usage.capability usage.readonly })
+    else if not (is_yes (mark_of (Staged row.name usage.node) row)) then
+    Some (record { party = Node usage.node; call = calls.NodeStageVolume id usage.capability })
+    else if not (is_yes (mark_of (Published row.name usage.node usage.target) row)) then
+    Some (record { party = Node usage.node; call = calls.NodePublishVolume id usage.target usage.capability usage.readonly })
+    else None
+
+abbrev pub leave_due : RowShown → List ℕ → ℕ → List (List ℕ) → Option Due
+leave_due row node id (target ∷ targets) = None
+leave_due row node id [] =
+    if not (is_no (mark_of (Staged row.name node) row)) then Some (record { party = Node node; call = calls.NodeUnstageVolume id })
+    else if not (is_no (mark_of (Attached row.name node) row)) then Some (record { party = Controller; call = calls.ControllerUnpublishVolume id node })
+    else None
+
+abbrev pub stop_due : RowShown → List ℕ → List ℕ → ℕ → Option Due
+stop_due row node target id =
+    if not (is_no (mark_of (Published row.name node target) row)) then Some (record { party = Node node; call = calls.NodeUnpublishVolume id target })
+    else leave_due row node id (aims_in_use (place_of row node))
+
+abbrev pub delete_due : RowShown → ℕ → Option Due
+delete_due row id = if is_no row.exists then None else Some (record { party = Controller; call = calls.DeleteVolume id })
+
+abbrev pub create_due : RowShown → Arguments → Option Due
+create_due row arguments =
+    if is_yes row.exists then None
+    else Some (record { party = Controller; call = calls.CreateVolume row.name arguments.required arguments.limit arguments.capabilities })
+
+abbrev pub due_by : RowShown → Option Goal → Option Due
+due_by row None = None
+due_by row (Some (Create arguments)) = create_due row arguments
+due_by row (Some (Use usage)) = option_and_then (use_due row usage) row.id
+due_by row (Some (Stop node target)) = option_and_then (stop_due row node target) row.id
+due_by row (Some Delete) = option_and_then (delete_due row) row.id
+
+-- the same, for its own goal
+abbrev pub due_in : RowShown → Option Due
+due_in row = due_by row (goal_in row)
+
+-- the open call is the one that is due
+abbrev pub issued_as : List ℕ → Option Number → Option Due → Option Issued
+issued_as name None due = None
+issued_as name (Some number) None = None
+issued_as name (Some number) (Some due) = Some (record { name = name; number = number; party = due.party; call = due.call })
+
+abbrev pub open_in_row : RowShown → Option Issued
+open_in_row row = issued_as row.name row.open_number (due_in row)
+
+-- a row without its open call, as it is kept and as it is shown
+abbrev pub without_call : Row → Row
+without_call row = record row { open_number = None }
+
+abbrev pub closed : RowShown → RowShown
+closed row = record row { open_number = None }
+
+-- the tries of a row, if there is one
+abbrev pub tries_in : Option RowShown → ℕ
+tries_in None = 0
+tries_in (Some row) = row.tries
+
+-- what they show
+abbrev pub view_of : Parts → View
+view_of parts =
+    record {
+      last = parts.last;
+      rows = λ name. is_some (row_of parts.rows name);
+      marks = λ thing. mark_in (mark_of thing) (row_of parts.rows (name_in thing));
+      ids = λ name. option_and_then (λ row. row.id) (row_of parts.rows name);
+      goals = λ name. option_and_then goal_in (row_of parts.rows name);
+      arguments = λ name. option_map (λ row. row.arguments) (row_of parts.rows name);
+      holdings = λ name node. option_and_then (λ row. held_in row node) (row_of parts.rows name);
+      open_calls = λ name. option_and_then open_in_row (row_of parts.rows name);
+      counts = λ name. tries_in (row_of parts.rows name);
+    }
+
+-- the history is one that they agree with
+abbrev pub AgreesWith : Parts → History → Type 0
+AgreesWith parts history = Agrees (view_of parts) history
+
+-- the parts once every open call was given up
+abbrev pub in_session : ℕ → Parts → Parts
+in_session session parts = record parts { last = record { session = session; call = 0 }; rows = map closed parts.rows }
+
+-- at each node of each row, a target has one entry
+abbrev pub AreAimsApart : List RowShown → Type 0
+AreAimsApart rows =
+    AllByRecursion (λ (row : RowShown). AllByRecursion (λ (place : PlaceShown). EachTwo (λ (a b : Aim). same_text a.target b.target ≡ false) place.aims) row.places) rows
+
+-- the call that is due for a name, as the history tells it, is read from the name's row
+abbrev pub DueIsTold : Type 0
+DueIsTold =
+    (parts : Parts) (history : History) (name : List ℕ) → AreAimsApart parts.rows → AgreesWith parts history
+    → due_call history name ≡ option_and_then due_in (row_of parts.rows name)

@@ -1,0 +1,151 @@
+//! The orchestrator's rows, and what it does with them.
+ghost use Rattle.std.specs.Prelude.{◌≡◌, ◌+◌, ◌<◌, ◌^◌, IfErr, OnErr, OnOk, None, IsTrue, not, nat_lt, map, find, option_map};
+ghost use Rattle.std.specs.Option.{option_copied};
+ghost use Rattle.csi_types.specs.Same.{same_text};
+ghost use Rattle.csi_orchestrator.specs.declared.fault.OrchFault.{OrchFault as Fault};
+ghost use Rattle.csi_orchestrator.specs.Thing.{name_in};
+ghost use Rattle.csi_orchestrator.specs.Shown.{row_shown, place_shown, row_of, place_of, aim_of, mark_in, mark_of, published_in, without_call};
+ghost use Rattle.csi_orchestrator.specs.Core.{parts_of};
+
+use crate::fault::OrchFault;
+use crate::row::{Aim, Place, Row};
+use crate::thing::{Known, Thing};
+use csi_types::{Name, NodeId, Number, Target};
+use std::alloc::Global;
+
+/// An orchestrator's parts.
+#[derive(Drop)]
+pub(crate) struct Core {
+    pub alloc: Global,
+    pub nodes: Vec<NodeId>,
+    /// The number of the last call, or of call 0 of a session without one.
+    pub last: Number,
+    pub rows: Vec<Row>,
+}
+
+// The row of this name.
+fn find_row<'a>(rows: &'a [Row], name: &Name) -> Option<&'a Row>
+    ensures { option_copied result ≡ find (λ row. same_text row.name name.now) rows.now }
+{
+    rows.iter().find(|row| row.name == *name)
+}
+
+// The same, as it is shown.
+fn row_named<'a>(rows: &'a [Row], name: &Name) -> Option<&'a Row>
+    ensures { option_map row_shown (option_copied result) ≡ row_of (map row_shown rows.now) name.now }
+{
+    find_row(rows, name)
+}
+
+// What the row has of this node.
+fn find_place<'a>(row: &'a Row, node: &NodeId) -> Option<&'a Place>
+    ensures { option_copied result ≡ find (λ place. same_text place.node node.now) row.now.places.items }
+{
+    row.places.iter().find(|place| place.node == *node)
+}
+
+// The same, as it is shown.
+fn place_at<'a>(row: &'a Row, node: &NodeId) -> Option<&'a Place>
+    ensures { option_map place_shown (option_copied result) ≡ place_of (row_shown row.now) node.now }
+{
+    find_place(row, node)
+}
+
+// What the place has of this target.
+fn aim_at<'a>(place: &'a Place, target: &Target) -> Option<&'a Aim>
+    ensures { option_copied result ≡ aim_of (place_shown place.now) target.now }
+{
+    place.aims.iter().find(|aim| aim.target == *target)
+}
+
+// Whether the volume is published at the target.
+fn published_at(place: &Place, target: &Target) -> Known
+    ensures { result ≡ published_in target.now (place_shown place.now) }
+{
+    match aim_at(place, target) {
+        Some(aim) => aim.published,
+        None => Known::No,
+    }
+}
+
+// Whether it is attached to the node.
+fn attached_at(row: &Row, node: &NodeId) -> Known
+    ensures { result ≡ mark_in (λ place. place.attached) (place_of (row_shown row.now) node.now) }
+{
+    match place_at(row, node) {
+        Some(place) => place.attached,
+        None => Known::No,
+    }
+}
+
+// Whether it is staged there.
+fn staged_at(row: &Row, node: &NodeId) -> Known
+    ensures { result ≡ mark_in (λ place. place.staged) (place_of (row_shown row.now) node.now) }
+{
+    match place_at(row, node) {
+        Some(place) => place.staged,
+        None => Known::No,
+    }
+}
+
+// Whether it is published at a target there.
+fn target_at(row: &Row, node: &NodeId, target: &Target) -> Known
+    ensures { result ≡ mark_in (published_in target.now) (place_of (row_shown row.now) node.now) }
+{
+    match place_at(row, node) {
+        Some(place) => published_at(place, target),
+        None => Known::No,
+    }
+}
+
+/// What these rows know of a thing.
+pub(crate) fn known_in(rows: &[Row], thing: &Thing) -> Known
+    ensures { result ≡ mark_in (mark_of thing.now) (row_of (map row_shown rows.now) (name_in thing.now)) }
+{
+    match thing {
+        Thing::Exists { name } => match row_named(rows, name) {
+            Some(row) => row.exists,
+            None => Known::No,
+        },
+        Thing::Attached { name, node } => match row_named(rows, name) {
+            Some(row) => attached_at(row, node),
+            None => Known::No,
+        },
+        Thing::Staged { name, node } => match row_named(rows, name) {
+            Some(row) => staged_at(row, node),
+            None => Known::No,
+        },
+        Thing::Published { name, node, target } => match row_named(rows, name) {
+            Some(row) => target_at(row, node, target),
+            None => Known::No,
+        },
+    }
+}
+
+// Gives up every open call.
+fn close_all(rows: &mut Vec<Row>)
+    ensures { rows.new.items ≡ map without_call rows.old.items }
+{
+    for row in rows.iter_mut() {
+        row.open_number = None;
+    }
+}
+
+impl Core {
+    /// Starts the next session, or changes nothing where there is none.
+    pub fn restart(&mut self) -> Result<(), OrchFault>
+        ensures ok { OnOk result (IsTrue (nat_lt (self.old.last.session + 1) (2 ^ 64))
+            × (self.new.last ≡ record { session = self.old.last.session + 1; call = 0 }) × (self.new.rows.items ≡ map without_call self.old.rows.items) × (self.new.nodes.items ≡ self.old.nodes.items)) }
+        ensures err { IfErr result (λ fault. (fault ≡ Fault.NumbersSpent) × IsTrue (not (nat_lt (self.old.last.session + 1) (2 ^ 64)))) }
+        ensures stays { OnErr result (parts_of self.new ≡ parts_of self.old) }
+    {
+        match self.last.session.checked_add(1) {
+            Some(session) => {
+                self.last = Number { session, call: 0 };
+                close_all(&mut self.rows);
+                Ok(())
+            }
+            None => Err(OrchFault::NumbersSpent),
+        }
+    }
+}

@@ -1,0 +1,68 @@
+//! What an orchestrator keeps of a volume.
+use crate::thing::Known;
+use csi_types::{Capability, CapabilityList, Name, NodeId, Number, Target, VolumeId};
+
+/// What a volume is to be created with, in bytes.
+#[derive(Drop)]
+pub(crate) struct Arguments {
+    pub required: u64,
+    /// 0 for none.
+    pub limit: u64,
+    pub capabilities: CapabilityList,
+}
+
+/// Where and how a volume is to be used.
+#[derive(Drop)]
+pub(crate) struct Usage {
+    pub node: NodeId,
+    pub target: Target,
+    pub capability: Capability,
+    pub readonly: bool,
+}
+
+/// What is wanted of a volume.
+#[derive(Drop)]
+pub(crate) enum Goal {
+    /// That it is there, by the row's arguments.
+    Create,
+    /// That it is published so.
+    Use(Usage),
+    /// That it isn't published there, and then isn't at the node.
+    Stop { node: NodeId, target: Target },
+    /// That it isn't there.
+    Delete,
+}
+
+/// A target of a node, and whether the volume is published at it.
+#[derive(Drop)]
+pub(crate) struct Aim {
+    pub target: Target,
+    pub published: Known,
+}
+
+/// A node at which a volume is used, and how it is held there.
+#[derive(Drop)]
+pub(crate) struct Place {
+    pub node: NodeId,
+    pub capability: Capability,
+    pub readonly: bool,
+    pub attached: Known,
+    pub staged: Known,
+    pub aims: Vec<Aim>,
+}
+
+/// A volume's row.
+#[derive(Drop)]
+pub(crate) struct Row {
+    pub name: Name,
+    pub arguments: Arguments,
+    /// Once it was heard.
+    pub id: Option<VolumeId>,
+    pub exists: Known,
+    pub goal: Option<Goal>,
+    /// The number of the open call, which is the one that is due for the goal.
+    pub open_number: Option<Number>,
+    /// How often a call was sent since the goal was set or a success was heard, counted up to 3.
+    pub tries: u64,
+    pub places: Vec<Place>,
+}
