@@ -72,6 +72,13 @@ impl Node {
         }
     }
 
+    /// The node's id. It takes no memory.
+    pub fn id(&self) -> &NodeId
+        ensures { result.now ≡ self.now.id }
+    {
+        self.record.id()
+    }
+
     /// Answers a frame by the fence and the table (CSI's spec.md, "NodeStageVolume" to "NodeUnpublishVolume"), or
     /// gives nothing for a reply and for another plugin's frame, which change nothing and take no memory. An `Err`,
     /// an allocation that was refused, leaves the node as it was.

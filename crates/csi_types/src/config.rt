@@ -99,6 +99,13 @@ impl Config {
     {
         self.nodes.as_slice()
     }
+
+    /// A law, and nothing that runs: the configuration has no fault.
+    pub fn fit_law(&self)
+        ensures { config_fault self.now.greatest self.now.nodes ≡ None }
+    {
+        let _nodes = &self.nodes;
+    }
 }
 
 // Whether a node of this id is in the list.
