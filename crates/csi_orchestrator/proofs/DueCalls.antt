@@ -1,13 +1,13 @@
 -- Why the call that is due is read from the row.
 use Rattle.std.proofs.Common.{◌≡◌, ◌⊎◌, ℕ, List, [], ◌∷◌, Bool, true, false, cond, not, map, refl, sym, ◌∙◌, ap, subst, inl, inr}
-use Rattle.std.specs.Prelude.{Option, Some, None, option_map, option_and_then, find, filter, filter_map, ◌&&◌, ◌||◌}
+use Rattle.std.specs.Prelude.{Option, Some, None, option_map, option_and_then, find, filter_map, ◌&&◌, ◌||◌}
 use Rattle.std.specs.List.{AllByRecursion, list_any, cons_option}
 use Rattle.std.proofs.lemmas.Bool.{false≢true}
 use Rattle.csi_types.specs.declared.call.Call.{Call}
 use Rattle.csi_types.specs.declared.call.Call.TheVariants as calls
 use Rattle.csi_types.specs.declared.call.Party.{Party}
 use Rattle.csi_types.specs.declared.call.Party.TheVariants.{Controller, Node}
-use Rattle.csi_types.specs.Lists.{IsAmong, EachTwo}
+use Rattle.csi_types.specs.Lists.{IsAmong}
 use Rattle.csi_types.specs.Same.{same_text}
 use Rattle.csi_types.proofs.Among.{among-find, each_of, in_filter}
 use Rattle.csi_types.proofs.Equality.{same_text-tells}
@@ -15,22 +15,24 @@ use Rattle.csi_types.proofs.Lists.{find-passes}
 use Rattle.csi_orchestrator.specs.declared.row.Aim.{Aim}
 use Rattle.csi_orchestrator.specs.declared.row.Goal.{Goal as KeptGoal}
 use Rattle.csi_orchestrator.specs.declared.row.Goal.TheVariants as kept
+use Rattle.csi_orchestrator.specs.declared.row.Usage.{Usage as KeptUsage}
 use Rattle.csi_orchestrator.specs.declared.thing.Thing.{Thing}
 use Rattle.csi_orchestrator.specs.declared.thing.Thing.TheVariants.{Exists, Attached, Staged, Published}
 use Rattle.csi_orchestrator.specs.declared.thing.Known.{Known}
 use Rattle.csi_orchestrator.specs.declared.thing.Known.TheVariants.{Yes, No, Maybe}
 use Rattle.csi_orchestrator.specs.Thing.{Issued, name_in, thing_of, thing_at, is_thing, touches, is_no}
-use Rattle.csi_orchestrator.specs.History.{Usage, History}
+use Rattle.csi_orchestrator.specs.History.{History}
 use Rattle.csi_orchestrator.specs.Readings.{known, known_by, id_of, goal_of, issued_in, issued_of, distinct}
 use Rattle.csi_orchestrator.specs.Due.{Due, published_target, targets_in_use, due_use, due_leave, due_stop, due_delete, due_for, due_call}
-use Rattle.csi_orchestrator.specs.Shown.{PlaceShown, RowShown, row_of, place_of, aim_of, mark_in, published_in, mark_of, usage_shown, goal_shown, goal_in, aims_in_use, use_due, leave_due, stop_due, delete_due, due_by, due_in, DueIsTold}
-use Rattle.csi_orchestrator.proofs.Following.{passes, touches-name}
+use Rattle.csi_orchestrator.specs.Shown.{PlaceShown, RowShown, row_of, place_of, aim_of, mark_in, published_in, mark_of, usage_shown, goal_shown, goal_in, others_in, marks_for, use_due, stop_due, delete_due, due_by, due_in, AreTargetsApart, DueIsTold}
+use Rattle.csi_orchestrator.proofs.Following.{any-among, any-none, and-false, passes, touches-name}
+use Rattle.csi_orchestrator.proofs.Joined.{own-entry}
 
-text-same : (name : List ℕ) → same_text name name ≡ true
+pub text-same : (name : List ℕ) → same_text name name ≡ true
 text-same name = (same_text-tells name name).1 refl
 
 -- what a list has, it has once more where each is there once
-among-distinct : (texts : List (List ℕ)) (text : List ℕ) → IsAmong text texts → IsAmong text (distinct texts)
+pub among-distinct : (texts : List (List ℕ)) (text : List ℕ) → IsAmong text texts → IsAmong text (distinct texts)
 among-distinct [] text among = absurd among
 among-distinct (first ∷ others) text among = by (list_any (same_text first) others) refl among (among-distinct others text)
   where
@@ -48,7 +50,7 @@ among-distinct (first ∷ others) text among = by (list_any (same_text first) ot
     by false e (inl is) rest = inl is
     by false e (inr there) rest = inr (rest there)
 
-among-filter_map : {X Y : Type 0} (f : X → Option Y) (xs : List X) (x : X) (y : Y) → IsAmong x xs → f x ≡ Some y → IsAmong y (filter_map f xs)
+pub among-filter_map : {X Y : Type 0} (f : X → Option Y) (xs : List X) (x : X) (y : Y) → IsAmong x xs → f x ≡ Some y → IsAmong y (filter_map f xs)
 among-filter_map f [] x y among e = absurd among
 among-filter_map f (z ∷ zs) x y (inl is) e = subst (λ o. IsAmong y (cons_option o (filter_map f zs))) (sym (ap f (sym is) ∙ e)) (inl refl)
 among-filter_map f (z ∷ zs) x y (inr there) e = by (f z) (among-filter_map f zs x y there e)
@@ -87,7 +89,7 @@ target-of name node target own (Node there) (calls.NodeUnpublishVolume id aim) o
     aimed false b c e f of = absurd (false≢true of)
 
 -- a target at which the volume may be published is in use
-in-use : (history : History) (name node target : List ℕ) → is_no (known history (Published name node target)) ≡ false → IsAmong target (targets_in_use history name node)
+pub in-use : (history : History) (name node target : List ℕ) → is_no (known history (Published name node target)) ≡ false → IsAmong target (targets_in_use history name node)
 in-use history name node target maybe =
     in_filter (λ (t : List ℕ). not (is_no (known history (Published name node t)))) _ target
     (among-distinct _ target (by (find (touches (Published name node target)) (issued_in history.items)) refl maybe)) (ap not maybe)
@@ -102,125 +104,135 @@ in-use history name node target maybe =
         (in_filter (λ (i : Issued). same_text i.name name) (issued_in history.items) issued among (touches-name (Published name node target) issued of))
         (target-of name node target issued.name issued.party issued.call of)
 
--- the entry of a target is found by it
-own-aim : (aims : List Aim) (aim : Aim) → EachTwo (λ (a b : Aim). same_text a.target b.target ≡ false) aims → IsAmong aim aims → find (λ (a : Aim). same_text a.target aim.target) aims ≡ Some aim
-own-aim [] aim two among = absurd among
-own-aim (first ∷ others) aim two (inl is) =
-    ap (λ b. cond b (Some first) (find (λ (a : Aim). same_text a.target aim.target) others)) (ap (λ (a : Aim). same_text first.target a.target) is ∙ text-same first.target) ∙ ap Some (sym is)
-own-aim (first ∷ others) aim two (inr there) =
-    ap (λ b. cond b (Some first) (find (λ (a : Aim). same_text a.target aim.target) others)) (each_of (λ (b : Aim). same_text first.target b.target ≡ false) others aim two.0 there)
-    ∙ own-aim others aim two.1 there
-
-among-map : {X Y : Type 0} (f : X → Y) (xs : List X) (x : X) → IsAmong x xs → IsAmong (f x) (map f xs)
+pub among-map : {X Y : Type 0} (f : X → Y) (xs : List X) (x : X) → IsAmong x xs → IsAmong (f x) (map f xs)
 among-map f [] x among = among
 among-map f (y ∷ ys) x (inl is) = inl (ap f is)
 among-map f (y ∷ ys) x (inr there) = inr (among-map f ys x there)
 
-mapped : {X Y : Type 0} (f : X → Y) (xs : List X) (y : Y) → IsAmong y (map f xs) → (x : X) × IsAmong x xs × (f x ≡ y)
+pub mapped : {X Y : Type 0} (f : X → Y) (xs : List X) (y : Y) → IsAmong y (map f xs) → (x : X) × IsAmong x xs × (f x ≡ y)
 mapped f [] y among = absurd among
 mapped f (x ∷ xs) y (inl is) = (x, inl refl, sym is)
 mapped f (x ∷ xs) y (inr there) = let found = mapped f xs y there in (found.0, inr found.1, found.2)
 
-none-left : {X : Type 0} (x : X) (xs : List X) → xs ≡ [] → IsAmong x xs → ⊥
+pub none-left : {X : Type 0} (x : X) (xs : List X) → xs ≡ [] → IsAmong x xs → ⊥
 none-left x [] e among = among
 none-left x (y ∷ ys) e among = clash e
   where
     clash : y ∷ ys ≡ [] → ⊥
     clash h = cc
 
-first-of : {X : Type 0} (xs : List X) → ((x : X) → IsAmong x xs → ⊥) → xs ≡ []
+pub first-of : {X : Type 0} (xs : List X) → ((x : X) → IsAmong x xs → ⊥) → xs ≡ []
 first-of [] none = refl
 first-of (x ∷ xs) none = absurd (none x (inl refl))
 
-no_is_no : (k : Known) → is_no k ≡ true → k ≡ No
+pub no_is_no : (k : Known) → is_no k ≡ true → k ≡ No
 no_is_no Yes e = absurd (false≢true e)
 no_is_no No e = refl
 no_is_no Maybe e = absurd (false≢true e)
 
-not_true : (b : Bool) → not b ≡ true → b ≡ false
+pub not_true : (b : Bool) → not b ≡ true → b ≡ false
 not_true true e = absurd (false≢true e)
 not_true false e = refl
 
 -- of a row and a history that agree
-record Tells (row : RowShown) (history : History) : Type 0 where
-  marks : (thing : Thing) → name_in thing ≡ row.name → mark_of thing row ≡ known history thing
-  own_id : row.id ≡ id_of history row.name
-  own_goal : goal_in row ≡ goal_of history row.name
-  apart : AllByRecursion (λ (place : PlaceShown). EachTwo (λ (a b : Aim). same_text a.target b.target ≡ false) place.aims) row.places
+pub record Tells (row : RowShown) (history : History) : Type 0 where
+  pub marks : (thing : Thing) → name_in thing ≡ row.name → mark_of thing row ≡ known history thing
+  pub own_id : row.id ≡ id_of history row.name
+  pub own_goal : goal_in row ≡ goal_of history row.name
+  pub apart : AllByRecursion AreTargetsApart row.places
 
--- a row without entries in use is of a volume without targets in use
-aims-then : (row : RowShown) (history : History) (node : List ℕ) → Tells row history → targets_in_use history row.name node ≡ [] → aims_in_use (place_of row node) ≡ []
-aims-then row history node tells none = by (place_of row node) refl
+-- where no target is in use, no other entry is
+others-then : (row : RowShown) (history : History) (node target : List ℕ) → Tells row history → targets_in_use history row.name node ≡ [] → others_in target (place_of row node) ≡ false
+others-then row history node target tells none = by (place_of row node) refl
   where
-    by : (o : Option PlaceShown) → place_of row node ≡ o → aims_in_use o ≡ []
+    by : (o : Option PlaceShown) → place_of row node ≡ o → others_in target o ≡ false
     by None e = refl
-    by (Some place) e =
-        first-of (map (λ (a : Aim). a.target) (filter (λ (a : Aim). not (is_no a.published)) place.aims))
-        (λ target among.
-        let from = mapped (λ (a : Aim). a.target) (filter (λ (a : Aim). not (is_no a.published)) place.aims) target among in
-        let there = passes (λ (a : Aim). not (is_no a.published)) place.aims from.0 from.1 in
-        let own = own-aim place.aims from.0 (each_of (λ (p : PlaceShown). EachTwo (λ (a b : Aim). same_text a.target b.target ≡ false) p.aims) row.places place tells.apart (among-find (λ (p : PlaceShown). same_text p.node node) row.places place e)) there.0 in
-        let mark : mark_of (Published row.name node (from.0).target) row ≡ (from.0).published = ap (mark_in (published_in (from.0).target)) e ∙ ap (mark_in (λ (a : Aim). a.published)) own in
-        let maybe : is_no (known history (Published row.name node (from.0).target)) ≡ false = ap is_no (sym (tells.marks (Published row.name node (from.0).target) refl) ∙ mark) ∙ not_true (is_no (from.0).published) there.1 in
-        none-left (from.0).target (targets_in_use history row.name node) none (in-use history row.name node (from.0).target maybe))
+    by (Some place) e = any-none (λ (a : Aim). not (same_text a.target target) && not (is_no a.published)) place.aims (λ aim among. quiet aim among (is_no aim.published) refl)
+      where
+        quiet : (aim : Aim) → IsAmong aim place.aims → (b : Bool) → is_no aim.published ≡ b → (not (same_text aim.target target) && not b) ≡ false
+        quiet aim among true f = and-false (not (same_text aim.target target))
+        quiet aim among false f =
+            let own = own-entry (λ (a : Aim). a.target) place.aims aim (each_of AreTargetsApart row.places place tells.apart (among-find (λ (p : PlaceShown). same_text p.node node) row.places place e)) among in
+            let mark : mark_of (Published row.name node aim.target) row ≡ aim.published = ap (mark_in (published_in aim.target)) e ∙ ap (mark_in (λ (a : Aim). a.published)) own in
+            let maybe : is_no (known history (Published row.name node aim.target)) ≡ false = ap is_no (sym (tells.marks (Published row.name node aim.target) refl) ∙ mark) ∙ f in
+            absurd (none-left aim.target (targets_in_use history row.name node) none (in-use history row.name node aim.target maybe))
 
-targets-then : (row : RowShown) (history : History) (node : List ℕ) → Tells row history → aims_in_use (place_of row node) ≡ [] → targets_in_use history row.name node ≡ []
-targets-then row history node tells none =
+-- where neither this entry nor another is in use, no target is
+targets-then : (row : RowShown) (history : History) (node target : List ℕ) → Tells row history → is_no (mark_in (published_in target) (place_of row node)) ≡ true → others_in target (place_of row node) ≡ false → targets_in_use history row.name node ≡ []
+targets-then row history node target tells this others =
     first-of (targets_in_use history row.name node)
-    (λ target among.
-    let there = passes (λ (t : List ℕ). not (is_no (known history (Published row.name node t)))) _ target among in
-    let maybe : is_no (mark_of (Published row.name node target) row) ≡ false = ap is_no (tells.marks (Published row.name node target) refl) ∙ not_true (is_no (known history (Published row.name node target))) there.1 in
-    by target (place_of row node) refl maybe)
+    (λ t among.
+    let there = passes (λ (t : List ℕ). not (is_no (known history (Published row.name node t)))) _ t among in
+    let maybe : is_no (mark_of (Published row.name node t) row) ≡ false = ap is_no (tells.marks (Published row.name node t) refl) ∙ not_true (is_no (known history (Published row.name node t))) there.1 in
+    by t (place_of row node) refl maybe)
   where
-    aimed : (target : List ℕ) (place : PlaceShown) → place_of row node ≡ Some place → (o : Option Aim) → aim_of place target ≡ o → is_no (mark_in (λ (a : Aim). a.published) o) ≡ false → ⊥
-    aimed target place e None f maybe = false≢true (sym maybe)
-    aimed target place e (Some aim) f maybe =
-        let among = among-find (λ (a : Aim). same_text a.target target) place.aims aim f in
-        none-left aim.target (aims_in_use (Some place)) (ap aims_in_use (sym e) ∙ none)
-        (among-map (λ (a : Aim). a.target) (filter (λ (a : Aim). not (is_no a.published)) place.aims) aim (in_filter (λ (a : Aim). not (is_no a.published)) place.aims aim among (ap not maybe)))
+    aimed : (t : List ℕ) (place : PlaceShown) → place_of row node ≡ Some place → (o : Option Aim) → aim_of place t ≡ o → is_no (mark_in (λ (a : Aim). a.published) o) ≡ false → ⊥
+    aimed t place e None f maybe = false≢true (sym maybe)
+    aimed t place e (Some aim) f maybe = own (same_text aim.target target) refl
+      where
+        among : IsAmong aim place.aims
+        among = among-find (λ (a : Aim). same_text a.target t) place.aims aim f
 
-    by : (target : List ℕ) (o : Option PlaceShown) → place_of row node ≡ o → is_no (mark_in (published_in target) o) ≡ false → ⊥
-    by target None e maybe = false≢true (sym maybe)
-    by target (Some place) e maybe = aimed target place e (aim_of place target) refl maybe
+        is : aim.target ≡ t
+        is = (same_text-tells aim.target t).0 (find-passes (λ (a : Aim). same_text a.target t) place.aims aim f)
+
+        own : (b : Bool) → same_text aim.target target ≡ b → ⊥
+        own true g =
+            let same : t ≡ target = sym is ∙ (same_text-tells aim.target target).0 g in
+            let mark : mark_in (published_in target) (place_of row node) ≡ aim.published = ap (mark_in (published_in target)) e ∙ ap (λ u. mark_in (λ (a : Aim). a.published) (aim_of place u)) (sym same) ∙ ap (mark_in (λ (a : Aim). a.published)) f in
+            false≢true (sym maybe ∙ ap is_no (sym mark) ∙ this)
+        own false g =
+            false≢true (sym others ∙ ap (others_in target) e ∙ any-among (λ (a : Aim). not (same_text a.target target) && not (is_no a.published)) place.aims aim among (ap (λ b. not b && not (is_no aim.published)) g ∙ ap not maybe))
+
+    by : (t : List ℕ) (o : Option PlaceShown) → place_of row node ≡ o → is_no (mark_in (published_in t) o) ≡ false → ⊥
+    by t None e maybe = false≢true (sym maybe)
+    by t (Some place) e maybe = aimed t place e (aim_of place t) refl maybe
 
 -- goal by goal
-use-told : (row : RowShown) (history : History) (usage : Usage) (id : ℕ) → Tells row history → due_use history row.name usage id ≡ use_due row usage id
+pub use-told : (row : RowShown) (history : History) (usage : KeptUsage) (id : ℕ) → Tells row history → due_use history row.name (usage_shown usage) id ≡ use_due usage (marks_for row (kept.Use usage)) id
 use-told row history usage id tells =
     rw (sym (tells.marks (Attached row.name usage.node) refl), sym (tells.marks (Staged row.name usage.node) refl), sym (tells.marks (Published row.name usage.node usage.target) refl)) refl
 
-leave-told : (row : RowShown) (history : History) (node : List ℕ) (id : ℕ) → Tells row history → due_leave history row.name node id (targets_in_use history row.name node) ≡ leave_due row node id (aims_in_use (place_of row node))
-leave-told row history node id tells = by (targets_in_use history row.name node) (aims_in_use (place_of row node)) refl refl
+stop-told : (row : RowShown) (history : History) (node target : List ℕ) (id : ℕ) → Tells row history → due_stop history row.name node target id ≡ stop_due node target (marks_for row (kept.Stop node target)) id
+stop-told row history node target id tells =
+    ap (λ k. cond (not (is_no k)) (Some (let d : Due = record { party = Node node; call = calls.NodeUnpublishVolume id target } in d)) (due_leave history row.name node id (targets_in_use history row.name node))) (sym (tells.marks (Published row.name node target) refl))
+    ∙ by (is_no (mark_in (published_in target) (place_of row node))) refl (targets_in_use history row.name node) refl (others_in target (place_of row node)) refl
   where
+    unpublish : Option Due
+    unpublish = Some (record { party = Node node; call = calls.NodeUnpublishVolume id target })
+
+    leave : Option Due
+    leave =
+        cond (not (is_no (mark_of (Staged row.name node) row))) (Some (let d : Due = record { party = Node node; call = calls.NodeUnstageVolume id } in d))
+        (cond (not (is_no (mark_of (Attached row.name node) row))) (Some (let d : Due = record { party = Controller; call = calls.ControllerUnpublishVolume id node } in d)) None)
+
     clash : {X : Type 0} (x : X) (xs : List X) → x ∷ xs ≡ [] → ⊥
     clash x xs h = cc
 
-    by : (ts us : List (List ℕ)) → targets_in_use history row.name node ≡ ts → aims_in_use (place_of row node) ≡ us → due_leave history row.name node id ts ≡ leave_due row node id us
-    by [] [] e f = rw (sym (tells.marks (Staged row.name node) refl), sym (tells.marks (Attached row.name node) refl)) refl
-    by [] (u ∷ us) e f = absurd (clash u us (sym f ∙ aims-then row history node tells e))
-    by (t ∷ ts) [] e f = absurd (clash t ts (sym e ∙ targets-then row history node tells f))
-    by (t ∷ ts) (u ∷ us) e f = refl
+    by : (p : Bool) → is_no (mark_in (published_in target) (place_of row node)) ≡ p → (ts : List (List ℕ)) → targets_in_use history row.name node ≡ ts → (b : Bool) → others_in target (place_of row node) ≡ b
+        → cond (not p) unpublish (due_leave history row.name node id ts) ≡ cond (not p) unpublish (cond b None leave)
+    by false q ts e b f = refl
+    by true q [] e false f = rw (sym (tells.marks (Staged row.name node) refl), sym (tells.marks (Attached row.name node) refl)) refl
+    by true q [] e true f = absurd (false≢true (sym (others-then row history node target tells e) ∙ f))
+    by true q (t ∷ ts) e false f = absurd (clash t ts (sym e ∙ targets-then row history node target tells q f))
+    by true q (t ∷ ts) e true f = refl
 
-stop-told : (row : RowShown) (history : History) (node target : List ℕ) (id : ℕ) → Tells row history → due_stop history row.name node target id ≡ stop_due row node target id
-stop-told row history node target id tells =
-    ap (λ k. cond (not (is_no k)) (Some (let d : Due = record { party = Node node; call = calls.NodeUnpublishVolume id target } in d)) (due_leave history row.name node id (targets_in_use history row.name node))) (sym (tells.marks (Published row.name node target) refl))
-    ∙ ap (λ d. cond (not (is_no (mark_of (Published row.name node target) row))) (Some (let d : Due = record { party = Node node; call = calls.NodeUnpublishVolume id target } in d)) d) (leave-told row history node id tells)
-
-goal-told : (row : RowShown) (history : History) → Tells row history → (goal : Option KeptGoal) → due_for history row.name (option_map (goal_shown row) goal) ≡ due_by row (option_map (goal_shown row) goal)
+goal-told : (row : RowShown) (history : History) → Tells row history → (goal : Option KeptGoal) → due_for history row.name (option_map (goal_shown row) goal) ≡ due_by row goal
 goal-told row history tells None = refl
 goal-told row history tells (Some kept.Create) = rw (sym (tells.marks (Exists row.name) refl)) refl
 goal-told row history tells (Some (kept.Use usage)) = ap (option_and_then (due_use history row.name (usage_shown usage))) (sym tells.own_id) ∙ by row.id
   where
-    by : (o : Option ℕ) → option_and_then (due_use history row.name (usage_shown usage)) o ≡ option_and_then (use_due row (usage_shown usage)) o
+    by : (o : Option ℕ) → option_and_then (due_use history row.name (usage_shown usage)) o ≡ option_and_then (use_due usage (marks_for row (kept.Use usage))) o
     by None = refl
-    by (Some id) = use-told row history (usage_shown usage) id tells
+    by (Some id) = use-told row history usage id tells
 goal-told row history tells (Some (kept.Stop node target)) = ap (option_and_then (due_stop history row.name node target)) (sym tells.own_id) ∙ by row.id
   where
-    by : (o : Option ℕ) → option_and_then (due_stop history row.name node target) o ≡ option_and_then (stop_due row node target) o
+    by : (o : Option ℕ) → option_and_then (due_stop history row.name node target) o ≡ option_and_then (stop_due node target (marks_for row (kept.Stop node target))) o
     by None = refl
     by (Some id) = stop-told row history node target id tells
 goal-told row history tells (Some kept.Delete) = ap (option_and_then (due_delete history row.name)) (sym tells.own_id) ∙ by row.id
   where
-    by : (o : Option ℕ) → option_and_then (due_delete history row.name) o ≡ option_and_then (delete_due row) o
+    by : (o : Option ℕ) → option_and_then (due_delete history row.name) o ≡ option_and_then (delete_due (marks_for row kept.Delete)) o
     by None = refl
     by (Some id) = rw (sym (tells.marks (Exists row.name) refl)) refl
 
@@ -235,7 +247,7 @@ due-told parts history name apart agrees = by (row_of parts.rows name) refl
           marks = λ thing is. ap (mark_in (mark_of thing)) (sym (ap (row_of parts.rows) is ∙ there)) ∙ agrees.same_marks thing;
           own_id = ap (option_and_then (λ (r : RowShown). r.id)) (sym there) ∙ agrees.same_ids row.name;
           own_goal = ap (option_and_then goal_in) (sym there) ∙ agrees.same_goals row.name;
-          apart = each_of (λ (r : RowShown). AllByRecursion (λ (place : PlaceShown). EachTwo (λ (a b : Aim). same_text a.target b.target ≡ false) place.aims) r.places) parts.rows row apart (among-find (λ (r : RowShown). same_text r.name name) parts.rows row e);
+          apart = each_of (λ (r : RowShown). AllByRecursion AreTargetsApart r.places) parts.rows row apart (among-find (λ (r : RowShown). same_text r.name name) parts.rows row e);
         }
 
     by : (o : Option RowShown) → row_of parts.rows name ≡ o → due_call history name ≡ option_and_then due_in o

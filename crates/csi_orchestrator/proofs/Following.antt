@@ -335,7 +335,7 @@ passes p (y ∷ ys) x among = by (p y) refl among (passes p ys x)
     by true e (inr there) rest = let found = rest there in (inr found.0, found.1)
     by false e there rest = let found = rest there in (inr found.0, found.1)
 
-any-among : {X : Type 0} (p : X → Bool) (xs : List X) (x : X) → IsAmong x xs → p x ≡ true → list_any p xs ≡ true
+pub any-among : {X : Type 0} (p : X → Bool) (xs : List X) (x : X) → IsAmong x xs → p x ≡ true → list_any p xs ≡ true
 any-among p [] x among e = absurd among
 any-among p (y ∷ ys) x (inl is) e = ap (λ b. b || list_any p ys) (ap p (sym is) ∙ e)
 any-among p (y ∷ ys) x (inr there) e = by (p y) (any-among p ys x there e)
@@ -344,11 +344,11 @@ any-among p (y ∷ ys) x (inr there) e = by (p y) (any-among p ys x there e)
     by true h = refl
     by false h = h
 
-any-none : {X : Type 0} (p : X → Bool) (xs : List X) → ((x : X) → IsAmong x xs → p x ≡ false) → list_any p xs ≡ false
+pub any-none : {X : Type 0} (p : X → Bool) (xs : List X) → ((x : X) → IsAmong x xs → p x ≡ false) → list_any p xs ≡ false
 any-none p [] none = refl
 any-none p (y ∷ ys) none = rw (none y (inl refl)) (any-none p ys (λ x among. none x (inr among)))
 
-and-false : (b : Bool) → (b && false) ≡ false
+pub and-false : (b : Bool) → (b && false) ≡ false
 and-false true = refl
 and-false false = refl
 

@@ -78,7 +78,7 @@ named_for history name (Some (Stop node target)) = named_stop history name node 
 named_for history name (Some Delete) = named_delete history name (id_of history name)
 
 -- the next number, where one is left
-IsNextIfSome : Number → Option Number → Type 0
+pub IsNextIfSome : Number → Option Number → Type 0
 IsNextIfSome last None = Unit {0}
 IsNextIfSome last (Some number) = IsNext last number
 
@@ -90,7 +90,7 @@ one_left : (last number : Number) → IsNext last number → IsNextIfSome last (
 unfolding IsNextIfSome
 one_left last number h = h
 
-the_next : (last number : Number) → IsNextIfSome last (Some number) → IsNext last number
+pub the_next : (last number : Number) → IsNextIfSome last (Some number) → IsNext last number
 unfolding IsNextIfSome
 the_next last number h = h
 
@@ -101,7 +101,7 @@ is_before_next session call =
     let less : nat_lt call (call + 1) ≡ true = lt-ltb call (call + 1) (omega arith) in
     simp (same, equal, less)
 
-is_next : (last : Number) → IsNextIfSome last (next_number last)
+pub is_next : (last : Number) → IsNextIfSome last (next_number last)
 is_next last =
     either (IsNextIfSome last) _ _ _ (one_left last _ (record { later = is_before_next last.session last.call; same_session = refl })) (none_left last)
 

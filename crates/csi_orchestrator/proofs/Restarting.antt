@@ -1,7 +1,9 @@
 -- Why what is shown after a restart agrees with the history after it.
-use Rattle.std.proofs.Common.{◌≡◌, ◌+◌, ◌^◌, ℕ, List, [], ◌∷◌, map, refl, sym, ◌∙◌, ap, subst}
-use Rattle.std.specs.Prelude.{Option, Some, None, option_map, option_and_then, is_some, nat_lt, IsTrue}
-use Rattle.csi_types.specs.declared.number.Number.{Number}
+use Rattle.std.proofs.Common.{◌≡◌, ◌+◌, ◌^◌, ℕ, List, map, Bool, true, false, cond, not, refl, sym, ◌∙◌, ap, subst}
+use Rattle.std.specs.Prelude.{Option, Some, None, option_map, option_and_then, is_some, nat_lt, IsTrue, Result, Ok, Err, OnOk, IfOk, IfErr}
+use Rattle.std.proofs.lemmas.Bool.{false≢true}
+use Rattle.csi_orchestrator.specs.declared.fault.OrchFault.{OrchFault}
+use Rattle.csi_orchestrator.specs.declared.fault.OrchFault.TheVariants as faults
 use Rattle.csi_types.specs.Same.{same_text}
 use Rattle.csi_types.proofs.Lists.{find-map}
 use Rattle.csi_orchestrator.specs.declared.row.Goal.{Goal as KeptGoal}
@@ -9,16 +11,15 @@ use Rattle.csi_orchestrator.specs.declared.row.Goal.TheVariants as kept
 use Rattle.csi_orchestrator.specs.declared.thing.Thing.{Thing}
 use Rattle.csi_orchestrator.specs.declared.thing.Thing.TheVariants.{Exists, Attached, Staged, Published}
 use Rattle.csi_orchestrator.specs.Thing.{name_in}
-use Rattle.csi_orchestrator.specs.History.{Started, History, with_items}
-use Rattle.csi_orchestrator.specs.Readings.{last_number}
-use Rattle.csi_orchestrator.specs.Moves.{moved_to, restart}
+use Rattle.csi_orchestrator.specs.History.{History}
+use Rattle.csi_orchestrator.specs.Moves.{Restarts, Restarted}
 use Rattle.csi_orchestrator.specs.Agrees.{Agrees}
 use Rattle.csi_orchestrator.specs.Following.{after_started}
 use Rattle.csi_orchestrator.specs.Shown.{RowShown, Parts, row_of, mark_in, mark_of, goal_shown, goal_in, held_in, open_in_row, tries_in, closed, without_call, row_shown, view_of, AgreesWith, in_session}
 use Rattle.csi_orchestrator.specs.declared.inner.Core.{Core}
 use Rattle.csi_orchestrator.specs.Core.{parts_of}
+use Rattle.csi_orchestrator.specs.RowMoves.{Told, told, row_moves, IsRefusal}
 use Rattle.csi_orchestrator.proofs.Entries.{shown-closed}
-use Rattle.csi_orchestrator.proofs.Following.{started-follows}
 
 closed-row : (rows : List RowShown) (name : List ℕ) → row_of (map closed rows) name ≡ option_map closed (row_of rows name)
 closed-row rows name = find-map (λ (row : RowShown). same_text row.name name) closed rows (λ row. refl)
@@ -63,7 +64,7 @@ none-open None = refl
 none-open (Some row) = refl
 
 -- every call is given up
-session-agrees : (parts : Parts) (history : History) (session : ℕ) → Agrees (after_started session (view_of parts)) history → AgreesWith (in_session session parts) history
+pub session-agrees : (parts : Parts) (history : History) (session : ℕ) → Agrees (after_started session (view_of parts)) history → AgreesWith (in_session session parts) history
 session-agrees parts history session agrees =
     record {
       same_last = agrees.same_last;
@@ -85,12 +86,25 @@ abbrev pub IsRestarted : Core → Core → Type 0
 IsRestarted old new =
     IsTrue (nat_lt (old.last.session + 1) (2 ^ 64)) × (new.last ≡ record { session = old.last.session + 1; call = 0 }) × (new.rows.items ≡ map without_call old.rows.items) × (new.nodes.items ≡ old.nodes.items)
 
-pub restart-agrees : (old new : Core) (history : History) → AgreesWith (parts_of old) history → IsRestarted old new → AgreesWith (parts_of new) (moved_to history (restart (last_number history)))
-restart-agrees old new history agrees facts =
-    let session = old.last.session + 1 in
-    let is : parts_of new ≡ in_session session (parts_of old) = same-parts (parts_of new) (in_session session (parts_of old)) facts.3 facts.1 (ap (map row_shown) facts.2 ∙ shown-closed old.rows.items) in
-    let started : AgreesWith (in_session session (parts_of old)) (with_items history (Started session ∷ []))
-    = session-agrees (parts_of old) (with_items history (Started session ∷ [])) session (started-follows (view_of (parts_of old)) history session agrees) in
-    let moved : AgreesWith (in_session session (parts_of old)) (moved_to history (restart old.last)) = rw facts.0 started in
-    subst (λ (p : Parts). AgreesWith p (moved_to history (restart (last_number history)))) (sym is)
-    (subst (λ (n : Number). AgreesWith (in_session session (parts_of old)) (moved_to history (restart n))) agrees.same_last moved)
+restarted : (old new : Core) → IsRestarted old new → row_moves (parts_of old) Restarts ≡ Ok (let t : Told = record { answer = Restarted; parts = parts_of new } in t)
+restarted old new facts =
+    let is : parts_of new ≡ in_session (old.last.session + 1) (parts_of old) = same-parts (parts_of new) (in_session (old.last.session + 1) (parts_of old)) facts.3 facts.1 (ap (map row_shown) facts.2 ∙ shown-closed old.rows.items) in
+    ap (λ b. cond b (told (in_session (old.last.session + 1) (parts_of old)) Restarted) (Err faults.NumbersSpent)) facts.0 ∙ ap (λ (p : Parts). told p Restarted) (sym is)
+
+spent : (old : Core) (fault : OrchFault) → fault ≡ faults.NumbersSpent → IsTrue (not (nat_lt (old.last.session + 1) (2 ^ 64))) → IsRefusal (row_moves (parts_of old) Restarts) fault
+spent old fault is none = subst (λ (r : Result Told OrchFault). IsRefusal r fault) (sym (by (nat_lt (old.last.session + 1) (2 ^ 64)) none)) is
+  where
+    by : (b : Bool) → not b ≡ true → cond b (told (in_session (old.last.session + 1) (parts_of old)) Restarted) (Err faults.NumbersSpent) ≡ Err faults.NumbersSpent
+    by true e = absurd (false≢true e)
+    by false e = refl
+
+-- so is the call's result
+pub restart-told : {R : Type 0} (result : Result R OrchFault) (old new : Core) → OnOk result (IsRestarted old new)
+    → IfOk result (λ r. row_moves (parts_of old) Restarts ≡ Ok (let t : Told = record { answer = Restarted; parts = parts_of new } in t))
+restart-told (Ok r) old new facts = restarted old new facts
+restart-told (Err fault) old new facts = tt
+
+pub restart-refused : {R : Type 0} (result : Result R OrchFault) (old : Core) → IfErr result (λ fault. (fault ≡ faults.NumbersSpent) × IsTrue (not (nat_lt (old.last.session + 1) (2 ^ 64))))
+    → IfErr result (λ fault. IsRefusal (row_moves (parts_of old) Restarts) fault)
+restart-refused (Ok r) old facts = tt
+restart-refused (Err fault) old facts = spent old fault facts.0 facts.1

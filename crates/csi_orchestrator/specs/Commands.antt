@@ -49,12 +49,12 @@ is_for_one_node usage there = is_single_node there.capability.mode || is_single_
 abbrev pub is_second_writer : Usage → Held → Bool
 is_second_writer usage there = are_two_writers there.capability.mode there.readonly usage.capability.mode usage.readonly
 
--- the volume may be attached at this node with another capability or flag
+-- this is another capability or flag than the use has
 abbrev pub is_otherwise : Usage → Option Held → Bool
 is_otherwise usage None = false
 is_otherwise usage (Some here) = not (same_capability here.capability usage.capability && same_flag here.readonly usage.readonly)
 
--- the same, where the volume may be attached there
+-- the volume may be attached at the use's node with another capability or flag
 abbrev pub is_held_otherwise : History → List ℕ → Usage → Bool
 is_held_otherwise history name usage =
     not (is_no (known history (Attached name usage.node))) && is_otherwise usage (held history name usage.node)
@@ -83,7 +83,7 @@ use_fault nodes history name usage =
     else if is_target_taken history name usage then Some faults.TargetTaken
     else None
 
--- where what is asked isn't so already
+-- why a use that isn't met yet is refused
 abbrev pub use_room_fault : History → List ℕ → Usage → Option OrchFault
 use_room_fault history name usage =
     if is_spent history then Some faults.NumbersSpent
@@ -109,7 +109,7 @@ delete_fault history name =
     else if nat_lt 0 (length (nodes_in_use history name)) then Some faults.InUse
     else None
 
--- where the volume may be there
+-- why a delete of a volume that may be there is refused
 abbrev pub delete_busy_fault : History → List ℕ → Option OrchFault
 delete_busy_fault history name =
     if is_some (goal_of history name) then Some faults.Busy

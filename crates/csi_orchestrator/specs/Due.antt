@@ -37,13 +37,13 @@ abbrev pub targets_in_use : History → List ℕ → List ℕ → List (List ℕ
 targets_in_use history name node =
     filter (λ target. not (is_no (known history (Published name node target)))) (distinct (filter_map (λ issued. published_target node (thing_of issued)) (issued_of history name)))
 
--- until the volume is made
+-- the call that is due until the volume is made
 abbrev pub due_create : History → List ℕ → Arguments → Option Due
 due_create history name arguments =
     if is_yes (known history (Exists name)) then None
     else Some (record { party = Controller; call = calls.CreateVolume name arguments.required arguments.limit arguments.capabilities })
 
--- until the volume is published at the target
+-- the call that is due until the volume is published at the target
 abbrev pub due_use : History → List ℕ → Usage → ℕ → Option Due
 due_use history name usage id =
     if not (is_yes (known history (Attached name usage.node))) then
@@ -54,7 +54,7 @@ due_use history name usage id =
     Some (record { party = Node usage.node; call = calls.NodePublishVolume id usage.target usage.capability usage.readonly })
     else None
 
--- until the volume isn't at the node, where nothing is published at its other targets
+-- the call that is due until the volume isn't at the node; none is while it may be published at one of these targets
 abbrev pub due_leave : History → List ℕ → List ℕ → ℕ → List (List ℕ) → Option Due
 due_leave history name node id (target ∷ targets) = None
 due_leave history name node id [] =
@@ -62,13 +62,13 @@ due_leave history name node id [] =
     else if not (is_no (known history (Attached name node))) then Some (record { party = Controller; call = calls.ControllerUnpublishVolume id node })
     else None
 
--- until the volume isn't published at the target, and then isn't at the node
+-- the call that is due until the volume isn't published at the target, and then isn't at the node
 abbrev pub due_stop : History → List ℕ → List ℕ → List ℕ → ℕ → Option Due
 due_stop history name node target id =
     if not (is_no (known history (Published name node target))) then Some (record { party = Node node; call = calls.NodeUnpublishVolume id target })
     else due_leave history name node id (targets_in_use history name node)
 
--- until the volume isn't there
+-- the call that is due until the volume isn't there
 abbrev pub due_delete : History → List ℕ → ℕ → Option Due
 due_delete history name id =
     if is_no (known history (Exists name)) then None else Some (record { party = Controller; call = calls.DeleteVolume id })

@@ -64,7 +64,8 @@ after_noted name goal view =
       counts = λ other. if same_text name other then 0 else view.counts other;
     }
 
--- a call that undoes an attachment undoes one that may be there: else it wouldn't be told how the volume is held
+-- a call that detaches the volume from a node is sent only where it may be attached there. Elsewhere nothing has to be shown of how
+-- it is held (`same_holdings`), and once such a call was sent that would have to be shown again, as the history has it
 abbrev pub DetachesSomething : History → Issued → Type 0
 DetachesSomething history issued =
     (node : List ℕ) → touches (Attached issued.name node) issued ≡ true → is_doing issued.call ≡ false → known history (Attached issued.name node) ≢ No

@@ -9,6 +9,16 @@ pub mod Moves
 pub mod Agrees
 pub mod Following
 pub mod Shown
+pub mod Keyed
+pub mod RowChanges
+pub mod RowMoves
+pub mod Kept
+pub mod Steps
+pub mod Listing
+pub mod Promises
 pub mod Core
+pub mod Found
+pub mod Hearing
 pub mod Laws
 pub mod Rows
+pub mod CoreMoves

@@ -112,11 +112,12 @@ PublishedRow = answers new_history (published SingleNodeWriter false)
 abbrev pub OneNodeRow : Type 0
 OneNodeRow = answers (after_inputs new_history (published SingleNodeWriter false)) (use_v (codes "n2") (codes "/a") SingleNodeWriter false ∷ []) ≡ Err HeldElsewhere ∷ []
 
--- v is published at n1 and n2 readonly, and at n3 for the single writer
+-- the replies that lead to a target of a node, from the call of this number on
 abbrev pub published_at : List ℕ → ℕ → List Input
 published_at node call_number =
     ok_from call_number Controller kinds.ControllerPublishVolume ∷ ok_from (suc call_number) (Node node) kinds.NodeStageVolume ∷ ok_from (suc (suc call_number)) (Node node) kinds.NodePublishVolume ∷ []
 
+-- v is published at n1 and n2 readonly, and at n3 for the single writer
 abbrev pub one_writer : List Input
 one_writer =
     published MultiNodeSingleWriter true ++ use_v (codes "n2") (codes "/a") MultiNodeSingleWriter true ∷ published_at (codes "n2") 5

@@ -1,12 +1,13 @@
 -- What an orchestrator shows of itself, by its rows. This profile's own.
-use Rattle.std.specs.Prelude.{◌≡◌, ℕ, List, [], ◌∷◌, map, filter, find, Bool, false, not, Option, Some, None, is_some, option_map, option_and_then, if◌then◌else◌}
-use Rattle.std.specs.List.{AllByRecursion}
+use Rattle.std.specs.Prelude.{◌≡◌, ℕ, List, map, find, Bool, false, not, ◌&&◌, Option, Some, None, is_some, option_map, option_and_then, if◌then◌else◌}
+use Rattle.std.specs.List.{AllByRecursion, list_any}
 use Rattle.csi_types.specs.declared.capability.Capability.{Capability}
 use Rattle.csi_types.specs.declared.number.Number.{Number}
 use Rattle.csi_types.specs.declared.call.Call.TheVariants as calls
 use Rattle.csi_types.specs.declared.call.Party.TheVariants.{Controller, Node}
 use Rattle.csi_types.specs.Lists.{EachTwo}
 use Rattle.csi_types.specs.Same.{same_text}
+use Rattle.csi_orchestrator.specs.declared.marks.Marks.{Marks}
 use Rattle.csi_orchestrator.specs.declared.row.Goal.{Goal as KeptGoal}
 use Rattle.csi_orchestrator.specs.declared.row.Goal.TheVariants as kept
 use Rattle.csi_orchestrator.specs.declared.row.Aim.{Aim}
@@ -23,7 +24,7 @@ use Rattle.csi_orchestrator.specs.History.{Arguments, Usage, Held, Goal, Create,
 use Rattle.csi_orchestrator.specs.Due.{Due, due_call}
 use Rattle.csi_orchestrator.specs.Agrees.{View, Agrees}
 
--- a node at which a volume is used, and a volume, as they are shown
+-- a node at which a volume is used, as it is shown
 pub record PlaceShown : Type 0 where
   pub node : List ℕ
   pub capability : Capability
@@ -32,6 +33,7 @@ pub record PlaceShown : Type 0 where
   pub staged : Known
   pub aims : List Aim
 
+-- a volume's row, as it is shown
 pub record RowShown : Type 0 where
   pub name : List ℕ
   pub arguments : Arguments
@@ -112,54 +114,73 @@ held_at place = record { capability = place.capability; readonly = place.readonl
 abbrev pub held_in : RowShown → List ℕ → Option Held
 held_in row node = option_map held_at (place_of row node)
 
--- the targets of a node at which it may be published
-abbrev pub aims_in_use : Option PlaceShown → List (List ℕ)
-aims_in_use None = []
-aims_in_use (Some place) = map (λ aim. aim.target) (filter (λ aim. not (is_no aim.published)) place.aims)
+-- some other target of the node may be published
+abbrev pub others_in : List ℕ → Option PlaceShown → Bool
+others_in target None = false
+others_in target (Some place) = list_any (λ aim. not (same_text aim.target target) && not (is_no aim.published)) place.aims
 
--- the call that is due for a goal of a row
-abbrev pub use_due : RowShown → Usage → ℕ → Option Due
-use_due row usage id =
-    if not (is_yes (mark_of (Attached row.name usage.node) row)) then
+-- what is known of what a goal names
+abbrev pub marks_of_volume : RowShown → Marks
+marks_of_volume row = record { exists = row.exists; attached = No; staged = No; published = No; others = false }
+
+abbrev pub marks_at : RowShown → List ℕ → List ℕ → Marks
+marks_at row node target =
+    record {
+      exists = row.exists;
+      attached = mark_in (λ place. place.attached) (place_of row node);
+      staged = mark_in (λ place. place.staged) (place_of row node);
+      published = mark_in (published_in target) (place_of row node);
+      others = others_in target (place_of row node);
+    }
+
+abbrev pub marks_for : RowShown → KeptGoal → Marks
+marks_for row kept.Create = marks_of_volume row
+marks_for row (kept.Use usage) = marks_at row usage.node usage.target
+marks_for row (kept.Stop node target) = marks_at row node target
+marks_for row kept.Delete = marks_of_volume row
+
+-- the call that is due for a goal, by what is known of what it names
+abbrev pub create_due : List ℕ → Arguments → Marks → Option Due
+create_due name arguments marks =
+    if is_yes marks.exists then None
+    else Some (record { party = Controller; call = calls.CreateVolume name arguments.required arguments.limit arguments.capabilities })
+
+abbrev pub use_due : KeptUsage → Marks → ℕ → Option Due
+use_due usage marks id =
+    if not (is_yes marks.attached) then
     Some (record { party = Controller; call = calls.ControllerPublishVolume id usage.node usage.capability usage.readonly })
-    else if not (is_yes (mark_of (Staged row.name usage.node) row)) then
-    Some (record { party = Node usage.node; call = calls.NodeStageVolume id usage.capability })
-    else if not (is_yes (mark_of (Published row.name usage.node usage.target) row)) then
+    else if not (is_yes marks.staged) then Some (record { party = Node usage.node; call = calls.NodeStageVolume id usage.capability })
+    else if not (is_yes marks.published) then
     Some (record { party = Node usage.node; call = calls.NodePublishVolume id usage.target usage.capability usage.readonly })
     else None
 
-abbrev pub leave_due : RowShown → List ℕ → ℕ → List (List ℕ) → Option Due
-leave_due row node id (target ∷ targets) = None
-leave_due row node id [] =
-    if not (is_no (mark_of (Staged row.name node) row)) then Some (record { party = Node node; call = calls.NodeUnstageVolume id })
-    else if not (is_no (mark_of (Attached row.name node) row)) then Some (record { party = Controller; call = calls.ControllerUnpublishVolume id node })
+abbrev pub stop_due : List ℕ → List ℕ → Marks → ℕ → Option Due
+stop_due node target marks id =
+    if not (is_no marks.published) then Some (record { party = Node node; call = calls.NodeUnpublishVolume id target })
+    else if marks.others then None
+    else if not (is_no marks.staged) then Some (record { party = Node node; call = calls.NodeUnstageVolume id })
+    else if not (is_no marks.attached) then Some (record { party = Controller; call = calls.ControllerUnpublishVolume id node })
     else None
 
-abbrev pub stop_due : RowShown → List ℕ → List ℕ → ℕ → Option Due
-stop_due row node target id =
-    if not (is_no (mark_of (Published row.name node target) row)) then Some (record { party = Node node; call = calls.NodeUnpublishVolume id target })
-    else leave_due row node id (aims_in_use (place_of row node))
+abbrev pub delete_due : Marks → ℕ → Option Due
+delete_due marks id = if is_no marks.exists then None else Some (record { party = Controller; call = calls.DeleteVolume id })
 
-abbrev pub delete_due : RowShown → ℕ → Option Due
-delete_due row id = if is_no row.exists then None else Some (record { party = Controller; call = calls.DeleteVolume id })
+-- the same, for a goal of a volume of this name, these arguments and this id
+abbrev pub due_with : List ℕ → Arguments → Option ℕ → Marks → KeptGoal → Option Due
+due_with name arguments id marks kept.Create = create_due name arguments marks
+due_with name arguments id marks (kept.Use usage) = option_and_then (use_due usage marks) id
+due_with name arguments id marks (kept.Stop node target) = option_and_then (stop_due node target marks) id
+due_with name arguments id marks kept.Delete = option_and_then (delete_due marks) id
 
-abbrev pub create_due : RowShown → Arguments → Option Due
-create_due row arguments =
-    if is_yes row.exists then None
-    else Some (record { party = Controller; call = calls.CreateVolume row.name arguments.required arguments.limit arguments.capabilities })
-
-abbrev pub due_by : RowShown → Option Goal → Option Due
+-- the same, for a row's goal
+abbrev pub due_by : RowShown → Option KeptGoal → Option Due
 due_by row None = None
-due_by row (Some (Create arguments)) = create_due row arguments
-due_by row (Some (Use usage)) = option_and_then (use_due row usage) row.id
-due_by row (Some (Stop node target)) = option_and_then (stop_due row node target) row.id
-due_by row (Some Delete) = option_and_then (delete_due row) row.id
+due_by row (Some goal) = due_with row.name row.arguments row.id (marks_for row goal) goal
 
--- the same, for its own goal
 abbrev pub due_in : RowShown → Option Due
-due_in row = due_by row (goal_in row)
+due_in row = due_by row row.goal
 
--- the open call is the one that is due
+-- the open call: its number is kept, and it is the one that is due
 abbrev pub issued_as : List ℕ → Option Number → Option Due → Option Issued
 issued_as name None due = None
 issued_as name (Some number) None = None
@@ -180,7 +201,7 @@ abbrev pub tries_in : Option RowShown → ℕ
 tries_in None = 0
 tries_in (Some row) = row.tries
 
--- what they show
+-- what these parts show, by names
 abbrev pub view_of : Parts → View
 view_of parts =
     record {
@@ -204,9 +225,11 @@ abbrev pub in_session : ℕ → Parts → Parts
 in_session session parts = record parts { last = record { session = session; call = 0 }; rows = map closed parts.rows }
 
 -- at each node of each row, a target has one entry
+abbrev pub AreTargetsApart : PlaceShown → Type 0
+AreTargetsApart place = EachTwo (λ (a b : Aim). same_text a.target b.target ≡ false) place.aims
+
 abbrev pub AreAimsApart : List RowShown → Type 0
-AreAimsApart rows =
-    AllByRecursion (λ (row : RowShown). AllByRecursion (λ (place : PlaceShown). EachTwo (λ (a b : Aim). same_text a.target b.target ≡ false) place.aims) row.places) rows
+AreAimsApart rows = AllByRecursion (λ (row : RowShown). AllByRecursion AreTargetsApart row.places) rows
 
 -- the call that is due for a name, as the history tells it, is read from the name's row
 abbrev pub DueIsTold : Type 0

@@ -77,7 +77,7 @@ does thing issued = touches thing issued && is_doing issued.call
 abbrev pub undoes : Thing → Issued → Bool
 undoes thing issued = touches thing issued && not (is_doing issued.call)
 
--- tests of what is known
+-- it is known to be so
 abbrev pub is_yes : Known → Bool
 is_yes Yes = true
 is_yes No = false

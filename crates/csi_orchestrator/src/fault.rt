@@ -1,8 +1,12 @@
 //! Why an orchestrator refuses.
-use csi_types::Frame;
+ghost use Rattle.std.specs.Prelude.{◌≡◌};
+ghost use Rattle.csi_orchestrator.specs.declared.fault.OrchFault.TheVariants.{NoMemory as WantsMemory};
+
+use csi_types::{Frame, NoMemory};
+use std::alloc::{AllocError, AllocFailed};
 use thiserror::Error;
 
-/// Why a command is refused. A refusal leaves the orchestrator as it was.
+/// Why a command, a timeout, a reply or a restart is refused. A refusal leaves the orchestrator as it was.
 #[derive(Clone, Copy, Debug, PartialEq, Eq, Error)]
 pub enum OrchFault {
     /// The name has a row with an id or a goal.
@@ -55,10 +59,34 @@ pub enum OrchFault {
     NoMemory,
 }
 
-/// What became of a reply.
+impl From<NoMemory> for OrchFault {
+    ghost from_gives = { λ _ fault. fault ≡ WantsMemory };
+
+    fn from(_refused: NoMemory) -> OrchFault {
+        OrchFault::NoMemory
+    }
+}
+
+impl From<AllocError> for OrchFault {
+    ghost from_gives = { λ _ fault. fault ≡ WantsMemory };
+
+    fn from(_refused: AllocError) -> OrchFault {
+        OrchFault::NoMemory
+    }
+}
+
+impl<T: Drop> From<AllocFailed<T>> for OrchFault {
+    ghost from_gives = { λ _ fault. fault ≡ WantsMemory };
+
+    fn from(_refused: AllocFailed<T>) -> OrchFault {
+        OrchFault::NoMemory
+    }
+}
+
+/// What became of a frame that came.
 #[derive(Clone, Debug, PartialEq, Eq, Drop)]
 pub enum Heard {
-    /// It isn't the reply to an open call. Nothing changed.
+    /// It isn't a reply to an open call. Nothing changed.
     Ignored,
     /// It closed its call; this is the next call to send, if there is one.
     Taken(Option<Frame>),

@@ -1,4 +1,4 @@
-//! The orchestrator's rows, and what it does with them.
+//! The orchestrator's parts, what its rows know of a thing, and its restart.
 ghost use Rattle.std.specs.Prelude.{◌≡◌, ◌+◌, ◌<◌, ◌^◌, IfErr, OnErr, OnOk, None, IsTrue, not, nat_lt, map, find, option_map};
 ghost use Rattle.std.specs.Option.{option_copied};
 ghost use Rattle.csi_types.specs.Same.{same_text};
@@ -45,7 +45,7 @@ fn find_place<'a>(row: &'a Row, node: &NodeId) -> Option<&'a Place>
 }
 
 // The same, as it is shown.
-fn place_at<'a>(row: &'a Row, node: &NodeId) -> Option<&'a Place>
+pub(crate) fn place_at<'a>(row: &'a Row, node: &NodeId) -> Option<&'a Place>
     ensures { option_map place_shown (option_copied result) ≡ place_of (row_shown row.now) node.now }
 {
     find_place(row, node)
@@ -59,7 +59,7 @@ fn aim_at<'a>(place: &'a Place, target: &Target) -> Option<&'a Aim>
 }
 
 // Whether the volume is published at the target.
-fn published_at(place: &Place, target: &Target) -> Known
+pub(crate) fn published_at(place: &Place, target: &Target) -> Known
     ensures { result ≡ published_in target.now (place_shown place.now) }
 {
     match aim_at(place, target) {

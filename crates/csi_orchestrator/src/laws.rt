@@ -2,15 +2,44 @@
 ghost use Rattle.csi_orchestrator.specs.Laws.{MovesKeepForm};
 ghost use Rattle.csi_orchestrator.specs.Following.{ViewFollows};
 ghost use Rattle.csi_orchestrator.specs.Shown.{DueIsTold};
+ghost use Rattle.csi_orchestrator.specs.Steps.{MovesLaw};
+ghost use Rattle.csi_orchestrator.specs.Kept.{RowsTell, RowsStayKept, MovesAreGuarded};
 
-fn moves_keep_form()
+/// A law, and nothing that runs: the history of an orchestrator that did nothing is well-formed, and stays so whatever
+/// comes: each number is after the ones before it, each call that is answered or given up was open, and each session
+/// is a later one. This profile's own.
+pub fn form_law()
     ensures { MovesKeepForm }
 {}
 
+// What is shown after each item of a history is told by what was shown before it.
 fn view_follows()
     ensures { ViewFollows }
 {}
 
+// The call that is due by the history is the one that is due by the row.
 fn due_is_told()
     ensures { DueIsTold }
+{}
+
+// What an orchestrator does by its history is what it does by its rows.
+fn rows_tell()
+    ensures { RowsTell }
+{}
+
+// What the type keeps of its rows stays so.
+fn rows_stay_kept()
+    ensures { RowsStayKept }
+{}
+
+// Each call that is sent by the rows may be sent by the history.
+fn moves_are_guarded()
+    ensures { MovesAreGuarded }
+{}
+
+/// A law, and nothing that runs: whatever comes, each call that an orchestrator sends has the next number and may be sent
+/// then (the guards of CSI's spec.md, "Volume Lifecycle"), each reply that it takes is one that came to an open call, and
+/// its answer has the frame of the call that it sent, if it sent one. At most three things are done at a time.
+pub fn moves_law()
+    ensures { MovesLaw }
 {}

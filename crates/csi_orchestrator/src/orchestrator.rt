@@ -1,11 +1,13 @@
 //! The orchestrator.
-ghost use Rattle.std.specs.Prelude.{◌≡◌, ◌+◌, [], ◌∷◌, Ok, Err, OnOk, OnErr, IfErr};
+ghost use Rattle.std.specs.Prelude.{◌≡◌, IfOk, OnErr, IfErr, IsOk};
+ghost use Rattle.csi_orchestrator.specs.declared.fault.OrchFault.{OrchFault as Fault};
+ghost use Rattle.csi_orchestrator.specs.declared.fault.Heard.{Heard as HeardShown};
 
-use crate::fault::OrchFault;
+use crate::fault::{Heard, OrchFault};
 use crate::inner::{Core, known_in};
-use crate::row::Row;
+use crate::listing::things_in;
 use crate::thing::{Known, Thing};
-use csi_types::{NodeId, Number};
+use csi_types::{Capability, CapabilityList, Frame, Name, NodeId, Number, Target};
 use std::alloc::Global;
 use std::marker::Model;
 
@@ -20,17 +22,24 @@ pub struct Orchestrator {
 impl Model for Orchestrator {
     ghost use Rattle.csi_orchestrator.specs.Shown.{Parts};
     ghost use Rattle.csi_orchestrator.specs.Core.{parts_of};
+    ghost use Rattle.csi_orchestrator.specs.Kept.{AreKept};
 
     ghost Value = { Parts };
 
     ghost view = { λ orchestrator. parts_of orchestrator.core };
+
+    ghost invariant = { λ orchestrator. AreKept (parts_of orchestrator.core).rows };
 }
 
 impl Orchestrator {
-    ghost use Rattle.csi_orchestrator.specs.Shown.{AgreesWith};
-    ghost use Rattle.csi_orchestrator.specs.History.{History, Started, new_history, history_after};
-    ghost use Rattle.csi_orchestrator.specs.Moves.{Restarts, Restarted, moves, moved_to};
+    ghost use Rattle.csi_orchestrator.specs.History.{History, new_history, history_after};
+    ghost use Rattle.csi_orchestrator.specs.WellFormed.{IsWellFormed};
+    ghost use Rattle.csi_orchestrator.specs.Moves.{ToCreate, ToUse, ToStop, ToDelete, TimesOut, Comes, Restarts, Sends, Hears, Restarted, moves};
     ghost use Rattle.csi_orchestrator.specs.Readings.{known, last_number};
+    ghost use Rattle.csi_orchestrator.specs.Shown.{AgreesWith, view_of};
+    ghost use Rattle.csi_orchestrator.specs.RowMoves.{IsRefusal};
+    ghost use Rattle.csi_orchestrator.specs.Promises.{IsDone, IsHeardAs};
+    ghost use Rattle.csi_orchestrator.specs.Listing.{ListsKnown, IsInOrder};
 
     /// An orchestrator of these nodes that did nothing, in session 1. It takes no memory.
     pub fn new(alloc: Global, nodes: Vec<NodeId>) -> Orchestrator
@@ -73,17 +82,126 @@ impl Orchestrator {
     /// What it knows of a thing. It takes no memory.
     pub fn known(&self, thing: &Thing) -> Known
         ensures agrees { (history : History) → AgreesWith self.now history → result ≡ known history thing.now }
+        ensures marks { result ≡ (view_of self.now).marks thing.now }
     {
         known_in(&self.core.rows, thing)
+    }
+
+    /// Wants a volume of this name to be made, with a capacity in bytes of at least `required` and, unless `limit` is 0, at
+    /// most `limit`, for each of these capabilities (CSI's spec.md, "CreateVolume"): the CreateVolume to send. Refused
+    /// with the first that holds of `NameUsed` (the name has an id, or something is wanted of it), `NumbersSpent`, `Full`
+    /// (4,096 other names) and `NoMemory`. A refusal changes nothing.
+    pub fn create(
+        &mut self,
+        name: Name,
+        required: u64,
+        limit: u64,
+        capabilities: CapabilityList,
+    ) -> Result<Option<Frame>, OrchFault>
+        ensures ok { (history : History) → IsWellFormed history → AgreesWith self.old history → IfOk result (λ sent. IsDone history (moves self.old.nodes history (ToCreate name (record { required = required; limit = limit; capabilities = capabilities }))) (Sends sent) self.new) }
+        ensures err { (history : History) → IsWellFormed history → AgreesWith self.old history → IfErr result (IsRefusal (moves self.old.nodes history (ToCreate name (record { required = required; limit = limit; capabilities = capabilities })))) }
+        ensures stays { OnErr result (self.new ≡ self.old) }
+        ensures nodes { self.new.nodes ≡ self.old.nodes }
+    {
+        self.core.create(name, required, limit, capabilities)
+    }
+
+    /// Wants the volume to be published at a target of a node, with this capability (CSI's spec.md,
+    /// "ControllerPublishVolume", "NodeStageVolume" and "NodePublishVolume"): the call to send, or `None` where it is so
+    /// already. Refused with the first that holds of `NoSuchVolume`, `NotCreated`, `Busy`, `NoSuchNode`, `NotCapable`,
+    /// `HeldElsewhere`, `WriterElsewhere`, `HeldOtherwise` and `TargetTaken`, and, where it isn't so already, of
+    /// `NumbersSpent`, `Full` (16 other targets of the node) and `NoMemory`. A refusal changes nothing.
+    pub fn use_at(
+        &mut self,
+        name: &Name,
+        node: NodeId,
+        target: Target,
+        capability: Capability,
+        readonly: bool,
+    ) -> Result<Option<Frame>, OrchFault>
+        ensures ok { (history : History) → IsWellFormed history → AgreesWith self.old history → IfOk result (λ sent. IsDone history (moves self.old.nodes history (ToUse name.now (record { node = node; target = target; capability = capability; readonly = readonly }))) (Sends sent) self.new) }
+        ensures err { (history : History) → IsWellFormed history → AgreesWith self.old history → IfErr result (IsRefusal (moves self.old.nodes history (ToUse name.now (record { node = node; target = target; capability = capability; readonly = readonly })))) }
+        ensures stays { OnErr result (self.new ≡ self.old) }
+        ensures nodes { self.new.nodes ≡ self.old.nodes }
+    {
+        self.core.use_at(name, node, target, capability, readonly)
+    }
+
+    /// Wants the volume not to be published at the target, and then, where it is at no other target of the node, not to be at
+    /// the node (CSI's spec.md, "NodeUnpublishVolume", "NodeUnstageVolume" and "ControllerUnpublishVolume"): the call to
+    /// send. Refused with the first that holds of `NoSuchVolume`, `NotCreated`, `Busy`, `NoSuchNode`, `NoSuchTarget`,
+    /// `NumbersSpent` and `NoMemory`. A refusal changes nothing.
+    pub fn stop(
+        &mut self,
+        name: &Name,
+        node: NodeId,
+        target: Target,
+    ) -> Result<Option<Frame>, OrchFault>
+        ensures ok { (history : History) → IsWellFormed history → AgreesWith self.old history → IfOk result (λ sent. IsDone history (moves self.old.nodes history (ToStop name.now node target)) (Sends sent) self.new) }
+        ensures err { (history : History) → IsWellFormed history → AgreesWith self.old history → IfErr result (IsRefusal (moves self.old.nodes history (ToStop name.now node target))) }
+        ensures stays { OnErr result (self.new ≡ self.old) }
+        ensures nodes { self.new.nodes ≡ self.old.nodes }
+    {
+        self.core.stop(name, node, target)
+    }
+
+    /// Wants the volume not to be there (CSI's spec.md, "DeleteVolume"): the DeleteVolume to send, or `None` where it isn't.
+    /// Refused with the first that holds of `NoSuchVolume`, `NotCreated` (no id was heard) and `InUse`, and, where it may be
+    /// there, of `Busy`, `NumbersSpent` and `NoMemory`. A refusal changes nothing.
+    pub fn delete(&mut self, name: &Name) -> Result<Option<Frame>, OrchFault>
+        ensures ok { (history : History) → IsWellFormed history → AgreesWith self.old history → IfOk result (λ sent. IsDone history (moves self.old.nodes history (ToDelete name.now)) (Sends sent) self.new) }
+        ensures err { (history : History) → IsWellFormed history → AgreesWith self.old history → IfErr result (IsRefusal (moves self.old.nodes history (ToDelete name.now))) }
+        ensures stays { OnErr result (self.new ≡ self.old) }
+        ensures nodes { self.new.nodes ≡ self.old.nodes }
+    {
+        self.core.delete(name)
+    }
+
+    /// Waited long enough for the open call about a volume: it is given up, and the call that is due is sent under a new
+    /// number. A ControllerPublishVolume, NodeStageVolume or NodePublishVolume that was sent three times isn't sent again:
+    /// what it was for is undone. Refused with the first that holds of `NoSuchVolume`, `Idle`, `NumbersSpent` and
+    /// `NoMemory`. A refusal changes nothing, the open call included.
+    pub fn timeout(&mut self, name: &Name) -> Result<Option<Frame>, OrchFault>
+        ensures ok { (history : History) → IsWellFormed history → AgreesWith self.old history → IfOk result (λ sent. IsDone history (moves self.old.nodes history (TimesOut name.now)) (Sends sent) self.new) }
+        ensures err { (history : History) → IsWellFormed history → AgreesWith self.old history → IfErr result (IsRefusal (moves self.old.nodes history (TimesOut name.now))) }
+        ensures stays { OnErr result (self.new ≡ self.old) }
+        ensures nodes { self.new.nodes ≡ self.old.nodes }
+    {
+        self.core.timeout(name)
+    }
+
+    /// A frame came. The reply to an open call, by its number, party and kind, closes that call: what a success says is known
+    /// then, and the next call is sent; a refused ControllerPublishVolume, NodeStageVolume or NodePublishVolume is undone, a
+    /// refused CreateVolume is given up, and another refused call waits for its timeout. Any other frame is `Ignored`, which
+    /// changes nothing and takes no memory. Refused with `NumbersSpent`, where there is a next call and no number for it, and
+    /// then `NoMemory`. A refusal changes nothing.
+    pub fn deliver(&mut self, frame: &Frame) -> Result<Heard, OrchFault>
+        ensures ok { (history : History) → IsWellFormed history → AgreesWith self.old history → IfOk result (λ heard. IsDone history (moves self.old.nodes history (Comes frame.now)) (Hears heard) self.new) }
+        ensures err { (history : History) → IsWellFormed history → AgreesWith self.old history → IfErr result (IsRefusal (moves self.old.nodes history (Comes frame.now))) }
+        ensures ignored { (history : History) → IsWellFormed history → AgreesWith self.old history → IsHeardAs HeardShown.Ignored (moves self.old.nodes history (Comes frame.now)) → IsOk result }
+        ensures stays { OnErr result (self.new ≡ self.old) }
+        ensures nodes { self.new.nodes ≡ self.old.nodes }
+    {
+        self.core.deliver(frame)
+    }
+
+    /// Each thing that it doesn't know as `No`, with what it knows of it, each once: by name; of one name first
+    /// `Exists`, and then node by node `Attached`, `Staged` and `Published` by target; texts by their bytes. An `Err` is
+    /// an allocation that was refused.
+    pub fn things(&self) -> Result<Vec<(Thing, Known)>, OrchFault>
+        ensures agrees { (history : History) → AgreesWith self.now history → IfOk result (λ things. ListsKnown (known history) things.items) }
+        ensures marks { IfOk result (λ things. ListsKnown (view_of self.now).marks things.items) }
+        ensures order { IfOk result (λ things. IsInOrder things.items) }
+        ensures err { IfErr result (λ fault. fault ≡ Fault.NoMemory) }
+    {
+        things_in(self.core.alloc, &self.core.rows)
     }
 
     /// Starts the next session: every open call is given up, and nothing is sent. Refused with `NumbersSpent` in the
     /// last session, which changes nothing. It takes no memory.
     pub fn restart(&mut self) -> Result<(), OrchFault>
-        ensures ok { (history : History) → AgreesWith self.old history → OnOk result (moves self.old.nodes history Restarts
-            ≡ Ok (record { answer = Restarted; items = Started ((last_number history).session + 1) ∷ [] })) }
-        ensures agrees { (history : History) → AgreesWith self.old history → OnOk result (AgreesWith self.new (moved_to history (moves self.old.nodes history Restarts))) }
-        ensures err { (history : History) → AgreesWith self.old history → IfErr result (λ fault. moves self.old.nodes history Restarts ≡ Err fault) }
+        ensures ok { (history : History) → IsWellFormed history → AgreesWith self.old history → IfOk result (λ done. IsDone history (moves self.old.nodes history Restarts) Restarted self.new) }
+        ensures err { (history : History) → IsWellFormed history → AgreesWith self.old history → IfErr result (IsRefusal (moves self.old.nodes history Restarts)) }
         ensures stays { OnErr result (self.new ≡ self.old) }
         ensures nodes { self.new.nodes ≡ self.old.nodes }
     {

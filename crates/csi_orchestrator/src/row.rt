@@ -56,7 +56,7 @@ pub(crate) struct Place {
 pub(crate) struct Row {
     pub name: Name,
     pub arguments: Arguments,
-    /// Once it was heard.
+    /// The volume's id, once a reply told it.
     pub id: Option<VolumeId>,
     pub exists: Known,
     pub goal: Option<Goal>,

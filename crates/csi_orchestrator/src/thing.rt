@@ -1,4 +1,7 @@
 //! What an orchestrator does and undoes.
+ghost use Rattle.std.specs.Prelude.{◌≡◌};
+ghost use Rattle.csi_orchestrator.specs.Thing.{is_yes, is_no};
+
 use csi_types::{Name, NodeId, Target};
 
 /// A state of a volume that a call brings about and another call ends (CSI's spec.md, "Volume
@@ -36,4 +39,20 @@ pub enum Known {
     No,
     /// It may be so: a call was sent that does or undoes it, and no success was heard of it.
     Maybe,
+}
+
+impl Known {
+    /// Whether it is known to be so.
+    pub(crate) fn is_yes(self) -> bool
+        ensures { result ≡ is_yes self }
+    {
+        matches!(self, Known::Yes)
+    }
+
+    /// Whether it is known not to be so.
+    pub(crate) fn is_no(self) -> bool
+        ensures { result ≡ is_no self }
+    {
+        matches!(self, Known::No)
+    }
 }

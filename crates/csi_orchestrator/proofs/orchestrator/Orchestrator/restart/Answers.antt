@@ -1,12 +1,21 @@
--- By the parts.
-use Rattle.std.proofs.Common.{sym, subst}
-use Rattle.std.proofs.lemmas.Result.{on_ok_weaker}
-use Rattle.csi_orchestrator.specs.Shown.{Parts, AgreesWith}
-use Rattle.csi_orchestrator.proofs.Restarting.{restart-agrees}
+-- By the rows.
+use Rattle.std.proofs.Common.{◌∙◌, ap}
+use Rattle.csi_orchestrator.specs.Core.{parts_of}
+use Rattle.csi_orchestrator.specs.Moves.{Restarts, Restarted}
+use Rattle.csi_orchestrator.specs.Shown.{Parts}
+use Rattle.csi_orchestrator.proofs.Promised.{ok-promised, err-promised, kept-promised}
+use Rattle.csi_orchestrator.proofs.Restarting.{restart-told, restart-refused}
 use Rattle.csi_orchestrator.proofs.orchestrator.Orchestrator.restart.Goals as goal
 
-pub returns-clause-agrees : goal.returns-clause-agrees
-returns-clause-agrees c = λ history agrees.
-    on_ok_weaker c.restart.result
-    (λ facts. restart-agrees c.self.inside.core c.restart.new.self history (subst (λ (p : Parts). AgreesWith p history) (sym c.self.view_is) agrees) facts)
-    c.restart.ensures.ok
+pub invariant_of-self : goal.invariant_of-self
+invariant_of-self c = (kept-promised c.restart.result (λ done. Restarted) (parts_of c.self.inside.core) (parts_of c.restart.new.self) (Restarts) c.self.invariant (restart-told c.restart.result c.self.inside.core c.restart.new.self c.restart.ensures.ok) c.restart.ensures.stays).0
+
+pub returns-clause-ok : goal.returns-clause-ok
+returns-clause-ok c = ok-promised c.restart.result (λ done. Restarted) (parts_of c.self.inside.core) c.args.self.now (parts_of c.restart.new.self) (Restarts) c.self.view_is c.self.invariant (restart-told c.restart.result c.self.inside.core c.restart.new.self c.restart.ensures.ok)
+
+pub returns-clause-err : goal.returns-clause-err
+returns-clause-err c = err-promised c.restart.result (parts_of c.self.inside.core) c.args.self.now (Restarts) c.self.view_is c.self.invariant (restart-refused c.restart.result c.self.inside.core c.restart.ensures.err)
+
+pub returns-clause-nodes : goal.returns-clause-nodes
+returns-clause-nodes c =
+    (kept-promised c.restart.result (λ done. Restarted) (parts_of c.self.inside.core) (parts_of c.restart.new.self) (Restarts) c.self.invariant (restart-told c.restart.result c.self.inside.core c.restart.new.self c.restart.ensures.ok) c.restart.ensures.stays).1 ∙ ap (λ (p : Parts). p.nodes) c.self.view_is

@@ -1,0 +1,119 @@
+-- The eight ways in which a call is due for a row.
+use Rattle.std.proofs.Common.{◌≡◌, ℕ, List, Bool, true, false, cond, not, refl, subst}
+use Rattle.std.specs.Prelude.{Option, Some, None, option_and_then}
+use Rattle.csi_types.specs.declared.call.Call.TheVariants as calls
+use Rattle.csi_types.specs.declared.call.Party.TheVariants.{Controller, Node}
+use Rattle.csi_orchestrator.specs.declared.row.Goal.{Goal}
+use Rattle.csi_orchestrator.specs.declared.row.Goal.TheVariants.{Create, Use, Stop, Delete}
+use Rattle.csi_orchestrator.specs.declared.row.Usage.{Usage}
+use Rattle.csi_orchestrator.specs.Thing.{is_yes, is_no}
+use Rattle.csi_orchestrator.specs.Due.{Due}
+use Rattle.csi_orchestrator.specs.Shown.{RowShown, marks_for, due_by, due_in, use_due, stop_due, delete_due}
+
+-- the eight calls
+abbrev pub making : RowShown → Due
+making row = record { party = Controller; call = calls.CreateVolume row.name (row.arguments).required (row.arguments).limit (row.arguments).capabilities }
+
+abbrev pub removing : ℕ → Due
+removing id = record { party = Controller; call = calls.DeleteVolume id }
+
+abbrev pub attaching : Usage → ℕ → Due
+attaching usage id = record { party = Controller; call = calls.ControllerPublishVolume id usage.node usage.capability usage.readonly }
+
+abbrev pub staging : Usage → ℕ → Due
+staging usage id = record { party = Node usage.node; call = calls.NodeStageVolume id usage.capability }
+
+abbrev pub publishing : Usage → ℕ → Due
+publishing usage id = record { party = Node usage.node; call = calls.NodePublishVolume id usage.target usage.capability usage.readonly }
+
+abbrev pub unpublishing : List ℕ → List ℕ → ℕ → Due
+unpublishing node target id = record { party = Node node; call = calls.NodeUnpublishVolume id target }
+
+abbrev pub unstaging : List ℕ → ℕ → Due
+unstaging node id = record { party = Node node; call = calls.NodeUnstageVolume id }
+
+abbrev pub detaching : List ℕ → ℕ → Due
+detaching node id = record { party = Controller; call = calls.ControllerUnpublishVolume id node }
+
+-- what is so where the call is due
+pub data IsDueFor (row : RowShown) : Due → Type 0 where
+  ToMake : row.goal ≡ Some Create → is_yes row.exists ≡ false
+      → IsDueFor row (making row)
+  ToRemove : (id : ℕ) → row.goal ≡ Some Delete → row.id ≡ Some id → is_no row.exists ≡ false
+      → IsDueFor row (removing id)
+  ToAttach : (usage : Usage) (id : ℕ) → row.goal ≡ Some (Use usage) → row.id ≡ Some id → is_yes (marks_for row (Use usage)).attached ≡ false
+      → IsDueFor row (attaching usage id)
+  ToStage : (usage : Usage) (id : ℕ) → row.goal ≡ Some (Use usage) → row.id ≡ Some id → is_yes (marks_for row (Use usage)).attached ≡ true → is_yes (marks_for row (Use usage)).staged ≡ false
+      → IsDueFor row (staging usage id)
+  ToPublish : (usage : Usage) (id : ℕ) → row.goal ≡ Some (Use usage) → row.id ≡ Some id → is_yes (marks_for row (Use usage)).attached ≡ true → is_yes (marks_for row (Use usage)).staged ≡ true
+      → is_yes (marks_for row (Use usage)).published ≡ false
+      → IsDueFor row (publishing usage id)
+  ToUnpublish : (node target : List ℕ) (id : ℕ) → row.goal ≡ Some (Stop node target) → row.id ≡ Some id → is_no (marks_for row (Stop node target)).published ≡ false
+      → IsDueFor row (unpublishing node target id)
+  ToUnstage : (node target : List ℕ) (id : ℕ) → row.goal ≡ Some (Stop node target) → row.id ≡ Some id → is_no (marks_for row (Stop node target)).published ≡ true
+      → (marks_for row (Stop node target)).others ≡ false → is_no (marks_for row (Stop node target)).staged ≡ false
+      → IsDueFor row (unstaging node id)
+  ToDetach : (node target : List ℕ) (id : ℕ) → row.goal ≡ Some (Stop node target) → row.id ≡ Some id → is_no (marks_for row (Stop node target)).published ≡ true
+      → (marks_for row (Stop node target)).others ≡ false → is_no (marks_for row (Stop node target)).staged ≡ true → is_no (marks_for row (Stop node target)).attached ≡ false
+      → IsDueFor row (detaching node id)
+
+none-some : (due : Due) → None ≡ Some due → ⊥
+none-some due e = cc
+
+is-some : (P : Due → Type 0) (a b : Due) → Some a ≡ Some b → P a → P b
+is-some P a b e p = let same : a ≡ b = cc in subst P same p
+
+by-create : (row : RowShown) (due : Due) → row.goal ≡ Some Create → (b : Bool) → is_yes row.exists ≡ b
+    → cond b None (Some (making row)) ≡ Some due → IsDueFor row due
+by-create row due goal true e is = absurd (none-some due is)
+by-create row due goal false e is = is-some (IsDueFor row) _ due is (ToMake goal e)
+
+by-delete : (row : RowShown) (due : Due) → row.goal ≡ Some Delete → (id : Option ℕ) → row.id ≡ id → option_and_then (delete_due (marks_for row Delete)) id ≡ Some due → IsDueFor row due
+by-delete row due goal None own is = absurd (none-some due is)
+by-delete row due goal (Some id) own is = by (is_no row.exists) refl is
+  where
+    by : (b : Bool) → is_no row.exists ≡ b → cond b None (Some (removing id)) ≡ Some due → IsDueFor row due
+    by true e is = absurd (none-some due is)
+    by false e is = is-some (IsDueFor row) _ due is (ToRemove id goal own e)
+
+by-use : (row : RowShown) (due : Due) (usage : Usage) → row.goal ≡ Some (Use usage) → (id : Option ℕ) → row.id ≡ id → option_and_then (use_due usage (marks_for row (Use usage))) id ≡ Some due → IsDueFor row due
+by-use row due usage goal None own is = absurd (none-some due is)
+by-use row due usage goal (Some id) own is = by (is_yes (marks_for row (Use usage)).attached) refl (is_yes (marks_for row (Use usage)).staged) refl (is_yes (marks_for row (Use usage)).published) refl is
+  where
+    by : (a : Bool) → is_yes (marks_for row (Use usage)).attached ≡ a → (s : Bool) → is_yes (marks_for row (Use usage)).staged ≡ s → (p : Bool) → is_yes (marks_for row (Use usage)).published ≡ p
+        → cond (not a) (Some (attaching usage id))
+        (cond (not s) (Some (staging usage id))
+        (cond (not p) (Some (publishing usage id)) None)) ≡ Some due
+        → IsDueFor row due
+    by false a s e p f is = is-some (IsDueFor row) _ due is (ToAttach usage id goal own a)
+    by true a false e p f is = is-some (IsDueFor row) _ due is (ToStage usage id goal own a e)
+    by true a true e false f is = is-some (IsDueFor row) _ due is (ToPublish usage id goal own a e f)
+    by true a true e true f is = absurd (none-some due is)
+
+by-stop : (row : RowShown) (due : Due) (node target : List ℕ) → row.goal ≡ Some (Stop node target) → (id : Option ℕ) → row.id ≡ id → option_and_then (stop_due node target (marks_for row (Stop node target))) id ≡ Some due → IsDueFor row due
+by-stop row due node target goal None own is = absurd (none-some due is)
+by-stop row due node target goal (Some id) own is =
+    by (is_no (marks_for row (Stop node target)).published) refl (marks_for row (Stop node target)).others refl (is_no (marks_for row (Stop node target)).staged) refl (is_no (marks_for row (Stop node target)).attached) refl is
+  where
+    by : (p : Bool) → is_no (marks_for row (Stop node target)).published ≡ p → (o : Bool) → (marks_for row (Stop node target)).others ≡ o
+        → (s : Bool) → is_no (marks_for row (Stop node target)).staged ≡ s → (a : Bool) → is_no (marks_for row (Stop node target)).attached ≡ a
+        → cond (not p) (Some (unpublishing node target id))
+        (cond o None
+        (cond (not s) (Some (unstaging node id))
+        (cond (not a) (Some (detaching node id)) None))) ≡ Some due
+        → IsDueFor row due
+    by false p o e s f a g is = is-some (IsDueFor row) _ due is (ToUnpublish node target id goal own p)
+    by true p true e s f a g is = absurd (none-some due is)
+    by true p false e false f a g is = is-some (IsDueFor row) _ due is (ToUnstage node target id goal own p e f)
+    by true p false e true f false g is = is-some (IsDueFor row) _ due is (ToDetach node target id goal own p e f g)
+    by true p false e true f true g is = absurd (none-some due is)
+
+pub due-cases : (row : RowShown) (due : Due) → due_in row ≡ Some due → IsDueFor row due
+due-cases row due is = by row.goal refl is
+  where
+    by : (goal : Option Goal) → row.goal ≡ goal → due_by row goal ≡ Some due → IsDueFor row due
+    by None e is = absurd (none-some due is)
+    by (Some Create) e is = by-create row due e (is_yes row.exists) refl is
+    by (Some (Use usage)) e is = by-use row due usage e row.id refl is
+    by (Some (Stop node target)) e is = by-stop row due node target e row.id refl is
+    by (Some Delete) e is = by-delete row due e row.id refl is

@@ -1,0 +1,160 @@
+-- Why a row whose due call is sent, or whose goal is dropped, tells what the history tells then.
+use Rattle.std.proofs.Common.{◌≡◌, ℕ, List, ◌∷◌, true, false, cond, refl, sym, ◌∙◌, ap, subst}
+use Rattle.std.specs.Prelude.{Option, Some, None, option_and_then, Result, Ok, Err}
+use Rattle.std.specs.List.{AllByRecursion}
+use Rattle.std.proofs.lemmas.Bool.{false≢true, and_parts}
+use Rattle.csi_types.specs.declared.number.Number.{Number}
+use Rattle.csi_types.specs.Call.{kind_of}
+use Rattle.csi_types.specs.Frame.{Frame}
+use Rattle.csi_types.specs.Same.{same_text}
+use Rattle.csi_types.proofs.Equality.{same_text-tells}
+use Rattle.csi_orchestrator.specs.declared.fault.OrchFault.{OrchFault}
+use Rattle.csi_orchestrator.specs.declared.row.Goal.{Goal}
+use Rattle.csi_orchestrator.specs.declared.row.Goal.TheVariants.{Create, Use, Stop, Delete}
+use Rattle.csi_orchestrator.specs.declared.thing.Thing.TheVariants.{Attached}
+use Rattle.csi_orchestrator.specs.Thing.{Issued, touches, is_no, is_doing}
+use Rattle.csi_orchestrator.specs.History.{Item, Sent, Noted, History, with_items}
+use Rattle.csi_orchestrator.specs.Readings.{open_call, last_number}
+use Rattle.csi_orchestrator.specs.WellFormed.{IsNext, IsWellFormed}
+use Rattle.csi_orchestrator.specs.Commands.{next_number}
+use Rattle.csi_orchestrator.specs.Due.{Due, due_call}
+use Rattle.csi_orchestrator.specs.Guards.{MayIssue}
+use Rattle.csi_orchestrator.specs.Moves.{Answer, Moved, sent_as, go_on}
+use Rattle.csi_orchestrator.specs.Agrees.{View, Agrees}
+use Rattle.csi_orchestrator.specs.Following.{after_sent, after_noted, DetachesSomething}
+use Rattle.csi_orchestrator.specs.Shown.{RowShown, Parts, row_of, place_of, mark_in, due_in, view_of, AgreesWith, AreTargetsApart, AreAimsApart}
+use Rattle.csi_orchestrator.specs.RowChanges.{sent, dropped}
+use Rattle.csi_orchestrator.specs.RowMoves.{Told, put, with_row, sends_as, goes_on}
+use Rattle.csi_orchestrator.specs.Kept.{MayBeWanted, AreGuarded, Fits}
+use Rattle.csi_orchestrator.proofs.DueCalls.{due-told}
+use Rattle.csi_orchestrator.proofs.DueCases.{IsDueFor, due-cases, ToMake, ToRemove, ToAttach, ToStage, ToPublish, ToUnpublish, ToUnstage, ToDetach}
+use Rattle.csi_orchestrator.proofs.Following.{sent-follows, noted-follows}
+use Rattle.csi_orchestrator.proofs.Form.{IsNextIfSome, the_next, is_next}
+use Rattle.csi_orchestrator.proofs.Guarded.{due-guarded}
+use Rattle.csi_orchestrator.proofs.KeptEntries.{each-put}
+use Rattle.csi_orchestrator.proofs.KeptRows.{AreDistinct}
+use Rattle.csi_orchestrator.proofs.Keyed.{find-put}
+use Rattle.csi_orchestrator.proofs.Marked.{GoalHasEntry}
+use Rattle.csi_orchestrator.proofs.NotedRow.{reads-dropped}
+use Rattle.csi_orchestrator.proofs.RowViews.{Reads, SameAt, same-then, same-sent, same-noted, put-agrees}
+use Rattle.csi_orchestrator.proofs.SentRow.{issued-by, reads-sent, no-is-not}
+
+-- each call that is sent may be sent
+abbrev pub Guards : History → Result Moved OrchFault → Type 0
+Guards history (Ok moved) = AreGuarded history moved.items
+Guards history (Err fault) = Unit {0}
+
+-- the two answers are one, what is shown agrees, and what is sent may be sent
+abbrev pub Tells : History → Result Told OrchFault → Result Moved OrchFault → Type 0
+Tells history told moved = Fits history told moved × Guards history moved
+
+-- after these items a row of a name is as it should be, but that its due call isn't sent yet
+pub record IsReady (parts : Parts) (history : History) (name : List ℕ) (row : RowShown) (view : View) (items : List Item) : Type 0 where
+  pub form : IsWellFormed (with_items history items)
+  pub agrees : Agrees view (with_items history items)
+  pub reads : Reads row view name
+  pub others : (other : List ℕ) → same_text name other ≡ false → SameAt view (view_of parts) other
+  pub same_last : parts.last ≡ view.last
+  pub old_last : last_number history ≡ parts.last
+  pub quiet : view.open_calls name ≡ None
+  pub distinct : AreDistinct row.places
+  pub aims : AreAimsApart parts.rows
+  pub may : (due : Due) → due_in row ≡ Some due → MayBeWanted row row.goal
+  pub guarded : AreGuarded history items
+
+-- the entries of a goal that may be wanted
+pub has-entry : (row : RowShown) (goal : Option Goal) → MayBeWanted row goal → GoalHasEntry row goal
+has-entry row None may = tt
+has-entry row (Some Create) may = tt
+has-entry row (Some (Use usage)) may = may.entry
+has-entry row (Some (Stop node target)) may = tt
+has-entry row (Some Delete) may = tt
+
+-- the one call that detaches is due where the volume may be attached
+detaching-something : (row : RowShown) (due : Due) (name node : List ℕ) (number : Number) → IsDueFor row due → touches (Attached name node) (issued-by name number due) ≡ true → is_doing due.call ≡ false
+    → is_no (mark_in (λ place. place.attached) (place_of row node)) ≡ false
+detaching-something row _ name node number (ToMake goal e) of undoes = absurd (false≢true of)
+detaching-something row _ name node number (ToRemove id goal own e) of undoes = absurd (false≢true of)
+detaching-something row _ name node number (ToAttach usage id goal own a) of undoes = absurd (false≢true (sym undoes))
+detaching-something row _ name node number (ToStage usage id goal own a s) of undoes = absurd (false≢true of)
+detaching-something row _ name node number (ToPublish usage id goal own a s p) of undoes = absurd (false≢true of)
+detaching-something row _ name node number (ToUnpublish here target id goal own p) of undoes = absurd (false≢true of)
+detaching-something row _ name node number (ToUnstage here target id goal own p o s) of undoes = absurd (false≢true of)
+detaching-something row _ name node number (ToDetach here target id goal own p o s a) of undoes =
+    ap (λ n. is_no (mark_in (λ place. place.attached) (place_of row n))) ((same_text-tells node here).0 (and_parts (same_text name name) (same_text node here) of).1) ∙ a
+
+-- the row stands among the others
+shown : Parts → RowShown → Parts
+shown parts row = record { nodes = parts.nodes; last = parts.last; rows = put row parts.rows }
+
+in-place : (parts : Parts) (history : History) (name : List ℕ) (row : RowShown) (view : View) (items : List Item) → IsReady parts history name row view items → AgreesWith (shown parts row) (with_items history items)
+unfolding shown
+in-place parts history name row view items ready = put-agrees parts parts.last name row view (with_items history items) ready.reads ready.others ready.same_last ready.agrees
+
+found-there : (parts : Parts) (row : RowShown) (name : List ℕ) → row.name ≡ name → row_of (shown parts row).rows name ≡ Some row
+unfolding shown
+found-there parts row name own =
+    find-put (λ (r : RowShown). r.name) row parts.rows name ∙ ap (λ b. cond b (Some row) (row_of parts.rows name)) ((same_text-tells row.name name).1 own)
+
+due-there : (parts : Parts) (history : History) (name : List ℕ) (row : RowShown) (view : View) (items : List Item) → IsReady parts history name row view items → due_call (with_items history items) name ≡ due_in row
+unfolding shown
+due-there parts history name row view items ready =
+    due-told (shown parts row) (with_items history items) name
+    (each-put (λ (r : RowShown). AllByRecursion AreTargetsApart r.places) (λ (r : RowShown). r.name) row parts.rows (ready.distinct).targets ready.aims)
+    (in-place parts history name row view items ready)
+    ∙ ap (option_and_then due_in) (found-there parts row name (ready.reads).own)
+
+-- the due call may be sent
+may-issue : (parts : Parts) (history : History) (name : List ℕ) (row : RowShown) (view : View) (items : List Item) (due : Due) → IsReady parts history name row view items → due_in row ≡ Some due
+    → MayIssue (with_items history items) name due.party due.call
+may-issue parts history name row view items due ready e =
+    let own = (ready.reads).own in
+    subst (λ n. MayIssue (with_items history items) n due.party due.call) own
+    (due-guarded (shown parts row) (with_items history items) row due (in-place parts history name row view items ready) (found-there parts row row.name refl) (ready.distinct).nodes (ready.may due e)
+    (ap (open_call (with_items history items)) own ∙ sym ((ready.agrees).same_open_calls name) ∙ ready.quiet) e)
+
+-- it was sent
+then-sent : (parts : Parts) (history : History) (name : List ℕ) (row : RowShown) (view : View) (items : List Item) (due : Due) (number : Number) → IsReady parts history name row view items
+    → due_in row ≡ Some due → next_number parts.last ≡ Some number
+    → AgreesWith (record { nodes = parts.nodes; last = number; rows = put (sent number (kind_of due.call) row) parts.rows }) (with_items history (Sent (issued-by name number due) ∷ items))
+then-sent parts history name row view items due number ready e n =
+    put-agrees parts number name (sent number (kind_of due.call) row) (after_sent issued view) (with_items history (Sent issued ∷ items))
+    (reads-sent row view name due number ready.reads (has-entry row row.goal (ready.may due e)) case)
+    (λ other differs. same-then (after_sent issued view) view (view_of parts) other (same-sent issued view other differs) (ready.others other differs)) refl
+    (sent-follows view (with_items history items) issued ready.form ready.agrees next detaches)
+  where
+    issued : Issued
+    issued = issued-by name number due
+
+    case : IsDueFor row due
+    case = due-cases row due e
+
+    is_last : last_number (with_items history items) ≡ parts.last
+    is_last = sym ((ready.agrees).same_last) ∙ sym ready.same_last
+
+    next : IsNext (last_number (with_items history items)) number
+    next = subst (λ l. IsNext l number) (sym is_last) (the_next parts.last number (subst (IsNextIfSome parts.last) n (is_next parts.last)))
+
+    detaches : DetachesSomething (with_items history items) issued
+    detaches node of undoes is =
+        no-is-not (mark_in (λ place. place.attached) (place_of row node)) (detaching-something row due name node number case of undoes)
+        ((ready.reads).marks (Attached name node) refl ∙ (ready.agrees).same_marks (Attached name node) ∙ is)
+
+then-dropped : (parts : Parts) (history : History) (name : List ℕ) (row : RowShown) (view : View) (items : List Item) → IsReady parts history name row view items
+    → AgreesWith (with_row (dropped row) parts) (with_items history (Noted name None ∷ items))
+then-dropped parts history name row view items ready =
+    put-agrees parts parts.last name (dropped row) (after_noted name None view) (with_items history (Noted name None ∷ items))
+    (reads-dropped row view name (ready.distinct).nodes (ready.distinct).targets ready.reads ready.quiet)
+    (λ other differs. same-then (after_noted name None view) view (view_of parts) other (same-noted name None view other differs) (ready.others other differs)) ready.same_last
+    (noted-follows view (with_items history items) name None ready.agrees)
+
+pub goes-on-tells : (parts : Parts) (history : History) (name : List ℕ) (row : RowShown) (view : View) (items : List Item) → IsReady parts history name row view items → (answer : Option Frame → Answer)
+    → Tells history (goes_on parts answer row) (go_on history name answer items)
+goes-on-tells parts history name row view items ready answer =
+    subst (λ d. Tells history (goes_on parts answer row) (sent_as name answer items d (next_number (last_number history)))) (sym (due-there parts history name row view items ready))
+    (subst (λ l. Tells history (goes_on parts answer row) (sent_as name answer items (due_in row) (next_number l))) (sym ready.old_last) (by (due_in row) refl (next_number parts.last) refl))
+  where
+    by : (d : Option Due) → due_in row ≡ d → (n : Option Number) → next_number parts.last ≡ n → Tells history (sends_as parts answer row d n) (sent_as name answer items d n)
+    by None e n f = ((refl, then-dropped parts history name row view items ready), ready.guarded)
+    by (Some due) e None f = (refl, tt)
+    by (Some due) e (Some number) f = ((refl, then-sent parts history name row view items due number ready e f), (may-issue parts history name row view items due ready e, ready.guarded))

@@ -1,0 +1,89 @@
+-- What holds of entries with keys, after one was changed or put in, and after some were taken out.
+use Rattle.std.proofs.Common.{◌≡◌, ℕ, List, [], ◌∷◌, Bool, true, false, cond, map, refl, sym, ◌∙◌, ap, subst}
+use Rattle.std.specs.Prelude.{filter, ◌||◌}
+use Rattle.std.specs.List.{AllByRecursion, list_any}
+use Rattle.csi_types.specs.Lists.{EachTwo}
+use Rattle.csi_types.specs.Same.{same_text}
+use Rattle.csi_types.proofs.Among.{each_of, all_of, among-filter}
+use Rattle.csi_types.proofs.Equality.{same_text-tells}
+use Rattle.csi_orchestrator.specs.Keyed.{change_by, put_by}
+
+-- a text has one entry
+abbrev pub AreApart : {X : Type 0} → (X → List ℕ) → List X → Type 0
+AreApart key xs = EachTwo (λ a b. same_text (key a) (key b) ≡ false) xs
+
+-- both ways of a test
+pub by_if : {Y : Type 0} (P : Y → Type 0) (b : Bool) (x y : Y) → (b ≡ true → P x) → (b ≡ false → P y) → P (cond b x y)
+by_if P true x y f g = f refl
+by_if P false x y f g = g refl
+
+-- an entry is changed
+pub each-change : {X : Type 0} (P : X → Type 0) (key : X → List ℕ) (text : List ℕ) (change : X → X) (xs : List X) → ((x : X) → P x → P (change x)) → AllByRecursion P xs
+    → AllByRecursion P (change_by key text change xs)
+each-change P key text change [] keeps all = tt
+each-change P key text change (x ∷ xs) keeps all = by (same_text (key x) text) (each-change P key text change xs keeps all.1)
+  where
+    by : (b : Bool) → AllByRecursion P (change_by key text change xs) → AllByRecursion P (cond b (change x ∷ xs) (x ∷ change_by key text change xs))
+    by true rest = (keeps x all.0, all.1)
+    by false rest = (all.0, rest)
+
+pub apart-change : {X : Type 0} (key : X → List ℕ) (text : List ℕ) (change : X → X) (xs : List X) → ((x : X) → key (change x) ≡ key x) → AreApart key xs → AreApart key (change_by key text change xs)
+apart-change key text change [] same apart = tt
+apart-change key text change (x ∷ xs) same apart = by (same_text (key x) text) (apart-change key text change xs same apart.1)
+  where
+    by : (b : Bool) → AreApart key (change_by key text change xs) → AreApart key (cond b (change x ∷ xs) (x ∷ change_by key text change xs))
+    by true rest = (subst (λ t. AllByRecursion (λ b. same_text t (key b) ≡ false) xs) (sym (same x)) apart.0, apart.1)
+    by false rest = (each-change (λ b. same_text (key x) (key b) ≡ false) key text change xs (λ b e. ap (same_text (key x)) (same b) ∙ e) apart.0, rest)
+
+-- a test that the change makes no difference to
+pub any-change : {X : Type 0} (q : X → Bool) (key : X → List ℕ) (text : List ℕ) (change : X → X) (xs : List X) → ((x : X) → key x ≡ text → q (change x) ≡ q x)
+    → list_any q (change_by key text change xs) ≡ list_any q xs
+any-change q key text change [] same = refl
+any-change q key text change (x ∷ xs) same = by (same_text (key x) text) refl (any-change q key text change xs same)
+  where
+    by : (b : Bool) → same_text (key x) text ≡ b → list_any q (change_by key text change xs) ≡ list_any q xs → list_any q (cond b (change x ∷ xs) (x ∷ change_by key text change xs)) ≡ (q x || list_any q xs)
+    by true e rest = ap (λ b. b || list_any q xs) (same x ((same_text-tells (key x) text).0 e))
+    by false e rest = ap (λ b. q x || b) rest
+
+-- an entry is put in
+pub each-put : {X : Type 0} (P : X → Type 0) (key : X → List ℕ) (entry : X) (xs : List X) → P entry → AllByRecursion P xs → AllByRecursion P (put_by key entry xs)
+each-put P key entry [] own all = (own, tt)
+each-put P key entry (x ∷ xs) own all = by (same_text (key x) (key entry)) (each-put P key entry xs own all.1)
+  where
+    by : (b : Bool) → AllByRecursion P (put_by key entry xs) → AllByRecursion P (cond b (entry ∷ xs) (x ∷ put_by key entry xs))
+    by true rest = (own, all.1)
+    by false rest = (all.0, rest)
+
+pub apart-put : {X : Type 0} (key : X → List ℕ) (entry : X) (xs : List X) → AreApart key xs → AreApart key (put_by key entry xs)
+apart-put key entry [] apart = (tt, tt)
+apart-put key entry (x ∷ xs) apart = by (same_text (key x) (key entry)) refl (apart-put key entry xs apart.1)
+  where
+    by : (b : Bool) → same_text (key x) (key entry) ≡ b → AreApart key (put_by key entry xs) → AreApart key (cond b (entry ∷ xs) (x ∷ put_by key entry xs))
+    by true e rest = (subst (λ t. AllByRecursion (λ b. same_text t (key b) ≡ false) xs) ((same_text-tells (key x) (key entry)).0 e) apart.0, apart.1)
+    by false e rest = (each-put (λ b. same_text (key x) (key b) ≡ false) key entry xs e apart.0, rest)
+
+-- a test that no entry of this text passes
+pub any-put : {X : Type 0} (q : X → Bool) (key : X → List ℕ) (entry : X) (xs : List X) → ((x : X) → key x ≡ key entry → q x ≡ false) → list_any q (put_by key entry xs) ≡ list_any q xs
+any-put q key entry [] fails = ap (λ b. b || false) (fails entry refl)
+any-put q key entry (x ∷ xs) fails = by (same_text (key x) (key entry)) refl (any-put q key entry xs fails)
+  where
+    by : (b : Bool) → same_text (key x) (key entry) ≡ b → list_any q (put_by key entry xs) ≡ list_any q xs → list_any q (cond b (entry ∷ xs) (x ∷ put_by key entry xs)) ≡ (q x || list_any q xs)
+    by true e rest = ap (λ b. b || list_any q xs) (fails entry refl ∙ sym (fails x ((same_text-tells (key x) (key entry)).0 e)))
+    by false e rest = ap (λ b. q x || b) rest
+
+-- some are taken out
+pub each-filter : {X : Type 0} (P : X → Type 0) (p : X → Bool) (xs : List X) → AllByRecursion P xs → AllByRecursion P (filter p xs)
+each-filter P p xs all = all_of P (filter p xs) (λ x among. each_of P xs x all (among-filter p xs x among))
+
+-- each is changed
+pub each-map : {X : Type 0} (P Q : X → Type 0) (f : X → X) (xs : List X) → ((x : X) → P x → Q (f x)) → AllByRecursion P xs → AllByRecursion Q (map f xs)
+each-map P Q f [] keeps all = tt
+each-map P Q f (x ∷ xs) keeps all = (keeps x all.0, each-map P Q f xs keeps all.1)
+
+pub apart-map : {X : Type 0} (key : X → List ℕ) (f : X → X) (xs : List X) → ((x : X) → key (f x) ≡ key x) → AreApart key xs → AreApart key (map f xs)
+apart-map key f [] same apart = tt
+apart-map key f (x ∷ xs) same apart = (
+  subst (λ t. AllByRecursion (λ b. same_text t (key b) ≡ false) (map f xs)) (sym (same x))
+      (each-map (λ b. same_text (key x) (key b) ≡ false) (λ b. same_text (key x) (key b) ≡ false) f xs (λ b e. ap (same_text (key x)) (same b) ∙ e) apart.0),
+  apart-map key f xs same apart.1,
+)

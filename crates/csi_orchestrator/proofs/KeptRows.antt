@@ -1,0 +1,301 @@
+-- What holds of a row after it was changed.
+use Rattle.std.proofs.Common.{◌≡◌, ℕ, List, Bool, false, cond, not, map, refl, sym, ◌∙◌, ap, subst}
+use Rattle.std.specs.Prelude.{Option, Some, None, option_map, option_and_then, find, ◌&&◌}
+use Rattle.std.specs.List.{AllByRecursion, list_any}
+use Rattle.csi_types.specs.declared.call.Kind.{Kind}
+use Rattle.csi_types.specs.declared.call.Kind.TheVariants as kinds
+use Rattle.csi_types.specs.declared.number.Number.{Number}
+use Rattle.csi_types.specs.Call.{kind_of}
+use Rattle.csi_types.specs.Same.{same_text}
+use Rattle.csi_types.proofs.Among.{two-filter}
+use Rattle.csi_types.proofs.Equality.{same_text-tells}
+use Rattle.csi_orchestrator.specs.declared.row.Aim.{Aim}
+use Rattle.csi_orchestrator.specs.declared.row.Goal.{Goal}
+use Rattle.csi_orchestrator.specs.declared.row.Goal.TheVariants.{Create, Use, Stop, Delete}
+use Rattle.csi_orchestrator.specs.declared.row.Usage.{Usage}
+use Rattle.csi_orchestrator.specs.declared.thing.Known.{Known}
+use Rattle.csi_orchestrator.specs.declared.thing.Known.TheVariants.{No, Maybe}
+use Rattle.csi_orchestrator.specs.Thing.{is_yes, is_no}
+use Rattle.csi_orchestrator.specs.History.{Held}
+use Rattle.csi_orchestrator.specs.Commands.{is_for_one_node, is_second_writer}
+use Rattle.csi_orchestrator.specs.Due.{Due}
+use Rattle.csi_orchestrator.specs.Shown.{PlaceShown, RowShown, place_of, aim_of, held_at, usage_shown, marks_for, use_due, delete_due, due_by, due_in, closed, AreTargetsApart}
+use Rattle.csi_orchestrator.specs.RowChanges.{attached_as, staged_as, aimed_as, published_as, at_goal, marked, sent, told_of, succeeded, wanted, is_aim_kept, with_kept_aims, is_place_kept, dropped, stopped_goal}
+use Rattle.csi_orchestrator.specs.RowMoves.{is_so_elsewhere}
+use Rattle.csi_orchestrator.specs.Keyed.{change_by}
+use Rattle.csi_orchestrator.specs.Kept.{ArePlacesApart, IsUsable, MayBeWanted, IsKept}
+use Rattle.csi_orchestrator.proofs.DueCalls.{text-same}
+use Rattle.csi_orchestrator.proofs.Keyed.{find-change}
+use Rattle.csi_orchestrator.proofs.KeptEntries.{by_if, each-change, apart-change, any-change, each-filter, each-map, apart-map}
+
+-- a node has one entry, and so has each target there
+pub record AreDistinct (places : List PlaceShown) : Type 0 where
+  pub nodes : ArePlacesApart places
+  pub targets : AllByRecursion AreTargetsApart places
+
+pub kept-distinct : (row : RowShown) → IsKept row → AreDistinct row.places
+kept-distinct row kept = record { nodes = kept.places; targets = kept.aims }
+
+-- a change of a place's marks
+pub record IsMild (target : List ℕ) (change : PlaceShown → PlaceShown) : Type 0 where
+  pub same_node : (place : PlaceShown) → (change place).node ≡ place.node
+  pub same_capability : (place : PlaceShown) → (change place).capability ≡ place.capability
+  pub same_flag : (place : PlaceShown) → (change place).readonly ≡ place.readonly
+  pub still_apart : (place : PlaceShown) → AreTargetsApart place → AreTargetsApart (change place)
+  pub still_aimed : (place : PlaceShown) (aim : Aim) → aim_of place target ≡ Some aim → (other : Aim) × (aim_of (change place) target ≡ Some other)
+
+mild-attached : (mark : Known) (target : List ℕ) → IsMild target (λ (place : PlaceShown). record place { attached = mark })
+mild-attached mark target =
+    record { same_node = λ place. refl; same_capability = λ place. refl; same_flag = λ place. refl; still_apart = λ place apart. apart; still_aimed = λ place aim e. (aim, e) }
+
+mild-staged : (mark : Known) (target : List ℕ) → IsMild target (λ (place : PlaceShown). record place { staged = mark })
+mild-staged mark target =
+    record { same_node = λ place. refl; same_capability = λ place. refl; same_flag = λ place. refl; still_apart = λ place apart. apart; still_aimed = λ place aim e. (aim, e) }
+
+mild-published : (mark : Known) (target : List ℕ) → IsMild target (λ (place : PlaceShown). record place { aims = aimed_as mark target place.aims })
+mild-published mark target =
+    record {
+      same_node = λ place. refl;
+      same_capability = λ place. refl;
+      same_flag = λ place. refl;
+      still_apart = λ place apart. apart-change (λ (aim : Aim). aim.target) target marks place.aims (λ aim. refl) apart;
+      still_aimed = λ place aim e. (
+        marks aim,
+        find-change (λ (aim : Aim). aim.target) target marks place.aims target (λ aim. refl)
+            ∙ ap (λ b. cond b (option_map marks (aim_of place target)) (aim_of place target)) (text-same target) ∙ ap (option_map marks) e,
+      );
+    }
+  where
+    marks : Aim → Aim
+    marks aim = record aim { published = mark }
+
+distinct-change : (node target : List ℕ) (change : PlaceShown → PlaceShown) (places : List PlaceShown) → IsMild target change → AreDistinct places → AreDistinct (change_by (λ (place : PlaceShown). place.node) node change places)
+distinct-change node target change places mild distinct =
+    record {
+      nodes = apart-change (λ (place : PlaceShown). place.node) node change places mild.same_node distinct.nodes;
+      targets = each-change AreTargetsApart (λ (place : PlaceShown). place.node) node change places mild.still_apart distinct.targets;
+    }
+
+distinct-at : (change : List ℕ → List ℕ → List PlaceShown → List PlaceShown) → ((node target : List ℕ) (places : List PlaceShown) → AreDistinct places → AreDistinct (change node target places))
+    → (goal : Option Goal) (places : List PlaceShown) → AreDistinct places → AreDistinct (at_goal change goal places)
+distinct-at change keeps None places distinct = distinct
+distinct-at change keeps (Some Create) places distinct = distinct
+distinct-at change keeps (Some (Use usage)) places distinct = keeps usage.node usage.target places distinct
+distinct-at change keeps (Some (Stop node target)) places distinct = keeps node target places distinct
+distinct-at change keeps (Some Delete) places distinct = distinct
+
+attached-distinct : (mark : Known) (goal : Option Goal) (places : List PlaceShown) → AreDistinct places → AreDistinct (at_goal (attached_as mark) goal places)
+attached-distinct mark = distinct-at (attached_as mark) (λ node target places. distinct-change node target (λ (place : PlaceShown). record place { attached = mark }) places (mild-attached mark target))
+
+staged-distinct : (mark : Known) (goal : Option Goal) (places : List PlaceShown) → AreDistinct places → AreDistinct (at_goal (staged_as mark) goal places)
+staged-distinct mark = distinct-at (staged_as mark) (λ node target places. distinct-change node target (λ (place : PlaceShown). record place { staged = mark }) places (mild-staged mark target))
+
+published-distinct : (mark : Known) (goal : Option Goal) (places : List PlaceShown) → AreDistinct places → AreDistinct (at_goal (published_as mark) goal places)
+published-distinct mark =
+    distinct-at (published_as mark) (λ node target places. distinct-change node target (λ (place : PlaceShown). record place { aims = aimed_as mark target place.aims }) places (mild-published mark target))
+
+pub marked-distinct : (mark : Known) (kind : Kind) (row : RowShown) → AreDistinct row.places → AreDistinct (marked mark kind row).places
+marked-distinct mark kinds.CreateVolume row distinct = distinct
+marked-distinct mark kinds.DeleteVolume row distinct = distinct
+marked-distinct mark kinds.ControllerPublishVolume row distinct = attached-distinct mark row.goal row.places distinct
+marked-distinct mark kinds.ControllerUnpublishVolume row distinct = attached-distinct mark row.goal row.places distinct
+marked-distinct mark kinds.NodeStageVolume row distinct = staged-distinct mark row.goal row.places distinct
+marked-distinct mark kinds.NodeUnstageVolume row distinct = staged-distinct mark row.goal row.places distinct
+marked-distinct mark kinds.NodePublishVolume row distinct = published-distinct mark row.goal row.places distinct
+marked-distinct mark kinds.NodeUnpublishVolume row distinct = published-distinct mark row.goal row.places distinct
+
+pub marked-goal : (mark : Known) (kind : Kind) (row : RowShown) → (marked mark kind row).goal ≡ row.goal
+marked-goal mark kinds.CreateVolume row = refl
+marked-goal mark kinds.DeleteVolume row = refl
+marked-goal mark kinds.ControllerPublishVolume row = refl
+marked-goal mark kinds.ControllerUnpublishVolume row = refl
+marked-goal mark kinds.NodeStageVolume row = refl
+marked-goal mark kinds.NodeUnstageVolume row = refl
+marked-goal mark kinds.NodePublishVolume row = refl
+marked-goal mark kinds.NodeUnpublishVolume row = refl
+
+marked-id : (mark : Known) (kind : Kind) (row : RowShown) → (marked mark kind row).id ≡ row.id
+marked-id mark kinds.CreateVolume row = refl
+marked-id mark kinds.DeleteVolume row = refl
+marked-id mark kinds.ControllerPublishVolume row = refl
+marked-id mark kinds.ControllerUnpublishVolume row = refl
+marked-id mark kinds.NodeStageVolume row = refl
+marked-id mark kinds.NodeUnstageVolume row = refl
+marked-id mark kinds.NodePublishVolume row = refl
+marked-id mark kinds.NodeUnpublishVolume row = refl
+
+-- what is wanted of a row may be wanted of one with the same marks
+usable-alike : (row other : RowShown) (usage : Usage) → other.exists ≡ row.exists → other.places ≡ row.places → IsUsable row usage → IsUsable other usage
+usable-alike row other usage exists places usable =
+    record {
+      made = exists ∙ usable.made;
+      entry =
+          record {
+            place = usable.entry.place;
+            aim = usable.entry.aim;
+            at_node = ap (find (λ (place : PlaceShown). same_text place.node usage.node)) places ∙ usable.entry.at_node;
+            at_target = usable.entry.at_target;
+            same_capability = usable.entry.same_capability;
+            same_flag = usable.entry.same_flag;
+          };
+      shared = ap (list_any (is_so_elsewhere (is_for_one_node (usage_shown usage)) usage.node)) places ∙ usable.shared;
+      one_writer = ap (list_any (is_so_elsewhere (is_second_writer (usage_shown usage)) usage.node)) places ∙ usable.one_writer;
+    }
+
+pub wanted-alike : (row other : RowShown) (goal : Option Goal) → other.id ≡ row.id → other.exists ≡ row.exists → other.places ≡ row.places → MayBeWanted row goal → MayBeWanted other goal
+wanted-alike row other None id exists places may = tt
+wanted-alike row other (Some Create) id exists places may = id ∙ may
+wanted-alike row other (Some (Use usage)) id exists places may = usable-alike row other usage exists places may
+wanted-alike row other (Some (Stop node target)) id exists places may = tt
+wanted-alike row other (Some Delete) id exists places may = subst (AllByRecursion (λ (place : PlaceShown). place.attached ≡ No)) (sym places) may
+
+-- what is at this node isn't elsewhere
+pub here : (so : Held → Bool) (node : List ℕ) (place : PlaceShown) → place.node ≡ node → is_so_elsewhere so node place ≡ false
+here so node place e = ap (λ b. not b && not (is_no place.attached) && so (held_at place)) ((same_text-tells place.node node).1 e)
+
+-- a use that may be brought about, after a change of marks at its node
+usable-change : (row : RowShown) (usage : Usage) (change : PlaceShown → PlaceShown) → IsMild usage.target change → IsUsable row usage
+    → IsUsable (record row { places = change_by (λ (place : PlaceShown). place.node) usage.node change row.places }) usage
+usable-change row usage change mild usable =
+    let aimed = mild.still_aimed usable.entry.place usable.entry.aim usable.entry.at_target in
+    record {
+      made = usable.made;
+      entry =
+          record {
+            place = change usable.entry.place;
+            aim = aimed.0;
+            at_node =
+                find-change (λ (place : PlaceShown). place.node) usage.node change row.places usage.node mild.same_node
+                ∙ ap (λ b. cond b (option_map change (place_of row usage.node)) (place_of row usage.node)) (text-same usage.node) ∙ ap (option_map change) usable.entry.at_node;
+            at_target = aimed.1;
+            same_capability = mild.same_capability usable.entry.place ∙ usable.entry.same_capability;
+            same_flag = mild.same_flag usable.entry.place ∙ usable.entry.same_flag;
+          };
+      shared = unmoved (is_for_one_node (usage_shown usage)) ∙ usable.shared;
+      one_writer = unmoved (is_second_writer (usage_shown usage)) ∙ usable.one_writer;
+    }
+  where
+    unmoved : (so : Held → Bool) → list_any (is_so_elsewhere so usage.node) (change_by (λ (place : PlaceShown). place.node) usage.node change row.places) ≡ list_any (is_so_elsewhere so usage.node) row.places
+    unmoved so =
+        any-change (is_so_elsewhere so usage.node) (λ (place : PlaceShown). place.node) usage.node change row.places
+        (λ place e. here so usage.node (change place) (mild.same_node place ∙ e) ∙ sym (here so usage.node place e))
+
+-- the kinds of the calls that are due for a goal
+abbrev pub IsForUse : Kind → Type 0
+IsForUse kinds.CreateVolume = ⊥
+IsForUse kinds.DeleteVolume = ⊥
+IsForUse kinds.ControllerPublishVolume = Unit {0}
+IsForUse kinds.ControllerUnpublishVolume = ⊥
+IsForUse kinds.NodeStageVolume = Unit {0}
+IsForUse kinds.NodeUnstageVolume = ⊥
+IsForUse kinds.NodePublishVolume = Unit {0}
+IsForUse kinds.NodeUnpublishVolume = ⊥
+
+abbrev pub FitsGoal : Option Goal → Kind → Type 0
+FitsGoal None kind = ⊥
+FitsGoal (Some Create) kind = kind ≡ kinds.CreateVolume
+FitsGoal (Some (Use usage)) kind = IsForUse kind
+FitsGoal (Some (Stop node target)) kind = Unit {0}
+FitsGoal (Some Delete) kind = kind ≡ kinds.DeleteVolume
+
+abbrev pub DueFits : Option Goal → Option Due → Type 0
+DueFits goal None = Unit {0}
+DueFits goal (Some due) = FitsGoal goal (kind_of due.call)
+
+due-fits : (row : RowShown) (goal : Option Goal) → DueFits goal (due_by row goal)
+due-fits row None = tt
+due-fits row (Some Create) = by_if (DueFits (Some Create)) (is_yes row.exists) None _ (λ e. tt) (λ e. refl)
+due-fits row (Some (Use usage)) = by row.id
+  where
+    by : (o : Option ℕ) → DueFits (Some (Use usage)) (option_and_then (use_due usage (marks_for row (Use usage))) o)
+    by None = tt
+    by (Some id) =
+        by_if (DueFits (Some (Use usage))) (not (is_yes (marks_for row (Use usage)).attached)) _ _ (λ e. tt)
+        (λ e. by_if (DueFits (Some (Use usage))) (not (is_yes (marks_for row (Use usage)).staged)) _ _ (λ e. tt)
+        (λ e. by_if (DueFits (Some (Use usage))) (not (is_yes (marks_for row (Use usage)).published)) _ None (λ e. tt) (λ e. tt)))
+due-fits row (Some (Stop node target)) = stops (due_by row (Some (Stop node target)))
+  where
+    stops : (o : Option Due) → DueFits (Some (Stop node target)) o
+    stops None = tt
+    stops (Some due) = tt
+due-fits row (Some Delete) = by row.id
+  where
+    by : (o : Option ℕ) → DueFits (Some Delete) (option_and_then (delete_due (marks_for row Delete)) o)
+    by None = tt
+    by (Some id) = by_if (DueFits (Some Delete)) (is_no row.exists) None _ (λ e. tt) (λ e. refl)
+
+pub due-fits-goal : (row : RowShown) (due : Due) → due_in row ≡ Some due → FitsGoal row.goal (kind_of due.call)
+due-fits-goal row due e = subst (DueFits row.goal) e (due-fits row row.goal)
+
+-- what a call of the goal's kind does or undoes is marked
+usable-marked : (mark : Known) (kind : Kind) (row : RowShown) (usage : Usage) → row.goal ≡ Some (Use usage) → IsForUse kind → IsUsable row usage → IsUsable (marked mark kind row) usage
+usable-marked mark kinds.CreateVolume row usage e fits usable = absurd fits
+usable-marked mark kinds.DeleteVolume row usage e fits usable = absurd fits
+usable-marked mark kinds.ControllerPublishVolume row usage e fits usable =
+    subst (λ g. IsUsable (record row { places = at_goal (attached_as mark) g row.places }) usage) (sym e)
+    (usable-change row usage (λ (place : PlaceShown). record place { attached = mark }) (mild-attached mark usage.target) usable)
+usable-marked mark kinds.ControllerUnpublishVolume row usage e fits usable = absurd fits
+usable-marked mark kinds.NodeStageVolume row usage e fits usable =
+    subst (λ g. IsUsable (record row { places = at_goal (staged_as mark) g row.places }) usage) (sym e)
+    (usable-change row usage (λ (place : PlaceShown). record place { staged = mark }) (mild-staged mark usage.target) usable)
+usable-marked mark kinds.NodeUnstageVolume row usage e fits usable = absurd fits
+usable-marked mark kinds.NodePublishVolume row usage e fits usable =
+    subst (λ g. IsUsable (record row { places = at_goal (published_as mark) g row.places }) usage) (sym e)
+    (usable-change row usage (λ (place : PlaceShown). record place { aims = aimed_as mark usage.target place.aims }) (mild-published mark usage.target) usable)
+usable-marked mark kinds.NodeUnpublishVolume row usage e fits usable = absurd fits
+
+wanted-marked : (mark : Known) (kind : Kind) (row : RowShown) (goal : Option Goal) → row.goal ≡ goal → FitsGoal goal kind → MayBeWanted row goal → MayBeWanted (marked mark kind row) goal
+wanted-marked mark kind row None e fits may = tt
+wanted-marked mark kind row (Some Create) e fits may = marked-id mark kind row ∙ may
+wanted-marked mark kind row (Some (Use usage)) e fits may = usable-marked mark kind row usage e fits may
+wanted-marked mark kind row (Some (Stop node target)) e fits may = tt
+wanted-marked mark kind row (Some Delete) e fits may = subst (λ k. AllByRecursion (λ (place : PlaceShown). place.attached ≡ No) (marked mark k row).places) (sym fits) may
+
+-- the due call is sent
+pub kept-sent : (number : Number) (row : RowShown) (due : Due) → due_in row ≡ Some due → AreDistinct row.places → MayBeWanted row row.goal → IsKept (sent number (kind_of due.call) row)
+kept-sent number row due e distinct may =
+    let after = marked-distinct Maybe (kind_of due.call) row distinct in
+    let still = wanted-marked Maybe (kind_of due.call) row row.goal refl (due-fits-goal row due e) may in
+    record {
+      places = after.nodes;
+      aims = after.targets;
+      goal =
+          subst (MayBeWanted (sent number (kind_of due.call) row)) (sym (marked-goal Maybe (kind_of due.call) row))
+          (wanted-alike (marked Maybe (kind_of due.call) row) (sent number (kind_of due.call) row) row.goal refl refl refl still);
+    }
+
+-- the open call is given up
+pub kept-closed : (row : RowShown) → IsKept row → IsKept (closed row)
+kept-closed row kept = record { places = kept.places; aims = kept.aims; goal = wanted-alike row (closed row) row.goal refl refl refl kept.goal }
+
+-- nothing is wanted now
+pub kept-dropped : (row : RowShown) → AreDistinct row.places → IsKept (dropped row)
+kept-dropped row distinct =
+    record {
+      places = two-filter (λ (a b : PlaceShown). same_text a.node b.node ≡ false) is_place_kept (map with_kept_aims row.places) (apart-map (λ (place : PlaceShown). place.node) with_kept_aims row.places (λ place. refl) distinct.nodes);
+      aims =
+          each-filter AreTargetsApart is_place_kept (map with_kept_aims row.places)
+          (each-map AreTargetsApart AreTargetsApart with_kept_aims row.places (λ place apart. two-filter (λ (a b : Aim). same_text a.target b.target ≡ false) is_aim_kept place.aims apart) distinct.targets);
+      goal = tt;
+    }
+
+-- a use that didn't come about is stopped
+pub wanted-stopped : (row : RowShown) (goal : Goal) → MayBeWanted row (Some goal) → MayBeWanted (wanted (stopped_goal goal) row) (Some (stopped_goal goal))
+wanted-stopped row Create may = may
+wanted-stopped row (Use usage) may = tt
+wanted-stopped row (Stop node target) may = tt
+wanted-stopped row Delete may = may
+
+-- the goal's call succeeded: where something is due still, it may be wanted still
+pub wanted-succeeded : (kind : Kind) (id : Option ℕ) (row : RowShown) (goal : Option Goal) (due : Due) → row.goal ≡ goal → FitsGoal goal kind → MayBeWanted row goal
+    → due_by (succeeded kind id row) goal ≡ Some due → MayBeWanted (succeeded kind id row) goal
+wanted-succeeded kind id row None due e fits may next = tt
+wanted-succeeded kind id row (Some Create) due e fits may next =
+    absurd (clash (sym (ap (λ k. due_by (succeeded k id row) (Some Create)) fits) ∙ next))
+  where
+    clash : None ≡ Some due → ⊥
+    clash h = cc
+wanted-succeeded kind id row (Some (Use usage)) due e fits may next =
+    usable-alike (marked (told_of kind) kind row) (succeeded kind id row) usage refl refl (usable-marked (told_of kind) kind row usage e fits may)
+wanted-succeeded kind id row (Some (Stop node target)) due e fits may next = tt
+wanted-succeeded kind id row (Some Delete) due e fits may next = wanted-marked (told_of kind) kind row (Some Delete) e fits may

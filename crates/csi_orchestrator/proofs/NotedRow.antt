@@ -1,0 +1,389 @@
+-- What a row tells once something was noted for it, or its call was given up.
+use Rattle.std.proofs.Common.{◌≡◌, ◌≢◌, ◌++◌, ℕ, List, [], ◌∷◌, map, Bool, true, false, cond, not, refl, sym, ◌∙◌, ap}
+use Rattle.std.specs.Prelude.{Option, Some, None, find, filter, is_some, option_map, option_and_then, ◌&&◌}
+use Rattle.std.specs.List.{AllByRecursion}
+use Rattle.std.specs.Option.{option_or}
+use Rattle.std.proofs.lemmas.Bool.{false≢true}
+use Rattle.csi_types.specs.declared.number.Number.{Number}
+use Rattle.csi_types.specs.Lists.{EachTwo}
+use Rattle.csi_types.specs.Same.{same_text}
+use Rattle.csi_types.proofs.Among.{each_of, among-find}
+use Rattle.csi_types.proofs.Equality.{same_text-tells}
+use Rattle.csi_types.proofs.Lists.{find-map, find-append, or_else, or_else-some, or_else-none, find-passes}
+use Rattle.csi_orchestrator.specs.declared.row.Aim.{Aim}
+use Rattle.csi_orchestrator.specs.declared.row.Goal.{Goal}
+use Rattle.csi_orchestrator.specs.declared.row.Goal.TheVariants.{Create, Use, Stop, Delete}
+use Rattle.csi_orchestrator.specs.declared.row.Usage.{Usage}
+use Rattle.csi_orchestrator.specs.declared.thing.Thing.{Thing}
+use Rattle.csi_orchestrator.specs.declared.thing.Thing.TheVariants.{Exists, Attached, Staged, Published}
+use Rattle.csi_orchestrator.specs.declared.thing.Known.{Known}
+use Rattle.csi_orchestrator.specs.declared.thing.Known.TheVariants.{No}
+use Rattle.csi_orchestrator.specs.Thing.{Issued, is_no}
+use Rattle.csi_orchestrator.specs.History.{Arguments}
+use Rattle.csi_orchestrator.specs.History as history
+use Rattle.csi_orchestrator.specs.Readings.{arguments_in_goal}
+use Rattle.csi_orchestrator.specs.Agrees.{View}
+use Rattle.csi_orchestrator.specs.Following.{after_closed, after_noted}
+use Rattle.csi_orchestrator.specs.Kept.{ArePlacesApart}
+use Rattle.csi_orchestrator.specs.RowChanges.{wanted, wanted_anew, new_row, dropped, is_aim_kept, is_place_kept, has_aims, with_kept_aims, with_entry, entry_for, with_aim, new_aim, held_as}
+use Rattle.csi_orchestrator.specs.Shown.{PlaceShown, RowShown, Parts, row_of, place_of, aim_of, mark_in, published_in, mark_of, held_in, held_at, goal_in, goal_shown, open_in_row, issued_as, due_by, closed, view_of, AreTargetsApart}
+use Rattle.csi_orchestrator.proofs.DueCalls.{text-same, no_is_no}
+use Rattle.csi_orchestrator.proofs.Keyed.{find-put}
+use Rattle.csi_orchestrator.proofs.RowViews.{Reads}
+use Rattle.csi_orchestrator.proofs.SentRow.{goals-same}
+
+-- of its own name
+own : {X : Type 0} (name : List ℕ) (x y : X) → cond (same_text name name) x y ≡ x
+own name x y = ap (λ b. cond b x y) (text-same name)
+
+-- a row without a goal has no open call
+pub no-call : (row : RowShown) → row.goal ≡ None → open_in_row row ≡ None
+no-call row e = ap (λ g. issued_as row.name row.open_number (due_by row g)) e ∙ by row.open_number
+  where
+    by : (o : Option Number) → issued_as row.name o None ≡ None
+    by None = refl
+    by (Some number) = refl
+
+-- something is wanted of it
+mark-wanted : (goal : Goal) (row : RowShown) (thing : Thing) → mark_of thing (wanted goal row) ≡ mark_of thing row
+mark-wanted goal row (Exists name) = refl
+mark-wanted goal row (Attached name node) = refl
+mark-wanted goal row (Staged name node) = refl
+mark-wanted goal row (Published name node target) = refl
+
+goal-wanted : (goal : Goal) (row : RowShown) → goal_in (wanted goal row) ≡ Some (goal_shown row goal)
+goal-wanted Create row = refl
+goal-wanted (Use usage) row = refl
+goal-wanted (Stop node target) row = refl
+goal-wanted Delete row = refl
+
+arguments-wanted : (goal : Goal) (row : RowShown) (o : Option Arguments) → Some row.arguments ≡ o → Some row.arguments ≡ option_or (arguments_in_goal (Some (goal_shown row goal))) o
+arguments-wanted Create row o e = refl
+arguments-wanted (Use usage) row o e = e
+arguments-wanted (Stop node target) row o e = e
+arguments-wanted Delete row o e = e
+
+pub reads-wanted : (goal : Goal) (row : RowShown) (view : View) (name : List ℕ) → Reads row view name → view.open_calls name ≡ None
+    → Reads (wanted goal row) (after_noted name (Some (goal_shown row goal)) view) name
+reads-wanted goal row view name reads quiet =
+    record {
+      own = reads.own;
+      there = own name true (view.rows name);
+      marks = λ thing is. mark-wanted goal row thing ∙ reads.marks thing is;
+      ids = reads.ids;
+      goals = goal-wanted goal row ∙ sym (own name (Some (goal_shown row goal)) (view.goals name));
+      arguments = arguments-wanted goal row (view.arguments name) reads.arguments ∙ sym (own name (option_or (arguments_in_goal (Some (goal_shown row goal))) (view.arguments name)) (view.arguments name));
+      holdings = reads.holdings;
+      open_calls = sym quiet;
+      counts = sym (own name 0 (view.counts name));
+    }
+
+mark-anew : (arguments : Arguments) (row : RowShown) (thing : Thing) → mark_of thing (wanted_anew arguments row) ≡ mark_of thing row
+mark-anew arguments row (Exists name) = refl
+mark-anew arguments row (Attached name node) = refl
+mark-anew arguments row (Staged name node) = refl
+mark-anew arguments row (Published name node target) = refl
+
+pub reads-anew : (arguments : Arguments) (row : RowShown) (view : View) (name : List ℕ) → Reads row view name → view.open_calls name ≡ None
+    → Reads (wanted_anew arguments row) (after_noted name (Some (history.Create arguments)) view) name
+reads-anew arguments row view name reads quiet =
+    record {
+      own = reads.own;
+      there = own name true (view.rows name);
+      marks = λ thing is. mark-anew arguments row thing ∙ reads.marks thing is;
+      ids = reads.ids;
+      goals = sym (own name (Some (history.Create arguments)) (view.goals name));
+      arguments = sym (own name (Some arguments) (view.arguments name));
+      holdings = reads.holdings;
+      open_calls = sym quiet;
+      counts = sym (own name 0 (view.counts name));
+    }
+
+-- a row for a name that had none
+mark-new : (name : List ℕ) (arguments : Arguments) (thing : Thing) → mark_of thing (new_row name arguments) ≡ No
+mark-new name arguments (Exists other) = refl
+mark-new name arguments (Attached other node) = refl
+mark-new name arguments (Staged other node) = refl
+mark-new name arguments (Published other node target) = refl
+
+pub reads-new : (arguments : Arguments) (parts : Parts) (name : List ℕ) → row_of parts.rows name ≡ None
+    → Reads (new_row name arguments) (after_noted name (Some (history.Create arguments)) (view_of parts)) name
+reads-new arguments parts name none =
+    record {
+      own = refl;
+      there = own name true ((view_of parts).rows name);
+      marks = λ thing is. mark-new name arguments thing ∙ sym (ap (λ n. mark_in (mark_of thing) (row_of parts.rows n)) is ∙ ap (mark_in (mark_of thing)) none);
+      ids = sym (ap (option_and_then (λ (r : RowShown). r.id)) none);
+      goals = sym (own name (Some (history.Create arguments)) ((view_of parts).goals name));
+      arguments = sym (own name (Some arguments) ((view_of parts).arguments name));
+      holdings = λ node maybe. absurd (maybe refl);
+      open_calls = sym (ap (option_and_then open_in_row) none);
+      counts = sym (own name 0 ((view_of parts).counts name));
+    }
+
+-- its call was given up
+mark-closed : (row : RowShown) (thing : Thing) → mark_of thing (closed row) ≡ mark_of thing row
+mark-closed row (Exists name) = refl
+mark-closed row (Attached name node) = refl
+mark-closed row (Staged name node) = refl
+mark-closed row (Published name node target) = refl
+
+pub reads-closed : (row : RowShown) (issued : Issued) (view : View) (name : List ℕ) → issued.name ≡ name → Reads row view name → Reads (closed row) (after_closed issued view) name
+reads-closed row issued view name is reads =
+    record {
+      own = reads.own;
+      there = reads.there;
+      marks = λ thing same. mark-closed row thing ∙ reads.marks thing same;
+      ids = reads.ids;
+      goals = goals-same (closed row) row refl refl ∙ reads.goals;
+      arguments = reads.arguments;
+      holdings = reads.holdings;
+      open_calls = sym (ap (λ n. cond (same_text n name) None (view.open_calls name)) is ∙ own name None (view.open_calls name));
+      counts = reads.counts;
+    }
+
+-- it had none
+pub reads-quiet : (row : RowShown) (view : View) (name : List ℕ) → Reads row view name → view.open_calls name ≡ None → Reads (closed row) view name
+reads-quiet row view name reads quiet =
+    record {
+      own = reads.own;
+      there = reads.there;
+      marks = λ thing same. mark-closed row thing ∙ reads.marks thing same;
+      ids = reads.ids;
+      goals = goals-same (closed row) row refl refl ∙ reads.goals;
+      arguments = reads.arguments;
+      holdings = reads.holdings;
+      open_calls = sym quiet;
+      counts = reads.counts;
+    }
+
+-- what a search finds where entries were taken out
+kept-if : {X : Type 0} → (X → Bool) → Option X → Option X
+kept-if q None = None
+kept-if q (Some x) = cond (q x) (Some x) None
+
+none-after : {X : Type 0} (key : X → List ℕ) (q : X → Bool) (text : List ℕ) (x : X) (xs : List X) → same_text (key x) text ≡ true → AllByRecursion (λ y. same_text (key x) (key y) ≡ false) xs
+    → find (λ y. same_text (key y) text) (filter q xs) ≡ None
+none-after key q text x [] e apart = refl
+none-after key q text x (y ∷ ys) e apart = step (q y) (none-after key q text x ys e apart.1)
+  where
+    differs : same_text (key y) text ≡ false
+    differs = by (same_text (key y) text) refl
+      where
+        by : (b : Bool) → same_text (key y) text ≡ b → b ≡ false
+        by true f = sym ((same_text-tells (key x) (key y)).1 ((same_text-tells (key x) text).0 e ∙ sym ((same_text-tells (key y) text).0 f))) ∙ apart.0
+        by false f = refl
+
+    step : (b : Bool) → find (λ y. same_text (key y) text) (filter q ys) ≡ None → find (λ y. same_text (key y) text) (cond b (y ∷ filter q ys) (filter q ys)) ≡ None
+    step true rest = ap (λ b. cond b (Some y) (find (λ y. same_text (key y) text) (filter q ys))) differs ∙ rest
+    step false rest = rest
+
+find-kept : {X : Type 0} (key : X → List ℕ) (q : X → Bool) (text : List ℕ) (xs : List X) → EachTwo (λ a b. same_text (key a) (key b) ≡ false) xs
+    → find (λ y. same_text (key y) text) (filter q xs) ≡ kept-if q (find (λ y. same_text (key y) text) xs)
+unfolding kept-if
+find-kept key q text [] two = refl
+find-kept key q text (x ∷ xs) two = step (q x) refl (same_text (key x) text) refl (find-kept key q text xs two.1)
+  where
+    step : (k : Bool) → q x ≡ k → (b : Bool) → same_text (key x) text ≡ b
+        → find (λ y. same_text (key y) text) (filter q xs) ≡ kept-if q (find (λ y. same_text (key y) text) xs)
+        → find (λ y. same_text (key y) text) (cond k (x ∷ filter q xs) (filter q xs)) ≡ kept-if q (cond b (Some x) (find (λ y. same_text (key y) text) xs))
+    step true f true e rest = ap (λ b. cond b (Some x) (find (λ y. same_text (key y) text) (filter q xs))) e ∙ sym (ap (λ k. cond k (Some x) None) f)
+    step true f false e rest = ap (λ b. cond b (Some x) (find (λ y. same_text (key y) text) (filter q xs))) e ∙ rest
+    step false f true e rest = none-after key q text x xs e two.0 ∙ sym (ap (λ k. cond k (Some x) None) f)
+    step false f false e rest = rest
+
+-- a target that is left out isn't published
+kept-mark : (o : Option Aim) → mark_in (λ (a : Aim). a.published) (kept-if is_aim_kept o) ≡ mark_in (λ (a : Aim). a.published) o
+unfolding kept-if
+kept-mark None = refl
+kept-mark (Some aim) = by (is_no aim.published) refl
+  where
+    by : (b : Bool) → is_no aim.published ≡ b → mark_in (λ (a : Aim). a.published) (cond (not b) (Some aim) None) ≡ aim.published
+    by true e = sym (no_is_no aim.published e)
+    by false e = refl
+
+aims-kept : (place : PlaceShown) (target : List ℕ) → AreTargetsApart place → published_in target (with_kept_aims place) ≡ published_in target place
+aims-kept place target apart = ap (mark_in (λ (a : Aim). a.published)) (find-kept (λ (a : Aim). a.target) is_aim_kept target place.aims apart) ∙ kept-mark (aim_of place target)
+
+-- a node that is left out has nothing
+left-out : (place : PlaceShown) → is_place_kept place ≡ false → (place.attached ≡ No) × (place.staged ≡ No) × (has_aims place.aims ≡ false)
+left-out place e = by (is_no place.attached) refl (is_no place.staged) refl (has_aims place.aims) refl e
+  where
+    by : (a : Bool) → is_no place.attached ≡ a → (s : Bool) → is_no place.staged ≡ s → (h : Bool) → has_aims place.aims ≡ h → not (a && s && not h) ≡ false
+        → (place.attached ≡ No) × (place.staged ≡ No) × (has_aims place.aims ≡ false)
+    by true a true s false h e = (no_is_no place.attached a, no_is_no place.staged s, h)
+    by true a true s true h e = absurd (false≢true (sym e))
+    by true a false s h f e = absurd (false≢true (sym e))
+    by false a s t h f e = absurd (false≢true (sym e))
+
+no-aims : (aims : List Aim) (target : List ℕ) → has_aims aims ≡ false → mark_in (λ (a : Aim). a.published) (find (λ (a : Aim). same_text a.target target) aims) ≡ No
+no-aims [] target e = refl
+no-aims (aim ∷ aims) target e = absurd (false≢true (sym e))
+
+tidied-place : (row : RowShown) (node : List ℕ) → ArePlacesApart row.places → place_of (dropped row) node ≡ kept-if is_place_kept (option_map with_kept_aims (place_of row node))
+tidied-place row node apart =
+    find-kept (λ (p : PlaceShown). p.node) is_place_kept node (map with_kept_aims row.places) (alike row.places apart)
+    ∙ ap (kept-if is_place_kept) (find-map (λ (p : PlaceShown). same_text p.node node) with_kept_aims row.places (λ p. refl))
+  where
+    each : (place : PlaceShown) (places : List PlaceShown) → AllByRecursion (λ (b : PlaceShown). same_text place.node b.node ≡ false) places
+        → AllByRecursion (λ (b : PlaceShown). same_text place.node b.node ≡ false) (map with_kept_aims places)
+    each place [] all = tt
+    each place (p ∷ ps) all = (all.0, each place ps all.1)
+
+    alike : (places : List PlaceShown) → ArePlacesApart places → ArePlacesApart (map with_kept_aims places)
+    alike [] two = tt
+    alike (p ∷ ps) two = (each p ps two.0, alike ps two.1)
+
+-- a reading that is No where nothing is left, and else is as it was
+tidy-read : (read : PlaceShown → Known) (o : Option PlaceShown) → ((place : PlaceShown) → o ≡ Some place → read (with_kept_aims place) ≡ read place)
+    → ((place : PlaceShown) → is_place_kept (with_kept_aims place) ≡ false → read (with_kept_aims place) ≡ No)
+    → mark_in read (kept-if is_place_kept (option_map with_kept_aims o)) ≡ mark_in read o
+unfolding kept-if
+tidy-read read None same none = refl
+tidy-read read (Some place) same none = by (is_place_kept (with_kept_aims place)) refl
+  where
+    by : (b : Bool) → is_place_kept (with_kept_aims place) ≡ b → mark_in read (cond b (Some (with_kept_aims place)) None) ≡ read place
+    by true e = same place refl
+    by false e = sym (none place e) ∙ same place refl
+
+mark-dropped : (row : RowShown) (thing : Thing) → ArePlacesApart row.places → AllByRecursion AreTargetsApart row.places → mark_of thing (dropped row) ≡ mark_of thing row
+mark-dropped row (Exists name) apart aims = refl
+mark-dropped row (Attached name node) apart aims =
+    ap (mark_in (λ (p : PlaceShown). p.attached)) (tidied-place row node apart)
+    ∙ tidy-read (λ (p : PlaceShown). p.attached) (place_of row node) (λ place e. refl) (λ place e. (left-out (with_kept_aims place) e).0)
+mark-dropped row (Staged name node) apart aims =
+    ap (mark_in (λ (p : PlaceShown). p.staged)) (tidied-place row node apart)
+    ∙ tidy-read (λ (p : PlaceShown). p.staged) (place_of row node) (λ place e. refl) (λ place e. (left-out (with_kept_aims place) e).1)
+mark-dropped row (Published name node target) apart aims =
+    ap (mark_in (published_in target)) (tidied-place row node apart)
+    ∙ tidy-read (published_in target) (place_of row node)
+    (λ place e. aims-kept place target (each_of AreTargetsApart row.places place aims (among-find (λ (p : PlaceShown). same_text p.node node) row.places place e)))
+    (λ place e. no-aims (with_kept_aims place).aims target (left-out (with_kept_aims place) e).2)
+
+held-dropped : (row : RowShown) (node : List ℕ) → ArePlacesApart row.places → mark_in (λ (p : PlaceShown). p.attached) (place_of (dropped row) node) ≢ No → held_in (dropped row) node ≡ held_in row node
+unfolding kept-if
+held-dropped row node apart maybe = ap (option_map held_at) (tidied-place row node apart) ∙ by (place_of row node) (λ e. maybe (ap (mark_in (λ (p : PlaceShown). p.attached)) (tidied-place row node apart) ∙ e))
+  where
+    by : (o : Option PlaceShown) → mark_in (λ (p : PlaceShown). p.attached) (kept-if is_place_kept (option_map with_kept_aims o)) ≢ No → option_map held_at (kept-if is_place_kept (option_map with_kept_aims o)) ≡ option_map held_at o
+    by None there = refl
+    by (Some place) there = kept (is_place_kept (with_kept_aims place)) refl
+      where
+        kept : (b : Bool) → is_place_kept (with_kept_aims place) ≡ b → option_map held_at (cond b (Some (with_kept_aims place)) None) ≡ Some (held_at place)
+        kept true e = refl
+        kept false e = absurd (there (ap (λ b. mark_in (λ (p : PlaceShown). p.attached) (cond b (Some (with_kept_aims place)) None)) e))
+
+-- nothing is wanted of it
+pub reads-dropped : (row : RowShown) (view : View) (name : List ℕ) → ArePlacesApart row.places → AllByRecursion AreTargetsApart row.places → Reads row view name → view.open_calls name ≡ None
+    → Reads (dropped row) (after_noted name None view) name
+reads-dropped row view name apart aims reads quiet =
+    record {
+      own = reads.own;
+      there = own name true (view.rows name);
+      marks = λ thing is. mark-dropped row thing apart aims ∙ reads.marks thing is;
+      ids = reads.ids;
+      goals = sym (own name None (view.goals name));
+      arguments = reads.arguments ∙ sym (own name (view.arguments name) (view.arguments name));
+      holdings = λ node maybe. held-dropped row node apart maybe ∙ reads.holdings node (λ e. maybe (mark-dropped row (Attached name node) apart aims ∙ e));
+      open_calls = sym quiet;
+      counts = sym (own name 0 (view.counts name));
+    }
+
+-- an entry for a use tells nothing new
+pub entry-there : (usage : Usage) (row : RowShown) (node : List ℕ) → place_of (with_entry usage row) node ≡ cond (same_text usage.node node) (Some (entry_for usage (place_of row usage.node))) (place_of row node)
+entry-there usage row node = find-put (λ (p : PlaceShown). p.node) (entry_for usage (place_of row usage.node)) row.places node ∙ ap (λ n. cond (same_text n node) (Some (entry_for usage (place_of row usage.node))) (place_of row node)) (node-is (place_of row usage.node) refl)
+  where
+    held-node : (place : PlaceShown) → (held_as usage place).node ≡ place.node
+    held-node place = by (is_no place.attached)
+      where
+        by : (b : Bool) → (cond b (let p : PlaceShown = record place { capability = usage.capability; readonly = usage.readonly } in p) place).node ≡ place.node
+        by true = refl
+        by false = refl
+
+    node-is : (o : Option PlaceShown) → place_of row usage.node ≡ o → (entry_for usage o).node ≡ usage.node
+    node-is None e = refl
+    node-is (Some place) e = held-node place ∙ (same_text-tells place.node usage.node).0 (find-passes (λ (p : PlaceShown). same_text p.node usage.node) row.places place e)
+
+-- a reading of the entry is one of what was there
+entry-read : (read : PlaceShown → Known) (usage : Usage) (o : Option PlaceShown) → read (entry_for usage None) ≡ No → ((place : PlaceShown) → read (entry_for usage (Some place)) ≡ read place)
+    → read (entry_for usage o) ≡ mark_in read o
+entry-read read usage None new kept = new
+entry-read read usage (Some place) new kept = kept place
+
+mark-entry : (read : PlaceShown → Known) (usage : Usage) (row : RowShown) (node : List ℕ) → read (entry_for usage None) ≡ No → ((place : PlaceShown) → read (entry_for usage (Some place)) ≡ read place)
+    → mark_in read (place_of (with_entry usage row) node) ≡ mark_in read (place_of row node)
+mark-entry read usage row node new kept = ap (mark_in read) (entry-there usage row node) ∙ by (same_text usage.node node) refl
+  where
+    by : (b : Bool) → same_text usage.node node ≡ b → mark_in read (cond b (Some (entry_for usage (place_of row usage.node))) (place_of row node)) ≡ mark_in read (place_of row node)
+    by true e = entry-read read usage (place_of row usage.node) new kept ∙ ap (λ n. mark_in read (place_of row n)) ((same_text-tells usage.node node).0 e)
+    by false e = refl
+
+entry-attached : (usage : Usage) (place : PlaceShown) → (entry_for usage (Some place)).attached ≡ place.attached
+entry-attached usage place = by (is_no place.attached)
+  where
+    by : (b : Bool) → (cond b (let p : PlaceShown = record place { capability = usage.capability; readonly = usage.readonly } in p) place).attached ≡ place.attached
+    by true = refl
+    by false = refl
+
+entry-staged : (usage : Usage) (place : PlaceShown) → (entry_for usage (Some place)).staged ≡ place.staged
+entry-staged usage place = by (is_no place.attached)
+  where
+    by : (b : Bool) → (cond b (let p : PlaceShown = record place { capability = usage.capability; readonly = usage.readonly } in p) place).staged ≡ place.staged
+    by true = refl
+    by false = refl
+
+-- a target that was put in isn't published
+new-mark : (target other : List ℕ) → mark_in (λ (a : Aim). a.published) (cond (same_text target other) (Some (new_aim target)) None) ≡ No
+new-mark target other = by (same_text target other)
+  where
+    by : (b : Bool) → mark_in (λ (a : Aim). a.published) (cond b (Some (new_aim target)) None) ≡ No
+    by true = refl
+    by false = refl
+
+aim-entry : (target other : List ℕ) (aims : List Aim) → mark_in (λ (a : Aim). a.published) (find (λ (a : Aim). same_text a.target other) (with_aim target aims)) ≡ mark_in (λ (a : Aim). a.published) (find (λ (a : Aim). same_text a.target other) aims)
+aim-entry target other aims = by (is_some (find (λ (a : Aim). same_text a.target target) aims))
+  where
+    last : (o : Option Aim) → mark_in (λ (a : Aim). a.published) (or_else o (cond (same_text target other) (Some (new_aim target)) None)) ≡ mark_in (λ (a : Aim). a.published) o
+    last None = ap (mark_in (λ (a : Aim). a.published)) (or_else-none None (cond (same_text target other) (Some (new_aim target)) None) refl) ∙ new-mark target other
+    last (Some aim) = ap (mark_in (λ (a : Aim). a.published)) (or_else-some (Some aim) (cond (same_text target other) (Some (new_aim target)) None) aim refl)
+
+    by : (b : Bool) → mark_in (λ (a : Aim). a.published) (find (λ (a : Aim). same_text a.target other) (cond b aims (aims ++ new_aim target ∷ []))) ≡ mark_in (λ (a : Aim). a.published) (find (λ (a : Aim). same_text a.target other) aims)
+    by true = refl
+    by false = ap (mark_in (λ (a : Aim). a.published)) (find-append (λ (a : Aim). same_text a.target other) aims (new_aim target)) ∙ last (find (λ (a : Aim). same_text a.target other) aims)
+
+pub mark-with-entry : (usage : Usage) (row : RowShown) (thing : Thing) → mark_of thing (with_entry usage row) ≡ mark_of thing row
+mark-with-entry usage row (Exists name) = refl
+mark-with-entry usage row (Attached name node) = mark-entry (λ (p : PlaceShown). p.attached) usage row node refl (entry-attached usage)
+mark-with-entry usage row (Staged name node) = mark-entry (λ (p : PlaceShown). p.staged) usage row node refl (entry-staged usage)
+mark-with-entry usage row (Published name node target) = mark-entry (published_in target) usage row node (new-mark usage.target target) (λ place. aim-entry usage.target target place.aims)
+
+-- and, where the volume may be attached, keeps how it is held
+held-entry : (usage : Usage) (row : RowShown) (node : List ℕ) → mark_in (λ (p : PlaceShown). p.attached) (place_of row node) ≢ No → held_in (with_entry usage row) node ≡ held_in row node
+held-entry usage row node maybe = ap (option_map held_at) (entry-there usage row node) ∙ by (same_text usage.node node) refl
+  where
+    kept : (o : Option PlaceShown) → mark_in (λ (p : PlaceShown). p.attached) o ≢ No → Some (held_at (entry_for usage o)) ≡ option_map held_at o
+    kept None there = absurd (there refl)
+    kept (Some place) there = same (is_no place.attached) refl
+      where
+        same : (b : Bool) → is_no place.attached ≡ b → Some (held_at (let p : PlaceShown = record (cond b (let q : PlaceShown = record place { capability = usage.capability; readonly = usage.readonly } in q) place) { aims = with_aim usage.target place.aims } in p)) ≡ Some (held_at place)
+        same true e = absurd (there (no_is_no place.attached e))
+        same false e = refl
+
+    by : (b : Bool) → same_text usage.node node ≡ b → option_map held_at (cond b (Some (entry_for usage (place_of row usage.node))) (place_of row node)) ≡ option_map held_at (place_of row node)
+    by true e =
+        let is : usage.node ≡ node = (same_text-tells usage.node node).0 e in
+        kept (place_of row usage.node) (λ h. maybe (ap (λ n. mark_in (λ (p : PlaceShown). p.attached) (place_of row n)) (sym is) ∙ h)) ∙ ap (λ n. option_map held_at (place_of row n)) is
+    by false e = refl
+
+pub reads-with-entry : (usage : Usage) (row : RowShown) (view : View) (name : List ℕ) → row.goal ≡ None → Reads row view name → Reads (with_entry usage row) view name
+reads-with-entry usage row view name goal reads =
+    record {
+      own = reads.own;
+      there = reads.there;
+      marks = λ thing is. mark-with-entry usage row thing ∙ reads.marks thing is;
+      ids = reads.ids;
+      goals = goals-same (with_entry usage row) row refl refl ∙ reads.goals;
+      arguments = reads.arguments;
+      holdings = λ node maybe. held-entry usage row node (λ e. maybe (mark-with-entry usage row (Attached name node) ∙ e)) ∙ reads.holdings node (λ e. maybe (mark-with-entry usage row (Attached name node) ∙ e));
+      open_calls = no-call (with_entry usage row) goal ∙ sym (no-call row goal) ∙ reads.open_calls;
+      counts = reads.counts;
+    }

@@ -1,0 +1,59 @@
+-- What the rows tell is what each call promises.
+use Rattle.std.proofs.Common.{◌≡◌, sym, ◌∙◌, ap, subst}
+use Rattle.std.specs.Prelude.{Result, Ok, Err, IfOk, IfErr, OnErr}
+use Rattle.csi_orchestrator.specs.declared.fault.OrchFault.{OrchFault}
+use Rattle.csi_orchestrator.specs.History.{History}
+use Rattle.csi_orchestrator.specs.WellFormed.{IsWellFormed}
+use Rattle.csi_orchestrator.specs.Moves.{Input, Answer, Moved, moves}
+use Rattle.csi_orchestrator.specs.Shown.{Parts, AgreesWith}
+use Rattle.csi_orchestrator.specs.RowMoves.{Told, row_moves, IsRefusal}
+use Rattle.csi_orchestrator.specs.Kept.{AreKept}
+use Rattle.csi_orchestrator.specs.Promises.{IsDone}
+use Rattle.csi_orchestrator.proofs.GoingOn.{Tells}
+use Rattle.csi_orchestrator.proofs.Keeping.{rows-stay-kept}
+use Rattle.csi_orchestrator.proofs.TellingReplies.{all-tell}
+
+done : (history : History) (told : Told) (moved : Result Moved OrchFault) → Tells history (Ok told) moved → IsDone history moved told.answer told.parts
+done history told (Ok moved) tells = record { answered = sym tells.0.0; agrees = tells.0.1; guarded = tells.1 }
+done history told (Err fault) tells = absurd tells.0
+
+-- what was told is done
+pub is-done : (old : Parts) (history : History) (input : Input) (told : Told) → AreKept old.rows → IsWellFormed history → AgreesWith old history → row_moves old input ≡ Ok told
+    → IsDone history (moves old.nodes history input) told.answer told.parts
+is-done old history input told kept form agrees e =
+    done history told (moves old.nodes history input) (subst (λ r. Tells history r (moves old.nodes history input)) e (all-tell old history input form kept agrees))
+
+refused : (history : History) (told : Result Told OrchFault) (moved : Result Moved OrchFault) (fault : OrchFault) → Tells history told moved → IsRefusal told fault → IsRefusal moved fault
+refused history (Ok told) (Ok moved) fault tells is = is
+refused history (Ok told) (Err other) fault tells is = absurd tells.0
+refused history (Err other) (Ok moved) fault tells is = absurd tells.0
+refused history (Err one) (Err other) fault tells is = is ∙ tells.0
+
+-- what is refused by the rows is refused
+pub is-refused : (old : Parts) (history : History) (input : Input) (fault : OrchFault) → AreKept old.rows → IsWellFormed history → AgreesWith old history → IsRefusal (row_moves old input) fault
+    → IsRefusal (moves old.nodes history input) fault
+is-refused old history input fault kept form agrees is = refused history (row_moves old input) (moves old.nodes history input) fault (all-tell old history input form kept agrees) is
+
+-- the rows stay kept
+pub stays-kept : (old new : Parts) (input : Input) (answer : Answer) → AreKept old.rows → row_moves old input ≡ Ok (let t : Told = record { answer = answer; parts = new } in t) → AreKept new.rows × (new.nodes ≡ old.nodes)
+stays-kept old new input answer kept e = rows-stay-kept old input (record { answer = answer; parts = new }) kept e
+
+-- the same of a call's result, by the parts that were told and are shown
+pub ok-promised : {R : Type 0} (result : Result R OrchFault) (says : R → Answer) (old now new : Parts) (input : Input) → old ≡ now → AreKept old.rows
+    → IfOk result (λ r. row_moves old input ≡ Ok (let t : Told = record { answer = says r; parts = new } in t)) → (history : History) → IsWellFormed history → AgreesWith now history
+    → IfOk result (λ r. IsDone history (moves now.nodes history input) (says r) new)
+ok-promised (Err fault) says old now new input is kept told history form agrees = tt
+ok-promised (Ok r) says old now new input is kept told history form agrees =
+    subst (λ (p : Parts). IsDone history (moves p.nodes history input) (says r) new) is
+    (is-done old history input (record { answer = says r; parts = new }) kept form (subst (λ (p : Parts). AgreesWith p history) (sym is) agrees) told)
+
+pub err-promised : {R : Type 0} (result : Result R OrchFault) (old now : Parts) (input : Input) → old ≡ now → AreKept old.rows → IfErr result (λ fault. IsRefusal (row_moves old input) fault)
+    → (history : History) → IsWellFormed history → AgreesWith now history → IfErr result (λ fault. IsRefusal (moves now.nodes history input) fault)
+err-promised (Ok r) old now input is kept told history form agrees = tt
+err-promised (Err fault) old now input is kept told history form agrees =
+    subst (λ (p : Parts). IsRefusal (moves p.nodes history input) fault) is (is-refused old history input fault kept form (subst (λ (p : Parts). AgreesWith p history) (sym is) agrees) told)
+
+pub kept-promised : {R : Type 0} (result : Result R OrchFault) (says : R → Answer) (old new : Parts) (input : Input) → AreKept old.rows
+    → IfOk result (λ r. row_moves old input ≡ Ok (let t : Told = record { answer = says r; parts = new } in t)) → OnErr result (new ≡ old) → AreKept new.rows × (new.nodes ≡ old.nodes)
+kept-promised (Ok r) says old new input kept told stays = stays-kept old new input (says r) kept told
+kept-promised (Err fault) says old new input kept told stays = (subst (λ (p : Parts). AreKept p.rows) (sym stays) kept, ap (λ (p : Parts). p.nodes) stays)

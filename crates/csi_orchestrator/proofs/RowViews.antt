@@ -1,0 +1,205 @@
+-- Why what is shown agrees with a history once one row stands in place of another.
+use Rattle.std.proofs.Common.{◌≡◌, ◌≢◌, ℕ, List, Bool, true, false, cond, refl, sym, ◌∙◌, ap, subst}
+use Rattle.std.specs.Prelude.{Option, Some, None, is_some, option_map, option_and_then, ◌&&◌}
+use Rattle.std.specs.Option.{option_or}
+use Rattle.csi_types.specs.declared.number.Number.{Number}
+use Rattle.csi_types.specs.declared.status.Status.{Status}
+use Rattle.csi_types.specs.Reply.{is_ok_status}
+use Rattle.csi_types.specs.Same.{same_text}
+use Rattle.csi_types.proofs.Equality.{same_text-tells}
+use Rattle.csi_orchestrator.specs.declared.thing.Thing.{Thing}
+use Rattle.csi_orchestrator.specs.declared.thing.Thing.TheVariants.{Attached}
+use Rattle.csi_orchestrator.specs.declared.thing.Known.TheVariants.{No, Maybe}
+use Rattle.csi_orchestrator.specs.Thing.{Issued, name_in, touches}
+use Rattle.csi_orchestrator.specs.History.{Goal, History}
+use Rattle.csi_orchestrator.specs.Readings.{held_by, arguments_in_goal}
+use Rattle.csi_orchestrator.specs.Agrees.{View, Agrees}
+use Rattle.csi_orchestrator.specs.Following.{after_sent, after_accepted, after_closed, after_noted, told, id_brought}
+use Rattle.csi_orchestrator.specs.Shown.{RowShown, Parts, row_of, mark_in, mark_of, goal_in, held_in, open_in_row, tries_in, view_of, AgreesWith}
+use Rattle.csi_orchestrator.specs.RowMoves.{put}
+use Rattle.csi_orchestrator.proofs.Following.{touches-name}
+use Rattle.csi_orchestrator.proofs.Keyed.{find-put}
+
+-- the row tells what is shown of a name
+pub record Reads (row : RowShown) (view : View) (name : List ℕ) : Type 0 where
+  pub own : row.name ≡ name
+  pub there : view.rows name ≡ true
+  pub marks : (thing : Thing) → name_in thing ≡ name → mark_of thing row ≡ view.marks thing
+  pub ids : row.id ≡ view.ids name
+  pub goals : goal_in row ≡ view.goals name
+  pub arguments : Some row.arguments ≡ view.arguments name
+  pub holdings : (node : List ℕ) → mark_of (Attached name node) row ≢ No → held_in row node ≡ view.holdings name node
+  pub open_calls : open_in_row row ≡ view.open_calls name
+  pub counts : row.tries ≡ view.counts name
+
+-- two show the same of a name
+pub record SameAt (view other : View) (name : List ℕ) : Type 0 where
+  pub rows : view.rows name ≡ other.rows name
+  pub marks : (thing : Thing) → name_in thing ≡ name → view.marks thing ≡ other.marks thing
+  pub ids : view.ids name ≡ other.ids name
+  pub goals : view.goals name ≡ other.goals name
+  pub arguments : view.arguments name ≡ other.arguments name
+  pub holdings : (node : List ℕ) → view.holdings name node ≡ other.holdings name node
+  pub open_calls : view.open_calls name ≡ other.open_calls name
+  pub counts : view.counts name ≡ other.counts name
+
+pub same-self : (view : View) (name : List ℕ) → SameAt view view name
+same-self view name =
+    record { rows = refl; marks = λ thing is. refl; ids = refl; goals = refl; arguments = refl; holdings = λ node. refl; open_calls = refl; counts = refl }
+
+pub same-then : (a b c : View) (name : List ℕ) → SameAt a b name → SameAt b c name → SameAt a c name
+same-then a b c name f g =
+    record {
+      rows = f.rows ∙ g.rows;
+      marks = λ thing is. f.marks thing is ∙ g.marks thing is;
+      ids = f.ids ∙ g.ids;
+      goals = f.goals ∙ g.goals;
+      arguments = f.arguments ∙ g.arguments;
+      holdings = λ node. f.holdings node ∙ g.holdings node;
+      open_calls = f.open_calls ∙ g.open_calls;
+      counts = f.counts ∙ g.counts;
+    }
+
+-- a call of one name touches nothing of another
+untouched : (issued : Issued) (other : List ℕ) (thing : Thing) → same_text issued.name other ≡ false → name_in thing ≡ other → touches thing issued ≡ false
+untouched issued other thing differs is = by (touches thing issued) refl
+  where
+    by : (b : Bool) → touches thing issued ≡ b → b ≡ false
+    by true e = sym (subst (λ n. same_text issued.name n ≡ true) is (touches-name thing issued e)) ∙ differs
+    by false e = refl
+
+-- each item changes what is shown of its own name alone
+pub same-sent : (issued : Issued) (view : View) (other : List ℕ) → same_text issued.name other ≡ false → SameAt (after_sent issued view) view other
+same-sent issued view other differs =
+    record {
+      rows = refl;
+      marks = λ thing is. ap (λ b. cond b Maybe (view.marks thing)) (untouched issued other thing differs is);
+      ids = refl;
+      goals = refl;
+      arguments = refl;
+      holdings = λ node. ap (λ b. cond b (option_or (held_by node issued.call) (view.holdings other node)) (view.holdings other node)) differs;
+      open_calls = ap (λ b. cond b (Some issued) (view.open_calls other)) differs;
+      counts = rw differs refl;
+    }
+
+and-right : (a b : Bool) → b ≡ false → (a && b) ≡ false
+and-right true b e = e
+and-right false b e = refl
+
+pub same-accepted : (issued : Issued) (status : Status) (id : Option ℕ) (view : View) (other : List ℕ) → same_text issued.name other ≡ false → SameAt (after_accepted issued status id view) view other
+same-accepted issued status id view other differs =
+    record {
+      rows = refl;
+      marks = λ thing is. ap (λ b. cond b (told issued.call) (view.marks thing)) (and-right (is_ok_status status) (touches thing issued) (untouched issued other thing differs is));
+      ids = ap (λ b. cond b (option_or (id_brought issued.call id) (view.ids other)) (view.ids other)) (and-right (is_ok_status status) (same_text issued.name other) differs);
+      goals = refl;
+      arguments = refl;
+      holdings = λ node. refl;
+      open_calls = ap (λ b. cond b None (view.open_calls other)) differs;
+      counts = ap (λ b. cond b 0 (view.counts other)) (and-right (is_ok_status status) (same_text issued.name other) differs);
+    }
+
+pub same-closed : (issued : Issued) (view : View) (other : List ℕ) → same_text issued.name other ≡ false → SameAt (after_closed issued view) view other
+same-closed issued view other differs =
+    record {
+      rows = refl;
+      marks = λ thing is. refl;
+      ids = refl;
+      goals = refl;
+      arguments = refl;
+      holdings = λ node. refl;
+      open_calls = ap (λ b. cond b None (view.open_calls other)) differs;
+      counts = refl;
+    }
+
+pub same-noted : (name : List ℕ) (goal : Option Goal) (view : View) (other : List ℕ) → same_text name other ≡ false → SameAt (after_noted name goal view) view other
+same-noted name goal view other differs =
+    record {
+      rows = ap (λ b. cond b true (view.rows other)) differs;
+      marks = λ thing is. refl;
+      ids = refl;
+      goals = ap (λ b. cond b goal (view.goals other)) differs;
+      arguments = ap (λ b. cond b (option_or (arguments_in_goal goal) (view.arguments other)) (view.arguments other)) differs;
+      holdings = λ node. refl;
+      open_calls = refl;
+      counts = ap (λ b. cond b 0 (view.counts other)) differs;
+    }
+
+-- a row that tells what is shown of its name stands in its place: what is shown of the others is as it was
+pub put-agrees : (parts : Parts) (last : Number) (name : List ℕ) (row : RowShown) (view : View) (history : History) → Reads row view name
+    → ((other : List ℕ) → same_text name other ≡ false → SameAt view (view_of parts) other) → last ≡ view.last → Agrees view history
+    → AgreesWith (record { nodes = parts.nodes; last = last; rows = put row parts.rows }) history
+put-agrees parts last name row view history reads others is_last agrees =
+    record {
+      same_last = is_last ∙ agrees.same_last;
+      same_rows = λ other. own_rows other (same_text name other) refl ∙ agrees.same_rows other;
+      same_marks = λ thing. own_marks thing (same_text name (name_in thing)) refl ∙ agrees.same_marks thing;
+      same_ids = λ other. own_ids other (same_text name other) refl ∙ agrees.same_ids other;
+      same_goals = λ other. own_goals other (same_text name other) refl ∙ agrees.same_goals other;
+      same_arguments = λ other. own_arguments other (same_text name other) refl ∙ agrees.same_arguments other;
+      same_holdings = λ other node maybe. own_holdings other node (same_text name other) refl (λ e. maybe (sym (own_marks (Attached other node) (same_text name other) refl ∙ agrees.same_marks (Attached other node)) ∙ e)) ∙ agrees.same_holdings other node maybe;
+      same_open_calls = λ other. own_calls other (same_text name other) refl ∙ agrees.same_open_calls other;
+      same_counts = λ other. own_counts other (same_text name other) refl ∙ agrees.same_counts other;
+    }
+  where
+    found : (other : List ℕ) → row_of (put row parts.rows) other ≡ cond (same_text name other) (Some row) (row_of parts.rows other)
+    found other = find-put (λ (r : RowShown). r.name) row parts.rows other ∙ ap (λ n. cond (same_text n other) (Some row) (row_of parts.rows other)) reads.own
+
+    this : (other : List ℕ) → same_text name other ≡ true → row_of (put row parts.rows) other ≡ Some row
+    this other e = found other ∙ ap (λ b. cond b (Some row) (row_of parts.rows other)) e
+
+    that : (other : List ℕ) → same_text name other ≡ false → row_of (put row parts.rows) other ≡ row_of parts.rows other
+    that other e = found other ∙ ap (λ b. cond b (Some row) (row_of parts.rows other)) e
+
+    is : (other : List ℕ) → same_text name other ≡ true → name ≡ other
+    is other e = (same_text-tells name other).0 e
+
+    own_rows : (other : List ℕ) (b : Bool) → same_text name other ≡ b → is_some (row_of (put row parts.rows) other) ≡ view.rows other
+    own_rows other true e = ap is_some (this other e) ∙ sym (ap view.rows (sym (is other e)) ∙ reads.there)
+    own_rows other false e = ap is_some (that other e) ∙ sym (others other e).rows
+
+    own_marks : (thing : Thing) (b : Bool) → same_text name (name_in thing) ≡ b → mark_in (mark_of thing) (row_of (put row parts.rows) (name_in thing)) ≡ view.marks thing
+    own_marks thing true e = ap (mark_in (mark_of thing)) (this (name_in thing) e) ∙ reads.marks thing (sym (is (name_in thing) e))
+    own_marks thing false e = ap (mark_in (mark_of thing)) (that (name_in thing) e) ∙ sym ((others (name_in thing) e).marks thing refl)
+
+    own_ids : (other : List ℕ) (b : Bool) → same_text name other ≡ b → option_and_then (λ (r : RowShown). r.id) (row_of (put row parts.rows) other) ≡ view.ids other
+    own_ids other true e = ap (option_and_then (λ (r : RowShown). r.id)) (this other e) ∙ reads.ids ∙ ap view.ids (is other e)
+    own_ids other false e = ap (option_and_then (λ (r : RowShown). r.id)) (that other e) ∙ sym (others other e).ids
+
+    own_goals : (other : List ℕ) (b : Bool) → same_text name other ≡ b → option_and_then goal_in (row_of (put row parts.rows) other) ≡ view.goals other
+    own_goals other true e = ap (option_and_then goal_in) (this other e) ∙ reads.goals ∙ ap view.goals (is other e)
+    own_goals other false e = ap (option_and_then goal_in) (that other e) ∙ sym (others other e).goals
+
+    own_arguments : (other : List ℕ) (b : Bool) → same_text name other ≡ b → option_map (λ (r : RowShown). r.arguments) (row_of (put row parts.rows) other) ≡ view.arguments other
+    own_arguments other true e = ap (option_map (λ (r : RowShown). r.arguments)) (this other e) ∙ reads.arguments ∙ ap view.arguments (is other e)
+    own_arguments other false e = ap (option_map (λ (r : RowShown). r.arguments)) (that other e) ∙ sym (others other e).arguments
+
+    own_holdings : (other node : List ℕ) (b : Bool) → same_text name other ≡ b → mark_in (mark_of (Attached other node)) (row_of (put row parts.rows) other) ≢ No
+        → option_and_then (λ (r : RowShown). held_in r node) (row_of (put row parts.rows) other) ≡ view.holdings other node
+    own_holdings other node true e maybe =
+        ap (option_and_then (λ (r : RowShown). held_in r node)) (this other e)
+        ∙ reads.holdings node (λ h. maybe (ap (mark_in (mark_of (Attached other node))) (this other e) ∙ h)) ∙ ap (λ n. view.holdings n node) (is other e)
+    own_holdings other node false e maybe = ap (option_and_then (λ (r : RowShown). held_in r node)) (that other e) ∙ sym ((others other e).holdings node)
+
+    own_calls : (other : List ℕ) (b : Bool) → same_text name other ≡ b → option_and_then open_in_row (row_of (put row parts.rows) other) ≡ view.open_calls other
+    own_calls other true e = ap (option_and_then open_in_row) (this other e) ∙ reads.open_calls ∙ ap view.open_calls (is other e)
+    own_calls other false e = ap (option_and_then open_in_row) (that other e) ∙ sym (others other e).open_calls
+
+    own_counts : (other : List ℕ) (b : Bool) → same_text name other ≡ b → tries_in (row_of (put row parts.rows) other) ≡ view.counts other
+    own_counts other true e = ap tries_in (this other e) ∙ reads.counts ∙ ap view.counts (is other e)
+    own_counts other false e = ap tries_in (that other e) ∙ sym (others other e).counts
+
+-- the row of a name tells what is shown of it
+pub row-reads : (parts : Parts) (name : List ℕ) (row : RowShown) → row.name ≡ name → row_of parts.rows name ≡ Some row → Reads row (view_of parts) name
+row-reads parts name row own found =
+    record {
+      own = own;
+      there = ap is_some found;
+      marks = λ thing is. sym (ap (λ n. mark_in (mark_of thing) (row_of parts.rows n)) is ∙ ap (mark_in (mark_of thing)) found);
+      ids = sym (ap (option_and_then (λ (r : RowShown). r.id)) found);
+      goals = sym (ap (option_and_then goal_in) found);
+      arguments = sym (ap (option_map (λ (r : RowShown). r.arguments)) found);
+      holdings = λ node maybe. sym (ap (option_and_then (λ (r : RowShown). held_in r node)) found);
+      open_calls = sym (ap (option_and_then open_in_row) found);
+      counts = sym (ap tries_in found);
+    }

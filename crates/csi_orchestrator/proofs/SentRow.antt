@@ -1,0 +1,255 @@
+-- What a row tells once its due call was sent, and once that call succeeded.
+use Rattle.std.proofs.Common.{◌≡◌, ◌≢◌, ◌+◌, ℕ, List, Bool, true, false, cond, refl, sym, ◌∙◌, ap, subst}
+use Rattle.std.specs.Prelude.{Option, Some, None, min, option_map, option_and_then, ◌&&◌}
+use Rattle.std.specs.Option.{option_or}
+use Rattle.std.proofs.lemmas.Bool.{false≢true}
+use Rattle.csi_types.specs.declared.call.Call.{Call}
+use Rattle.csi_types.specs.declared.call.Call.TheVariants as calls
+use Rattle.csi_types.specs.declared.call.Kind.{Kind}
+use Rattle.csi_types.specs.declared.call.Kind.TheVariants as kinds
+use Rattle.csi_types.specs.declared.capability.Capability.{Capability}
+use Rattle.csi_types.specs.declared.number.Number.{Number}
+use Rattle.csi_types.specs.declared.status.Status.{Status}
+use Rattle.csi_types.specs.Call.{kind_of}
+use Rattle.csi_types.specs.Reply.{is_ok_status}
+use Rattle.csi_types.specs.Same.{same_text}
+use Rattle.csi_types.proofs.Equality.{same_text-tells}
+use Rattle.csi_orchestrator.specs.declared.marks.Marks.{Marks}
+use Rattle.csi_orchestrator.specs.declared.row.Goal.{Goal}
+use Rattle.csi_orchestrator.specs.declared.row.Goal.TheVariants.{Create, Use, Stop, Delete}
+use Rattle.csi_orchestrator.specs.declared.row.Usage.{Usage}
+use Rattle.csi_orchestrator.specs.declared.thing.Thing.{Thing}
+use Rattle.csi_orchestrator.specs.declared.thing.Thing.TheVariants.{Exists, Attached, Staged, Published}
+use Rattle.csi_orchestrator.specs.declared.thing.Known.{Known}
+use Rattle.csi_orchestrator.specs.declared.thing.Known.TheVariants.{No, Maybe}
+use Rattle.csi_orchestrator.specs.Thing.{Issued, thing_at, is_thing, touches, is_yes, is_no}
+use Rattle.csi_orchestrator.specs.History.{Held}
+use Rattle.csi_orchestrator.specs.History as wanted
+use Rattle.csi_orchestrator.specs.Readings.{held_by}
+use Rattle.csi_orchestrator.specs.Agrees.{View}
+use Rattle.csi_orchestrator.specs.Due.{Due}
+use Rattle.csi_orchestrator.specs.Following.{after_sent, after_accepted, told, id_brought}
+use Rattle.csi_orchestrator.specs.Kept.{HasEntry}
+use Rattle.csi_orchestrator.specs.RowChanges.{marked, opened, sent, told_of, id_told, answered, succeeded}
+use Rattle.csi_orchestrator.specs.Shown.{RowShown, place_of, mark_in, mark_of, held_in, held_at, goal_in, goal_shown, marks_for, due_by, due_in, use_due, stop_due, delete_due, issued_as}
+use Rattle.csi_orchestrator.proofs.DueCalls.{text-same}
+use Rattle.csi_orchestrator.proofs.DueCases.{attaching, staging, publishing, unpublishing, unstaging, detaching, IsDueFor, ToMake, ToRemove, ToAttach, ToStage, ToPublish, ToUnpublish, ToUnstage, ToDetach}
+use Rattle.csi_orchestrator.proofs.Following.{same_text-flip, and-false}
+use Rattle.csi_orchestrator.proofs.Marked.{IsMarked, GoalHasEntry, is-marked, others-unstaging, others-detaching}
+use Rattle.csi_orchestrator.proofs.RowViews.{Reads}
+
+-- which call is due, by the marks
+use-attaches : (usage : Usage) (marks : Marks) (id : ℕ) → is_yes marks.attached ≡ false → use_due usage marks id ≡ Some (attaching usage id)
+use-attaches usage marks id a = rw a refl
+
+use-stages : (usage : Usage) (marks : Marks) (id : ℕ) → is_yes marks.attached ≡ true → is_yes marks.staged ≡ false → use_due usage marks id ≡ Some (staging usage id)
+use-stages usage marks id a s = rw (a, s) refl
+
+use-publishes : (usage : Usage) (marks : Marks) (id : ℕ) → is_yes marks.attached ≡ true → is_yes marks.staged ≡ true → is_yes marks.published ≡ false → use_due usage marks id ≡ Some (publishing usage id)
+use-publishes usage marks id a s p = rw (a, s, p) refl
+
+stop-unpublishes : (node target : List ℕ) (marks : Marks) (id : ℕ) → is_no marks.published ≡ false → stop_due node target marks id ≡ Some (unpublishing node target id)
+stop-unpublishes node target marks id p = rw p refl
+
+stop-unstages : (node target : List ℕ) (marks : Marks) (id : ℕ) → is_no marks.published ≡ true → marks.others ≡ false → is_no marks.staged ≡ false → stop_due node target marks id ≡ Some (unstaging node id)
+stop-unstages node target marks id p o s = rw (p, o, s) refl
+
+stop-detaches : (node target : List ℕ) (marks : Marks) (id : ℕ) → is_no marks.published ≡ true → marks.others ≡ false → is_no marks.staged ≡ true → is_no marks.attached ≡ false
+    → stop_due node target marks id ≡ Some (detaching node id)
+stop-detaches node target marks id p o s a = rw (p, o, s, a) refl
+
+-- a thing is its own
+own-two : (a b : List ℕ) → (same_text a a && same_text b b) ≡ true
+own-two a b = ap (λ t. t && same_text b b) (text-same a) ∙ text-same b
+
+own-three : (a b c : List ℕ) → (same_text a a && same_text b b && same_text c c) ≡ true
+own-three a b c = ap (λ t. t && same_text c c) (own-two a b) ∙ text-same c
+
+-- the call that was sent is still the one that is due
+pub due-stays : (row : RowShown) (due : Due) (number : Number) → GoalHasEntry row row.goal → IsDueFor row due → due_in (sent number (kind_of due.call) row) ≡ Some due
+due-stays row _ number entry (ToMake goal e) = ap (due_by (sent number kinds.CreateVolume row)) goal
+due-stays row _ number entry (ToRemove id goal own e) =
+    ap (due_by (sent number kinds.DeleteVolume row)) goal ∙ ap (option_and_then (delete_due (marks_for (sent number kinds.DeleteVolume row) Delete))) own
+due-stays row _ number entry (ToAttach usage id goal own a) =
+    let after : RowShown = sent number kinds.ControllerPublishVolume row in
+    let marks = (is-marked row (attaching usage id) Maybe entry (ToAttach usage id goal own a)).marks in
+    let now : mark_of (Attached row.name usage.node) after ≡ Maybe = marks (Attached row.name usage.node) refl ∙ ap (λ b. cond b Maybe (mark_of (Attached row.name usage.node) row)) (own-two row.name usage.node) in
+    ap (due_by after) goal ∙ ap (option_and_then (use_due usage (marks_for after (Use usage)))) own ∙ use-attaches usage (marks_for after (Use usage)) id (ap is_yes now)
+due-stays row _ number entry (ToStage usage id goal own a s) =
+    let after : RowShown = sent number kinds.NodeStageVolume row in
+    let marks = (is-marked row (staging usage id) Maybe entry (ToStage usage id goal own a s)).marks in
+    let now : mark_of (Staged row.name usage.node) after ≡ Maybe = marks (Staged row.name usage.node) refl ∙ ap (λ b. cond b Maybe (mark_of (Staged row.name usage.node) row)) (own-two row.name usage.node) in
+    ap (due_by after) goal ∙ ap (option_and_then (use_due usage (marks_for after (Use usage)))) own
+    ∙ use-stages usage (marks_for after (Use usage)) id (ap is_yes (marks (Attached row.name usage.node) refl) ∙ a) (ap is_yes now)
+due-stays row _ number entry (ToPublish usage id goal own a s p) =
+    let after : RowShown = sent number kinds.NodePublishVolume row in
+    let marks = (is-marked row (publishing usage id) Maybe entry (ToPublish usage id goal own a s p)).marks in
+    let now : mark_of (Published row.name usage.node usage.target) after ≡ Maybe = marks (Published row.name usage.node usage.target) refl
+    ∙ ap (λ b. cond b Maybe (mark_of (Published row.name usage.node usage.target) row)) (own-three row.name usage.node usage.target) in
+    ap (due_by after) goal ∙ ap (option_and_then (use_due usage (marks_for after (Use usage)))) own
+    ∙ use-publishes usage (marks_for after (Use usage)) id (ap is_yes (marks (Attached row.name usage.node) refl) ∙ a) (ap is_yes (marks (Staged row.name usage.node) refl) ∙ s) (ap is_yes now)
+due-stays row _ number entry (ToUnpublish node target id goal own p) =
+    let after : RowShown = sent number kinds.NodeUnpublishVolume row in
+    let marks = (is-marked row (unpublishing node target id) Maybe entry (ToUnpublish node target id goal own p)).marks in
+    let now : mark_of (Published row.name node target) after ≡ Maybe = marks (Published row.name node target) refl ∙ ap (λ b. cond b Maybe (mark_of (Published row.name node target) row)) (own-three row.name node target) in
+    ap (due_by after) goal ∙ ap (option_and_then (stop_due node target (marks_for after (Stop node target)))) own ∙ stop-unpublishes node target (marks_for after (Stop node target)) id (ap is_no now)
+due-stays row _ number entry (ToUnstage node target id goal own p o s) =
+    let after : RowShown = sent number kinds.NodeUnstageVolume row in
+    let marks = (is-marked row (unstaging node id) Maybe entry (ToUnstage node target id goal own p o s)).marks in
+    let now : mark_of (Staged row.name node) after ≡ Maybe = marks (Staged row.name node) refl ∙ ap (λ b. cond b Maybe (mark_of (Staged row.name node) row)) (own-two row.name node) in
+    ap (due_by after) goal ∙ ap (option_and_then (stop_due node target (marks_for after (Stop node target)))) own
+    ∙ stop-unstages node target (marks_for after (Stop node target)) id (ap is_no (marks (Published row.name node target) refl) ∙ p) (others-unstaging row node target Maybe goal ∙ o) (ap is_no now)
+due-stays row _ number entry (ToDetach node target id goal own p o s a) =
+    let after : RowShown = sent number kinds.ControllerUnpublishVolume row in
+    let marks = (is-marked row (detaching node id) Maybe entry (ToDetach node target id goal own p o s a)).marks in
+    let now : mark_of (Attached row.name node) after ≡ Maybe = marks (Attached row.name node) refl ∙ ap (λ b. cond b Maybe (mark_of (Attached row.name node) row)) (own-two row.name node) in
+    ap (due_by after) goal ∙ ap (option_and_then (stop_due node target (marks_for after (Stop node target)))) own
+    ∙ stop-detaches node target (marks_for after (Stop node target)) id (ap is_no (marks (Published row.name node target) refl) ∙ p) (others-detaching row node target Maybe goal ∙ o)
+    (ap is_no (marks (Staged row.name node) refl) ∙ s) (ap is_no now)
+
+-- how the volume is held, where it may be attached once the call was sent
+pub no-is-not : (k : Known) → is_no k ≡ false → k ≢ No
+no-is-not k e is = false≢true (sym e ∙ ap is_no is)
+
+-- a call that publishes nothing by the controller, and whose mark isn't of an attachment
+quiet-held : (row after : RowShown) (view : View) (name node : List ℕ) → Reads row view name → mark_of (Attached name node) after ≡ mark_of (Attached name node) row → mark_of (Attached name node) after ≢ No
+    → held_in row node ≡ view.holdings name node
+quiet-held row after view name node reads same maybe = reads.holdings node (λ e. maybe (same ∙ e))
+
+held-entry : (row : RowShown) (usage : Usage) (node : List ℕ) → HasEntry row usage → same_text usage.node node ≡ true → held_in row node ≡ Some (let h : Held = record { capability = usage.capability; readonly = usage.readonly } in h)
+held-entry row usage node entry e =
+    ap (held_in row) (sym ((same_text-tells usage.node node).0 e)) ∙ ap (option_map held_at) entry.at_node ∙ ap Some (both entry.place.capability usage.capability entry.place.readonly usage.readonly entry.same_capability entry.same_flag)
+  where
+    both : (c d : Capability) (r s : Bool) → c ≡ d → r ≡ s → (let h : Held = record { capability = c; readonly = r } in h) ≡ (let h : Held = record { capability = d; readonly = s } in h)
+    both c d r s e f = λ i. record { capability = e i; readonly = f i }
+
+pub held-right : (row : RowShown) (due : Due) (view : View) (name node : List ℕ) → GoalHasEntry row row.goal → IsDueFor row due → Reads row view name
+    → mark_of (Attached name node) (marked Maybe (kind_of due.call) row) ≢ No → held_in row node ≡ option_or (held_by node due.call) (view.holdings name node)
+held-right row _ view name node entry (ToMake goal e) reads maybe = reads.holdings node maybe
+held-right row _ view name node entry (ToRemove id goal own e) reads maybe = reads.holdings node maybe
+held-right row _ view name node entry (ToAttach usage id goal own a) reads maybe = by (same_text usage.node node) refl
+  where
+    here : HasEntry row usage
+    here = subst (GoalHasEntry row) goal entry
+
+    same : same_text usage.node node ≡ false → mark_of (Attached name node) (marked Maybe kinds.ControllerPublishVolume row) ≡ mark_of (Attached name node) row
+    same e =
+        (is-marked row (attaching usage id) Maybe entry (ToAttach usage id goal own a)).marks (Attached name node) (sym reads.own)
+        ∙ ap (λ b. cond b Maybe (mark_of (Attached name node) row)) (ap (λ b. same_text name row.name && b) (same_text-flip node usage.node ∙ e) ∙ and-false (same_text name row.name))
+
+    by : (b : Bool) → same_text usage.node node ≡ b → held_in row node ≡ option_or (cond b (Some (let h : Held = record { capability = usage.capability; readonly = usage.readonly } in h)) None) (view.holdings name node)
+    by true e = held-entry row usage node here e
+    by false e = quiet-held row (marked Maybe kinds.ControllerPublishVolume row) view name node reads (same e) maybe
+held-right row _ view name node entry (ToStage usage id goal own a s) reads maybe =
+    quiet-held row (marked Maybe kinds.NodeStageVolume row) view name node reads ((is-marked row (staging usage id) Maybe entry (ToStage usage id goal own a s)).marks (Attached name node) (sym reads.own)) maybe
+held-right row _ view name node entry (ToPublish usage id goal own a s p) reads maybe =
+    quiet-held row (marked Maybe kinds.NodePublishVolume row) view name node reads ((is-marked row (publishing usage id) Maybe entry (ToPublish usage id goal own a s p)).marks (Attached name node) (sym reads.own)) maybe
+held-right row _ view name node entry (ToUnpublish here target id goal own p) reads maybe =
+    quiet-held row (marked Maybe kinds.NodeUnpublishVolume row) view name node reads ((is-marked row (unpublishing here target id) Maybe entry (ToUnpublish here target id goal own p)).marks (Attached name node) (sym reads.own)) maybe
+held-right row _ view name node entry (ToUnstage here target id goal own p o s) reads maybe =
+    quiet-held row (marked Maybe kinds.NodeUnstageVolume row) view name node reads ((is-marked row (unstaging here id) Maybe entry (ToUnstage here target id goal own p o s)).marks (Attached name node) (sym reads.own)) maybe
+held-right row _ view name node entry (ToDetach here target id goal own p o s a) reads maybe = by (same_text here node) refl
+  where
+    same : same_text here node ≡ false → mark_of (Attached name node) (marked Maybe kinds.ControllerUnpublishVolume row) ≡ mark_of (Attached name node) row
+    same e =
+        (is-marked row (detaching here id) Maybe entry (ToDetach here target id goal own p o s a)).marks (Attached name node) (sym reads.own)
+        ∙ ap (λ b. cond b Maybe (mark_of (Attached name node) row)) (ap (λ b. same_text name row.name && b) (same_text-flip node here ∙ e) ∙ and-false (same_text name row.name))
+
+    by : (b : Bool) → same_text here node ≡ b → held_in row node ≡ view.holdings name node
+    by true e = reads.holdings node (no-is-not (mark_in (λ place. place.attached) (place_of row node)) (ap (λ n. is_no (mark_in (λ place. place.attached) (place_of row n))) (sym ((same_text-tells here node).0 e)) ∙ a))
+    by false e = quiet-held row (marked Maybe kinds.ControllerUnpublishVolume row) view name node reads (same e) maybe
+
+-- a row's other fields don't tell of marks and goals
+mark-opened : (thing : Thing) (number : Number) (row : RowShown) → mark_of thing (opened number row) ≡ mark_of thing row
+mark-opened (Exists name) number row = refl
+mark-opened (Attached name node) number row = refl
+mark-opened (Staged name node) number row = refl
+mark-opened (Published name node target) number row = refl
+
+mark-answered : (thing : Thing) (kind : Kind) (id : Option ℕ) (row : RowShown) → mark_of thing (answered kind id row) ≡ mark_of thing row
+mark-answered (Exists name) kind id row = refl
+mark-answered (Attached name node) kind id row = refl
+mark-answered (Staged name node) kind id row = refl
+mark-answered (Published name node target) kind id row = refl
+
+pub goals-same : (a b : RowShown) → a.arguments ≡ b.arguments → a.goal ≡ b.goal → goal_in a ≡ goal_in b
+goals-same a b arguments goal = ap (option_map (goal_shown a)) goal ∙ by b.goal
+  where
+    by : (g : Option Goal) → option_map (goal_shown a) g ≡ option_map (goal_shown b) g
+    by None = refl
+    by (Some Create) = ap (λ args. Some (wanted.Create args)) arguments
+    by (Some (Use usage)) = refl
+    by (Some (Stop node target)) = refl
+    by (Some Delete) = refl
+
+-- the call that is due was sent
+abbrev pub issued-by : List ℕ → Number → Due → Issued
+issued-by name number due = record { name = name; number = number; party = due.party; call = due.call }
+
+pub reads-sent : (row : RowShown) (view : View) (name : List ℕ) (due : Due) (number : Number) → Reads row view name → GoalHasEntry row row.goal → IsDueFor row due
+    → Reads (sent number (kind_of due.call) row) (after_sent (issued-by name number due) view) name
+reads-sent row view name due number reads entry case =
+    record {
+      own = m.same_name ∙ reads.own;
+      there = reads.there;
+      marks = λ thing is. mark-opened thing number (marked Maybe (kind_of due.call) row) ∙ m.marks thing (is ∙ sym reads.own)
+          ∙ ap (λ n. cond (is_thing thing (thing_at n due.party due.call)) Maybe (mark_of thing row)) reads.own ∙ ap (cond (touches thing (issued-by name number due)) Maybe) (reads.marks thing is);
+      ids = m.same_id ∙ reads.ids;
+      goals = goals-same (sent number (kind_of due.call) row) row m.same_arguments m.same_goal ∙ reads.goals;
+      arguments = ap Some m.same_arguments ∙ reads.arguments;
+      holdings = λ node maybe. m.held node ∙ held-right row due view name node entry case reads maybe
+          ∙ sym (ap (λ b. cond b (option_or (held_by node due.call) (view.holdings name node)) (view.holdings name node)) (text-same name));
+      open_calls = ap (λ d. issued_as (sent number (kind_of due.call) row).name (Some number) d) (due-stays row due number entry case)
+          ∙ ap (λ n. Some (issued-by n number due)) (m.same_name ∙ reads.own) ∙ sym (ap (λ b. cond b (Some (issued-by name number due)) (view.open_calls name)) (text-same name));
+      counts = ap (λ t. min 3 (1 + t)) (m.same_tries ∙ reads.counts) ∙ sym (ap (λ b. cond b (min 3 (1 + view.counts name)) (view.counts name)) (text-same name));
+    }
+  where
+    m : IsMarked row (marked Maybe (kind_of due.call) row) due Maybe
+    m = is-marked row due Maybe entry case
+
+told-is : (call : Call) → told call ≡ told_of (kind_of call)
+told-is (calls.CreateVolume name required limit capabilities) = refl
+told-is (calls.DeleteVolume id) = refl
+told-is (calls.ControllerPublishVolume id node capability readonly) = refl
+told-is (calls.ControllerUnpublishVolume id node) = refl
+told-is (calls.NodeStageVolume id capability) = refl
+told-is (calls.NodeUnstageVolume id) = refl
+told-is (calls.NodePublishVolume id target capability readonly) = refl
+told-is (calls.NodeUnpublishVolume id target) = refl
+
+id-told-is : (call : Call) (id : Option ℕ) → id_told (kind_of call) id ≡ id_brought call id
+id-told-is (calls.CreateVolume name required limit capabilities) id = refl
+id-told-is (calls.DeleteVolume volume) id = refl
+id-told-is (calls.ControllerPublishVolume volume node capability readonly) id = refl
+id-told-is (calls.ControllerUnpublishVolume volume node) id = refl
+id-told-is (calls.NodeStageVolume volume capability) id = refl
+id-told-is (calls.NodeUnstageVolume volume) id = refl
+id-told-is (calls.NodePublishVolume volume target capability readonly) id = refl
+id-told-is (calls.NodeUnpublishVolume volume target) id = refl
+
+-- the call that was due succeeded
+pub reads-succeeded : (row : RowShown) (view : View) (name : List ℕ) (due : Due) (number : Number) (status : Status) (id : Option ℕ) → Reads row view name → ((node : List ℕ) → held_in row node ≡ view.holdings name node)
+    → GoalHasEntry row row.goal → IsDueFor row due → is_ok_status status ≡ true
+    → Reads (succeeded (kind_of due.call) id row) (after_accepted (issued-by name number due) status id view) name
+reads-succeeded row view name due number status id reads holds entry case fine =
+    record {
+      own = m.same_name ∙ reads.own;
+      there = reads.there;
+      marks = λ thing is. mark-answered thing (kind_of due.call) id (marked (told_of (kind_of due.call)) (kind_of due.call) row) ∙ m.marks thing (is ∙ sym reads.own)
+          ∙ ap (λ n. cond (is_thing thing (thing_at n due.party due.call)) (told_of (kind_of due.call)) (mark_of thing row)) reads.own
+          ∙ ap (λ k. cond (touches thing (issued-by name number due)) k (mark_of thing row)) (sym (told-is due.call))
+          ∙ ap (cond (touches thing (issued-by name number due)) (told due.call)) (reads.marks thing is)
+          ∙ sym (ap (λ b. cond (b && touches thing (issued-by name number due)) (told due.call) (view.marks thing)) fine);
+      ids = ap (option_or (id_told (kind_of due.call) id)) (m.same_id ∙ reads.ids) ∙ ap (λ o. option_or o (view.ids name)) (id-told-is due.call id) ∙ sym (own (option_or (id_brought due.call id) (view.ids name)) (view.ids name));
+      goals = goals-same (succeeded (kind_of due.call) id row) row m.same_arguments m.same_goal ∙ reads.goals;
+      arguments = ap Some m.same_arguments ∙ reads.arguments;
+      holdings = λ node maybe. m.held node ∙ holds node;
+      open_calls = sym (ap (λ b. cond b None (view.open_calls name)) (text-same name));
+      counts = sym (own 0 (view.counts name));
+    }
+  where
+    m : IsMarked row (marked (told_of (kind_of due.call)) (kind_of due.call) row) due (told_of (kind_of due.call))
+    m = is-marked row due (told_of (kind_of due.call)) entry case
+
+    own : {X : Type 0} (x y : X) → cond (is_ok_status status && same_text name name) x y ≡ x
+    own x y = ap (λ b. cond (b && same_text name name) x y) fine ∙ ap (λ b. cond b x y) (text-same name)

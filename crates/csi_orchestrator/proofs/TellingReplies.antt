@@ -1,0 +1,467 @@
+-- Why the rows tell what the history tells of a timeout, a reply and a restart.
+use Rattle.std.proofs.Common.{◌≡◌, ◌+◌, ◌^◌, ℕ, List, [], ◌∷◌, Bool, true, false, cond, refl, sym, ◌∙◌, ap, subst}
+use Rattle.std.specs.Prelude.{Option, Some, None, nat_lt, ◌==◌, ◌&&◌, is_none, option_map, option_and_then, Result, Ok, Err}
+use Rattle.std.proofs.lemmas.Bool.{false≢true, and_parts}
+use Rattle.csi_types.specs.declared.call.Call.{Call}
+use Rattle.csi_types.specs.declared.call.Call.TheVariants as calls
+use Rattle.csi_types.specs.declared.call.Kind.{Kind}
+use Rattle.csi_types.specs.declared.call.Party.{Party}
+use Rattle.csi_types.specs.declared.frame.Body.{Body}
+use Rattle.csi_types.specs.declared.frame.Body.TheVariants as bodies
+use Rattle.csi_types.specs.declared.number.Number.{Number}
+use Rattle.csi_types.specs.declared.reply.Reply.{Reply}
+use Rattle.csi_types.specs.declared.status.Status.{Status}
+use Rattle.csi_types.specs.Call.{kind_of}
+use Rattle.csi_types.specs.Reply.{is_ok_status}
+use Rattle.csi_types.specs.Same.{same_text}
+use Rattle.csi_types.proofs.Lists.{find-passes}
+use Rattle.csi_orchestrator.specs.declared.fault.Heard.TheVariants.{Ignored}
+use Rattle.csi_orchestrator.specs.declared.fault.OrchFault.{OrchFault}
+use Rattle.csi_orchestrator.specs.declared.fault.OrchFault.TheVariants as faults
+use Rattle.csi_orchestrator.specs.declared.row.Goal.{Goal}
+use Rattle.csi_orchestrator.specs.declared.row.Goal.TheVariants.{Use, Stop}
+use Rattle.csi_orchestrator.specs.declared.row.Usage.{Usage}
+use Rattle.csi_orchestrator.specs.Thing.{Issued, touches}
+use Rattle.csi_orchestrator.specs.History.{Item, Started, Accepted, Closed, Noted, History, with_items}
+use Rattle.csi_orchestrator.specs.History as wishes
+use Rattle.csi_orchestrator.specs.Readings.{goal_of, open_call, tries, last_number}
+use Rattle.csi_orchestrator.specs.WellFormed.{IsWellFormed}
+use Rattle.csi_orchestrator.specs.Commands.{timeout_fault}
+use Rattle.csi_orchestrator.specs.Due.{Due, due_call}
+use Rattle.csi_orchestrator.specs.Moves.{Input, ToCreate, ToUse, ToStop, ToDelete, TimesOut, Comes, Restarts, Sends, Hears, Restarted, Moved, go_on, is_forward, is_forward_due, stopped, closing, timeout, hears, call_replied, heard, heard_refusal, deliver, restart, moves}
+use Rattle.csi_orchestrator.specs.Agrees.{View, Agrees}
+use Rattle.csi_orchestrator.specs.Following.{after_accepted, after_closed, after_noted}
+use Rattle.csi_orchestrator.specs.Shown.{RowShown, Parts, row_of, usage_shown, due_by, goal_in, goal_shown, held_in, due_in, open_in_row, issued_as, closed, in_session, view_of, AgreesWith}
+use Rattle.csi_orchestrator.specs.RowChanges.{told_of, succeeded, wanted, dropped, stopped_goal}
+use Rattle.csi_orchestrator.specs.RowMoves.{told, goes_on, times_out_with, times_out, row_replied, is_issued_as, takes_nothing_more, stops_after, hears_refusal, hears_reply, receives, starts_again, row_moves}
+use Rattle.csi_orchestrator.specs.Kept.{MayBeWanted, IsKept, AreKept, RowsTell, MovesAreGuarded}
+use Rattle.csi_orchestrator.proofs.DueCalls.{text-same, due-told}
+use Rattle.csi_orchestrator.proofs.DueCases.{IsDueFor, due-cases, ToMake, ToRemove, ToAttach, ToStage, ToPublish, ToUnpublish, ToUnstage, ToDetach}
+use Rattle.csi_orchestrator.proofs.Following.{accepted-follows, closed-follows, noted-follows, started-follows}
+use Rattle.csi_orchestrator.proofs.GoingOn.{Guards, Tells, IsReady, has-entry, goes-on-tells}
+use Rattle.csi_orchestrator.proofs.Keeping.{found-kept, replied-due}
+use Rattle.csi_orchestrator.proofs.KeptRows.{kept-distinct, FitsGoal, marked-distinct, marked-goal, kept-closed, wanted-stopped, wanted-succeeded}
+use Rattle.csi_orchestrator.proofs.NotedRow.{reads-wanted, reads-closed, reads-quiet, reads-dropped}
+use Rattle.csi_orchestrator.proofs.Refused.{timeout-unknown, timeout-refused}
+use Rattle.csi_orchestrator.proofs.Replied.{replied, replied-row}
+use Rattle.csi_orchestrator.proofs.Restarting.{session-agrees}
+use Rattle.csi_orchestrator.proofs.RowViews.{Reads, SameAt, same-self, same-then, same-accepted, same-closed, same-noted, put-agrees, row-reads}
+use Rattle.csi_orchestrator.proofs.SentRow.{issued-by, reads-succeeded}
+use Rattle.csi_orchestrator.proofs.TellingCommands.{kept-aims, own-name, either-tells, creates-tell, uses-tell, stops-tell, deletes-tell}
+
+-- a forward call is due for a use
+forward-goal : (row : RowShown) (due : Due) → IsDueFor row due → is_forward due.call ≡ true → (usage : Usage) × (row.goal ≡ Some (Use usage))
+forward-goal row _ (ToMake goal e) forward = absurd (false≢true forward)
+forward-goal row _ (ToRemove id goal own e) forward = absurd (false≢true forward)
+forward-goal row _ (ToAttach usage id goal own a) forward = (usage, goal)
+forward-goal row _ (ToStage usage id goal own a s) forward = (usage, goal)
+forward-goal row _ (ToPublish usage id goal own a s p) forward = (usage, goal)
+forward-goal row _ (ToUnpublish node target id goal own p) forward = absurd (false≢true forward)
+forward-goal row _ (ToUnstage node target id goal own p o s) forward = absurd (false≢true forward)
+forward-goal row _ (ToDetach node target id goal own p o s a) forward = absurd (false≢true forward)
+
+forward-due : (row : RowShown) → is_forward_due (due_in row) ≡ true → (usage : Usage) × (row.goal ≡ Some (Use usage))
+forward-due row forward = by (due_in row) refl forward
+  where
+    by : (o : Option Due) → due_in row ≡ o → is_forward_due o ≡ true → (usage : Usage) × (row.goal ≡ Some (Use usage))
+    by None e f = absurd (false≢true f)
+    by (Some due) e f = forward-goal row due (due-cases row due e) f
+
+-- the stop of a use that didn't come about
+stopped-use : (row : RowShown) (goal : Goal) (usage : Usage) → goal ≡ Use usage → stopped (Some (goal_shown row goal)) ≡ Some (goal_shown (closed row) (stopped_goal goal))
+stopped-use row goal usage is = ap (λ g. stopped (Some (goal_shown row g))) is ∙ sym (ap (λ g. Some (goal_shown (closed row) (stopped_goal g))) is)
+
+some-goal : (a b : Goal) → Some a ≡ Some b → a ≡ b
+some-goal a b e = cc
+
+-- a row's open call
+record HasCall (row : RowShown) (issued : Issued) : Type 0 where
+  number : Number
+  due : Due
+  is_due : due_in row ≡ Some due
+  is : issued ≡ issued-by row.name number due
+
+has-call : (row : RowShown) (issued : Issued) → open_in_row row ≡ Some issued → HasCall row issued
+has-call row issued e = by row.open_number (due_in row) refl e
+  where
+    none : None ≡ Some issued → ⊥
+    none h = cc
+
+    the-one : (other : Issued) → Some other ≡ Some issued → issued ≡ other
+    the-one other h = cc
+
+    by : (o : Option Number) (d : Option Due) → due_in row ≡ d → issued_as row.name o d ≡ Some issued → HasCall row issued
+    by None d f h = absurd (none h)
+    by (Some number) None f h = absurd (none h)
+    by (Some number) (Some due) f h = record { number = number; due = due; is_due = f; is = the-one (issued-by row.name number due) h }
+
+-- its call was given up, if it had one
+record IsGivenUp (parts : Parts) (history : History) (name : List ℕ) (row : RowShown) : Type 0 where
+  view : View
+  form : IsWellFormed (with_items history (closing (open_call history name)))
+  agrees : Agrees view (with_items history (closing (open_call history name)))
+  reads : Reads (closed row) view name
+  others : (other : List ℕ) → same_text name other ≡ false → SameAt view (view_of parts) other
+  same_last : parts.last ≡ view.last
+  quiet : view.open_calls name ≡ None
+
+given-up : (parts : Parts) (history : History) (name : List ℕ) (row : RowShown) → IsWellFormed history → AgreesWith parts history → row_of parts.rows name ≡ Some row → (o : Option Issued) → open_call history name ≡ o
+    → IsGivenUp parts history name row
+given-up parts history name row form agrees e None f =
+    record {
+      view = view_of parts;
+      form = subst (λ o. IsWellFormed (with_items history (closing o))) (sym f) form;
+      agrees = subst (λ o. Agrees (view_of parts) (with_items history (closing o))) (sym f) agrees;
+      reads = reads-quiet row (view_of parts) name (row-reads parts name row (own-name parts name row e) e) (agrees.same_open_calls name ∙ f);
+      others = λ other differs. same-self (view_of parts) other;
+      same_last = refl;
+      quiet = agrees.same_open_calls name ∙ f;
+    }
+given-up parts history name row form agrees e (Some issued) f =
+    record {
+      view = after_closed issued (view_of parts);
+      form = subst (λ o. IsWellFormed (with_items history (closing o))) (sym f) (record { name = name; issued = issued; is_open = f; has_number = refl }, form);
+      agrees = subst (λ o. Agrees (after_closed issued (view_of parts)) (with_items history (closing o))) (sym f)
+          (closed-follows (view_of parts) history issued form agrees (ap (open_call history) its ∙ f));
+      reads = reads-closed row issued (view_of parts) name its (row-reads parts name row own e);
+      others = λ other differs. same-closed issued (view_of parts) other (ap (λ n. same_text n other) its ∙ differs);
+      same_last = refl;
+      quiet = ap (λ n. cond (same_text n name) None ((view_of parts).open_calls name)) its ∙ ap (λ b. cond b None ((view_of parts).open_calls name)) (text-same name);
+    }
+  where
+    own : row.name ≡ name
+    own = own-name parts name row e
+
+    its : issued.name ≡ name
+    its = ap (λ (i : Issued). i.name) (has-call row issued (sym (ap (option_and_then open_in_row) e) ∙ agrees.same_open_calls name ∙ f)).is ∙ own
+
+unguarded-closing : (history : History) (o : Option Issued) → Guards history (Ok (let m : Moved = record { answer = Restarted; items = closing o } in m))
+unguarded-closing history None = tt
+unguarded-closing history (Some issued) = tt
+
+-- a timeout
+timeout-tells : (parts : Parts) (history : History) (name : List ℕ) (row : RowShown) → IsWellFormed history → AreKept parts.rows → AgreesWith parts history → row_of parts.rows name ≡ Some row
+    → (goal : Option Goal) → row.goal ≡ goal → Tells history (times_out_with parts row goal) (timeout history name (cond (is_none goal) (Some faults.Idle) None))
+timeout-tells parts history name row form kept agrees e None g = (refl, tt)
+timeout-tells parts history name row form kept agrees e (Some goal) g =
+    subst (λ d. Tells history (times_out_with parts row (Some goal)) (cond (is_forward_due d && (tries history name == 3)) stop more)) (sym due-is)
+    (subst (λ t. Tells history (times_out_with parts row (Some goal)) (cond (is_forward_due (due_in row) && (t == 3)) stop more)) tries-are
+    (either-tells history (is_forward_due (due_in row) && (row.tries == 3)) (goes_on parts Sends (wanted (stopped_goal goal) row)) (goes_on parts Sends (closed row)) stop more
+    (λ spent. stops (and_parts (is_forward_due (due_in row)) (row.tries == 3) spent).0)
+    (λ left. goes-on-tells parts history name (closed row) given.view (closing (open_call history name)) ready Sends)))
+  where
+    given : IsGivenUp parts history name row
+    given = given-up parts history name row form agrees e (open_call history name) refl
+
+    own : IsKept row
+    own = found-kept (λ (r : RowShown). same_text r.name name) parts.rows row kept e
+
+    stop : Result Moved OrchFault
+    stop = go_on history name Sends (Noted name (stopped (goal_of history name)) ∷ closing (open_call history name))
+
+    more : Result Moved OrchFault
+    more = go_on history name Sends (closing (open_call history name))
+
+    due-is : due_call history name ≡ due_in row
+    due-is = due-told parts history name (kept-aims parts.rows kept.each) agrees ∙ ap (option_and_then due_in) e
+
+    tries-are : row.tries ≡ tries history name
+    tries-are = (row-reads parts name row (own-name parts name row e) e).counts ∙ agrees.same_counts name
+
+    ready : IsReady parts history name (closed row) given.view (closing (open_call history name))
+    ready =
+        record {
+          form = given.form;
+          agrees = given.agrees;
+          reads = given.reads;
+          others = given.others;
+          same_last = given.same_last;
+          old_last = sym agrees.same_last;
+          quiet = given.quiet;
+          distinct = kept-distinct row own;
+          aims = kept-aims parts.rows kept.each;
+          may = λ due f. (kept-closed row own).goal;
+          guarded = unguarded-closing history (open_call history name);
+        }
+
+    goal-is : goal_of history name ≡ Some (goal_shown row goal)
+    goal-is = sym (agrees.same_goals name) ∙ ap (option_and_then goal_in) e ∙ ap (option_map (goal_shown row)) g
+
+    stops : is_forward_due (due_in row) ≡ true → Tells history (goes_on parts Sends (wanted (stopped_goal goal) row)) stop
+    stops forward =
+        subst (λ o. Tells history (goes_on parts Sends (wanted (stopped_goal goal) row)) (go_on history name Sends (Noted name o ∷ closing (open_call history name)))) (sym now)
+        (goes-on-tells parts history name (wanted (stopped_goal goal) (closed row)) (after_noted name (Some (goal_shown (closed row) (stopped_goal goal))) given.view)
+        (Noted name (Some (goal_shown (closed row) (stopped_goal goal))) ∷ closing (open_call history name))
+        (record {
+          form = (tt, given.form);
+          agrees = noted-follows given.view (with_items history (closing (open_call history name))) name (Some (goal_shown (closed row) (stopped_goal goal))) given.agrees;
+          reads = reads-wanted (stopped_goal goal) (closed row) given.view name given.reads given.quiet;
+          others = λ other differs.
+              same-then (after_noted name (Some (goal_shown (closed row) (stopped_goal goal))) given.view) given.view (view_of parts) other (same-noted name (Some (goal_shown (closed row) (stopped_goal goal))) given.view other differs) (given.others other differs);
+          same_last = given.same_last;
+          old_last = sym agrees.same_last;
+          quiet = given.quiet;
+          distinct = kept-distinct row own;
+          aims = kept-aims parts.rows kept.each;
+          may = λ due f. wanted-stopped row goal (subst (MayBeWanted row) g own.goal);
+          guarded = unguarded-closing history (open_call history name);
+        }) Sends)
+      where
+        wish : (usage : Usage) × (row.goal ≡ Some (Use usage))
+        wish = forward-due row forward
+
+        now : stopped (goal_of history name) ≡ Some (goal_shown (closed row) (stopped_goal goal))
+        now = ap stopped goal-is ∙ stopped-use row goal wish.0 (some-goal goal (Use wish.0) (sym g ∙ wish.1))
+
+timeouts-tell : (parts : Parts) (history : History) (name : List ℕ) → IsWellFormed history → AreKept parts.rows → AgreesWith parts history → (o : Option RowShown) → row_of parts.rows name ≡ o
+    → Tells history (times_out parts o) (timeout history name (timeout_fault history name))
+timeouts-tell parts history name form kept agrees None e =
+    subst (λ f. Tells history (Err faults.NoSuchVolume) (timeout history name f)) (sym (timeout-unknown parts history name kept agrees e)) (refl, tt)
+timeouts-tell parts history name form kept agrees (Some row) e =
+    subst (λ f. Tells history (times_out parts (Some row)) (timeout history name f)) (sym (timeout-refused parts history name row kept agrees e))
+    (timeout-tells parts history name row form kept agrees e row.goal refl)
+
+-- a reply of another status changes nothing but that its call is closed
+and-left : (a b : Bool) → a ≡ false → (a && b) ≡ false
+and-left true b e = absurd (false≢true (sym e))
+and-left false b e = refl
+
+reads-refused : (row : RowShown) (issued : Issued) (status : Status) (id : Option ℕ) (view : View) (name : List ℕ) → issued.name ≡ name → is_ok_status status ≡ false → Reads row view name
+    → Reads (closed row) (after_accepted issued status id view) name
+reads-refused row issued status id view name is bad reads =
+    let quiet = reads-closed row issued view name is reads in
+    record {
+      own = quiet.own;
+      there = quiet.there;
+      marks = λ thing same. quiet.marks thing same ∙ sym (off (touches thing issued) _ (view.marks thing));
+      ids = quiet.ids ∙ sym (off (same_text issued.name name) _ (view.ids name));
+      goals = quiet.goals;
+      arguments = quiet.arguments;
+      holdings = quiet.holdings;
+      open_calls = quiet.open_calls;
+      counts = quiet.counts ∙ sym (off (same_text issued.name name) 0 (view.counts name));
+    }
+  where
+    off : {X : Type 0} (b : Bool) (x y : X) → cond (is_ok_status status && b) x y ≡ y
+    off b x y = ap (λ c. cond c x y) (and-left (is_ok_status status) b bad)
+
+-- of a row, its due call, and a reply to it
+record IsHeardBy (parts : Parts) (history : History) (row : RowShown) (number : Number) (due : Due) : Type 0 where
+  form : IsWellFormed history
+  kept : AreKept parts.rows
+  agrees : AgreesWith parts history
+  found : row_of parts.rows row.name ≡ Some row
+  is_due : due_in row ≡ Some due
+  is_open : open_call history row.name ≡ Some (issued-by row.name number due)
+
+taken : Number → Reply → Item
+taken number reply = Accepted number reply.status reply.id
+
+heard-view : Parts → RowShown → Number → Due → Reply → View
+heard-view parts row number due reply = after_accepted (issued-by row.name number due) reply.status reply.id (view_of parts)
+
+heard-agrees : (parts : Parts) (history : History) (row : RowShown) (number : Number) (due : Due) (reply : Reply) → IsHeardBy parts history row number due
+    → Agrees (heard-view parts row number due reply) (with_items history (taken number reply ∷ []))
+unfolding heard-view taken
+heard-agrees parts history row number due reply by = accepted-follows (view_of parts) history (issued-by row.name number due) reply.status reply.id by.form by.agrees by.is_open
+
+heard-form : (parts : Parts) (history : History) (row : RowShown) (number : Number) (due : Due) (reply : Reply) → IsHeardBy parts history row number due → IsWellFormed (with_items history (taken number reply ∷ []))
+unfolding taken
+heard-form parts history row number due reply by = (record { name = row.name; issued = issued-by row.name number due; is_open = by.is_open; has_number = refl }, by.form)
+
+heard-others : (parts : Parts) (row : RowShown) (number : Number) (due : Due) (reply : Reply) (other : List ℕ) → same_text row.name other ≡ false → SameAt (heard-view parts row number due reply) (view_of parts) other
+unfolding heard-view
+heard-others parts row number due reply other differs = same-accepted (issued-by row.name number due) reply.status reply.id (view_of parts) other differs
+
+heard-quiet : (parts : Parts) (row : RowShown) (number : Number) (due : Due) (reply : Reply) → (heard-view parts row number due reply).open_calls row.name ≡ None
+unfolding heard-view
+heard-quiet parts row number due reply = ap (λ b. cond b None ((view_of parts).open_calls row.name)) (text-same row.name)
+
+heard-last : (parts : Parts) (row : RowShown) (number : Number) (due : Due) (reply : Reply) → parts.last ≡ (heard-view parts row number due reply).last
+unfolding heard-view
+heard-last parts row number due reply = refl
+
+own-kept : (parts : Parts) (history : History) (row : RowShown) (number : Number) (due : Due) → IsHeardBy parts history row number due → IsKept row
+own-kept parts history row number due by = found-kept (λ (r : RowShown). same_text r.name row.name) parts.rows row (by.kept) by.found
+
+heard-reads : (parts : Parts) (history : History) (row : RowShown) (number : Number) (due : Due) (reply : Reply) → IsHeardBy parts history row number due → is_ok_status reply.status ≡ false
+    → Reads (closed row) (heard-view parts row number due reply) row.name
+unfolding heard-view
+heard-reads parts history row number due reply by bad =
+    reads-refused row (issued-by row.name number due) reply.status reply.id (view_of parts) row.name refl bad (row-reads parts row.name row refl by.found)
+
+-- a success
+success-tells : (parts : Parts) (history : History) (row : RowShown) (number : Number) (due : Due) (reply : Reply) → IsHeardBy parts history row number due → is_ok_status reply.status ≡ true → FitsGoal row.goal (kind_of due.call)
+    → Tells history (goes_on parts hears (succeeded (kind_of due.call) reply.id row)) (go_on history row.name hears (taken number reply ∷ []))
+unfolding heard-view taken
+success-tells parts history row number due reply by fine fits =
+    goes-on-tells parts history row.name (succeeded (kind_of due.call) reply.id row) (heard-view parts row number due reply) (taken number reply ∷ [])
+    (record {
+      form = heard-form parts history row number due reply by;
+      agrees = heard-agrees parts history row number due reply by;
+      reads = reads-succeeded row (view_of parts) row.name due number reply.status reply.id (row-reads parts row.name row refl by.found) (λ node. sym (ap (option_and_then (λ (r : RowShown). held_in r node)) by.found))
+          (has-entry row row.goal own.goal) (due-cases row due by.is_due) fine;
+      others = λ other differs. heard-others parts row number due reply other differs;
+      same_last = refl;
+      old_last = sym ((by.agrees).same_last);
+      quiet = heard-quiet parts row number due reply;
+      distinct = marked-distinct (told_of (kind_of due.call)) (kind_of due.call) row (kept-distinct row own);
+      aims = kept-aims parts.rows (by.kept).each;
+      may = λ next f. subst (MayBeWanted (succeeded (kind_of due.call) reply.id row)) (sym same) (wanted-succeeded (kind_of due.call) reply.id row row.goal next refl fits own.goal (ap (due_by (succeeded (kind_of due.call) reply.id row)) (sym same) ∙ f));
+      guarded = tt;
+    }) hears
+  where
+    own : IsKept row
+    own = own-kept parts history row number due by
+
+    same : (succeeded (kind_of due.call) reply.id row).goal ≡ row.goal
+    same = marked-goal (told_of (kind_of due.call)) (kind_of due.call) row
+
+-- a refusal after which nothing is sent
+waits-tell : (parts : Parts) (history : History) (row : RowShown) (number : Number) (due : Due) (reply : Reply) → IsHeardBy parts history row number due → is_ok_status reply.status ≡ false
+    → Tells history (takes_nothing_more parts (closed row)) (Ok (let m : Moved = record { answer = hears None; items = taken number reply ∷ [] } in m))
+unfolding taken
+waits-tell parts history row number due reply by bad = (
+  (
+    refl,
+    put-agrees parts parts.last row.name (closed row) (heard-view parts row number due reply) (with_items history (taken number reply ∷ [])) (heard-reads parts history row number due reply by bad)
+        (λ other differs. heard-others parts row number due reply other differs) (heard-last parts row number due reply) (heard-agrees parts history row number due reply by),
+  ),
+  tt,
+)
+
+-- a create that was refused
+drops-tell : (parts : Parts) (history : History) (row : RowShown) (number : Number) (due : Due) (reply : Reply) → IsHeardBy parts history row number due → is_ok_status reply.status ≡ false
+    → Tells history (takes_nothing_more parts (dropped row)) (Ok (let m : Moved = record { answer = hears None; items = Noted row.name None ∷ taken number reply ∷ [] } in m))
+unfolding taken
+drops-tell parts history row number due reply by bad = (
+  (
+    refl,
+    put-agrees parts parts.last row.name (dropped row) (after_noted row.name None (heard-view parts row number due reply)) (with_items history (Noted row.name None ∷ taken number reply ∷ []))
+        (reads-dropped (closed row) (heard-view parts row number due reply) row.name (kept-distinct row own).nodes (kept-distinct row own).targets (heard-reads parts history row number due reply by bad) (heard-quiet parts row number due reply))
+        (λ other differs.
+        same-then (after_noted row.name None (heard-view parts row number due reply)) (heard-view parts row number due reply) (view_of parts) other (same-noted row.name None (heard-view parts row number due reply) other differs)
+        (heard-others parts row number due reply other differs))
+        (heard-last parts row number due reply)
+        (noted-follows (heard-view parts row number due reply) (with_items history (taken number reply ∷ [])) row.name None (heard-agrees parts history row number due reply by)),
+  ),
+  tt,
+)
+  where
+    own : IsKept row
+    own = own-kept parts history row number due by
+
+-- a forward call that was refused: the use is stopped
+stops-tell-after : (parts : Parts) (history : History) (row : RowShown) (number : Number) (due : Due) (reply : Reply) → IsHeardBy parts history row number due → is_ok_status reply.status ≡ false → is_forward due.call ≡ true
+    → Tells history (stops_after parts row row.goal) (go_on history row.name hears (Noted row.name (stopped (goal_of history row.name)) ∷ taken number reply ∷ []))
+unfolding taken
+stops-tell-after parts history row number due reply by bad forward =
+    subst (λ g. Tells history (stops_after parts row g) (go_on history row.name hears (Noted row.name (stopped (goal_of history row.name)) ∷ taken number reply ∷ []))) (sym wish.1)
+    (subst (λ g. Tells history (goes_on parts hears (wanted (Stop usage.node usage.target) row)) (go_on history row.name hears (Noted row.name (stopped g) ∷ taken number reply ∷ []))) (sym goal-is)
+    (goes-on-tells parts history row.name (wanted (Stop usage.node usage.target) (closed row)) (after_noted row.name (Some (wishes.Stop usage.node usage.target)) (heard-view parts row number due reply))
+    (Noted row.name (Some (wishes.Stop usage.node usage.target)) ∷ taken number reply ∷ [])
+    (record {
+      form = (tt, heard-form parts history row number due reply by);
+      agrees = noted-follows (heard-view parts row number due reply) (with_items history (taken number reply ∷ [])) row.name (Some (wishes.Stop usage.node usage.target)) (heard-agrees parts history row number due reply by);
+      reads = reads-wanted (Stop usage.node usage.target) (closed row) (heard-view parts row number due reply) row.name (heard-reads parts history row number due reply by bad) (heard-quiet parts row number due reply);
+      others = λ other differs.
+          same-then (after_noted row.name (Some (wishes.Stop usage.node usage.target)) (heard-view parts row number due reply)) (heard-view parts row number due reply) (view_of parts) other
+          (same-noted row.name (Some (wishes.Stop usage.node usage.target)) (heard-view parts row number due reply) other differs) (heard-others parts row number due reply other differs);
+      same_last = heard-last parts row number due reply;
+      old_last = sym ((by.agrees).same_last);
+      quiet = heard-quiet parts row number due reply;
+      distinct = kept-distinct row own;
+      aims = kept-aims parts.rows (by.kept).each;
+      may = λ next f. tt;
+      guarded = tt;
+    }) hears))
+  where
+    own : IsKept row
+    own = own-kept parts history row number due by
+
+    wish : (usage : Usage) × (row.goal ≡ Some (Use usage))
+    wish = forward-goal row due (due-cases row due by.is_due) forward
+
+    usage : Usage
+    usage = wish.0
+
+    goal-is : goal_of history row.name ≡ Some (wishes.Use (usage_shown usage))
+    goal-is = sym ((by.agrees).same_goals row.name) ∙ ap (option_and_then goal_in) by.found ∙ ap (option_map (goal_shown row)) wish.1
+
+refusal-tells : (parts : Parts) (history : History) (row : RowShown) (number : Number) (party : Party) (call : Call) (reply : Reply) → IsHeardBy parts history row number (record { party = party; call = call }) → is_ok_status reply.status ≡ false
+    → Tells history (hears_refusal parts row (kind_of call)) (heard_refusal history (issued-by row.name number (record { party = party; call = call })) (taken number reply) call)
+refusal-tells parts history row number party (calls.CreateVolume name required limit capabilities) reply by bad = drops-tell parts history row number _ reply by bad
+refusal-tells parts history row number party (calls.DeleteVolume id) reply by bad = waits-tell parts history row number _ reply by bad
+refusal-tells parts history row number party (calls.ControllerPublishVolume id node capability readonly) reply by bad = stops-tell-after parts history row number _ reply by bad refl
+refusal-tells parts history row number party (calls.ControllerUnpublishVolume id node) reply by bad = waits-tell parts history row number _ reply by bad
+refusal-tells parts history row number party (calls.NodeStageVolume id capability) reply by bad = stops-tell-after parts history row number _ reply by bad refl
+refusal-tells parts history row number party (calls.NodeUnstageVolume id) reply by bad = waits-tell parts history row number _ reply by bad
+refusal-tells parts history row number party (calls.NodePublishVolume id target capability readonly) reply by bad = stops-tell-after parts history row number _ reply by bad refl
+refusal-tells parts history row number party (calls.NodeUnpublishVolume id target) reply by bad = waits-tell parts history row number _ reply by bad
+
+-- a reply to the open call of a row
+heard-tells : (parts : Parts) (history : History) (row : RowShown) (number : Number) (due : Due) (reply : Reply) → IsHeardBy parts history row number due → FitsGoal row.goal (kind_of due.call)
+    → Tells history (hears_reply parts (kind_of due.call) reply (Some row)) (heard history reply (Some (issued-by row.name number due)))
+unfolding taken
+heard-tells parts history row number due reply by fits =
+    either-tells history (is_ok_status reply.status) (goes_on parts hears (succeeded (kind_of due.call) reply.id row)) (hears_refusal parts row (kind_of due.call))
+    (go_on history row.name hears (taken number reply ∷ [])) (heard_refusal history (issued-by row.name number due) (taken number reply) due.call)
+    (λ fine. success-tells parts history row number due reply by fine fits)
+    (λ bad. refusal-tells parts history row number due.party due.call reply by bad)
+
+replies-tell : (parts : Parts) (history : History) (number : Number) (party : Party) (kind : Kind) (reply : Reply) → IsWellFormed history → AreKept parts.rows → AgreesWith parts history
+    → (o : Option RowShown) → row_replied parts.rows number party kind ≡ o → Tells history (hears_reply parts kind reply o) (heard history reply (call_replied history number party kind))
+replies-tell parts history number party kind reply form kept agrees None e =
+    subst (λ c. Tells history (told parts (Hears Ignored)) (heard history reply c)) (sym (replied parts history number party kind form kept agrees ∙ ap (option_and_then open_in_row) e)) ((refl, agrees), tt)
+replies-tell parts history number party kind reply form kept agrees (Some row) e =
+    let there = replied-row parts number party kind row kept e in
+    let call = has-call row there.1.0 there.1.1 in
+    let is_kind : kind_of call.due.call ≡ kind = sym (ap (λ (i : Issued). kind_of i.call) call.is) ∙ there.1.4 in
+    let is : call_replied history number party kind ≡ Some (issued-by row.name call.number call.due) = replied parts history number party kind form kept agrees ∙ ap (option_and_then open_in_row) e ∙ there.1.1 ∙ ap Some call.is in
+    let fits = replied-due row number party kind (find-passes (λ (r : RowShown). is_issued_as number party kind (open_in_row r)) parts.rows row e) in
+    subst (λ c. Tells history (hears_reply parts kind reply (Some row)) (heard history reply c)) (sym is)
+    (subst (λ k. Tells history (hears_reply parts k reply (Some row)) (heard history reply (Some (issued-by row.name call.number call.due)))) is_kind
+    (heard-tells parts history row call.number call.due reply
+    (record {
+      form = form;
+      kept = kept;
+      agrees = agrees;
+      found = there.0;
+      is_due = call.is_due;
+      is_open = sym (agrees.same_open_calls row.name) ∙ ap (option_and_then open_in_row) there.0 ∙ there.1.1 ∙ ap Some call.is;
+    }) (subst (FitsGoal row.goal) (sym is_kind) fits)))
+
+deliveries-tell : (parts : Parts) (history : History) (number : Number) (party : Party) (body : Body) → IsWellFormed history → AreKept parts.rows → AgreesWith parts history
+    → Tells history (receives parts number party body) (deliver history number party body)
+deliveries-tell parts history number party (bodies.Call call) form kept agrees = ((refl, agrees), tt)
+deliveries-tell parts history number party (bodies.Reply kind reply) form kept agrees = replies-tell parts history number party kind reply form kept agrees (row_replied parts.rows number party kind) refl
+
+-- a restart
+restarts-tell : (parts : Parts) (history : History) → AgreesWith parts history → Tells history (starts_again parts) (restart (last_number history))
+restarts-tell parts history agrees =
+    subst (λ l. Tells history (starts_again parts) (restart l)) agrees.same_last
+    (either-tells history (nat_lt (parts.last.session + 1) (2 ^ 64)) (told (in_session (parts.last.session + 1) parts) Restarted) (Err faults.NumbersSpent) _ (Err faults.NumbersSpent)
+    (λ free. (
+      (
+        refl,
+        session-agrees parts (with_items history (Started (parts.last.session + 1) ∷ [])) (parts.last.session + 1) (started-follows (view_of parts) history (parts.last.session + 1) agrees),
+      ),
+      tt,
+    ))
+    (λ spent. (refl, tt)))
+
+-- each input
+pub all-tell : (parts : Parts) (history : History) (input : Input) → IsWellFormed history → AreKept parts.rows → AgreesWith parts history → Tells history (row_moves parts input) (moves parts.nodes history input)
+all-tell parts history (ToCreate name arguments) form kept agrees = creates-tell parts history name arguments form kept agrees (row_of parts.rows name) refl
+all-tell parts history (ToUse name usage) form kept agrees = uses-tell parts history name usage form kept agrees (row_of parts.rows name) refl
+all-tell parts history (ToStop name node target) form kept agrees = stops-tell parts history name node target form kept agrees (row_of parts.rows name) refl
+all-tell parts history (ToDelete name) form kept agrees = deletes-tell parts history name form kept agrees (row_of parts.rows name) refl
+all-tell parts history (TimesOut name) form kept agrees = timeouts-tell parts history name form kept agrees (row_of parts.rows name) refl
+all-tell parts history (Comes frame) form kept agrees = deliveries-tell parts history frame.number frame.party frame.body form kept agrees
+all-tell parts history Restarts form kept agrees = restarts-tell parts history agrees
+
+pub rows-tell : RowsTell
+rows-tell parts history input form kept agrees = (all-tell parts history input form kept agrees).0
+
+pub moves-are-guarded : MovesAreGuarded
+moves-are-guarded parts history input moved form kept agrees e = subst (Guards history) e (all-tell parts history input form kept agrees).1

@@ -1,0 +1,120 @@
+-- The order of things is one: it is the order of their texts, one after the other.
+use Rattle.std.proofs.Common.{◌≡◌, ℕ, ◌≤◌, List, [], ◌∷◌, Bool, false, get_or, refl, sym, ◌∙◌, ap, subst, arith}
+use Rattle.std.specs.Prelude.{nat_eq}
+use Rattle.std.specs.Ordering.{nat_cmp, ordering_then, ordering_reverse, is_lt, is_eq, eq_by_cmp}
+use Rattle.std.specs.List.{IsDistinct}
+use Rattle.std.specs.List.Sorted.{IsPermutation, IsSortedBy}
+use Rattle.std.specs.Cmp.{IsTotalOrder, nat_cmp_total, on_total, unsigned_ties}
+use Rattle.std.specs.Cmp.Lexicographic.{slice_cmp, lists_total, lists_ties, pointwise, pointwise_decides, bytes_decides}
+use Rattle.std.proofs.lemmas.List.Sorted.{ranks_by, sorted_far}
+use Rattle.std.proofs.lemmas.Map.Keys.{IsDistinct-IsPermutation, apart_from_distinct}
+use Rattle.std.proofs.lemmas.Bool.{false≢true}
+use Rattle.std.specs.declared.cmp.Ordering.{Ordering}
+use Rattle.std.specs.declared.cmp.Ordering.TheVariants.{Less, Equal, Greater}
+use Rattle.csi_orchestrator.specs.declared.thing.Thing.{Thing}
+use Rattle.csi_orchestrator.specs.declared.thing.Thing.TheVariants.{Exists, Attached, Staged, Published}
+use Rattle.csi_orchestrator.specs.declared.thing.Known.{Known}
+use Rattle.csi_types.specs.Lists.{EachTwo}
+use Rattle.csi_orchestrator.specs.Listing.{text_order, thing_order, IsInOrder}
+use Rattle.csi_orchestrator.proofs.Joined.{two-by-places, two-more}
+use Rattle.csi_orchestrator.proofs.ThingsNoted.{AreTwoThings}
+
+-- what tells things apart: one text for each of the name, the node, being more than attached, and the target
+abbrev pub texts_of : Thing → List (List ℕ)
+texts_of (Exists name) = name ∷ []
+texts_of (Attached name node) = name ∷ node ∷ []
+texts_of (Staged name node) = name ∷ node ∷ [] ∷ []
+texts_of (Published name node target) = name ∷ node ∷ [] ∷ target ∷ []
+
+abbrev by_texts : Thing → Thing → Ordering
+by_texts a b = slice_cmp (slice_cmp nat_cmp) (texts_of a) (texts_of b)
+
+then-equal : (r : Ordering) → ordering_then r Equal ≡ r
+then-equal Less = refl
+then-equal Equal = refl
+then-equal Greater = refl
+
+pub order-by_texts : (a b : Thing) → thing_order a b ≡ by_texts a b
+order-by_texts (Exists name) (Exists other) = refl
+order-by_texts (Exists name) (Attached other there) = refl
+order-by_texts (Exists name) (Staged other there) = refl
+order-by_texts (Exists name) (Published other there aim) = refl
+order-by_texts (Attached name node) (Exists other) = refl
+order-by_texts (Attached name node) (Attached other there) = refl
+order-by_texts (Attached name node) (Staged other there) = refl
+order-by_texts (Attached name node) (Published other there aim) = refl
+order-by_texts (Staged name node) (Exists other) = refl
+order-by_texts (Staged name node) (Attached other there) = refl
+order-by_texts (Staged name node) (Staged other there) = refl
+order-by_texts (Staged name node) (Published other there aim) = refl
+order-by_texts (Published name node target) (Exists other) = refl
+order-by_texts (Published name node target) (Attached other there) = refl
+order-by_texts (Published name node target) (Staged other there) = refl
+order-by_texts (Published name node target) (Published other there aim) =
+    ap (λ r. ordering_then (text_order name other) (ordering_then (text_order node there) r)) (sym (then-equal (text_order target aim)))
+
+pub order-total : IsTotalOrder thing_order
+order-total = subst IsTotalOrder (λ i a b. sym (order-by_texts a b) i) (on_total texts_of (lists_total (lists_total nat_cmp_total)))
+
+-- ---- what comes in one place is one thing
+
+text-ties : (a b : List ℕ) → pointwise nat_eq a b ≡ eq_by_cmp (slice_cmp nat_cmp) a b
+text-ties = lists_ties nat_cmp unsigned_ties
+
+texts-ties : (a b : List (List ℕ)) → pointwise (pointwise nat_eq) a b ≡ eq_by_cmp (slice_cmp (slice_cmp nat_cmp)) a b
+texts-ties = lists_ties (slice_cmp nat_cmp) text-ties
+
+texts-same : (a b : List (List ℕ)) → slice_cmp (slice_cmp nat_cmp) a b ≡ Equal → a ≡ b
+texts-same a b e = (pointwise_decides bytes_decides a b).0 (texts-ties a b ∙ ap is_eq e)
+
+same-by-texts : (a b : Thing) → texts_of a ≡ texts_of b → a ≡ b
+same-by-texts (Exists name) (Exists other) e = cc
+same-by-texts (Attached name node) (Attached other there) e = cc
+same-by-texts (Staged name node) (Staged other there) e = cc
+same-by-texts (Published name node target) (Published other there aim) e = cc
+same-by-texts a b e = cc
+
+pub order-same : (a b : Thing) → thing_order a b ≡ Equal → a ≡ b
+order-same a b e = same-by-texts a b (texts-same (texts_of a) (texts_of b) (sym (order-by_texts a b) ∙ e))
+
+-- ---- things that differ, once they are sorted, rise
+
+abbrev has_one_place : Thing × Known → Thing × Known → Bool
+has_one_place a b = is_eq (thing_order a.0 b.0)
+
+reverse-level : (r : Ordering) → is_eq (ordering_reverse r) ≡ is_eq r
+reverse-level Less = refl
+reverse-level Equal = refl
+reverse-level Greater = refl
+
+place-flips : (a b : Thing × Known) → has_one_place a b ≡ has_one_place b a
+place-flips a b = ap is_eq (order-total.antisymm a.0 b.0) ∙ reverse-level (thing_order b.0 a.0)
+
+places-differ : (a b : Thing × Known) → AreTwoThings a b → has_one_place a b ≡ false
+places-differ a b differ = by (thing_order a.0 b.0) refl
+  where
+    by : (r : Ordering) → thing_order a.0 b.0 ≡ r → is_eq r ≡ false
+    by Less e = refl
+    by Equal e = absurd (differ (order-same a.0 b.0 e))
+    by Greater e = refl
+
+distinct-things : (things : List (Thing × Known)) → EachTwo (λ a b. has_one_place a b ≡ false) things → IsDistinct has_one_place things
+unfolding IsDistinct
+distinct-things [] two = tt
+distinct-things (x ∷ xs) two = (two.0, distinct-things xs two.1)
+
+rises : (r : Ordering) → is_lt (ordering_reverse r) ≡ false → is_eq r ≡ false → r ≡ Less
+rises Less e f = refl
+rises Equal e f = absurd (false≢true (sym f))
+rises Greater e f = absurd (false≢true (sym e))
+
+pub sorted-in-order : (from things : List (Thing × Known)) → EachTwo AreTwoThings from → IsPermutation from things → IsSortedBy (λ a b. is_lt (thing_order a.0 b.0)) things → IsInOrder things
+sorted-in-order from things once moved sorted =
+    let apart = IsDistinct-IsPermutation has_one_place place-flips from things moved
+    (distinct-things from (two-more AreTwoThings (λ a b. has_one_place a b ≡ false) from places-differ once)) in
+    two-by-places (λ (a b : Thing × Known). thing_order a.0 b.0 ≡ Less) things (λ i j d before inside.
+    let first = get_or things i d in
+    let second = get_or things j d in
+    let at_most : i ≤ j = omega arith in
+    let not_back = sorted_far (λ (a b : Thing × Known). is_lt (thing_order a.0 b.0)) (ranks_by order-total (λ (e : Thing × Known). e.0)) things sorted i j d at_most inside in
+    rises (thing_order first.0 second.0) (ap is_lt (sym (order-total.antisymm second.0 first.0)) ∙ not_back) (apart_from_distinct has_one_place things i j d apart before inside))

@@ -1,0 +1,38 @@
+-- The row that the reply is to is found, and written where it stands.
+use Rattle.std.proofs.Common.{◌≡◌, Some, get_or, refl, ap}
+use Rattle.std.specs.Prelude.{position}
+use Rattle.std.proofs.lemmas.Result.{err_from_is_err_and}
+use Rattle.csi_orchestrator.specs.Core.{parts_of}
+use Rattle.csi_orchestrator.specs.declared.row.Row.{Row}
+use Rattle.csi_orchestrator.specs.Shown.{row_shown, open_in_row}
+use Rattle.csi_orchestrator.specs.RowMoves.{is_issued_as, hears_reply}
+use Rattle.csi_orchestrator.proofs.HeardParts.{kept-there, kind-there, heard-there, refused-there, found-differs, unfound}
+use Rattle.csi_orchestrator.proofs.inner.Core.hear.Goals as goal
+
+pub next_heard-requires-clause-kept : goal.next_heard-requires-clause-kept
+next_heard-requires-clause-kept c = kept-there c.args.self.now.rows.items c.in-Some.index c.index.result.now c.args.number c.args.party.now c.args.kind c.requires (cc) (cc)
+
+pub next_heard-requires-clause-due : goal.next_heard-requires-clause-due
+next_heard-requires-clause-due c = kind-there c.args.self.now.rows.items c.in-Some.index c.index.result.now c.args.number c.args.party.now c.args.kind (cc) (cc)
+
+pub returns-in_err-next-in-Some-clause-err : goal.returns-in_err-next-in-Some-clause-err
+returns-in_err-next-in-Some-clause-err c =
+    let at : position (λ (row : Row). is_issued_as c.args.number c.args.party.now c.args.kind (open_in_row (row_shown row))) c.args.self.now.rows.items ≡ Some c.in-Some.index = cc in
+    let there : c.index.result.now ≡ get_or c.args.self.now.rows.items c.in-Some.index c.index.result.now = cc in
+    let p = err_from_is_err_and c.from_residual.result c.from_residual.ensures.1 in
+    rw (p.1, p.2)
+    (refused-there (parts_of c.args.self.now) c.args.self.now.rows.items c.in-Some.index c.index.result.now c.args.number c.args.party.now c.args.kind c.args.reply.now c.in_err-next-in-Some.field-0.0 at
+    there c.in_err-next-in-Some.ensures.err)
+
+pub returns-in_err-next-in-Some-clause-ignored : goal.returns-in_err-next-in-Some-clause-ignored
+returns-in_err-next-in-Some-clause-ignored c = λ none.
+    absurd (found-differs c.args.self.now.rows.items c.in-Some.index c.index.result.now c.args.number c.args.party.now c.args.kind (cc) (cc) none)
+
+pub returns-in_ok-next-in-Some-clause-ok : goal.returns-in_ok-next-in-Some-clause-ok
+returns-in_ok-next-in-Some-clause-ok c =
+    heard-there (parts_of c.args.self.now) c.args.self.now.rows.items c.in-Some.index c.index.result.now c.index_mut.result.now c.settle.new.row c.args.number c.take_next.new.last c.args.party.now c.args.kind c.args.reply.now
+    c.in_ok-next-in-Some.next c.take_next.result refl c.requires (cc) (cc) (cc) c.in_ok-next-in-Some.ensures.ok c.settle.ensures c.take_next.ensures.last c.take_next.ensures.frame
+
+pub returns-in-None-clause-ok : goal.returns-in-None-clause-ok
+returns-in-None-clause-ok c =
+    ap (hears_reply (parts_of c.args.self.now) c.args.kind c.args.reply.now) (unfound c.args.self.now.rows.items c.args.number c.args.party.now c.args.kind (cc))

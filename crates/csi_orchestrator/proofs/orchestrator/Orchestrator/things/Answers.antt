@@ -1,0 +1,21 @@
+-- What the rows know is what the history tells.
+use Rattle.std.proofs.Common.{◌≡◌, List, map, ◌∙◌, ap, sym, subst}
+use Rattle.std.specs.Prelude.{IfOk}
+use Rattle.std.proofs.lemmas.Result.{IfOk-weaker}
+use Rattle.csi_orchestrator.specs.Shown.{RowShown, Parts, row_shown}
+use Rattle.csi_orchestrator.specs.Kept.{AreKept}
+use Rattle.csi_orchestrator.specs.Listing.{known_by_rows, ListsKnown}
+use Rattle.csi_orchestrator.proofs.ThingsNoted.{lists-told}
+use Rattle.csi_orchestrator.proofs.orchestrator.Orchestrator.things.Goals as goal
+
+pub returns-clause-marks : goal.returns-clause-marks
+returns-clause-marks c =
+    let same : map row_shown c.deref.result.now ≡ c.args.self.now.rows = ap (map row_shown) c.deref.ensures.value ∙ ap (λ (p : Parts). p.rows) c.self.view_is in
+    subst (λ (rows : List RowShown). AreKept rows → IfOk c.things_in.result (λ things. ListsKnown (known_by_rows rows) things.items)) same c.things_in.ensures.known (subst (λ (p : Parts). AreKept p.rows) c.self.view_is c.self.invariant)
+
+pub returns-clause-agrees : goal.returns-clause-agrees
+returns-clause-agrees c history agrees =
+    IfOk-weaker c.things_in.result _ _ (λ things lists. lists-told c.args.self.now history things.items agrees lists) (returns-clause-marks c)
+
+pub returns-clause-order : goal.returns-clause-order
+returns-clause-order c = c.things_in.ensures.order (subst (λ rows. AreKept (map row_shown rows)) (sym c.deref.ensures.value) c.self.invariant)

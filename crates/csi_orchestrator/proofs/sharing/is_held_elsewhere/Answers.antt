@@ -1,0 +1,12 @@
+-- Among what is shown.
+use Rattle.std.proofs.Common.{◌∙◌}
+use Rattle.csi_orchestrator.specs.Commands.{is_for_one_node}
+use Rattle.csi_orchestrator.specs.Shown.{usage_shown}
+use Rattle.csi_orchestrator.specs.RowMoves.{is_so_elsewhere}
+use Rattle.csi_orchestrator.proofs.PlacesSeen.{place-is-so}
+use Rattle.csi_orchestrator.proofs.sharing.is_held_elsewhere.Goals as goal
+
+pub returns : goal.returns
+returns c =
+    c.any_excludes.ensures
+    ∙ place-is-so (is_so_elsewhere (is_for_one_node (usage_shown c.args.usage.now)) c.args.usage.now.node) c.args.row.now

@@ -1,0 +1,87 @@
+-- What an orchestrator's type keeps of its rows, and what follows from it. This profile's own.
+use Rattle.std.specs.Prelude.{◌≡◌, List, [], ◌∷◌, false, Option, Some, None, Result, Ok, Err}
+use Rattle.std.specs.List.{AllByRecursion}
+use Rattle.csi_types.specs.Lists.{EachTwo}
+use Rattle.csi_types.specs.Same.{same_text}
+use Rattle.csi_orchestrator.specs.declared.fault.OrchFault.{OrchFault}
+use Rattle.csi_orchestrator.specs.declared.row.Aim.{Aim}
+use Rattle.csi_orchestrator.specs.declared.row.Goal.{Goal}
+use Rattle.csi_orchestrator.specs.declared.row.Goal.TheVariants.{Create, Use, Stop, Delete}
+use Rattle.csi_orchestrator.specs.declared.row.Usage.{Usage}
+use Rattle.csi_orchestrator.specs.declared.thing.Known.TheVariants.{Yes, No}
+use Rattle.csi_orchestrator.specs.Commands.{is_for_one_node, is_second_writer}
+use Rattle.csi_orchestrator.specs.History.{History, with_items, Item, Started, Sent, Accepted, Closed, Noted}
+use Rattle.csi_orchestrator.specs.Guards.{MayIssue}
+use Rattle.csi_orchestrator.specs.Moves.{Input, Moved, moves}
+use Rattle.csi_orchestrator.specs.Shown.{PlaceShown, RowShown, Parts, place_of, aim_of, usage_shown, AreTargetsApart, AgreesWith}
+use Rattle.csi_orchestrator.specs.RowMoves.{Told, has_elsewhere, row_moves}
+use Rattle.csi_orchestrator.specs.WellFormed.{IsWellFormed}
+
+-- a node has one entry
+abbrev pub ArePlacesApart : List PlaceShown → Type 0
+ArePlacesApart places = EachTwo (λ (a b : PlaceShown). same_text a.node b.node ≡ false) places
+
+-- the entries of a use
+pub record HasEntry (row : RowShown) (usage : Usage) : Type 0 where
+  pub place : PlaceShown
+  pub aim : Aim
+  pub at_node : place_of row usage.node ≡ Some place
+  pub at_target : aim_of place usage.target ≡ Some aim
+  pub same_capability : place.capability ≡ usage.capability
+  pub same_flag : place.readonly ≡ usage.readonly
+
+-- a use that may be brought about: the volume is made, and can be held so beside the other holdings
+pub record IsUsable (row : RowShown) (usage : Usage) : Type 0 where
+  pub made : row.exists ≡ Yes
+  pub entry : HasEntry row usage
+  pub shared : has_elsewhere (is_for_one_node (usage_shown usage)) usage.node row ≡ false
+  pub one_writer : has_elsewhere (is_second_writer (usage_shown usage)) usage.node row ≡ false
+
+-- what is wanted may be wanted
+abbrev pub MayBeWanted : RowShown → Option Goal → Type 0
+MayBeWanted row None = Unit {0}
+MayBeWanted row (Some Create) = row.id ≡ None
+MayBeWanted row (Some (Use usage)) = IsUsable row usage
+MayBeWanted row (Some (Stop node target)) = Unit {0}
+MayBeWanted row (Some Delete) = AllByRecursion (λ (place : PlaceShown). place.attached ≡ No) row.places
+
+-- what is kept of a row
+pub record IsKept (row : RowShown) : Type 0 where
+  pub places : ArePlacesApart row.places
+  pub aims : AllByRecursion AreTargetsApart row.places
+  pub goal : MayBeWanted row row.goal
+
+-- a name has one row, and each row is kept so
+pub record AreKept (rows : List RowShown) : Type 0 where
+  pub names : EachTwo (λ (a b : RowShown). same_text a.name b.name ≡ false) rows
+  pub each : AllByRecursion IsKept rows
+
+-- the two answers are one, and what is shown agrees with the history that goes on so
+abbrev pub Fits : History → Result Told OrchFault → Result Moved OrchFault → Type 0
+Fits history (Ok told) (Ok moved) = (told.answer ≡ moved.answer) × AgreesWith told.parts (with_items history moved.items)
+Fits history (Ok told) (Err fault) = ⊥
+Fits history (Err fault) (Ok moved) = ⊥
+Fits history (Err fault) (Err other) = fault ≡ other
+
+-- whatever comes, the rows tell what the history tells
+abbrev pub RowsTell : Type 0
+RowsTell = (parts : Parts) (history : History) (input : Input) → IsWellFormed history → AreKept parts.rows → AgreesWith parts history
+    → Fits history (row_moves parts input) (moves parts.nodes history input)
+
+-- whatever comes, the rows stay so, and the nodes too
+abbrev pub RowsStayKept : Type 0
+RowsStayKept = (parts : Parts) (input : Input) (told : Told) → AreKept parts.rows → row_moves parts input ≡ Ok told → AreKept told.parts.rows × (told.parts.nodes ≡ parts.nodes)
+
+-- each call among these items may be sent after what stands before it
+abbrev pub AreGuarded : History → List Item → Type 0
+AreGuarded history [] = Unit {0}
+AreGuarded history (Started session ∷ older) = AreGuarded history older
+AreGuarded history (Sent issued ∷ older) = MayIssue (with_items history older) issued.name issued.party issued.call × AreGuarded history older
+AreGuarded history (Accepted number status id ∷ older) = AreGuarded history older
+AreGuarded history (Closed number ∷ older) = AreGuarded history older
+AreGuarded history (Noted name goal ∷ older) = AreGuarded history older
+
+-- whatever comes, each call that is sent may be sent
+abbrev pub MovesAreGuarded : Type 0
+MovesAreGuarded = (parts : Parts) (history : History) (input : Input) (moved : Moved) → IsWellFormed history → AreKept parts.rows → AgreesWith parts history
+    → moves parts.nodes history input ≡ Ok moved → AreGuarded history moved.items

@@ -1,0 +1,25 @@
+-- What each call of an orchestrator promises of every history that it agrees with. This profile's own.
+use Rattle.std.specs.Prelude.{◌≡◌, Result, Ok, Err}
+use Rattle.csi_orchestrator.specs.declared.fault.Heard.{Heard}
+use Rattle.csi_orchestrator.specs.declared.fault.OrchFault.{OrchFault}
+use Rattle.csi_orchestrator.specs.History.{History, with_items}
+use Rattle.csi_orchestrator.specs.Moves.{Answer, Hears, Moved}
+use Rattle.csi_orchestrator.specs.Shown.{Parts, AgreesWith}
+use Rattle.csi_orchestrator.specs.Kept.{AreGuarded}
+
+-- the answer is the one that the history tells, what is shown then agrees with the history that goes on so, and each
+-- call that was sent may be sent
+pub record Follows (history : History) (moved : Moved) (answer : Answer) (parts : Parts) : Type 0 where
+  pub answered : moved.answer ≡ answer
+  pub agrees : AgreesWith parts (with_items history moved.items)
+  pub guarded : AreGuarded history moved.items
+
+-- the same, where nothing is refused
+abbrev pub IsDone : History → Result Moved OrchFault → Answer → Parts → Type 0
+IsDone history (Ok moved) answer parts = Follows history moved answer parts
+IsDone history (Err fault) answer parts = ⊥
+
+-- a frame that comes is heard so
+abbrev pub IsHeardAs : Heard → Result Moved OrchFault → Type 0
+IsHeardAs heard (Ok moved) = moved.answer ≡ Hears heard
+IsHeardAs heard (Err fault) = ⊥

@@ -1,0 +1,189 @@
+//! What becomes of a row.
+ghost use Rattle.std.specs.Prelude.{◌≡◌, map, Some, None, OnOk, OnErr, IfErr};
+ghost use Rattle.csi_orchestrator.specs.Shown.{row_shown, place_shown, arguments_shown, closed};
+ghost use Rattle.csi_orchestrator.specs.RowChanges.{at_goal, attached_as, staged_as, published_as, marked, sent, told_of, id_told as id_by_kind, succeeded, wanted, wanted_anew, stopped_goal, dropped, new_row as new_row_shown, with_entry};
+
+use crate::fault::OrchFault;
+use crate::places::{add_place, mark_attached, mark_published, mark_staged, tidy};
+use crate::row::{Arguments, Goal, Place, Row, Usage};
+use crate::thing::Known;
+use csi_types::{Kind, Name, Number, VolumeId};
+use std::alloc::Global;
+
+// Marks whether the volume is attached to the goal's node.
+fn mark_attached_at(places: &mut Vec<Place>, goal: &Option<Goal>, known: Known)
+    ensures { map place_shown places.new.items ≡ at_goal (attached_as known) goal.now (map place_shown places.old.items) }
+{
+    match goal {
+        Some(Goal::Use(usage)) => mark_attached(places, &usage.node, known),
+        Some(Goal::Stop { node, .. }) => mark_attached(places, node, known),
+        Some(Goal::Create | Goal::Delete) | None => {}
+    }
+}
+
+// Marks whether it is staged there.
+fn mark_staged_at(places: &mut Vec<Place>, goal: &Option<Goal>, known: Known)
+    ensures { map place_shown places.new.items ≡ at_goal (staged_as known) goal.now (map place_shown places.old.items) }
+{
+    match goal {
+        Some(Goal::Use(usage)) => mark_staged(places, &usage.node, known),
+        Some(Goal::Stop { node, .. }) => mark_staged(places, node, known),
+        Some(Goal::Create | Goal::Delete) | None => {}
+    }
+}
+
+// Marks whether it is published at the goal's target.
+fn mark_published_at(places: &mut Vec<Place>, goal: &Option<Goal>, known: Known)
+    ensures { map place_shown places.new.items ≡ at_goal (published_as known) goal.now (map place_shown places.old.items) }
+{
+    match goal {
+        Some(Goal::Use(usage)) => mark_published(places, &usage.node, &usage.target, known),
+        Some(Goal::Stop { node, target }) => mark_published(places, node, target, known),
+        Some(Goal::Create | Goal::Delete) | None => {}
+    }
+}
+
+/// Marks what a call of this kind for the row's goal does or undoes.
+pub(crate) fn mark(row: &mut Row, kind: Kind, known: Known)
+    ensures { row_shown row.new ≡ marked known kind (row_shown row.old) }
+{
+    match kind {
+        Kind::CreateVolume | Kind::DeleteVolume => row.exists = known,
+        Kind::ControllerPublishVolume | Kind::ControllerUnpublishVolume => {
+            mark_attached_at(&mut row.places, &row.goal, known)
+        }
+        Kind::NodeStageVolume | Kind::NodeUnstageVolume => {
+            mark_staged_at(&mut row.places, &row.goal, known)
+        }
+        Kind::NodePublishVolume | Kind::NodeUnpublishVolume => {
+            mark_published_at(&mut row.places, &row.goal, known)
+        }
+    }
+}
+
+/// Keeps that a call of this number and kind is sent.
+pub(crate) fn send(row: &mut Row, number: Number, kind: Kind)
+    ensures { row_shown row.new ≡ sent number kind (row_shown row.old) }
+{
+    mark(row, kind, Known::Maybe);
+    row.open_number = Some(number);
+    row.tries = row.tries.saturating_add(1).min(3);
+}
+
+// What a success of a call of this kind tells.
+fn told(kind: Kind) -> Known
+    ensures { result ≡ told_of kind }
+{
+    match kind {
+        Kind::CreateVolume
+        | Kind::ControllerPublishVolume
+        | Kind::NodeStageVolume
+        | Kind::NodePublishVolume => Known::Yes,
+        Kind::DeleteVolume
+        | Kind::ControllerUnpublishVolume
+        | Kind::NodeUnstageVolume
+        | Kind::NodeUnpublishVolume => Known::No,
+    }
+}
+
+// The id that it brings.
+fn id_told(kind: Kind, id: Option<VolumeId>) -> Option<VolumeId>
+    ensures { result ≡ id_by_kind kind id }
+{
+    match kind {
+        Kind::CreateVolume => id,
+        _ => None,
+    }
+}
+
+/// Keeps that a call of this kind succeeded, with this id.
+pub(crate) fn succeed(row: &mut Row, kind: Kind, id: Option<VolumeId>)
+    ensures { row_shown row.new ≡ succeeded kind id (row_shown row.old) }
+{
+    mark(row, kind, told(kind));
+    row.id = id_told(kind, id).or(row.id);
+    row.open_number = None;
+    row.tries = 0;
+}
+
+/// Wants something now. No call is open.
+pub(crate) fn want(row: &mut Row, goal: Goal)
+    ensures { row_shown row.new ≡ wanted goal (row_shown row.old) }
+{
+    row.goal = Some(goal);
+    row.open_number = None;
+    row.tries = 0;
+}
+
+/// Wants the volume to be made, by these arguments.
+pub(crate) fn want_anew(row: &mut Row, arguments: Arguments)
+    ensures { row_shown row.new ≡ wanted_anew (arguments_shown arguments) (row_shown row.old) }
+{
+    row.arguments = arguments;
+    want(row, Goal::Create);
+}
+
+/// Gives up the open call.
+pub(crate) fn close(row: &mut Row)
+    ensures { row_shown row.new ≡ closed (row_shown row.old) }
+{
+    row.open_number = None;
+}
+
+// What is wanted once this goal is given up: a use that didn't come about is stopped.
+fn stopped(goal: Goal) -> Goal
+    ensures { result ≡ stopped_goal goal }
+{
+    match goal {
+        Goal::Use(usage) => Goal::Stop {
+            node: usage.node,
+            target: usage.target,
+        },
+        other => other,
+    }
+}
+
+/// Stops the use that is wanted. Without a goal nothing changes.
+pub(crate) fn stop_use(row: &mut Row)
+    ensures goal { (goal : Goal) → row.old.goal ≡ Some goal → row_shown row.new ≡ wanted (stopped_goal goal) (row_shown row.old) }
+    ensures none { row.old.goal ≡ None → row_shown row.new ≡ row_shown row.old }
+{
+    if let Some(goal) = row.goal.take() {
+        want(row, stopped(goal));
+    }
+}
+
+/// Wants nothing now. No call is open, and only entries of which something may be so are kept.
+pub(crate) fn drop_goal(row: &mut Row)
+    ensures { row_shown row.new ≡ dropped (row_shown row.old) }
+{
+    row.goal = None;
+    row.open_number = None;
+    row.tries = 0;
+    tidy(&mut row.places);
+}
+
+/// A row of which the creation is wanted. It takes no memory.
+pub(crate) fn new_row(alloc: Global, name: Name, arguments: Arguments) -> Row
+    ensures { row_shown result ≡ new_row_shown name (arguments_shown arguments) }
+{
+    Row {
+        name,
+        arguments,
+        id: None,
+        exists: Known::No,
+        goal: Some(Goal::Create),
+        open_number: None,
+        tries: 0,
+        places: Vec::new(alloc),
+    }
+}
+
+/// Adds an entry for a use: a new one, or what the one of its node lacks. A refusal changes nothing.
+pub(crate) fn add_entry(alloc: Global, row: &mut Row, usage: &Usage) -> Result<(), OrchFault>
+    ensures ok { OnOk result (row_shown row.new ≡ with_entry usage.now (row_shown row.old)) }
+    ensures memory { IfErr result (λ fault. fault ≡ OrchFault.NoMemory) }
+    ensures err { OnErr result (row_shown row.new ≡ row_shown row.old) }
+{
+    add_place(alloc, &mut row.places, usage).map_err(|_refused| OrchFault::NoMemory)
+}

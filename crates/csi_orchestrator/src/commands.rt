@@ -1,0 +1,138 @@
+//! The commands: each is carried out at the row of its name.
+ghost use Rattle.std.specs.Prelude.{◌≡◌, map, position, None, Ok, IfOk, IfErr, OnErr};
+ghost use Rattle.csi_types.specs.Same.{same_text};
+ghost use Rattle.csi_orchestrator.specs.Core.{parts_of};
+ghost use Rattle.csi_orchestrator.specs.CoreMoves.{frame_in, last_after};
+ghost use Rattle.csi_orchestrator.specs.Moves.{ToCreate, ToUse, ToStop, ToDelete, Sends};
+ghost use Rattle.csi_orchestrator.specs.RowMoves.{IsRefusal, creates, row_moves};
+ghost use Rattle.csi_orchestrator.specs.Shown.{row_shown, arguments_shown};
+
+use crate::fault::OrchFault;
+use crate::going_on::{Outgoing, row_index};
+use crate::inner::Core;
+use crate::refusals::first_fault;
+use crate::row::{Arguments, Usage};
+use crate::row_commands::{begin, create_again, delete_row, stop_row, use_row};
+use csi_types::{Capability, CapabilityList, Frame, Name, NodeId, Target};
+
+impl Core {
+    /// Counts the call that is sent, and gives its frame.
+    pub fn issue(&mut self, next: Option<Outgoing>) -> Option<Frame>
+        ensures frame { result ≡ frame_in next }
+        ensures parts { parts_of self.new ≡ record { nodes = self.old.nodes.items; last = last_after self.old.last next; rows = map row_shown self.old.rows.items } }
+    {
+        match next {
+            Some(next) => {
+                self.last = next.number;
+                Some(next.frame)
+            }
+            None => None,
+        }
+    }
+
+    // The first create of a name.
+    fn create_first(&mut self, name: Name, arguments: Arguments) -> Result<Option<Frame>, OrchFault>
+        requires { position (λ row. same_text row.name name) self.old.rows.items ≡ None }
+        ensures ok { IfOk result (λ sent. creates (parts_of self.old) name (arguments_shown arguments) None ≡ Ok (record { answer = Sends sent; parts = parts_of self.new })) }
+        ensures err { IfErr result (IsRefusal (creates (parts_of self.old) name (arguments_shown arguments) None)) }
+        ensures stays { OnErr result (parts_of self.new ≡ parts_of self.old) }
+    {
+        if let Some(fault) = first_fault(&self.rows, self.last) {
+            return Err(fault);
+        }
+        let begun = begin(self.alloc, self.last, name, arguments)?;
+        self.rows.push(begun.row)?;
+        Ok(self.issue(begun.next))
+    }
+
+    /// Wants a volume of this name to be made.
+    pub fn create(
+        &mut self,
+        name: Name,
+        required: u64,
+        limit: u64,
+        capabilities: CapabilityList,
+    ) -> Result<Option<Frame>, OrchFault>
+        ensures ok { IfOk result (λ sent. row_moves (parts_of self.old) (ToCreate name (record { required = required; limit = limit; capabilities = capabilities })) ≡ Ok (record { answer = Sends sent; parts = parts_of self.new })) }
+        ensures err { IfErr result (IsRefusal (row_moves (parts_of self.old) (ToCreate name (record { required = required; limit = limit; capabilities = capabilities })))) }
+        ensures stays { OnErr result (parts_of self.new ≡ parts_of self.old) }
+    {
+        let arguments = Arguments {
+            required,
+            limit,
+            capabilities,
+        };
+        match row_index(&self.rows, &name) {
+            Some(index) => {
+                let next = create_again(&mut self.rows[index], self.last, arguments)?;
+                Ok(self.issue(next))
+            }
+            None => self.create_first(name, arguments),
+        }
+    }
+
+    /// Wants the volume of this name to be published so.
+    pub fn use_at(
+        &mut self,
+        name: &Name,
+        node: NodeId,
+        target: Target,
+        capability: Capability,
+        readonly: bool,
+    ) -> Result<Option<Frame>, OrchFault>
+        ensures ok { IfOk result (λ sent. row_moves (parts_of self.old) (ToUse name.now (record { node = node; target = target; capability = capability; readonly = readonly })) ≡ Ok (record { answer = Sends sent; parts = parts_of self.new })) }
+        ensures err { IfErr result (IsRefusal (row_moves (parts_of self.old) (ToUse name.now (record { node = node; target = target; capability = capability; readonly = readonly })))) }
+        ensures stays { OnErr result (parts_of self.new ≡ parts_of self.old) }
+    {
+        let usage = Usage {
+            node,
+            target,
+            capability,
+            readonly,
+        };
+        match row_index(&self.rows, name) {
+            Some(index) => {
+                let row = &mut self.rows[index];
+                let next = use_row(self.alloc, row, &self.nodes, self.last, usage)?;
+                Ok(self.issue(next))
+            }
+            None => Err(OrchFault::NoSuchVolume),
+        }
+    }
+
+    /// Wants it not to be published at the target of the node.
+    pub fn stop(
+        &mut self,
+        name: &Name,
+        node: NodeId,
+        target: Target,
+    ) -> Result<Option<Frame>, OrchFault>
+        ensures ok { IfOk result (λ sent. row_moves (parts_of self.old) (ToStop name.now node target) ≡ Ok (record { answer = Sends sent; parts = parts_of self.new })) }
+        ensures err { IfErr result (IsRefusal (row_moves (parts_of self.old) (ToStop name.now node target))) }
+        ensures stays { OnErr result (parts_of self.new ≡ parts_of self.old) }
+    {
+        match row_index(&self.rows, name) {
+            Some(index) => {
+                let row = &mut self.rows[index];
+                let next = stop_row(self.alloc, row, &self.nodes, self.last, node, target)?;
+                Ok(self.issue(next))
+            }
+            None => Err(OrchFault::NoSuchVolume),
+        }
+    }
+
+    /// Wants the volume not to be there.
+    pub fn delete(&mut self, name: &Name) -> Result<Option<Frame>, OrchFault>
+        ensures ok { IfOk result (λ sent. row_moves (parts_of self.old) (ToDelete name.now) ≡ Ok (record { answer = Sends sent; parts = parts_of self.new })) }
+        ensures err { IfErr result (IsRefusal (row_moves (parts_of self.old) (ToDelete name.now))) }
+        ensures stays { OnErr result (parts_of self.new ≡ parts_of self.old) }
+    {
+        match row_index(&self.rows, name) {
+            Some(index) => {
+                let next = delete_row(self.alloc, &mut self.rows[index], self.last)?;
+                Ok(self.issue(next))
+            }
+            None => Err(OrchFault::NoSuchVolume),
+        }
+    }
+}

@@ -1,0 +1,69 @@
+//! What is known of what a goal names.
+ghost use Rattle.std.specs.Prelude.{◌≡◌, Some, option_map};
+ghost use Rattle.csi_orchestrator.specs.Shown.{row_shown, place_shown, others_in, marks_of_volume, marks_at, marks_for};
+
+use crate::inner::{place_at, published_at};
+use crate::row::{Goal, Place, Row};
+use crate::thing::Known;
+use csi_types::{NodeId, Target};
+
+/// What is known of a volume, of how it is at a node, and of a target there.
+#[derive(Clone, Copy)]
+pub(crate) struct Marks {
+    pub exists: Known,
+    pub attached: Known,
+    pub staged: Known,
+    pub published: Known,
+    /// Whether it may be published at another target of the node.
+    pub others: bool,
+}
+
+/// Whether the volume may be published at another target of the place.
+pub(crate) fn has_others(place: &Place, target: &Target) -> bool
+    ensures { result ≡ others_in target.now (Some (place_shown place.now)) }
+{
+    place
+        .aims
+        .iter()
+        .any(|aim| aim.target != *target && !aim.published.is_no())
+}
+
+// What is known of the volume alone: of no node, or of one that has no entry.
+fn of_volume(row: &Row) -> Marks
+    ensures { result ≡ marks_of_volume (row_shown row.now) }
+{
+    Marks {
+        exists: row.exists,
+        attached: Known::No,
+        staged: Known::No,
+        published: Known::No,
+        others: false,
+    }
+}
+
+/// How the volume is at a node and at a target there.
+pub(crate) fn marks_in(row: &Row, node: &NodeId, target: &Target) -> Marks
+    ensures { result ≡ marks_at (row_shown row.now) node.now target.now }
+{
+    match place_at(row, node) {
+        Some(place) => Marks {
+            exists: row.exists,
+            attached: place.attached,
+            staged: place.staged,
+            published: published_at(place, target),
+            others: has_others(place, target),
+        },
+        None => of_volume(row),
+    }
+}
+
+/// What is known of what this goal of the row names.
+pub(crate) fn known_for(row: &Row, goal: &Goal) -> Marks
+    ensures { result ≡ marks_for (row_shown row.now) goal.now }
+{
+    match goal {
+        Goal::Create | Goal::Delete => of_volume(row),
+        Goal::Use(usage) => marks_in(row, &usage.node, &usage.target),
+        Goal::Stop { node, target } => marks_in(row, node, target),
+    }
+}

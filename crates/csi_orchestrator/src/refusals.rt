@@ -1,0 +1,159 @@
+//! Why a command is refused, by the row of its volume: the first reason that holds.
+ghost use Rattle.std.specs.Prelude.{◌≡◌, length, map, nat_le, is_none};
+ghost use Rattle.csi_orchestrator.specs.Commands.{next_number as number_after};
+ghost use Rattle.csi_orchestrator.specs.Shown.{row_shown, usage_shown};
+ghost use Rattle.csi_orchestrator.specs.RowMoves.{first_fault as first_refusal, again_fault as again_refusal, use_refusal, room_refusal, stop_refusal, delete_refusal, busy_refusal};
+ghost use Rattle.csi_orchestrator.specs.Found.{without_rows, with_last, with_rows};
+
+use crate::due::next_number;
+use crate::fault::OrchFault;
+use crate::row::{Row, Usage};
+use crate::sharing::{
+    has_node, is_attached_somewhere, is_capable, is_held_elsewhere, is_held_otherwise,
+    is_target_taken, is_unpublished, is_written_elsewhere, others_count,
+};
+use csi_types::{NodeId, Number, Target};
+
+/// The most volumes that an orchestrator has rows of.
+pub(crate) const MAX_ROWS: usize = 4096;
+
+/// The most other targets of a node at which a volume may be published when it is to be published there.
+pub(crate) const MAX_OTHERS: usize = 16;
+
+// Whether the session has no number left.
+fn is_spent(last: Number) -> bool
+    ensures { result ≡ is_none (number_after last) }
+{
+    next_number(last).is_none()
+}
+
+// Whether there is no room for another row.
+fn is_full(rows: &[Row]) -> bool
+    ensures { result ≡ nat_le 4096 (length rows.now) }
+{
+    rows.len() >= MAX_ROWS
+}
+
+/// Why the first create of a name is refused.
+pub(crate) fn first_fault(rows: &[Row], last: Number) -> Option<OrchFault>
+    ensures { result ≡ first_refusal (with_rows last (map row_shown rows.now)) }
+{
+    if is_spent(last) {
+        return Some(OrchFault::NumbersSpent);
+    }
+    if is_full(rows) {
+        return Some(OrchFault::Full);
+    }
+    None
+}
+
+/// Why another create of this row's name is refused.
+pub(crate) fn again_fault(row: &Row, last: Number) -> Option<OrchFault>
+    ensures { result ≡ again_refusal (with_last last) (row_shown row.now) }
+{
+    if row.id.is_some() || row.goal.is_some() {
+        return Some(OrchFault::NameUsed);
+    }
+    if is_spent(last) {
+        return Some(OrchFault::NumbersSpent);
+    }
+    None
+}
+
+/// Why a use is refused, whether or not it is met already.
+pub(crate) fn use_fault(nodes: &[NodeId], usage: &Usage, row: &Row) -> Option<OrchFault>
+    ensures { result ≡ use_refusal nodes.now (usage_shown usage.now) (row_shown row.now) }
+{
+    if !row.exists.is_yes() {
+        return Some(OrchFault::NotCreated);
+    }
+    if row.goal.is_some() {
+        return Some(OrchFault::Busy);
+    }
+    if !has_node(nodes, &usage.node) {
+        return Some(OrchFault::NoSuchNode);
+    }
+    if !is_capable(row.arguments.capabilities.as_slice(), &usage.capability) {
+        return Some(OrchFault::NotCapable);
+    }
+    if is_held_elsewhere(row, usage) {
+        return Some(OrchFault::HeldElsewhere);
+    }
+    if is_written_elsewhere(row, usage) {
+        return Some(OrchFault::WriterElsewhere);
+    }
+    if is_held_otherwise(row, usage) {
+        return Some(OrchFault::HeldOtherwise);
+    }
+    if is_target_taken(row, usage) {
+        return Some(OrchFault::TargetTaken);
+    }
+    None
+}
+
+/// Why a use that isn't met yet is refused.
+pub(crate) fn room_fault(last: Number, usage: &Usage, row: &Row) -> Option<OrchFault>
+    ensures { result ≡ room_refusal (with_last last) (usage_shown usage.now) (row_shown row.now) }
+{
+    if is_spent(last) {
+        return Some(OrchFault::NumbersSpent);
+    }
+    if others_count(row, &usage.node, &usage.target) >= MAX_OTHERS {
+        return Some(OrchFault::Full);
+    }
+    None
+}
+
+/// Why a stop is refused.
+pub(crate) fn stop_fault(
+    nodes: &[NodeId],
+    last: Number,
+    node: &NodeId,
+    target: &Target,
+    row: &Row,
+) -> Option<OrchFault>
+    ensures { result ≡ stop_refusal (without_rows nodes.now last) node.now target.now (row_shown row.now) }
+{
+    if !row.exists.is_yes() {
+        return Some(OrchFault::NotCreated);
+    }
+    if row.goal.is_some() {
+        return Some(OrchFault::Busy);
+    }
+    if !has_node(nodes, node) {
+        return Some(OrchFault::NoSuchNode);
+    }
+    if is_unpublished(row, node, target) {
+        return Some(OrchFault::NoSuchTarget);
+    }
+    if is_spent(last) {
+        return Some(OrchFault::NumbersSpent);
+    }
+    None
+}
+
+/// Why a delete is refused, whether or not it is met already.
+pub(crate) fn delete_fault(row: &Row) -> Option<OrchFault>
+    ensures { result ≡ delete_refusal (row_shown row.now) }
+{
+    if row.id.is_none() {
+        return Some(OrchFault::NotCreated);
+    }
+    if is_attached_somewhere(row) {
+        return Some(OrchFault::InUse);
+    }
+    None
+}
+
+/// Why a delete that isn't met yet is refused.
+pub(crate) fn busy_fault(last: Number, row: &Row) -> Option<OrchFault>
+    ensures { result ≡ busy_refusal (with_last last) (row_shown row.now) }
+{
+    if row.goal.is_some() {
+        return Some(OrchFault::Busy);
+    }
+    if is_spent(last) {
+        return Some(OrchFault::NumbersSpent);
+    }
+    None
+}

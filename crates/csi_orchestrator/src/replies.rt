@@ -1,0 +1,212 @@
+//! What becomes of a frame that came: a reply to an open call is taken, and all else is ignored.
+ghost use Rattle.std.specs.Prelude.{◌≡◌, ◌&&◌, Option, Ok, Err, Some, None, IfOk, IfErr, OnErr, IsOk, map, position};
+ghost use Rattle.csi_types.specs.Same.{same_number as is_same_number, same_kind as is_same_kind};
+ghost use Rattle.csi_orchestrator.specs.declared.fault.OrchFault.{OrchFault as Fault};
+ghost use Rattle.csi_orchestrator.specs.declared.fault.Heard.TheVariants.{Ignored as IsIgnored};
+ghost use Rattle.csi_orchestrator.specs.Commands.{next_number as number_after};
+ghost use Rattle.csi_orchestrator.specs.Moves.{Comes, Hears};
+ghost use Rattle.csi_orchestrator.specs.Shown.{row_shown, due_in, due_by, open_in_row};
+ghost use Rattle.csi_orchestrator.specs.RowMoves.{is_issued_as, hears_reply, row_replied, row_moves, IsRefusal};
+ghost use Rattle.csi_orchestrator.specs.Found.{kind_due};
+ghost use Rattle.csi_orchestrator.specs.Hearing.{is_node_of, is_to as is_to_told, is_due_as as is_told_as, next_refused, next_heard as next_told, row_refused, row_heard};
+ghost use Rattle.csi_orchestrator.specs.CoreMoves.{frame_in, last_after};
+ghost use Rattle.csi_orchestrator.specs.Kept.{IsKept, AreKept};
+ghost use Rattle.csi_orchestrator.specs.Core.{parts_of};
+
+use crate::changes::{close, drop_goal, stop_use, succeed};
+use crate::due::due_kind;
+use crate::fault::{Heard, OrchFault};
+use crate::going_on::{Outgoing, go_on, outgoing_to_stop};
+use crate::inner::Core;
+use crate::marks::known_for;
+use crate::row::{Goal, Row};
+use crate::success::next_after;
+use csi_types::{Body, Frame, Kind, NodeId, Number, Party, Reply, Status};
+
+// Whether the two are the same.
+fn same_number(a: Number, b: Number) -> bool
+    ensures { result ≡ is_same_number a b }
+{
+    a == b
+}
+
+// Whether the two are the same.
+fn same_kind(a: Kind, b: Kind) -> bool
+    ensures { result ≡ is_same_kind a b }
+{
+    a == b
+}
+
+// Whether the goal is for this node.
+fn is_at(goal: &Goal, node: &NodeId) -> bool
+    ensures { result ≡ is_node_of goal.now node.now }
+{
+    match goal {
+        Goal::Use(usage) => usage.node == *node,
+        Goal::Stop { node: own, .. } => *own == *node,
+        Goal::Create | Goal::Delete => false,
+    }
+}
+
+// Whether calls of this kind for the goal are for this plugin.
+fn is_to(goal: &Goal, kind: Kind, party: &Party) -> bool
+    ensures { result ≡ is_to_told goal.now kind party.now }
+{
+    match party {
+        Party::Controller => kind.is_for(party),
+        Party::Node(node) => kind.is_for(party) && is_at(goal, node),
+    }
+}
+
+// Whether the call that is due for this goal of the row is for this plugin, and of this kind.
+fn is_due_for(row: &Row, goal: &Goal, party: &Party, kind: Kind) -> bool
+    ensures { result ≡ is_told_as party.now kind (due_by (row_shown row.now) (Some goal.now)) }
+{
+    match due_kind(row.id, known_for(row, goal), goal) {
+        Some(due) => is_to(goal, due, party) && same_kind(due, kind),
+        None => false,
+    }
+}
+
+// The same, for the row's goal.
+fn is_due_as(row: &Row, party: &Party, kind: Kind) -> bool
+    ensures { result ≡ is_told_as party.now kind (due_in (row_shown row.now)) }
+{
+    match &row.goal {
+        Some(goal) => is_due_for(row, goal, party, kind),
+        None => false,
+    }
+}
+
+// Whether the row's open call has this number, plugin and kind.
+fn is_replied(row: &Row, number: Number, party: &Party, kind: Kind) -> bool
+    ensures { result ≡ is_issued_as number party.now kind (open_in_row (row_shown row.now)) }
+{
+    match row.open_number {
+        Some(open) => same_number(open, number) && is_due_as(row, party, kind),
+        None => false,
+    }
+}
+
+// Where the row whose open call has this number, plugin and kind stands.
+fn index_replied(rows: &[Row], number: Number, party: &Party, kind: Kind) -> Option<usize>
+    ensures { result ≡ position (λ row. is_issued_as number party.now kind (open_in_row (row_shown row))) rows.now }
+{
+    rows.iter()
+        .position(|row| is_replied(row, number, party, kind))
+}
+
+// The next call for the row once its due call had another status than `Ok`.
+fn next_otherwise(last: Number, row: &Row) -> Result<Option<Outgoing>, OrchFault>
+    ensures ok { IfOk result (λ next. next_refused (number_after last) (row_shown row.now) row.now.goal ≡ Ok next) }
+    ensures err { IfErr result (IsRefusal (next_refused (number_after last) (row_shown row.now) row.now.goal)) }
+{
+    match &row.goal {
+        Some(Goal::Use(usage)) => outgoing_to_stop(last, row, &usage.node, &usage.target),
+        Some(Goal::Create | Goal::Stop { .. } | Goal::Delete) | None => Ok(None),
+    }
+}
+
+// The next call for the row after this reply to its due call.
+fn next_heard(
+    last: Number,
+    row: &Row,
+    kind: Kind,
+    reply: &Reply,
+) -> Result<Option<Outgoing>, OrchFault>
+    requires kept { IsKept (row_shown row.now) }
+    requires due { kind_due (due_in (row_shown row.now)) ≡ Some kind }
+    ensures ok { IfOk result (λ next. next_told kind reply.now (number_after last) (row_shown row.now) ≡ Ok next) }
+    ensures err { IfErr result (IsRefusal (next_told kind reply.now (number_after last) (row_shown row.now))) }
+{
+    match reply.status {
+        Status::Ok => next_after(last, row, kind, reply),
+        _ => next_otherwise(last, row),
+    }
+}
+
+// Keeps that the due call had another status than `Ok`, and that the next one is sent.
+fn otherwise(row: &mut Row, next: &Option<Outgoing>)
+    ensures { row_shown row.new ≡ row_refused next.now (row_shown row.old) row.old.goal }
+{
+    match &row.goal {
+        Some(goal) => match goal {
+            Goal::Create => drop_goal(row),
+            Goal::Use(_) => {
+                stop_use(row);
+                go_on(row, next);
+            }
+            Goal::Stop { .. } | Goal::Delete => close(row),
+        },
+        None => close(row),
+    }
+}
+
+// Keeps what the reply tells, and that the next call is sent.
+fn settle(row: &mut Row, kind: Kind, reply: &Reply, next: &Option<Outgoing>)
+    ensures { row_shown row.new ≡ row_heard kind reply.now (row_shown row.old) next.now }
+{
+    match reply.status {
+        Status::Ok => {
+            succeed(row, kind, reply.id);
+            go_on(row, next);
+        }
+        _ => otherwise(row, next),
+    }
+}
+
+// The frame of the next call, whose number is the last one then.
+fn take_next(last: &mut Number, next: Option<Outgoing>) -> Option<Frame>
+    ensures frame { result ≡ frame_in next }
+    ensures last { last.new ≡ last_after last.old next }
+{
+    match next {
+        Some(next) => {
+            *last = next.number;
+            Some(next.frame)
+        }
+        None => None,
+    }
+}
+
+impl Core {
+    // What becomes of a reply to the call of this number and kind.
+    fn hear(
+        &mut self,
+        number: Number,
+        party: &Party,
+        kind: Kind,
+        reply: &Reply,
+    ) -> Result<Heard, OrchFault>
+        requires { AreKept (map row_shown self.old.rows.items) }
+        ensures ok { IfOk result (λ heard. hears_reply (parts_of self.old) kind reply.now (row_replied (map row_shown self.old.rows.items) number party.now kind)
+            ≡ Ok (record { answer = Hears heard; parts = parts_of self.new })) }
+        ensures err { IfErr result (IsRefusal (hears_reply (parts_of self.old) kind reply.now (row_replied (map row_shown self.old.rows.items) number party.now kind))) }
+        ensures stays { OnErr result (parts_of self.new ≡ parts_of self.old) }
+        ensures ignored { row_replied (map row_shown self.old.rows.items) number party.now kind ≡ None → IsOk result }
+    {
+        match index_replied(&self.rows, number, party, kind) {
+            Some(index) => {
+                let next = next_heard(self.last, &self.rows[index], kind, reply)?;
+                settle(&mut self.rows[index], kind, reply, &next);
+                Ok(Heard::Taken(take_next(&mut self.last, next)))
+            }
+            None => Ok(Heard::Ignored),
+        }
+    }
+
+    /// What becomes of a frame: the reply to an open call tells what the call did, and the next call is
+    /// sent. Whatever else comes is ignored, which takes no memory. A refusal changes nothing.
+    pub fn deliver(&mut self, frame: &Frame) -> Result<Heard, OrchFault>
+        requires { AreKept (map row_shown self.old.rows.items) }
+        ensures ok { IfOk result (λ heard. row_moves (parts_of self.old) (Comes frame.now) ≡ Ok (record { answer = Hears heard; parts = parts_of self.new })) }
+        ensures err { IfErr result (IsRefusal (row_moves (parts_of self.old) (Comes frame.now))) }
+        ensures stays { OnErr result (parts_of self.new ≡ parts_of self.old) }
+        ensures ignored { row_moves (parts_of self.old) (Comes frame.now) ≡ Ok (record { answer = Hears IsIgnored; parts = parts_of self.old }) → IsOk result }
+    {
+        match frame.body() {
+            Body::Reply(kind, reply) => self.hear(frame.number(), frame.party(), *kind, reply),
+            Body::Call(_) => Ok(Heard::Ignored),
+        }
+    }
+}

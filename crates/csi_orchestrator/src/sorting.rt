@@ -1,0 +1,77 @@
+//! The order in which things are listed.
+ghost use Rattle.std.specs.Prelude.{◌≡◌};
+ghost use Rattle.std.specs.List.Sorted.{IsPermutation, IsSortedBy};
+ghost use Rattle.std.specs.Option.{option_copied};
+ghost use Rattle.std.specs.Ordering.{is_lt};
+ghost use Rattle.csi_orchestrator.specs.Listing.{node_in, target_in, kind_place, thing_order};
+ghost use Rattle.csi_orchestrator.specs.Thing.{name_in};
+
+use crate::thing::{Known, Thing};
+use std::cmp::Ordering;
+
+// The name of a thing's volume.
+fn name_of(thing: &Thing) -> &str
+    ensures { result.now ≡ name_in thing.now }
+{
+    match thing {
+        Thing::Exists { name } => name.as_str(),
+        Thing::Attached { name, .. } => name.as_str(),
+        Thing::Staged { name, .. } => name.as_str(),
+        Thing::Published { name, .. } => name.as_str(),
+    }
+}
+
+// Its node, if it has one.
+fn node_of(thing: &Thing) -> Option<&str>
+    ensures { option_copied result ≡ node_in thing.now }
+{
+    match thing {
+        Thing::Exists { .. } => None,
+        Thing::Attached { node, .. } => Some(node.as_str()),
+        Thing::Staged { node, .. } => Some(node.as_str()),
+        Thing::Published { node, .. } => Some(node.as_str()),
+    }
+}
+
+// Its target, if it has one.
+fn target_of(thing: &Thing) -> Option<&str>
+    ensures { option_copied result ≡ target_in thing.now }
+{
+    match thing {
+        Thing::Exists { .. } => None,
+        Thing::Attached { .. } => None,
+        Thing::Staged { .. } => None,
+        Thing::Published { target, .. } => Some(target.as_str()),
+    }
+}
+
+// The place of its kind among the four kinds.
+fn place_of_kind(thing: &Thing) -> u8
+    ensures { result ≡ kind_place thing.now }
+{
+    match thing {
+        Thing::Exists { .. } => 0,
+        Thing::Attached { .. } => 1,
+        Thing::Staged { .. } => 2,
+        Thing::Published { .. } => 3,
+    }
+}
+
+// Which of the two things comes first.
+fn compare(a: &Thing, b: &Thing) -> Ordering
+    ensures { result ≡ thing_order a.now b.now }
+{
+    let names = name_of(a).cmp(name_of(b));
+    let nodes = node_of(a).cmp(&node_of(b));
+    let kinds = place_of_kind(a).cmp(&place_of_kind(b));
+    let targets = target_of(a).cmp(&target_of(b));
+    names.then(nodes.then(kinds.then(targets)))
+}
+
+/// Puts things in order, each before those that come after it by `compare`.
+pub(crate) fn put_in_order(things: &mut Vec<(Thing, Known)>)
+    ensures moved { IsPermutation things.old.items things.new.items }
+    ensures order { IsSortedBy (λ a b. is_lt (thing_order a.0 b.0)) things.new.items }
+{
+    things.sort_unstable_by(|a, b| compare(&a.0, &b.0));
+}
