@@ -1,3 +1,8 @@
+pub mod MarksTold
+pub mod PartsSafe
+pub mod Laid
+pub mod Likeness
+pub mod Sought
 pub mod PluginSafety
 pub mod WorldView
 pub mod Issued
@@ -11,3 +16,9 @@ pub mod Reached
 pub mod Deliveries
 pub mod Choices
 pub mod Safety
+pub mod Runs
+pub mod Carried
+pub mod Orchestrated
+pub mod SystemNodes
+pub mod Called
+pub mod Simulations

@@ -108,7 +108,7 @@ some_of f (Some x) y h = (x, refl, same h)
     same e = cc
 
 -- the capability in which a volume is staged stands in the list
-staged_there : (state : NodeState) (id : ℕ) (capability : Capability) → staged_of id state ≡ Some capability → IsAmong {X = StagedVolume} (record { volume = id; capability = capability }) state.staged
+pub staged_there : (state : NodeState) (id : ℕ) (capability : Capability) → staged_of id state ≡ Some capability → IsAmong {X = StagedVolume} (record { volume = id; capability = capability }) state.staged
 staged_there state id capability h =
     let found = some_of (λ (s : StagedVolume). s.capability) (find (λ (s : StagedVolume). s.volume == id) state.staged) capability h in
     let s : StagedVolume = found.0 in

@@ -45,7 +45,3 @@ ChoicesAreSteps = (config : Config) (world : World) (choice : Choice) → MayCho
 -- the empty world is safe
 abbrev pub EmptyIsSafe : Type 0
 EmptyIsSafe = (config : Config) → Safe (empty_world config)
-
--- that runs are safe follows where they are made of steps
-abbrev pub RunsFollow : Type 0
-RunsFollow = RunsAreSteps → RunsAreSafe

@@ -2,5 +2,10 @@ pub mod World
 pub mod Step
 pub mod Safe
 pub mod After
+pub mod Simulated
+pub mod Audited
+pub mod Simulating
+pub mod System
+pub mod Listed
 pub mod Laws
 pub mod Rows

@@ -1,5 +1,6 @@
 //! Laws of worlds. Each function proves a statement, and does nothing.
-ghost use Rattle.csi_world.specs.Laws.{ChoicesAreSteps, EmptyIsSafe, RunsFollow, SafetyLaw, TableLaw};
+ghost use Rattle.csi_world.specs.Audited.{AuditsTellSafety};
+ghost use Rattle.csi_world.specs.Laws.{ChoicesAreSteps, EmptyIsSafe, RunsAreSteps, RunsAreSafe, SafetyLaw, TableLaw};
 
 fn choices_are_steps()
     ensures { ChoicesAreSteps }
@@ -9,9 +10,19 @@ fn empty_is_safe()
     ensures { EmptyIsSafe }
 {}
 
-fn runs_follow()
-    ensures { RunsFollow }
+fn runs_are_steps()
+    ensures { RunsAreSteps }
 {
+    csi_orchestrator::moves_law();
+}
+
+/// A law, and nothing that runs: after every beginning of every list of commands, deliveries, repeats, timeouts and restarts
+/// the world is safe, as `safety_law` says it, for every configuration. What isn't delivered is lost, and frames may come
+/// again and out of order.
+pub fn runs_law()
+    ensures { RunsAreSafe }
+{
+    runs_are_steps();
     safety_law();
 }
 
@@ -41,3 +52,9 @@ pub fn safety_law()
     csi_controller::names_law();
     csi_node::delivery_law();
 }
+
+/// A law, and nothing that runs: where what an audit compares is what a world's history tells, it finds nothing exactly where the
+/// world is safe (`safety_law` says what that is).
+pub fn audit_law()
+    ensures { AuditsTellSafety }
+{}

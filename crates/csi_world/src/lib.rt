@@ -2,9 +2,25 @@
 //! controller and its nodes, and a network that loses, repeats and reorders frames.
 #![tactic(auto)]
 
+mod auditing;
+mod carrying;
+mod commands;
 mod event;
 mod laws;
+mod occurring;
+mod plugins;
 mod rows;
+mod sending;
+mod simulation;
+mod system;
+#[cfg(test)]
+mod tests;
+mod violation;
+mod world;
 
+pub use auditing::audit;
 pub use event::{Event, Outcome};
-pub use laws::{safety_law, table_law};
+pub use laws::{audit_law, runs_law, safety_law, table_law};
+pub use simulation::simulate;
+pub use violation::Violation;
+pub use world::World;

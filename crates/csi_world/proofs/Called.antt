@@ -1,0 +1,162 @@
+-- The world after a call came to its plugin, and after a plugin restarted.
+use Rattle.std.proofs.Common.{◌≡◌, ◌+◌, ℕ, true, false, cond, List, [], ◌++◌, length, get_or, map, set, refl, sym, ◌∙◌, ap, subst}
+use Rattle.std.proofs.lemmas.List.{append-nil}
+use Rattle.std.specs.Prelude.{Option, Some, None, position, option_map}
+use Rattle.std.specs.List.{list_any}
+use Rattle.std.specs.Option.{option_to_list}
+use Rattle.csi_types.specs.declared.call.Party.TheVariants.{Controller, Node}
+use Rattle.csi_types.specs.Config.{has_node}
+use Rattle.csi_types.specs.Frame.{Frame}
+use Rattle.csi_types.specs.Same.{same_text}
+use Rattle.csi_types.proofs.Equality.{same_text-tells}
+use Rattle.csi_controller.specs.Core.{IsShown}
+use Rattle.csi_controller.specs.Core.{Parts as ControllerParts}
+use Rattle.csi_controller.specs.Fenced as controller
+use Rattle.csi_node.specs.Record.{NodeParts}
+use Rattle.csi_node.specs.Shown.{Shows}
+use Rattle.csi_node.specs.Fenced as node
+use Rattle.csi_world.specs.declared.event.Outcome.{Outcome}
+use Rattle.csi_world.specs.declared.event.Outcome.TheVariants as outcomes
+use Rattle.csi_world.specs.World.{NodeAt, World, node_state, with_frame, with_node}
+use Rattle.csi_world.specs.Step.{answered, answered_by, answered_by_node}
+use Rattle.csi_world.specs.After.{Occurred, node_id, next_frame, called}
+use Rattle.csi_world.specs.Simulated.{WorldShown, ShowsWorld}
+use Rattle.csi_world.specs.Simulating.{IsAnswered, ControllerDoes, NodeDoes, IsSameController, IsSameNode, HasOwnNodes, Becomes}
+use Rattle.csi_world.proofs.SystemNodes.{first-at, is_shown_node, IsFound, node-found, same-put, ids-put, any-ids, AreApart, fit-apart, state-put, none-at, some-at, find-nowhere, first-passes}
+
+-- a frame that is sent, if there is one, is appended
+with_frame-is : (reply : Option Frame) (world : World) → with_frame reply world ≡ record world { frames = world.frames ++ option_to_list reply }
+with_frame-is None world = let none : world.frames ++ [] ≡ world.frames = append-nil world.frames in λ i. record world { frames = sym none i }
+with_frame-is (Some frame) world = refl
+
+-- the same world, by what it shows
+at-world : (old new : WorldShown) (outcome : Outcome) (occurred : Occurred) (world : World) → new.config ≡ old.config → new.outcomes ≡ old.outcomes → HasOwnNodes new → ShowsWorld new world → occurred ≡ record { world = world; outcome = outcome }
+    → Becomes old new outcome occurred
+at-world old new outcome occurred world config outcomes own shows is =
+    record { config = config; outcomes = outcomes; own = own; world = subst (λ (o : Occurred). ShowsWorld new o.world) (sym is) shows; came = ap (λ (o : Occurred). o.outcome) (sym is) }
+
+-- nothing changes
+pub nothing-becomes : (shown : WorldShown) (outcome : Outcome) (world : World) → HasOwnNodes shown → ShowsWorld shown world → Becomes shown shown outcome (record { world = world; outcome = outcome })
+nothing-becomes shown outcome world own shows = record { config = refl; outcomes = refl; own = own; world = shows; came = refl }
+
+-- a call to the controller
+pub controller-becomes : (shown : WorldShown) (new : ControllerParts) (posted : List Frame) (frame : Frame) (reply : Option Frame) (outcome : Outcome) (world : World)
+    → HasOwnNodes shown → ShowsWorld shown world → frame.party ≡ Controller → ControllerDoes shown.controller new frame reply → IsAnswered shown.frames posted reply outcome
+    → Becomes shown (record shown { controller = new; frames = posted }) outcome (called shown.config world frame Controller)
+controller-becomes shown new posted frame reply outcome world own shows party does sent =
+    let fenced : controller.Fenced = controller.fenced shown.config world.controller frame in
+    let changed : World = record world { controller = fenced.state } in
+    let after : World = record changed { frames = world.frames ++ option_to_list fenced.reply } in
+    let config : (shown.controller).config ≡ shown.config = shows.own_config in
+    let replied : reply ≡ fenced.reply = subst (λ c. reply ≡ (controller.fenced c world.controller frame).reply) config (does.replies world.controller shows.controller) in
+    let state : IsShown new fenced.state = subst (λ c. IsShown new (controller.fenced c world.controller frame).state) config (does.state world.controller shows.controller) in
+    let frames : posted ≡ world.frames ++ option_to_list fenced.reply = sent.frames ∙ (λ i. shows.frames i ++ option_to_list (replied i)) in
+    let world_is : answered shown.config world frame ≡ after = ap (answered_by shown.config world frame) party ∙ with_frame-is fenced.reply changed in
+    let outcome_is : outcomes.Answered (next_frame world) ≡ outcome = ap (λ (fs : List Frame). outcomes.Answered (length fs + 1)) (sym shows.frames) ∙ sym sent.came in
+    at-world shown (record shown { controller = new; frames = posted }) outcome (called shown.config world frame Controller) after refl refl (record { ids = own.ids; fit = own.fit })
+    (record { frames = frames; controller = state; nodes = shows.nodes; orchestrator = shows.orchestrator; form = shows.form; own_config = does.config ∙ config; own_nodes = shows.own_nodes })
+    (λ i. let o : Occurred = record { world = world_is i; outcome = outcome_is i } in o)
+
+-- a call to a node
+pub node-becomes : (shown : WorldShown) (id : List ℕ) (place : ℕ) (old new : NodeParts) (posted : List Frame) (frame : Frame) (reply : Option Frame) (outcome : Outcome) (world : World)
+    → HasOwnNodes shown → ShowsWorld shown world → frame.party ≡ Node id → position (is_shown_node id) shown.nodes ≡ Some place → old ≡ get_or shown.nodes place old
+    → NodeDoes old new frame reply → IsAnswered shown.frames posted reply outcome
+    → Becomes shown (record shown { nodes = set shown.nodes place new; frames = posted }) outcome (called shown.config world frame (Node id))
+node-becomes shown id place old new posted frame reply outcome world own shows party at is does sent =
+    let first = first-at (is_shown_node id) shown.nodes place old at is in
+    let found : IsFound id old world.nodes = node-found id shown.nodes world.nodes place old shows.nodes first in
+    let own_id : old.id ≡ id = (same_text-tells old.id id).0 (first-passes (is_shown_node id) shown.nodes place old first) in
+    let fenced : node.Fenced = node.fenced id found.node.state frame in
+    let changed : World = with_node id fenced.state world in
+    let after : World = record changed { frames = world.frames ++ option_to_list fenced.reply } in
+    let replied : reply ≡ fenced.reply = subst (λ n. reply ≡ (node.fenced n found.node.state frame).reply) own_id (does.replies found.node.state found.shows) in
+    let state : Shows new.rows fenced.state = subst (λ n. Shows new.rows (node.fenced n found.node.state frame).state) own_id (does.state found.node.state found.shows) in
+    let frames : posted ≡ world.frames ++ option_to_list fenced.reply = sent.frames ∙ (λ i. shows.frames i ++ option_to_list (replied i)) in
+    let ids : map (λ (m : NodeParts). m.id) shown.nodes ≡ map node_id (shown.config).nodes = own.ids in
+    let there : has_node id (shown.config).nodes ≡ true
+    = any-ids id (shown.config).nodes ∙ ap (list_any (same_text id)) (sym ids) ∙ some-at id shown.nodes place old first in
+    let apart : AreApart (map (λ (m : NodeParts). m.id) shown.nodes) = subst AreApart (sym ids) (fit-apart shown.config own.fit) in
+    let known : node_state id world ≡ Some found.node.state = ap (option_map (λ (n : NodeAt). n.state)) found.found in
+    let world_is : answered shown.config world frame ≡ after = ap (answered_by shown.config world frame) party ∙ ap (answered_by_node id world frame) known ∙ with_frame-is fenced.reply changed in
+    let outcome_is : outcomes.Answered (next_frame world) ≡ outcome = ap (λ (fs : List Frame). outcomes.Answered (length fs + 1)) (sym shows.frames) ∙ sym sent.came in
+    let put : map (λ (m : NodeParts). m.id) (set shown.nodes place new) ≡ map (λ (m : NodeParts). m.id) shown.nodes = ids-put (is_shown_node id) shown.nodes place old new first does.id in
+    let answers : Occurred = record { world = answered shown.config world frame; outcome = outcomes.Answered (next_frame world) } in
+    let nowhere : Occurred = record { world = world; outcome = outcomes.NoSuchNode } in
+    at-world shown (record shown { nodes = set shown.nodes place new; frames = posted }) outcome (called shown.config world frame (Node id)) after refl refl
+    (record { ids = put ∙ ids; fit = own.fit })
+    (record {
+      frames = frames;
+      controller = shows.controller;
+      nodes = state-put id fenced.state shown.nodes world.nodes place old new shows.nodes apart first does.id state;
+      orchestrator = shows.orchestrator;
+      form = shows.form;
+      own_config = shows.own_config;
+      own_nodes = shows.own_nodes;
+    })
+    (ap (λ b. cond b answers nowhere) there ∙ (λ i. let o : Occurred = record { world = world_is i; outcome = outcome_is i } in o))
+
+-- no node is there
+isnt-there : (shown : WorldShown) (id : List ℕ) → HasOwnNodes shown → position (is_shown_node id) shown.nodes ≡ None → has_node id (shown.config).nodes ≡ false
+isnt-there shown id own none =
+    let ids : map (λ (m : NodeParts). m.id) shown.nodes ≡ map node_id (shown.config).nodes = own.ids in
+    any-ids id (shown.config).nodes ∙ ap (list_any (same_text id)) (sym ids) ∙ none-at id shown.nodes (find-nowhere (is_shown_node id) shown.nodes none)
+
+-- a call to a node that isn't there
+pub nowhere-becomes : (shown : WorldShown) (id : List ℕ) (frame : Frame) (world : World) → HasOwnNodes shown → ShowsWorld shown world → position (is_shown_node id) shown.nodes ≡ None
+    → Becomes shown shown outcomes.NoSuchNode (called shown.config world frame (Node id))
+nowhere-becomes shown id frame world own shows none =
+    let answers : Occurred = record { world = answered shown.config world frame; outcome = outcomes.Answered (next_frame world) } in
+    let nowhere : Occurred = record { world = world; outcome = outcomes.NoSuchNode } in
+    at-world shown shown outcomes.NoSuchNode (called shown.config world frame (Node id)) world refl refl own shows (ap (λ b. cond b answers nowhere) (isnt-there shown id own none))
+
+-- the controller restarts
+pub controller-restarts : (shown : WorldShown) (new : ControllerParts) (world : World) → HasOwnNodes shown → ShowsWorld shown world → IsSameController shown.controller new
+    → Becomes shown (record shown { controller = new }) outcomes.Restarted (record { world = world; outcome = outcomes.Restarted })
+controller-restarts shown new world own shows same =
+    record {
+      config = refl;
+      outcomes = refl;
+      own = record { ids = own.ids; fit = own.fit };
+      world = record {
+        frames = shows.frames;
+        controller = same.shown world.controller shows.controller;
+        nodes = shows.nodes;
+        orchestrator = shows.orchestrator;
+        form = shows.form;
+        own_config = same.config ∙ shows.own_config;
+        own_nodes = shows.own_nodes;
+      };
+      came = refl;
+    }
+
+-- a node restarts
+pub node-restarts : (shown : WorldShown) (id : List ℕ) (place : ℕ) (old new : NodeParts) (world : World) → HasOwnNodes shown → ShowsWorld shown world
+    → position (is_shown_node id) shown.nodes ≡ Some place → old ≡ get_or shown.nodes place old → IsSameNode old new
+    → Becomes shown (record shown { nodes = set shown.nodes place new }) outcomes.Restarted (record { world = world; outcome = cond (has_node id (shown.config).nodes) outcomes.Restarted outcomes.NoSuchNode })
+node-restarts shown id place old new world own shows at is same =
+    let first = first-at (is_shown_node id) shown.nodes place old at is in
+    let ids : map (λ (m : NodeParts). m.id) shown.nodes ≡ map node_id (shown.config).nodes = own.ids in
+    let there : has_node id (shown.config).nodes ≡ true
+    = any-ids id (shown.config).nodes ∙ ap (list_any (same_text id)) (sym ids) ∙ some-at id shown.nodes place old first in
+    let put : map (λ (m : NodeParts). m.id) (set shown.nodes place new) ≡ map (λ (m : NodeParts). m.id) shown.nodes = ids-put (is_shown_node id) shown.nodes place old new first same.id in
+    record {
+      config = refl;
+      outcomes = refl;
+      own = record { ids = put ∙ ids; fit = own.fit };
+      world = record {
+        frames = shows.frames;
+        controller = shows.controller;
+        nodes = same-put (is_shown_node id) shown.nodes world.nodes place old new shows.nodes first same;
+        orchestrator = shows.orchestrator;
+        form = shows.form;
+        own_config = shows.own_config;
+        own_nodes = shows.own_nodes;
+      };
+      came = ap (λ b. cond b outcomes.Restarted outcomes.NoSuchNode) (sym there);
+    }
+
+-- the same, where it isn't there
+pub nowhere-restarts : (shown : WorldShown) (id : List ℕ) (world : World) → HasOwnNodes shown → ShowsWorld shown world → position (is_shown_node id) shown.nodes ≡ None
+    → Becomes shown shown outcomes.NoSuchNode (record { world = world; outcome = cond (has_node id (shown.config).nodes) outcomes.Restarted outcomes.NoSuchNode })
+nowhere-restarts shown id world own shows none =
+    record { config = refl; outcomes = refl; own = own; world = shows; came = ap (λ b. cond b outcomes.Restarted outcomes.NoSuchNode) (sym (isnt-there shown id own none)) }

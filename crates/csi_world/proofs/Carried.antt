@@ -1,0 +1,22 @@
+-- Bytes that spell a frame are read as this frame, unless memory is refused.
+use Rattle.std.proofs.Common.{◌≡◌, ℕ, List, length, sym, subst, inl, inr, arith}
+use Rattle.std.specs.Prelude.{Result, Ok, Err}
+use Rattle.std.proofs.Math.Seq.{take-length}
+use Rattle.csi_types.specs.Frame.{Frame}
+use Rattle.csi_frames.specs.declared.fault.FrameFault.{FrameFault}
+use Rattle.csi_frames.specs.Decoding.{no_memory, GivesUnlessMemory}
+use Rattle.csi_frames.specs.Spelling.{Spells, BeginsWith}
+
+pub begins-whole : (frame : Frame) (bytes : List ℕ) → Spells frame bytes → BeginsWith bytes frame (length bytes)
+begins-whole frame bytes spells = record { within = omega arith; spelled = subst (Spells frame) (sym (take-length bytes)) spells }
+
+ok_isnt_err : {X Y : Type 0} (x : X) (y : Y) (result : Result X Y) → result ≡ Ok x → result ≡ Err y → ⊥
+ok_isnt_err x y result f g = cc
+
+pub only-memory : {X : Type 0} (result : Result X FrameFault) (value : X) (fault : FrameFault) → GivesUnlessMemory result value → result ≡ Err fault → fault ≡ no_memory
+only-memory result value fault (inl e) is = absurd (ok_isnt_err value fault result e is)
+only-memory result value fault (inr e) is = cc
+
+pub only-value : {X : Type 0} (result : Result X FrameFault) (value read : X) → GivesUnlessMemory result value → result ≡ Ok read → read ≡ value
+only-value result value read (inl e) is = cc
+only-value result value read (inr e) is = absurd (ok_isnt_err read no_memory result is e)

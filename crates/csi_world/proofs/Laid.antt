@@ -1,0 +1,26 @@
+-- What the plugins' readers give makes a world that is like each world which the plugins show.
+use Rattle.std.proofs.Common.{List, [], ◌∷◌, ◌++◌}
+use Rattle.std.specs.List.{AllByRecursion}
+use Rattle.csi_node.specs.Record.{NodeParts}
+use Rattle.csi_world.specs.World.{NodeAt}
+use Rattle.csi_world.specs.Simulated.{AreNodesShown}
+use Rattle.csi_world.specs.Listed.{AreNodesAlike, IsListOf, AreListsOf}
+
+pub all-more : {X : Type 0} (P : X → Type 0) (xs : List X) (x : X) → AllByRecursion P xs → P x → AllByRecursion P (xs ++ x ∷ [])
+all-more P [] x all here = (here, tt)
+all-more P (y ∷ ys) x all here = (all.0, all-more P ys x all.1 here)
+
+pub lists-more : (nodes : List NodeParts) (lists : List NodeAt) (parts : NodeParts) (listed : NodeAt) → AreListsOf nodes lists → IsListOf parts listed
+    → AreListsOf (nodes ++ parts ∷ []) (lists ++ listed ∷ [])
+lists-more [] [] parts listed are is = (is, tt)
+lists-more [] (l ∷ ls) parts listed are is = absurd are
+lists-more (n ∷ ns) [] parts listed are is = absurd are
+lists-more (n ∷ ns) (l ∷ ls) parts listed are is = (are.0, lists-more ns ls parts listed are.1 is)
+
+pub lists-alike : (nodes : List NodeParts) (lists shown : List NodeAt) → AreListsOf nodes lists → AreNodesShown nodes shown → AreNodesAlike lists shown
+lists-alike [] [] [] are is = tt
+lists-alike [] [] (s ∷ ss) are is = absurd is
+lists-alike [] (l ∷ ls) shown are is = absurd are
+lists-alike (n ∷ ns) [] shown are is = absurd are
+lists-alike (n ∷ ns) (l ∷ ls) [] are is = absurd is
+lists-alike (n ∷ ns) (l ∷ ls) (s ∷ ss) are is = (are.0.shows s is.1 is.0, lists-alike ns ls ss are.1 is.2)

@@ -1,0 +1,209 @@
+-- The nodes of a world: the one of an id, where it stands, and what follows where another is put there.
+use Rattle.std.proofs.Common.{◌≡◌, ◌<◌, ◌≤◌, ◌+◌, ℕ, zero, suc, Bool, true, false, cond, List, [], ◌∷◌, length, get_or, map, set, refl, sym, ◌∙◌, ap, subst, arith}
+use Rattle.std.specs.Prelude.{Some, None, find, position, option_map, ◌||◌, not, nat_lt}
+use Rattle.std.specs.List.{list_any, position_or_len}
+use Rattle.std.proofs.lemmas.Bool.Decides.{nat_tests}
+use Rattle.std.proofs.lemmas.List.Quantifiers.{position-Some}
+use Rattle.csi_types.specs.declared.config.NodeSlots.{NodeSlots}
+use Rattle.csi_types.specs.declared.config.ConfigFault.TheVariants.{BadGreatest, TooManyNodes, SameNode, BadSlots}
+use Rattle.csi_types.specs.Config.{Config, is_bad_greatest, has_node, has_same_node, has_bad_slots, config_fault}
+use Rattle.csi_types.specs.Same.{same_text}
+use Rattle.csi_types.proofs.Equality.{same_text-tells}
+use Rattle.csi_node.specs.Record.{NodeParts}
+use Rattle.csi_node.specs.Shown.{Shows}
+use Rattle.csi_node.specs.State.{NodeState}
+use Rattle.csi_world.specs.World.{NodeAt, new_node, with_state}
+use Rattle.csi_world.specs.After.{node_id}
+use Rattle.csi_world.specs.Simulated.{AreNodesShown}
+use Rattle.csi_world.specs.Simulating.{IsSameNode, ShowsNode, new_node_parts}
+
+-- x is the first that passes, and stands there
+abbrev pub FirstAt : {X : Type 0} → (X → Bool) → List X → ℕ → X → Type 0
+FirstAt p [] place x = ⊥
+FirstAt p (y ∷ ys) zero x = (p y ≡ true) × (y ≡ x)
+FirstAt p (y ∷ ys) (suc place) x = (p y ≡ false) × FirstAt p ys place x
+
+first-from : {X : Type 0} (p : X → Bool) (xs : List X) (i : ℕ) (d : X) → i < length xs → p (get_or xs i d) ≡ true → ((k : ℕ) → k < i → p (get_or xs k d) ≡ false) → FirstAt p xs i (get_or xs i d)
+first-from p [] i d inside here before = absurd (omega arith)
+first-from p (x ∷ xs) zero d inside here before = (here, refl)
+first-from p (x ∷ xs) (suc i) d inside here before = (before 0 (omega arith), first-from p xs i d (omega arith) here (λ k below. before (suc k) (omega arith)))
+
+pub first-at : {X : Type 0} (p : X → Bool) (xs : List X) (i : ℕ) (x : X) → position p xs ≡ Some i → x ≡ get_or xs i x → FirstAt p xs i x
+first-at p xs i x at is =
+    let found = position-Some p xs i x at in
+    subst (λ y. FirstAt p xs i y) (sym is) (first-from p xs i x found.0 found.1 found.2)
+
+pub first-passes : {X : Type 0} (p : X → Bool) (xs : List X) (i : ℕ) (x : X) → FirstAt p xs i x → p x ≡ true
+first-passes p [] i x h = absurd h
+first-passes p (y ∷ ys) zero x h = ap p (sym (h.1)) ∙ h.0
+first-passes p (y ∷ ys) (suc i) x h = first-passes p ys i x (h.1)
+
+true_isnt_false : true ≡ false → ⊥
+true_isnt_false h = cc
+
+-- a search that finds no place finds nothing
+some_isnt_none : {X : Type 0} (x : X) → Some x ≡ None → ⊥
+some_isnt_none x h = cc
+
+find-beyond : {X : Type 0} (p : X → Bool) (xs : List X) → length xs ≤ position_or_len p xs → find p xs ≡ None
+find-beyond p [] h = refl
+find-beyond p (x ∷ xs) h = by (p x) (find-beyond p xs) h
+  where
+    by : (b : Bool) → (length xs ≤ position_or_len p xs → find p xs ≡ None) → suc (length xs) ≤ cond (not b) (1 + position_or_len p xs) 0 → cond b (Some x) (find p xs) ≡ None
+    by true rest k = absurd (omega arith)
+    by false rest k = rest (omega arith)
+
+beyond : (place size : ℕ) (b : Bool) → nat_lt place size ≡ b → cond b (Some place) None ≡ None → size ≤ place
+beyond place size true e h = absurd (some_isnt_none place h)
+beyond place size false e h = grind (arith, nat_tests)
+
+pub find-nowhere : {X : Type 0} (p : X → Bool) (xs : List X) → position p xs ≡ None → find p xs ≡ None
+find-nowhere p xs none = find-beyond p xs (beyond (position_or_len p xs) (length xs) (nat_lt (position_or_len p xs) (length xs)) refl none)
+
+-- is this node the one of the id
+abbrev pub is_shown_node : List ℕ → NodeParts → Bool
+is_shown_node id node = same_text node.id id
+
+abbrev pub is_node : List ℕ → NodeAt → Bool
+is_node id node = same_text node.id id
+
+-- the node of a world that stands where the first one of the id is shown
+pub record IsFound (id : List ℕ) (shown : NodeParts) (nodes : List NodeAt) : Type 0 where
+  pub node : NodeAt
+  pub found : find (is_node id) nodes ≡ Some node
+  pub same_id : shown.id ≡ node.id
+  pub shows : Shows shown.rows node.state
+
+pub node-found : (id : List ℕ) (shown : List NodeParts) (nodes : List NodeAt) (i : ℕ) (one : NodeParts) → AreNodesShown shown nodes → FirstAt (is_shown_node id) shown i one → IsFound id one nodes
+node-found id [] nodes i one are first = absurd first
+node-found id (x ∷ xs) [] i one are first = absurd are
+node-found id (x ∷ xs) (n ∷ ns) zero one are first =
+    let passes : same_text n.id id ≡ true = ap (λ t. same_text t id) (sym (are.0)) ∙ first.0 in
+    let found : cond (same_text n.id id) (Some n) (find (is_node id) ns) ≡ Some n = rw passes refl in
+    record { node = n; found = found; same_id = ap (λ (m : NodeParts). m.id) (sym (first.1)) ∙ are.0; shows = subst (λ (m : NodeParts). Shows m.rows n.state) (first.1) (are.1) }
+node-found id (x ∷ xs) (n ∷ ns) (suc i) one are first =
+    let rest : IsFound id one ns = node-found id xs ns i one (are.2) (first.1) in
+    let passes : same_text n.id id ≡ false = ap (λ t. same_text t id) (sym (are.0)) ∙ first.0 in
+    let found : cond (same_text n.id id) (Some n) (find (is_node id) ns) ≡ Some rest.node = rw passes rest.found in
+    record { node = rest.node; found = found; same_id = rest.same_id; shows = rest.shows }
+
+-- what is shown of the node of an id
+pub node-shown : (id : List ℕ) (shown : List NodeParts) (nodes : List NodeAt) → AreNodesShown shown nodes → ShowsNode (find (is_shown_node id) shown) (option_map (λ (n : NodeAt). n.state) (find (is_node id) nodes))
+node-shown id [] [] are = tt
+node-shown id [] (n ∷ ns) are = absurd are
+node-shown id (x ∷ xs) [] are = absurd are
+node-shown id (x ∷ xs) (n ∷ ns) are =
+    by (same_text x.id id) (same_text n.id id) (ap (λ t. same_text t id) (are.0)) (are.1) (node-shown id xs ns (are.2))
+  where
+    by : (a b : Bool) → a ≡ b → Shows x.rows n.state → ShowsNode (find (is_shown_node id) xs) (option_map (λ (m : NodeAt). m.state) (find (is_node id) ns))
+        → ShowsNode (cond a (Some x) (find (is_shown_node id) xs)) (option_map (λ (m : NodeAt). m.state) (cond b (Some n) (find (is_node id) ns)))
+    by true true e here rest = here
+    by false false e here rest = rest
+    by true false e here rest = absurd (true_isnt_false e)
+    by false true e here rest = absurd (true_isnt_false (sym e))
+
+-- where a node is put that shows the same
+pub same-put : (p : NodeParts → Bool) (shown : List NodeParts) (nodes : List NodeAt) (i : ℕ) (old new : NodeParts) → AreNodesShown shown nodes → FirstAt p shown i old → IsSameNode old new → AreNodesShown (set shown i new) nodes
+same-put p [] nodes i old new are first same = absurd first
+same-put p (x ∷ xs) [] i old new are first same = absurd are
+same-put p (x ∷ xs) (n ∷ ns) zero old new are first same =
+    (same.id ∙ ap (λ (m : NodeParts). m.id) (sym (first.1)) ∙ are.0, same.shown n.state (subst (λ (m : NodeParts). Shows m.rows n.state) (first.1) (are.1)), are.2)
+same-put p (x ∷ xs) (n ∷ ns) (suc i) old new are first same = (are.0, are.1, same-put p xs ns i old new (are.2) (first.1) same)
+
+-- the ids stay
+pub ids-put : (p : NodeParts → Bool) (shown : List NodeParts) (i : ℕ) (old new : NodeParts) → FirstAt p shown i old → new.id ≡ old.id → map (λ (m : NodeParts). m.id) (set shown i new) ≡ map (λ (m : NodeParts). m.id) shown
+ids-put p [] i old new first same = absurd first
+ids-put p (x ∷ xs) zero old new first same = ap (λ (t : List ℕ). t ∷ map (λ (m : NodeParts). m.id) xs) (same ∙ ap (λ (m : NodeParts). m.id) (sym (first.1)))
+ids-put p (x ∷ xs) (suc i) old new first same = ap (λ (ts : List (List ℕ)). x.id ∷ ts) (ids-put p xs i old new (first.1) same)
+
+-- ---- ids that differ
+abbrev pub AreApart : List (List ℕ) → Type 0
+AreApart [] = Unit {0}
+AreApart (x ∷ xs) = (list_any (same_text x) xs ≡ false) × AreApart xs
+
+pub any-ids : (id : List ℕ) (nodes : List NodeSlots) → has_node id nodes ≡ list_any (same_text id) (map node_id nodes)
+any-ids id [] = refl
+any-ids id (n ∷ ns) = ap (λ b. same_text id n.id || b) (any-ids id ns)
+
+or-false : (a b : Bool) → (a || b) ≡ false → (a ≡ false) × (b ≡ false)
+or-false true b h = absurd (let clash : true ≡ false → ⊥ = (λ e. cc) in clash h)
+or-false false b h = (refl, h)
+
+apart-from : (nodes : List NodeSlots) → has_same_node nodes ≡ false → AreApart (map node_id nodes)
+apart-from [] h = tt
+apart-from (n ∷ ns) h =
+    let both = or-false (has_node n.id ns) (has_same_node ns) h in
+    (sym (any-ids n.id ns) ∙ both.0, apart-from ns (both.1))
+
+fault-none : (a b c d : Bool) → cond a (Some BadGreatest) (cond b (Some TooManyNodes) (cond c (Some SameNode) (cond d (Some BadSlots) None))) ≡ None → c ≡ false
+fault-none true b c d h = absurd (some_isnt_none BadGreatest h)
+fault-none false true c d h = absurd (some_isnt_none TooManyNodes h)
+fault-none false false true d h = absurd (some_isnt_none SameNode h)
+fault-none false false false d h = refl
+
+pub fit-apart : (config : Config) → config_fault config.greatest config.nodes ≡ None → AreApart (map node_id config.nodes)
+fit-apart config h =
+    apart-from config.nodes (fault-none (is_bad_greatest config.greatest) (nat_lt 64 (length config.nodes)) (has_same_node config.nodes) (has_bad_slots config.nodes) h)
+
+-- a text is the same both ways
+pub same-symmetric : (a b : List ℕ) → same_text a b ≡ same_text b a
+same-symmetric a b = by (same_text a b) (same_text b a) refl refl
+  where
+    by : (x y : Bool) → same_text a b ≡ x → same_text b a ≡ y → x ≡ y
+    by true true f g = refl
+    by false false f g = refl
+    by true false f g = let e : a ≡ b = (same_text-tells a b).0 f in sym ((same_text-tells b a).1 (sym e)) ∙ g
+    by false true f g = let e : b ≡ a = (same_text-tells b a).0 g in sym f ∙ (same_text-tells a b).1 (sym e)
+
+-- where none has the id, nothing changes
+none-changed : (id : List ℕ) (state : NodeState) (shown : List NodeParts) (nodes : List NodeAt) → AreNodesShown shown nodes → list_any (same_text id) (map (λ (m : NodeParts). m.id) shown) ≡ false → map (with_state id state) nodes ≡ nodes
+none-changed id state [] [] are none = refl
+none-changed id state [] (n ∷ ns) are none = absurd are
+none-changed id state (x ∷ xs) [] are none = absurd are
+none-changed id state (x ∷ xs) (n ∷ ns) are none =
+    let both = or-false (same_text id x.id) (list_any (same_text id) (map (λ (m : NodeParts). m.id) xs)) none in
+    let other : same_text n.id id ≡ false = ap (λ t. same_text t id) (sym (are.0)) ∙ same-symmetric x.id id ∙ both.0 in
+    let here : with_state id state n ≡ n = rw other refl in
+    λ i. here i ∷ none-changed id state xs ns (are.2) (both.1) i
+
+-- where a node is put that shows this state
+pub state-put : (id : List ℕ) (state : NodeState) (shown : List NodeParts) (nodes : List NodeAt) (i : ℕ) (old new : NodeParts) → AreNodesShown shown nodes → AreApart (map (λ (m : NodeParts). m.id) shown)
+    → FirstAt (is_shown_node id) shown i old → new.id ≡ old.id → Shows new.rows state → AreNodesShown (set shown i new) (map (with_state id state) nodes)
+state-put id state [] nodes i old new are apart first same shows = absurd first
+state-put id state (x ∷ xs) [] i old new are apart first same shows = absurd are
+state-put id state (x ∷ xs) (n ∷ ns) zero old new are apart first same shows =
+    let passes : same_text n.id id ≡ true = ap (λ t. same_text t id) (sym (are.0)) ∙ first.0 in
+    let here : with_state id state n ≡ record n { state = state } = rw passes refl in
+    let own : x.id ≡ id = (same_text-tells x.id id).0 (first.0) in
+    let others : map (with_state id state) ns ≡ ns = none-changed id state xs ns (are.2) (subst (λ t. list_any (same_text t) (map (λ (m : NodeParts). m.id) xs) ≡ false) own (apart.0)) in
+    subst (λ (all : List NodeAt). AreNodesShown (new ∷ xs) all) (λ j. sym here j ∷ sym others j)
+    (same ∙ ap (λ (m : NodeParts). m.id) (sym (first.1)) ∙ are.0, shows, are.2)
+state-put id state (x ∷ xs) (n ∷ ns) (suc i) old new are apart first same shows =
+    let passes : same_text n.id id ≡ false = ap (λ t. same_text t id) (sym (are.0)) ∙ first.0 in
+    let here : with_state id state n ≡ n = rw passes refl in
+    let rest = state-put id state xs ns i old new (are.2) (apart.1) (first.1) same shows in
+    subst (λ (m : NodeAt). AreNodesShown (x ∷ set xs i new) (m ∷ map (with_state id state) ns)) (sym here) (are.0, are.1, rest)
+
+-- which ids there are
+pub none-at : (id : List ℕ) (shown : List NodeParts) → find (is_shown_node id) shown ≡ None → list_any (same_text id) (map (λ (m : NodeParts). m.id) shown) ≡ false
+none-at id [] none = refl
+none-at id (x ∷ xs) none = by (same_text x.id id) refl (none-at id xs) none
+  where
+    by : (b : Bool) → same_text x.id id ≡ b → (find (is_shown_node id) xs ≡ None → list_any (same_text id) (map (λ (m : NodeParts). m.id) xs) ≡ false) → cond b (Some x) (find (is_shown_node id) xs) ≡ None
+        → list_any (same_text id) (x.id ∷ map (λ (m : NodeParts). m.id) xs) ≡ false
+    by true e rest h = absurd (some_isnt_none x h)
+    by false e rest h = rw (same-symmetric id x.id ∙ e) (rest h)
+
+pub some-at : (id : List ℕ) (shown : List NodeParts) (i : ℕ) (x : NodeParts) → FirstAt (is_shown_node id) shown i x → list_any (same_text id) (map (λ (m : NodeParts). m.id) shown) ≡ true
+some-at id [] i x first = absurd first
+some-at id (y ∷ ys) zero x first = rw (same-symmetric id y.id ∙ first.0) refl
+some-at id (y ∷ ys) (suc i) x first = rw (same-symmetric id y.id ∙ first.0) (some-at id ys i x (first.1))
+
+-- nodes that answered nothing
+pub new-shown : (nodes : List NodeSlots) → AreNodesShown (map new_node_parts nodes) (map new_node nodes)
+new-shown [] = tt
+new-shown (n ∷ ns) = (refl, record { count = refl; kept = λ id. refl; staged = λ id. refl; published = λ id. refl }, new-shown ns)
+
+pub new-ids : (nodes : List NodeSlots) → map (λ (m : NodeParts). m.id) (map new_node_parts nodes) ≡ map node_id nodes
+new-ids [] = refl
+new-ids (n ∷ ns) = ap (λ (ids : List (List ℕ)). n.id ∷ ids) (new-ids ns)

@@ -1,0 +1,20 @@
+-- One node's lists more.
+use Rattle.std.proofs.Common.{◌≡◌, ◌+◌, List, [], ◌∷◌, ◌++◌, map, take, ap, sym, ◌∙◌, subst}
+use Rattle.std.proofs.lemmas.List.{take_more, map-append}
+use Rattle.csi_node.specs.Record.{NodeParts}
+use Rattle.csi_world.specs.World.{NodeAt}
+use Rattle.csi_world.specs.Listed.{node_listed, AreListsOf}
+use Rattle.csi_world.proofs.Laid.{lists-more}
+use Rattle.csi_world.proofs.auditing.gathering.list_nodes.Goals as goal
+
+pub loop-node-preserved : goal.loop-node-preserved
+loop-node-preserved c =
+    let nodes : List NodeParts = c.args.nodes.now in
+    let i = c.loop-node.node-index in
+    let parts : NodeParts = c.node-item.result in
+    let listed : NodeAt = node_listed c.in_ok-listed.listed in
+    let more = lists-more (take i nodes) (map node_listed c.loop-node.lists.items) parts listed c.loop-node.invariant c.in_ok-listed.ensures in
+    let front : take i nodes ++ parts ∷ [] ≡ take (i + 1) nodes = ap (λ (p : NodeParts). take i nodes ++ p ∷ []) c.node-item.is ∙ sym (take_more nodes i parts c.loop-node-test.true) in
+    let back : map node_listed c.loop-node.lists.items ++ listed ∷ [] ≡ map node_listed c.push.new.self.items = sym (ap (map node_listed) c.in_ok-push.ensures.items ∙ map-append node_listed c.loop-node.lists.items (c.in_ok-listed.listed ∷ [])) in
+    subst (λ (ls : List NodeAt). AreListsOf (take (i + 1) nodes) ls) back
+    (subst (λ (ns : List NodeParts). AreListsOf ns (map node_listed c.loop-node.lists.items ++ listed ∷ [])) front more)

@@ -1,0 +1,6 @@
+-- By what is listed.
+use Rattle.csi_world.proofs.PartsSafe.{staged-told}
+use Rattle.csi_world.proofs.auditing.staging.is_staged_where_attached.Goals as goal
+
+pub returns : goal.returns
+returns c world alike = staged-told c.args.lists.now world alike c.are_attached.result c.are_attached.ensures

@@ -1,0 +1,47 @@
+-- Clause by clause.
+use Rattle.std.proofs.Common.{◌≡◌, refl, sym, ◌∙◌}
+use Rattle.std.specs.Prelude.{Some, None}
+use Rattle.csi_orchestrator.specs.declared.thing.Thing.{Thing}
+use Rattle.csi_orchestrator.specs.declared.thing.Known.{Known}
+use Rattle.csi_orchestrator.specs.Readings.{known}
+use Rattle.csi_orchestrator.specs.Shown.{view_of}
+use Rattle.csi_world.specs.declared.violation.Violation.{Violation}
+use Rattle.csi_world.specs.declared.violation.Violation.TheVariants.{TwoNodes, StagedUnattached, PublishedUnstaged, DeletedAttached, RecordedWrong}
+use Rattle.csi_world.specs.World.{World}
+use Rattle.csi_world.specs.Safe.{Safe}
+use Rattle.csi_world.specs.Audited.{AreMarkedRight, Finds}
+use Rattle.csi_world.proofs.laws.audit_law.Goals as goal
+
+marked : (marks : Thing → Known) (world : World) → ((thing : Thing) → marks thing ≡ known world.history thing) → Safe world → AreMarkedRight marks world
+marked marks world same safe thing =
+    record {
+      yes = λ is. (safe.recorded_right thing).yes (sym (same thing) ∙ is);
+      no = λ is. (safe.recorded_right thing).no (sym (same thing) ∙ is);
+    }
+
+is_safe : (marks : Thing → Known) (world : World) → ((thing : Thing) → marks thing ≡ known world.history thing) → Finds marks world None → Safe world
+is_safe marks world same finds =
+    record {
+      exclusive = finds.0;
+      staged_where_attached = finds.1;
+      published_where_staged = finds.2;
+      attached_while_live = finds.3;
+      recorded_right = λ thing. record { yes = λ is. (finds.4 thing).yes (same thing ∙ is); no = λ is. (finds.4 thing).no (same thing ∙ is) };
+    }
+
+unsafe : (marks : Thing → Known) (world : World) (violation : Violation) → ((thing : Thing) → marks thing ≡ known world.history thing) → Finds marks world (Some violation) → Safe world → ⊥
+unsafe marks world TwoNodes same finds safe = finds safe.exclusive
+unsafe marks world StagedUnattached same finds safe = finds.1 safe.staged_where_attached
+unsafe marks world PublishedUnstaged same finds safe = finds.2 safe.published_where_staged
+unsafe marks world DeletedAttached same finds safe = finds.3 safe.attached_while_live
+unsafe marks world RecordedWrong same finds safe = finds.4 (marked marks world same safe)
+
+some_is_not_none : (violation : Violation) → Some violation ≡ None → ⊥
+some_is_not_none violation e = cc
+
+pub returns : goal.returns
+returns c parts world None agrees finds = (λ e. is_safe (view_of parts).marks world agrees.same_marks finds, λ safe. refl)
+returns c parts world (Some violation) agrees finds = (
+  λ e. absurd (some_is_not_none violation e),
+  λ safe. absurd (unsafe (view_of parts).marks world violation agrees.same_marks finds safe),
+)

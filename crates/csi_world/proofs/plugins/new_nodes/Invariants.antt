@@ -1,0 +1,7 @@
+-- The first nodes were made.
+use Rattle.std.proofs.Common.{◌≡◌, map, take}
+use Rattle.csi_world.specs.Simulating.{new_node_parts}
+use Rattle.csi_world.proofs.plugins.new_nodes.Given as goal
+
+abbrev pub invariant-loop-one : goal.invariant-loop-one
+invariant-loop-one l = l.nodes.items ≡ map new_node_parts (take l.one-index l.fn.slots)

@@ -1,0 +1,20 @@
+-- One event more.
+use Rattle.std.proofs.Common.{◌≡◌, ◌+◌, ◌++◌, ◌∷◌, [], List, take, sym, ◌∙◌, ap, subst}
+use Rattle.std.proofs.lemmas.List.{take_more}
+use Rattle.csi_world.specs.declared.event.Event.{Event}
+use Rattle.csi_world.specs.After.{after}
+use Rattle.csi_world.specs.Simulating.{IsRun}
+use Rattle.csi_world.specs.System.{shown_of}
+use Rattle.csi_world.proofs.Simulations.{run-more}
+use Rattle.csi_world.proofs.simulation.run.Goals as goal
+
+pub loop-event-preserved : goal.loop-event-preserved
+loop-event-preserved c =
+    let events = c.args.events.now in
+    let index = c.loop-event.event-index in
+    let event = c.event-item.result in
+    let before = c.loop-event.invariant in
+    let more : take (index + 1) events ≡ take index events ++ event ∷ []
+    = take_more events index event c.loop-event-test.true ∙ ap (λ (e : Event). take index events ++ e ∷ []) (sym c.event-item.is) in
+    subst (λ (es : List Event). IsRun c.args.config.now es (shown_of c.occur.new.self)) (sym more)
+    (run-more c.args.config.now (take index events) event (shown_of c.loop-event.system) (shown_of c.occur.new.self) before (c.in_ok-occur.ensures (after c.args.config.now (take index events)).world before.shows.world))

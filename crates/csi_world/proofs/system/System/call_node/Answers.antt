@@ -1,0 +1,14 @@
+-- The node answers where it stands.
+use Rattle.std.proofs.lemmas.Result.{IfOk-weaker}
+use Rattle.csi_world.specs.System.{shown_of}
+use Rattle.csi_world.proofs.Called.{node-becomes, nowhere-becomes}
+use Rattle.csi_world.proofs.system.System.call_node.Goals as goal
+
+pub returns-in_ok-reply-in-Some : goal.returns-in_ok-reply-in-Some
+returns-in_ok-reply-in-Some c = λ world shows.
+    IfOk-weaker c.answered.result _ _
+    (λ outcome sent. node-becomes (shown_of c.args.self.now) c.args.id.now c.in-Some.place c.index_mut.result.now c.step_node.new.node c.answered.new.frames.items c.args.frame.now c.in_ok-reply-in-Some.reply outcome world c.requires.own shows c.requires.party (cc) c.index_mut.ensures.value c.in_ok-reply-in-Some.ensures sent)
+    c.answered.ensures
+
+pub returns-in-None : goal.returns-in-None
+returns-in-None c = λ world shows. nowhere-becomes (shown_of c.args.self.now) c.args.id.now c.args.frame.now world c.requires.own shows (cc)

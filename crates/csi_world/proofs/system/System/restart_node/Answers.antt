@@ -1,0 +1,11 @@
+-- The node is put where it stood.
+use Rattle.csi_world.specs.System.{shown_of}
+use Rattle.csi_world.proofs.Called.{node-restarts, nowhere-restarts}
+use Rattle.csi_world.proofs.system.System.restart_node.Goals as goal
+
+pub returns-in_ok-node-in-Some : goal.returns-in_ok-node-in-Some
+returns-in_ok-node-in-Some c = λ world shows.
+    node-restarts (shown_of c.args.self.now) c.args.id.now c.in-Some.place c.index.result.now c.in_ok-node-in-Some.node world c.requires.own shows (cc) c.index.ensures c.in_ok-node-in-Some.ensures
+
+pub returns-in-None : goal.returns-in-None
+returns-in-None c = λ world shows. nowhere-restarts (shown_of c.args.self.now) c.args.id.now world c.requires.own shows (cc)

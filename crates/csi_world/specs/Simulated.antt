@@ -1,0 +1,46 @@
+-- What a simulated world shows, and which world that is. This profile's own.
+use Rattle.std.specs.Prelude.{◌≡◌, List, [], ◌∷◌, map}
+use Rattle.csi_types.specs.Config.{Config}
+use Rattle.csi_types.specs.Frame.{Frame}
+use Rattle.csi_controller.specs.Core.{IsShown}
+use Rattle.csi_controller.specs.Core.{Parts as ControllerParts}
+use Rattle.csi_node.specs.Record.{NodeParts}
+use Rattle.csi_node.specs.Shown.{Shows as NodeShows}
+use Rattle.csi_orchestrator.specs.WellFormed.{IsWellFormed}
+use Rattle.csi_orchestrator.specs.Shown.{AgreesWith}
+use Rattle.csi_orchestrator.specs.Shown.{Parts as OrchestratorParts}
+use Rattle.csi_world.specs.declared.event.Outcome.{Outcome}
+use Rattle.csi_world.specs.World.{NodeAt, World}
+use Rattle.csi_world.specs.After.{Run, node_id}
+
+-- a simulated world to its callers: every frame that was sent, what came of each event, and the parts of the system
+pub record WorldShown : Type 0 where
+  pub config : Config
+  pub frames : List Frame
+  pub outcomes : List Outcome
+  pub controller : ControllerParts
+  pub nodes : List NodeParts
+  pub orchestrator : OrchestratorParts
+
+-- node by node
+abbrev pub AreNodesShown : List NodeParts → List NodeAt → Type 0
+AreNodesShown [] [] = Unit {0}
+AreNodesShown [] (node ∷ nodes) = ⊥
+AreNodesShown (shown ∷ others) [] = ⊥
+AreNodesShown (shown ∷ others) (node ∷ nodes) = (shown.id ≡ node.id) × NodeShows shown.rows node.state × AreNodesShown others nodes
+
+-- it is this world: the same frames in the same order, the same states of the plugins, and an orchestrator that agrees
+-- with the history
+pub record ShowsWorld (shown : WorldShown) (world : World) : Type 0 where
+  pub frames : shown.frames ≡ world.frames
+  pub controller : IsShown shown.controller world.controller
+  pub nodes : AreNodesShown shown.nodes world.nodes
+  pub orchestrator : AgreesWith shown.orchestrator world.history
+  pub form : IsWellFormed world.history
+  pub own_config : (shown.controller).config ≡ shown.config
+  pub own_nodes : (shown.orchestrator).nodes ≡ map node_id (shown.config).nodes
+
+-- it is the last world of this run, and has its outcomes
+pub record ShowsRun (shown : WorldShown) (run : Run) : Type 0 where
+  pub world : ShowsWorld shown run.world
+  pub outcomes : shown.outcomes ≡ run.outcomes

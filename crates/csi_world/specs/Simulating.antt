@@ -1,0 +1,125 @@
+-- What each part of a simulated world does with an event. This profile's own.
+use Rattle.std.specs.Prelude.{◌≡◌, ℕ, zero, suc, ◌+◌, List, [], ◌∷◌, ◌++◌, map, length, slice_get, Option, Some, None, Result, Ok, Err}
+use Rattle.std.specs.Option.{option_to_list}
+use Rattle.csi_types.specs.declared.config.NodeSlots.{NodeSlots}
+use Rattle.csi_types.specs.Config.{Config, config_fault}
+use Rattle.csi_types.specs.Frame.{Frame}
+use Rattle.csi_node.specs.Record.{NodeParts}
+use Rattle.csi_node.specs.Shown.{Shows as NodeShows}
+use Rattle.csi_node.specs.State.{NodeState}
+use Rattle.csi_node.specs.Fenced as node
+use Rattle.csi_controller.specs.Core.{IsShown}
+use Rattle.csi_controller.specs.Core.{Parts as ControllerParts}
+use Rattle.csi_controller.specs.State.{ControllerState}
+use Rattle.csi_controller.specs.Fenced as controller
+use Rattle.csi_orchestrator.specs.declared.fault.OrchFault.{OrchFault}
+use Rattle.csi_orchestrator.specs.declared.fault.OrchFault.TheVariants.{NoMemory}
+use Rattle.csi_orchestrator.specs.History.{History}
+use Rattle.csi_orchestrator.specs.WellFormed.{IsWellFormed}
+use Rattle.csi_orchestrator.specs.Moves.{Input, Answer, Moved, moves, moved_to}
+use Rattle.csi_orchestrator.specs.Shown.{AgreesWith}
+use Rattle.csi_orchestrator.specs.Shown.{Parts as OrchestratorParts}
+use Rattle.csi_world.specs.declared.event.Event.{Event}
+use Rattle.csi_world.specs.declared.event.Outcome.{Outcome}
+use Rattle.csi_world.specs.declared.event.Outcome.TheVariants as outcomes
+use Rattle.csi_world.specs.World.{World}
+use Rattle.csi_world.specs.After.{Occurred, by_answer, by_result, node_id, after}
+use Rattle.csi_world.specs.Simulated.{WorldShown, ShowsWorld, ShowsRun}
+
+-- a frame is sent under the next number
+pub record IsSent (old new : List Frame) (frame : Frame) (number : ℕ) : Type 0 where
+  pub frames : new ≡ old ++ frame ∷ []
+  pub numbered : number ≡ length old + 1
+
+-- the frame of a number, from 1
+abbrev pub numbered : List Frame → ℕ → Option Frame
+numbered frames zero = None
+numbered frames (suc place) = slice_get frames place
+
+-- the frame of an answer is sent, if it has one, and this is what comes of it
+abbrev pub IsPosted : List Frame → List Frame → Answer → Outcome → Type 0
+IsPosted old new answer outcome =
+    (world : World) → world.frames ≡ old → by_answer world answer ≡ record { world = record world { frames = new }; outcome = outcome }
+
+-- a refusal that isn't want of memory sends nothing
+pub record IsRefused (old new : List Frame) (fault : OrchFault) (outcome : Outcome) : Type 0 where
+  pub other : fault ≡ NoMemory → ⊥
+  pub frames : new ≡ old
+  pub came : outcome ≡ outcomes.Refused fault
+
+abbrev pub IsSettled : {X : Type 0} → (X → Answer) → List Frame → List Frame → Result X OrchFault → Outcome → Type 0
+IsSettled answer old new (Ok x) outcome = IsPosted old new (answer x) outcome
+IsSettled answer old new (Err fault) outcome = IsRefused old new fault outcome
+
+-- by what the orchestrator's move is, the frames and what came of it are these, and the orchestrator agrees
+pub record ComesTo (history : History) (new : OrchestratorParts) (frames posted : List Frame) (outcome : Outcome) (result : Result Moved OrchFault) : Type 0 where
+  pub agrees : AgreesWith new (moved_to history result)
+  pub occurs : (world : World) → world.frames ≡ frames → world.history ≡ history
+      → by_result world result ≡ record { world = record world { frames = posted; history = moved_to history result }; outcome = outcome }
+
+-- the same, for an input and every history
+pub record Orchestrates (old new : OrchestratorParts) (frames posted : List Frame) (input : Input) (outcome : Outcome) : Type 0 where
+  pub nodes : new.nodes ≡ old.nodes
+  pub comes : (history : History) → IsWellFormed history → AgreesWith old history → ComesTo history new frames posted outcome (moves old.nodes history input)
+
+-- a plugin's reply is sent, if there is one
+pub record IsAnswered (old new : List Frame) (reply : Option Frame) (outcome : Outcome) : Type 0 where
+  pub frames : new ≡ old ++ option_to_list reply
+  pub came : outcome ≡ outcomes.Answered (length old + 1)
+
+-- what a plugin does with a frame
+pub record ControllerDoes (old new : ControllerParts) (frame : Frame) (reply : Option Frame) : Type 0 where
+  pub config : new.config ≡ old.config
+  pub replies : (state : ControllerState) → IsShown old state → reply ≡ (controller.fenced old.config state frame).reply
+  pub state : (state : ControllerState) → IsShown old state → IsShown new (controller.fenced old.config state frame).state
+
+pub record NodeDoes (old new : NodeParts) (frame : Frame) (reply : Option Frame) : Type 0 where
+  pub id : new.id ≡ old.id
+  pub replies : (state : NodeState) → NodeShows old.rows state → reply ≡ (node.fenced old.id state frame).reply
+  pub state : (state : NodeState) → NodeShows old.rows state → NodeShows new.rows (node.fenced old.id state frame).state
+
+-- a plugin is as it was to its callers
+pub record IsSameController (old new : ControllerParts) : Type 0 where
+  pub config : new.config ≡ old.config
+  pub shown : (state : ControllerState) → IsShown old state → IsShown new state
+
+pub record IsSameNode (old new : NodeParts) : Type 0 where
+  pub id : new.id ≡ old.id
+  pub shown : (state : NodeState) → NodeShows old.rows state → NodeShows new.rows state
+
+-- a node that answered nothing
+abbrev pub new_node_parts : NodeSlots → NodeParts
+new_node_parts slots = record { id = slots.id; rows = [] }
+
+-- its nodes are the configuration's, which has no fault
+pub record HasOwnNodes (shown : WorldShown) : Type 0 where
+  pub ids : map (λ node. node.id) shown.nodes ≡ map node_id (shown.config).nodes
+  pub fit : config_fault (shown.config).greatest (shown.config).nodes ≡ None
+
+-- it is the world after an event of which this came
+pub record Becomes (old new : WorldShown) (outcome : Outcome) (occurred : Occurred) : Type 0 where
+  pub config : new.config ≡ old.config
+  pub outcomes : new.outcomes ≡ old.outcomes
+  pub own : HasOwnNodes new
+  pub world : ShowsWorld new occurred.world
+  pub came : outcome ≡ occurred.outcome
+
+-- the same, once it is logged
+pub record IsLogged (old new : WorldShown) (occurred : Occurred) : Type 0 where
+  pub config : new.config ≡ old.config
+  pub outcomes : new.outcomes ≡ old.outcomes ++ occurred.outcome ∷ []
+  pub own : HasOwnNodes new
+  pub world : ShowsWorld new occurred.world
+
+-- it is the last world of the run of these events
+pub record IsRun (config : Config) (events : List Event) (shown : WorldShown) : Type 0 where
+  pub configured : shown.config ≡ config
+  pub own : HasOwnNodes shown
+  pub shows : ShowsRun shown (after config events)
+
+-- what is shown of a node is this state, if there is one
+abbrev pub ShowsNode : Option NodeParts → Option NodeState → Type 0
+ShowsNode None None = Unit {0}
+ShowsNode None (Some state) = ⊥
+ShowsNode (Some parts) None = ⊥
+ShowsNode (Some parts) (Some state) = NodeShows parts.rows state

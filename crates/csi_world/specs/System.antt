@@ -1,0 +1,14 @@
+-- What a system shows.
+use Rattle.csi_world.specs.declared.system.System.{System}
+use Rattle.csi_world.specs.Simulated.{WorldShown}
+
+abbrev pub shown_of : System → WorldShown
+shown_of system =
+    record {
+      config = system.config;
+      frames = system.frames.items;
+      outcomes = system.outcomes.items;
+      controller = system.controller;
+      nodes = system.nodes.items;
+      orchestrator = system.orchestrator;
+    }

@@ -1,0 +1,109 @@
+//! How an audit reads the plugins.
+ghost use Rattle.std.specs.Prelude.{◌≡◌, map, IfOk};
+ghost use Rattle.csi_controller.specs.Core.{IsShown};
+ghost use Rattle.csi_controller.specs.Views.{HasHoldingsOf};
+ghost use Rattle.csi_controller.specs.State.{ControllerState};
+ghost use Rattle.csi_node.specs.Shown.{Shows};
+ghost use Rattle.csi_node.specs.State.{NodeState};
+ghost use Rattle.csi_node.specs.Views.{staged_shown, published_shown, ListsStaged, ListsPublished};
+ghost use Rattle.csi_world.specs.World.{World};
+ghost use Rattle.csi_world.specs.Audited.{ArePlugins};
+ghost use Rattle.csi_world.specs.Listed.{node_listed, world_listed, IsAlike, IsListOf, AreListsOf};
+
+use super::lists::{Lists, NodeLists};
+use csi_controller::{Controller, ControllerRecord};
+use csi_node::{Node, Published, Staged};
+use csi_types::{Holding, NoMemory, NodeId};
+use std::alloc::Global;
+
+// A node's id.
+fn id_of(node: &Node) -> Result<NodeId, NoMemory>
+    ensures { IfOk result (λ id. id ≡ node.now.id) }
+{
+    Ok(node.id().clone()?)
+}
+
+// What it has staged.
+fn staged_at(node: &Node) -> Result<Vec<Staged>, NoMemory>
+    ensures { (state : NodeState) → Shows node.now.rows state → IfOk result (λ list. ListsStaged (map staged_shown list.items) state) }
+{
+    match node.staged() {
+        Ok(list) => Ok(list),
+        Err(_) => Err(NoMemory),
+    }
+}
+
+// What it has published.
+fn published_at(node: &Node) -> Result<Vec<Published>, NoMemory>
+    ensures { (state : NodeState) → Shows node.now.rows state → IfOk result (λ list. ListsPublished (map published_shown list.items) state) }
+{
+    match node.published() {
+        Ok(list) => Ok(list),
+        Err(_) => Err(NoMemory),
+    }
+}
+
+// The node's lists.
+fn list_node(node: &Node) -> Result<NodeLists, NoMemory>
+    ensures { IfOk result (λ lists. IsListOf node.now (node_listed lists)) }
+{
+    let id = id_of(node)?;
+    let staged = staged_at(node)?;
+    let published = published_at(node)?;
+    Ok(NodeLists {
+        id,
+        staged,
+        published,
+    })
+}
+
+// The lists of each of these nodes.
+fn list_nodes(alloc: Global, nodes: &[Node]) -> Result<Vec<NodeLists>, NoMemory>
+    ensures { IfOk result (λ lists. AreListsOf nodes.now (map node_listed lists.items)) }
+{
+    let mut lists = Vec::new(alloc);
+    for node in nodes {
+        let listed = list_node(node)?;
+        lists.push(listed)?;
+    }
+    Ok(lists)
+}
+
+// What the controller has recorded.
+fn record_of(alloc: Global, controller: &Controller) -> Result<ControllerRecord, NoMemory>
+    ensures { (state : ControllerState) → IsShown controller.now state →
+        IfOk result (λ kept. IsShown (record { config = controller.now.config; next_id = kept.next_id; rows = kept.rows }) state) }
+{
+    match controller.record(alloc) {
+        Ok(kept) => Ok(kept),
+        Err(_) => Err(NoMemory),
+    }
+}
+
+// Where each volume is held.
+fn attached_by(alloc: Global, controller: &Controller) -> Result<Vec<Holding>, NoMemory>
+    ensures { (state : ControllerState) → IsShown controller.now state → IfOk result (λ all. HasHoldingsOf state all.items) }
+{
+    match controller.attachments(alloc) {
+        Ok(all) => Ok(all),
+        Err(_) => Err(NoMemory),
+    }
+}
+
+/// What the plugins' readers give. Every world that the plugins show is like the listed one.
+pub(crate) fn list_plugins(
+    alloc: Global,
+    controller: &Controller,
+    nodes: &[Node],
+) -> Result<Lists, NoMemory>
+    ensures { (world : World) → ArePlugins controller.now nodes.now world → IfOk result (λ lists. IsAlike (world_listed lists) world) }
+{
+    let kept = record_of(alloc, controller)?;
+    let attached = attached_by(alloc, controller)?;
+    let nodes = list_nodes(alloc, nodes)?;
+    Ok(Lists {
+        kept,
+        attached,
+        nodes,
+    })
+}

@@ -1,0 +1,174 @@
+//! What happens in a world.
+ghost use Rattle.std.specs.Prelude.{◌≡◌, ◌<◌, Option, Some, None, IfOk, OnOk, if◌then◌else◌};
+ghost use Rattle.csi_types.specs.Config.{has_node};
+ghost use Rattle.csi_types.specs.declared.call.Party.TheVariants as parties;
+ghost use Rattle.csi_world.specs.World.{World};
+ghost use Rattle.csi_world.specs.After.{called, delivered, delivered_body, frame_at, occurs};
+ghost use Rattle.csi_world.specs.Simulated.{ShowsWorld};
+ghost use Rattle.csi_world.specs.Simulating.{HasOwnNodes, Becomes, IsLogged};
+ghost use Rattle.csi_world.specs.System.{shown_of};
+ghost use Rattle.csi_world.specs.declared.event.Outcome.TheVariants as outcomes;
+
+use crate::carrying::carried;
+use crate::commands::{create, delete, hear, restart, stop, time_out, use_at};
+use crate::event::{Event, Outcome};
+use crate::plugins::{place_of, restarted_controller, restarted_node, step_controller, step_node};
+use crate::sending::{answered, frame_of};
+use crate::system::System;
+use csi_types::{Body, Frame, NoMemory, NodeId, Party};
+
+impl System {
+    // A call comes to the controller.
+    fn call_controller(&mut self, frame: &Frame) -> Result<Outcome, NoMemory>
+        requires own { HasOwnNodes (shown_of self.old) }
+        requires party { frame.now.party ≡ parties.Controller }
+        ensures { (world : World) → ShowsWorld (shown_of self.old) world →
+            IfOk result (λ outcome. Becomes (shown_of self.old) (shown_of self.new) outcome (called self.old.config world frame.now parties.Controller)) }
+    {
+        let reply = step_controller(&mut self.controller, frame)?;
+        answered(&mut self.frames, reply)
+    }
+
+    // A call comes to the node of this id.
+    fn call_node(&mut self, id: &NodeId, frame: &Frame) -> Result<Outcome, NoMemory>
+        requires own { HasOwnNodes (shown_of self.old) }
+        requires party { frame.now.party ≡ parties.Node id.now }
+        ensures { (world : World) → ShowsWorld (shown_of self.old) world →
+            IfOk result (λ outcome. Becomes (shown_of self.old) (shown_of self.new) outcome (called self.old.config world frame.now (parties.Node id.now))) }
+    {
+        match place_of(&self.nodes, id) {
+            Some(place) => {
+                let reply = step_node(&mut self.nodes[place], frame)?;
+                answered(&mut self.frames, reply)
+            }
+            None => Ok(Outcome::NoSuchNode),
+        }
+    }
+
+    // A call comes to its plugin.
+    fn call(&mut self, frame: &Frame) -> Result<Outcome, NoMemory>
+        requires own { HasOwnNodes (shown_of self.old) }
+        ensures { (world : World) → ShowsWorld (shown_of self.old) world →
+            IfOk result (λ outcome. Becomes (shown_of self.old) (shown_of self.new) outcome (called self.old.config world frame.now frame.now.party)) }
+    {
+        match frame.party() {
+            Party::Controller => self.call_controller(frame),
+            Party::Node(id) => self.call_node(id, frame),
+        }
+    }
+
+    // A frame comes to its plugin or to the orchestrator.
+    fn take(&mut self, frame: &Frame) -> Result<Outcome, NoMemory>
+        requires own { HasOwnNodes (shown_of self.old) }
+        ensures { (world : World) → ShowsWorld (shown_of self.old) world →
+            IfOk result (λ outcome. Becomes (shown_of self.old) (shown_of self.new) outcome (delivered_body self.old.config world frame.now frame.now.body)) }
+    {
+        csi_orchestrator::form_law();
+        match frame.body() {
+            Body::Call(_) => self.call(frame),
+            Body::Reply(..) => hear(&mut self.orchestrator, &mut self.frames, frame),
+        }
+    }
+
+    // A copy of the frame of this number, once it was carried.
+    fn carried_frame(&self, number: u64) -> Result<Option<Frame>, NoMemory>
+        ensures { (world : World) → ShowsWorld (shown_of self.now) world → IfOk result (λ frame. frame ≡ frame_at world number) }
+    {
+        match frame_of(&self.frames, number) {
+            Some(frame) => Ok(Some(carried(self.alloc, frame)?)),
+            None => Ok(None),
+        }
+    }
+
+    // The frame of this number is delivered, if it is there.
+    fn deliver(&mut self, number: u64) -> Result<Outcome, NoMemory>
+        requires own { HasOwnNodes (shown_of self.old) }
+        ensures { (world : World) → ShowsWorld (shown_of self.old) world →
+            IfOk result (λ outcome. Becomes (shown_of self.old) (shown_of self.new) outcome (delivered self.old.config world (frame_at world number))) }
+    {
+        match self.carried_frame(number)? {
+            Some(frame) => self.take(&frame),
+            None => Ok(Outcome::NoSuchFrame),
+        }
+    }
+
+    // The controller restarts, from its record.
+    fn restart_controller(&mut self) -> Result<Outcome, NoMemory>
+        requires own { HasOwnNodes (shown_of self.old) }
+        ensures { (world : World) → ShowsWorld (shown_of self.old) world →
+            IfOk result (λ outcome. Becomes (shown_of self.old) (shown_of self.new) outcome (record { world = world; outcome = outcomes.Restarted })) }
+    {
+        let controller = restarted_controller(self.alloc, &self.controller, &self.config)?;
+        self.controller = controller;
+        Ok(Outcome::Restarted)
+    }
+
+    // The node of this id restarts, from its record.
+    fn restart_node(&mut self, id: &NodeId) -> Result<Outcome, NoMemory>
+        requires own { HasOwnNodes (shown_of self.old) }
+        ensures { (world : World) → ShowsWorld (shown_of self.old) world →
+            IfOk result (λ outcome. Becomes (shown_of self.old) (shown_of self.new) outcome
+            (record { world = world; outcome = if has_node id.now self.old.config.nodes then outcomes.Restarted else outcomes.NoSuchNode })) }
+    {
+        match place_of(&self.nodes, id) {
+            Some(place) => {
+                let node = restarted_node(self.alloc, &self.nodes[place])?;
+                self.nodes[place] = node;
+                Ok(Outcome::Restarted)
+            }
+            None => Ok(Outcome::NoSuchNode),
+        }
+    }
+
+    // What comes of an event, which isn't logged yet.
+    fn outcome_of(&mut self, event: &Event) -> Result<Outcome, NoMemory>
+        requires own { HasOwnNodes (shown_of self.old) }
+        ensures { (world : World) → ShowsWorld (shown_of self.old) world →
+            IfOk result (λ outcome. Becomes (shown_of self.old) (shown_of self.new) outcome (occurs self.old.config world event.now)) }
+    {
+        csi_orchestrator::form_law();
+        let orchestrator = &mut self.orchestrator;
+        let frames = &mut self.frames;
+        match event {
+            Event::Create {
+                name,
+                required,
+                limit,
+                capabilities,
+            } => create(orchestrator, frames, name, *required, *limit, capabilities),
+            Event::Use {
+                name,
+                node,
+                target,
+                capability,
+                readonly,
+            } => use_at(
+                orchestrator,
+                frames,
+                name,
+                node,
+                target,
+                capability,
+                *readonly,
+            ),
+            Event::Stop { name, node, target } => stop(orchestrator, frames, name, node, target),
+            Event::Delete(name) => delete(orchestrator, frames, name),
+            Event::Timeout(name) => time_out(orchestrator, frames, name),
+            Event::Deliver(number) => self.deliver(*number),
+            Event::RestartOrchestrator => restart(orchestrator),
+            Event::RestartController => self.restart_controller(),
+            Event::RestartNode(id) => self.restart_node(id),
+        }
+    }
+
+    /// What comes of an event, which is logged. An `Err` is an allocation that was refused; the system is of no use then.
+    pub(crate) fn occur(&mut self, event: &Event) -> Result<(), NoMemory>
+        requires own { HasOwnNodes (shown_of self.old) }
+        ensures { (world : World) → ShowsWorld (shown_of self.old) world →
+            OnOk result (IsLogged (shown_of self.old) (shown_of self.new) (occurs self.old.config world event.now)) }
+    {
+        let outcome = self.outcome_of(event)?;
+        self.outcomes.push(outcome)?;
+        Ok(())
+    }
+}

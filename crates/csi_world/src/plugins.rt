@@ -1,0 +1,120 @@
+//! The plugins of a world: what they do with a frame, and how they restart.
+ghost use Rattle.std.specs.Prelude.{◌≡◌, find, map, position, IfOk};
+ghost use Rattle.std.specs.Option.{option_copied};
+ghost use Rattle.csi_types.specs.Same.{same_text};
+ghost use Rattle.csi_world.specs.After.{node_id};
+ghost use Rattle.csi_world.specs.Simulating.{ControllerDoes, NodeDoes, IsSameController, IsSameNode, new_node_parts};
+
+use csi_controller::Controller;
+use csi_node::Node;
+use csi_types::{Config, Frame, NoMemory, NodeId, NodeSlots};
+use std::alloc::Global;
+
+/// A copy of a configuration.
+pub(crate) fn copied_config(config: &Config) -> Result<Config, NoMemory>
+    ensures { IfOk result (λ copy. copy ≡ config.now) }
+{
+    Ok(config.clone()?)
+}
+
+// A copy of a node's id.
+fn copied_id(id: &NodeId) -> Result<NodeId, NoMemory>
+    ensures { IfOk result (λ copy. copy ≡ id.now) }
+{
+    Ok(id.clone()?)
+}
+
+/// The ids of these nodes, in order.
+pub(crate) fn ids_of(alloc: Global, nodes: &[NodeSlots]) -> Result<Vec<NodeId>, NoMemory>
+    ensures { IfOk result (λ ids. ids.items ≡ map node_id nodes.now) }
+{
+    let mut ids = Vec::new(alloc);
+    for node in nodes {
+        ids.push(copied_id(&node.id)?)?;
+    }
+    Ok(ids)
+}
+
+// A node that answered nothing.
+fn new_node(alloc: Global, slots: &NodeSlots) -> Result<Node, NoMemory>
+    ensures { IfOk result (λ node. node ≡ new_node_parts slots.now) }
+{
+    let id = copied_id(&slots.id)?;
+    Ok(Node::new(alloc, id))
+}
+
+/// Nodes that answered nothing, one for each, in order.
+pub(crate) fn new_nodes(alloc: Global, slots: &[NodeSlots]) -> Result<Vec<Node>, NoMemory>
+    ensures { IfOk result (λ nodes. nodes.items ≡ map new_node_parts slots.now) }
+{
+    let mut nodes = Vec::new(alloc);
+    for one in slots {
+        nodes.push(new_node(alloc, one)?)?;
+    }
+    Ok(nodes)
+}
+
+// Whether the node has this id.
+fn is_node(node: &Node, id: &NodeId) -> bool
+    ensures { result ≡ same_text node.now.id id.now }
+{
+    *node.id() == *id
+}
+
+/// Where the node of this id is.
+pub(crate) fn place_of(nodes: &[Node], id: &NodeId) -> Option<usize>
+    ensures { result ≡ position (λ node. same_text node.id id.now) nodes.now }
+{
+    nodes.iter().position(|node| is_node(node, id))
+}
+
+/// The node of this id.
+pub(crate) fn node_of<'a>(nodes: &'a [Node], id: &NodeId) -> Option<&'a Node>
+    ensures { option_copied result ≡ find (λ node. same_text node.id id.now) nodes.now }
+{
+    nodes.iter().find(|node| is_node(node, id))
+}
+
+/// Lets the controller answer a frame.
+pub(crate) fn step_controller(
+    controller: &mut Controller,
+    frame: &Frame,
+) -> Result<Option<Frame>, NoMemory>
+    ensures { IfOk result (ControllerDoes controller.old controller.new frame.now) }
+{
+    match controller.step(frame) {
+        Ok(reply) => Ok(reply),
+        Err(_) => Err(NoMemory),
+    }
+}
+
+/// Lets a node answer a frame.
+pub(crate) fn step_node(node: &mut Node, frame: &Frame) -> Result<Option<Frame>, NoMemory>
+    ensures { IfOk result (NodeDoes node.old node.new frame.now) }
+{
+    match node.step(frame) {
+        Ok(reply) => Ok(reply),
+        Err(_) => Err(NoMemory),
+    }
+}
+
+/// The controller that has the record of this one.
+pub(crate) fn restarted_controller(
+    alloc: Global,
+    controller: &Controller,
+    config: &Config,
+) -> Result<Controller, NoMemory>
+    ensures { config.now ≡ controller.now.config → IfOk result (IsSameController controller.now) }
+{
+    let config = copied_config(config)?;
+    let kept = controller.record(alloc).map_err(|_| NoMemory)?;
+    Controller::from_record(alloc, config, kept).map_err(|_| NoMemory)
+}
+
+/// The node that has the record of this one.
+pub(crate) fn restarted_node(alloc: Global, node: &Node) -> Result<Node, NoMemory>
+    ensures { IfOk result (IsSameNode node.now) }
+{
+    let kept = node.record().map_err(|_| NoMemory)?;
+    Node::from_record(alloc, kept).map_err(|_| NoMemory)
+}

@@ -1,0 +1,106 @@
+//! Frames that are sent, and what comes of it.
+ghost use Rattle.std.specs.Prelude.{◌≡◌, ◌+◌, List, [], IfOk};
+ghost use Rattle.std.specs.Option.{option_copied};
+ghost use Rattle.csi_types.specs.Frame.{Frame as FrameParts};
+ghost use Rattle.csi_orchestrator.specs.Moves.{Sends, Hears, Restarted};
+ghost use Rattle.csi_world.specs.Simulating.{IsSent, IsPosted, IsRefused, IsSettled, IsAnswered, numbered};
+
+use crate::event::Outcome;
+use csi_orchestrator::{Heard, OrchFault};
+use csi_types::{Frame, NoMemory};
+
+/// The frame of a number, from 1.
+pub(crate) fn frame_of(frames: &[Frame], number: u64) -> Option<&Frame>
+    ensures { option_copied result ≡ numbered frames.now number }
+{
+    if number == 0 {
+        return None;
+    }
+    frames.get((number - 1) as usize)
+}
+
+// Sends a frame, and gives its number.
+fn send(frames: &mut Vec<Frame>, frame: Frame) -> Result<u64, NoMemory>
+    ensures { IfOk result (IsSent frames.old.items frames.new.items frame) }
+{
+    frames.push(frame)?;
+    Ok(frames.len() as u64)
+}
+
+// What comes of a refusal. Want of memory is none.
+fn refused(fault: OrchFault) -> Result<Outcome, NoMemory>
+    ensures { IfOk result (IsRefused [] [] fault) }
+{
+    match fault {
+        OrchFault::NoMemory => Err(NoMemory),
+        fault => Ok(Outcome::Refused(fault)),
+    }
+}
+
+// Sends the frame of a command or a timeout, if it has one.
+fn posted(frames: &mut Vec<Frame>, sent: Option<Frame>) -> Result<Outcome, NoMemory>
+    ensures { IfOk result (IsPosted frames.old.items frames.new.items (Sends sent)) }
+{
+    match sent {
+        Some(frame) => Ok(Outcome::Sent(send(frames, frame)?)),
+        None => Ok(Outcome::Met),
+    }
+}
+
+// Sends the frame that follows a reply, if there is one.
+fn followed(frames: &mut Vec<Frame>, heard: Heard) -> Result<Outcome, NoMemory>
+    ensures { IfOk result (IsPosted frames.old.items frames.new.items (Hears heard)) }
+{
+    match heard {
+        Heard::Ignored => Ok(Outcome::Ignored),
+        Heard::Taken(None) => Ok(Outcome::Taken(None)),
+        Heard::Taken(Some(frame)) => Ok(Outcome::Taken(Some(send(frames, frame)?))),
+    }
+}
+
+/// What comes of the orchestrator's answer to a command or a timeout, whose frame is sent, if it has one.
+pub(crate) fn settled(
+    frames: &mut Vec<Frame>,
+    answer: Result<Option<Frame>, OrchFault>,
+) -> Result<Outcome, NoMemory>
+    ensures { IfOk result (IsSettled Sends frames.old.items frames.new.items answer) }
+{
+    match answer {
+        Ok(sent) => posted(frames, sent),
+        Err(fault) => refused(fault),
+    }
+}
+
+/// What comes of a reply that the orchestrator heard. The frame that follows is sent, if there is one.
+pub(crate) fn settled_reply(
+    frames: &mut Vec<Frame>,
+    answer: Result<Heard, OrchFault>,
+) -> Result<Outcome, NoMemory>
+    ensures { IfOk result (IsSettled Hears frames.old.items frames.new.items answer) }
+{
+    match answer {
+        Ok(heard) => followed(frames, heard),
+        Err(fault) => refused(fault),
+    }
+}
+
+/// Sends a plugin's reply, if there is one.
+pub(crate) fn answered(frames: &mut Vec<Frame>, reply: Option<Frame>) -> Result<Outcome, NoMemory>
+    ensures { IfOk result (IsAnswered frames.old.items frames.new.items reply) }
+{
+    let number = frames.len() as u64 + 1;
+    if let Some(frame) = reply {
+        frames.push(frame)?;
+    }
+    Ok(Outcome::Answered(number))
+}
+
+/// What comes of a restart of the orchestrator. Nothing is sent.
+pub(crate) fn settled_restart(answer: Result<(), OrchFault>) -> Result<Outcome, NoMemory>
+    ensures { (frames : List FrameParts) → IfOk result (IsSettled (λ done. Restarted) frames frames answer) }
+{
+    match answer {
+        Ok(()) => Ok(Outcome::Restarted),
+        Err(fault) => refused(fault),
+    }
+}

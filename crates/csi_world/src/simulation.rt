@@ -1,0 +1,62 @@
+//! Runs of events.
+ghost use Rattle.std.specs.Prelude.{ℕ, [], take, IfOk};
+ghost use Rattle.csi_world.specs.Safe.{Safe};
+ghost use Rattle.csi_world.specs.After.{after};
+ghost use Rattle.csi_world.specs.Simulated.{ShowsRun};
+ghost use Rattle.csi_world.specs.Simulating.{IsRun};
+ghost use Rattle.csi_world.specs.System.{shown_of};
+
+use crate::event::Event;
+use crate::laws::runs_law;
+use crate::plugins::{copied_config, ids_of, new_nodes};
+use crate::system::System;
+use crate::world::World;
+use csi_controller::Controller;
+use csi_orchestrator::Orchestrator;
+use csi_types::{Config, NoMemory};
+use std::alloc::Global;
+
+// A system in which nothing happened.
+fn new_system(alloc: Global, config: &Config) -> Result<System, NoMemory>
+    ensures { IfOk result (λ system. IsRun config.now [] (shown_of system)) }
+{
+    config.fit_law();
+    let nodes = new_nodes(alloc, config.nodes())?;
+    let ids = ids_of(alloc, config.nodes())?;
+    let own = copied_config(config)?;
+    let controller = Controller::new(alloc, copied_config(config)?);
+    let orchestrator = Orchestrator::new(alloc, ids);
+    Ok(System {
+        alloc,
+        config: own,
+        frames: Vec::new(alloc),
+        outcomes: Vec::new(alloc),
+        controller,
+        nodes,
+        orchestrator,
+    })
+}
+
+// The system after these events.
+fn run(alloc: Global, config: &Config, events: &[Event]) -> Result<System, NoMemory>
+    ensures { IfOk result (λ system. IsRun config.now events.now (shown_of system)) }
+{
+    let mut system = new_system(alloc, config)?;
+    for event in events {
+        system.occur(event)?;
+    }
+    Ok(system)
+}
+
+/// The world after these events, one after another, from an empty one of this configuration. An event that can't happen
+/// changes nothing, and its outcome says so. Each frame that is delivered is written as bytes and read from them. An
+/// `Err` is an allocation that was refused. The run is the definition's, and the world is safe after every beginning of
+/// the events, as `safety_law` says it. This profile's own.
+pub fn simulate(alloc: Global, config: &Config, events: &[Event]) -> Result<World, NoMemory>
+    ensures run { IfOk result (λ world. ShowsRun world (after config.now events.now)) }
+    ensures safe { (count : ℕ) → Safe (after config.now (take count events.now)).world }
+{
+    runs_law();
+    let system = run(alloc, config, events)?;
+    Ok(World::of(system))
+}

@@ -1,0 +1,19 @@
+//! The parts of a world.
+use crate::event::Outcome;
+use csi_controller::Controller;
+use csi_node::Node;
+use csi_orchestrator::Orchestrator;
+use csi_types::{Config, Frame};
+use std::alloc::Global;
+
+/// The parts of a world, with all frames that were sent and what came of each event.
+#[derive(Drop)]
+pub(crate) struct System {
+    pub alloc: Global,
+    pub config: Config,
+    pub frames: Vec<Frame>,
+    pub outcomes: Vec<Outcome>,
+    pub controller: Controller,
+    pub nodes: Vec<Node>,
+    pub orchestrator: Orchestrator,
+}

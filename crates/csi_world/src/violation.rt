@@ -1,0 +1,17 @@
+//! What an audit finds.
+
+/// Which clause of safety fails first, in this order (CSI's spec.md, "CreateVolume", `AccessMode`, for the first, and "Volume
+/// Lifecycle" for the others).
+#[derive(Clone, Copy, Debug, PartialEq, Eq)]
+pub enum Violation {
+    /// Two holdings of one volume can't be held together.
+    TwoNodes,
+    /// A volume is staged at a node at which it isn't attached so.
+    StagedUnattached,
+    /// A volume is published where it isn't staged so.
+    PublishedUnstaged,
+    /// A volume that was deleted is attached.
+    DeletedAttached,
+    /// What the orchestrator knows isn't so.
+    RecordedWrong,
+}

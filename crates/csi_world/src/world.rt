@@ -1,0 +1,97 @@
+//! Simulated worlds.
+ghost use Rattle.std.specs.Prelude.{◌≡◌, find, length};
+ghost use Rattle.std.specs.Option.{option_copied};
+ghost use Rattle.csi_types.specs.Same.{same_text};
+ghost use Rattle.csi_world.specs.After.{frame_at};
+ghost use Rattle.csi_world.specs.Simulated.{ShowsWorld};
+ghost use Rattle.csi_world.specs.Simulating.{numbered, ShowsNode};
+ghost use Rattle.csi_world.specs.System.{shown_of};
+
+use crate::event::Outcome;
+use crate::plugins::node_of;
+use crate::sending::frame_of;
+use crate::system::System;
+use csi_controller::Controller;
+use csi_node::Node;
+use csi_orchestrator::Orchestrator;
+use csi_types::{Frame, NodeId};
+use std::marker::Model;
+
+/// An orchestrator, a controller and its nodes, and every frame that was ever sent, as a run of events left them. A
+/// contract sees the parts, and speaks of the world that they show. This profile's own.
+#[derive(Drop)]
+pub struct World {
+    system: System,
+}
+
+impl Model for World {
+    ghost use Rattle.csi_world.specs.Simulated.{WorldShown};
+    ghost use Rattle.csi_world.specs.System.{shown_of};
+
+    ghost Value = { WorldShown };
+
+    ghost view = { λ world. shown_of world.system };
+}
+
+impl World {
+    ghost use Rattle.csi_world.specs.World.{World as Shown, node_state};
+
+    // The world of a system.
+    pub(crate) fn of(system: System) -> World
+        ensures { result ≡ shown_of system }
+    {
+        World { system }
+    }
+
+    /// How many frames were sent. It takes no memory.
+    pub fn frames(&self) -> u64
+        ensures { result ≡ length self.now.frames }
+    {
+        self.system.frames.len() as u64
+    }
+
+    /// The frame of a number, from 1, in the order in which they were sent; `None` at 0 and above the last one. It takes
+    /// no memory.
+    pub fn frame(&self, number: u64) -> Option<&Frame>
+        ensures value { option_copied result ≡ numbered self.now.frames number }
+        ensures world { (world : Shown) → ShowsWorld self.now world → option_copied result ≡ frame_at world number }
+    {
+        frame_of(&self.system.frames, number)
+    }
+
+    /// What came of each event, in turn. It takes no memory.
+    pub fn outcomes(&self) -> &[Outcome]
+        ensures { result.now ≡ self.now.outcomes }
+    {
+        self.system.outcomes.as_slice()
+    }
+
+    /// The controller. It takes no memory.
+    pub fn controller(&self) -> &Controller
+        ensures { result.now ≡ self.now.controller }
+    {
+        &self.system.controller
+    }
+
+    // The nodes, in the order of the configuration.
+    pub(crate) fn nodes(&self) -> &[Node]
+        ensures { result.now ≡ self.now.nodes }
+    {
+        self.system.nodes.as_slice()
+    }
+
+    /// The node of this id, if it is configured. It takes no memory.
+    pub fn node(&self, id: &NodeId) -> Option<&Node>
+        ensures value { option_copied result ≡ find (λ node. same_text node.id id.now) self.now.nodes }
+        ensures world { (world : Shown) → ShowsWorld self.now world → ShowsNode (option_copied result) (node_state id.now world) }
+    {
+        node_of(&self.system.nodes, id)
+    }
+
+    /// The orchestrator. It takes no memory.
+    pub fn orchestrator(&self) -> &Orchestrator
+        ensures { result.now ≡ self.now.orchestrator }
+    {
+        &self.system.orchestrator
+    }
+}
