@@ -7,6 +7,7 @@ mod commands;
 mod ending;
 mod lines;
 mod reading;
+mod schedule;
 mod shown;
 
 use ending::Ending;
