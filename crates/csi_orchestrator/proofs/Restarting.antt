@@ -108,3 +108,9 @@ pub restart-refused : {R : Type 0} (result : Result R OrchFault) (old : Core) �
     → IfErr result (λ fault. IsRefusal (row_moves (parts_of old) Restarts) fault)
 restart-refused (Ok r) old facts = tt
 restart-refused (Err fault) old facts = spent old fault facts.0 facts.1
+
+-- and nothing else refuses it
+pub only-spent : {R : Type 0} (result : Result R OrchFault) (old : Core) → IfErr result (λ fault. (fault ≡ faults.NumbersSpent) × IsTrue (not (nat_lt (old.last.session + 1) (2 ^ 64))))
+    → IfErr result (λ fault. fault ≡ faults.NumbersSpent)
+only-spent (Ok r) old facts = tt
+only-spent (Err fault) old facts = facts.0

@@ -202,6 +202,7 @@ impl Orchestrator {
     pub fn restart(&mut self) -> Result<(), OrchFault>
         ensures ok { (history : History) → IsWellFormed history → AgreesWith self.old history → IfOk result (λ done. IsDone history (moves self.old.nodes history Restarts) Restarted self.new) }
         ensures err { (history : History) → IsWellFormed history → AgreesWith self.old history → IfErr result (IsRefusal (moves self.old.nodes history Restarts)) }
+        ensures spent { IfErr result (λ fault. fault ≡ Fault.NumbersSpent) }
         ensures stays { OnErr result (self.new ≡ self.old) }
         ensures nodes { self.new.nodes ≡ self.old.nodes }
     {
