@@ -3,19 +3,20 @@ use Rattle.std.proofs.Common.{◌≡◌, ℕ, suc, ◌<◌, List, [], ◌∷◌,
 use Rattle.std.specs.Prelude.{Option, Some, None, filter, ◌==◌}
 use Rattle.std.specs.List.{flat_map, AllByRecursion}
 use Rattle.std.proofs.lemmas.Bool.{eq-eqb, eqb-true, ne_eqb}
-use Rattle.std.proofs.lemmas.List.{append-nil}
+use Rattle.std.proofs.lemmas.List.{append-nil, length-map}
 use Rattle.std.proofs.lemmas.List.Elements.{filter-append}
 use Rattle.std.proofs.lemmas.List.Folds.{flat_map-map}
 use Rattle.csi_types.specs.declared.capability.Capability.{Capability}
 use Rattle.csi_types.specs.Lists.{EachTwo}
 use Rattle.csi_node.specs.declared.row.NodeRow.{NodeRow}
 use Rattle.csi_node.specs.declared.row.NodeTarget.{NodeTarget}
-use Rattle.csi_node.specs.State.{NodeState, StagedVolume, PublishedVolume}
+use Rattle.csi_node.specs.State.{NodeState, Answered, StagedVolume, PublishedVolume}
 use Rattle.csi_node.specs.Shown.{Shows}
 use Rattle.csi_node.specs.OneRow.{RowShown, shown, alone, staged_by, published_by, published_so}
 use Rattle.csi_node.specs.Record.{parts, id_at, IsRecord}
 use Rattle.csi_node.specs.Views.{IsStagedBefore, IsPublishedBefore, ListsStaged, ListsPublished}
-use Rattle.csi_node.proofs.Steps.{ShowsAll, row_of, alone_in, all-from_shows}
+use Rattle.csi_node.proofs.Lists.{find-of_map}
+use Rattle.csi_node.proofs.Steps.{ShowsAll, row_of, alone_in, answered_of, all-from_shows, shows-from_all}
 use Rattle.csi_node.proofs.Rules.{IsRising}
 
 -- each of two lists
@@ -206,3 +207,23 @@ pub lists-published : (rows : List NodeRow) (state : NodeState) (list : List Pub
 lists-published rows state list rules shows is =
     subst (λ (l : List PublishedVolume). ListsPublished l state) (flat_map-map (λ (row : RowShown). (alone row).published) shown rows ∙ sym is)
     (published_listed (parts rows) state (rows_rise (parts rows) rules.rising) (all-from_shows rows state shows))
+
+-- the state in which the volumes stand by rising id
+abbrev state_by_id : List RowShown → NodeState
+state_by_id rows = record {
+  rows = map answered_of rows;
+  staged = flat_map (λ (row : RowShown). (alone row).staged) rows;
+  published = flat_map (λ (row : RowShown). (alone row).published) rows;
+}
+
+-- rows that keep the rules of a record show a state
+pub shows-a_state : (rows : List NodeRow) → IsRecord (parts rows) → (state : NodeState) × Shows rows state
+shows-a_state rows rules = (
+  state_by_id (parts rows),
+  shows-from_all rows (state_by_id (parts rows)) (record {
+    count = sym (length-map (parts rows) answered_of);
+    kept = λ id. sym (find-of_map (λ (row : Answered). row.id == id) answered_of (parts rows));
+    staged = λ id. ap (map (λ (s : StagedVolume). s.capability)) (sym (of_one (λ (s : StagedVolume). s.volume) (λ row. (alone row).staged) (λ row. staged_own row.id row.staged) id (parts rows) (rows_rise (parts rows) rules.rising) ∙ staged_part (row_of id (parts rows))));
+    published = λ id. sym (of_one (λ (p : PublishedVolume). p.volume) (λ row. (alone row).published) (λ row. published_own row.id row.staged row.targets) id (parts rows) (rows_rise (parts rows) rules.rising) ∙ published_part (row_of id (parts rows)));
+  }),
+)

@@ -38,3 +38,11 @@ pub fn publishing_law(node: &Node)
 {
     node.assert_rules();
 }
+
+/// A law, and nothing that runs: every node, whatever it was asked and whichever record it was made of, shows a state, so that
+/// what the other contracts say of each state that a node shows is said of every node. This profile's own.
+pub fn showing_law(node: &Node)
+    ensures { (state : NodeState) × Shows node.now.rows state }
+{
+    node.assert_rules();
+}

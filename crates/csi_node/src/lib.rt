@@ -19,7 +19,7 @@ mod views;
 
 pub use entries::{Published, Staged};
 pub use fault::CoreFault;
-pub use laws::{delivery_law, publishing_law, safety_law, table_law};
+pub use laws::{delivery_law, publishing_law, safety_law, showing_law, table_law};
 pub use node::Node;
 pub use record::NodeRecord;
 pub use row::{NodeRow, NodeTarget};

@@ -1,0 +1,6 @@
+-- By the rules of a record.
+use Rattle.csi_node.proofs.Listed.{shows-a_state}
+use Rattle.csi_node.proofs.laws.showing_law.Goals as goal
+
+pub returns : goal.returns
+returns c = shows-a_state c.args.node.now.rows c.assert_rules.ensures
