@@ -1,5 +1,5 @@
 -- What is kept of a call changes the row of its volume, and nothing else.
-use Rattle.std.proofs.Common.{◌≡◌, ◌⊎◌, ℕ, List, Bool, true, false, cond, not, refl, sym, ◌∙◌, ap, inl, inr}
+use Rattle.std.proofs.Common.{◌≡◌, ◌⊎◌, ℕ, List, [], ◌∷◌, ◌++◌, map, Bool, true, false, cond, not, refl, sym, ◌∙◌, ap, inl, inr}
 use Rattle.std.specs.Prelude.{Option, Some, None, option_map, find, filter, ◌==◌}
 use Rattle.std.proofs.lemmas.Bool.{eq-eqb, eqb-true}
 use Rattle.csi_node.proofs.Finds.{passed_not}
@@ -9,7 +9,7 @@ use Rattle.csi_types.specs.Fence.{Kept}
 use Rattle.csi_node.specs.State.{NodeState, Answered, row_with_id}
 use Rattle.csi_node.specs.Table.{Change, Stays, Stages, Unstages, Publishes, Unpublishes, changed}
 use Rattle.csi_node.specs.Fenced.{kept_in, kept_rows, keep}
-use Rattle.csi_node.specs.Laws.{is_another}
+use Rattle.csi_node.specs.Laws.{is_another, ids_in, HasAtMostOneMore}
 use Rattle.csi_node.specs.View.{kept_in_row}
 
 pub keep-staged : (volume : Option ℕ) (kept : Kept) (state : NodeState) → (keep volume kept state).staged ≡ state.staged
@@ -35,6 +35,23 @@ kept_in-id id kept row = by (row.id == id)
     by : (b : Bool) → (cond b (record row { kept = kept }) row).id ≡ row.id
     by true = refl
     by false = refl
+
+-- the rows are of the same volumes, but for a new one
+kept_ids : (id : ℕ) (kept : Kept) (rows : List Answered) → ids_in (map (kept_in id kept) rows) ≡ ids_in rows
+kept_ids id kept [] = refl
+kept_ids id kept (row ∷ rows) = let first = kept_in-id id kept row in let rest = kept_ids id kept rows in λ i. first i ∷ rest i
+
+ids-append_one : (rows : List Answered) (row : Answered) → ids_in (rows ++ row ∷ []) ≡ ids_in rows ++ row.id ∷ []
+ids-append_one [] row = refl
+ids-append_one (first ∷ rows) row = ap (λ (ids : List ℕ). first.id ∷ ids) (ids-append_one rows row)
+
+rows_grown : (id : ℕ) (kept : Kept) (rows : List Answered) (o : Option Answered) → HasAtMostOneMore rows (kept_rows id kept rows o)
+rows_grown id kept rows None = inr (id, ids-append_one rows (record { id = id; kept = kept }))
+rows_grown id kept rows (Some row) = inl (kept_ids id kept rows)
+
+pub keep-rows : (volume : Option ℕ) (kept : Kept) (state : NodeState) → HasAtMostOneMore state.rows (keep volume kept state).rows
+keep-rows None kept state = inl refl
+keep-rows (Some id) kept state = rows_grown id kept state.rows (row_with_id id state)
 
 not_true : (b : Bool) → not b ≡ true → b ≡ false
 not_true true h = cc

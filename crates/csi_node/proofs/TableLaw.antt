@@ -1,5 +1,5 @@
 -- The laws of the node's table, from what is so of each of its outcomes.
-use Rattle.std.proofs.Common.{◌≡◌, ℕ, List, Bool, true, false, refl, sym, ◌∙◌, ap, subst}
+use Rattle.std.proofs.Common.{◌≡◌, ℕ, List, Bool, true, false, refl, sym, ◌∙◌, ap, subst, inl}
 use Rattle.std.specs.Prelude.{Option, Some, None, option_map, is_none, filter, codes}
 use Rattle.csi_types.proofs.Equality.{same_text-tells}
 use Rattle.csi_types.specs.declared.number.Number.{Number}
@@ -16,8 +16,8 @@ use Rattle.csi_types.specs.Same.{same_text}
 use Rattle.csi_node.specs.State.{NodeState, Answered, row_with_id, row_of_volume, row_for, volume_of}
 use Rattle.csi_node.specs.Table.{Outcome, Change, refused, lifecycle_row, node_row, has_no_room, changed}
 use Rattle.csi_node.specs.Fenced.{Fenced, fenced, fenced_call, kept_for, kept_rows, keep, carried_out}
-use Rattle.csi_node.specs.Laws.{IsLetThrough, IsSameApart, IsDone, IsIdempotent, LeavesOthers, IsLawful, is_another, reply_at, state_after}
-use Rattle.csi_node.proofs.Keeping.{keep-staged, keep-published, keep-others, keep-own, changed-rows}
+use Rattle.csi_node.specs.Laws.{IsLetThrough, IsSameApart, IsDone, IsIdempotent, LeavesOthers, IsLawful, HasAtMostOneMore, is_another, reply_at, state_after}
+use Rattle.csi_node.proofs.Keeping.{keep-staged, keep-published, keep-others, keep-own, keep-rows, changed-rows}
 use Rattle.csi_node.proofs.Passages.{kept_of, state_then, done_then}
 use Rattle.csi_node.proofs.Facts.{IsReady, lifecycle_facts, ready_met, ready_kept, ready_volume, ready_done}
 
@@ -64,6 +64,13 @@ ready_state : (volume : Option ℕ) (kept : Kept) (state : NodeState) (call : Ca
 ready_state None kept state call h = h
 ready_state (Some id) kept state call h = ready_kept state (kept_rows id kept state.rows (row_with_id id state)) call h
 
+-- what a call changes and what is kept of it leave the rows, but for a new one
+grown-by_call : (state : NodeState) (call : Call) (kept : Kept) → HasAtMostOneMore state.rows (keep (volume_of call) kept (changed state (lifecycle_row state call).change)).rows
+grown-by_call state call kept =
+    let change = (lifecycle_row state call).change in
+    subst (λ (rows : List Answered). HasAtMostOneMore rows (keep (volume_of call) kept (changed state change)).rows) (changed-rows state change)
+    (keep-rows (volume_of call) kept (changed state change))
+
 -- a call that is ready, once more
 once_more : (node : List ℕ) (after : NodeState) (last later : Number) (call : Call) (kept : Kept) → kept_for call after ≡ Some kept → IsBefore kept.number later → IsReady after call
     → ((fenced node after (call_frame later (Node node) call)).reply ≡ Some (reply_frame later (Node node) (kind_of call) ok_reply))
@@ -77,6 +84,7 @@ once_more node after last later call kept is before ready =
       ap (λ (f : Fenced). f.reply) e ∙ ap (λ (r : Reply). Some (reply_frame later (Node node) (kind_of call) r)) again.is_ok,
       subst (λ (f : Fenced). IsSameApart after f.state) (sym e)
           (record {
+            rows = grown-by_call after call (kept_of after later call);
             staged = sym (keep-staged (volume_of call) (kept_of after later call) (changed after (lifecycle_row after call).change) ∙ again.staged);
             published = sym (keep-published (volume_of call) (kept_of after later call) (changed after (lifecycle_row after call).change) ∙ again.published);
           }),
@@ -90,7 +98,7 @@ without_room node state number call full through =
     let e : state_after node state number call ≡ state = ap (λ (f : Fenced). f.state) (is_carried_out node state number call through) ∙ state_without node state number call (node_row state call) full in
     let status : (reply_at state call).status ≡ ResourceExhausted = ap (λ (o : Outcome). o.reply.status) (row_without state call full) in
     record {
-      refused = λ h. subst (IsSameApart state) (sym e) (record { staged = refl; published = refl });
+      refused = λ h. subst (IsSameApart state) (sym e) (record { rows = inl refl; staged = refl; published = refl });
       done = λ h. absurd (exhausted (sym status ∙ h));
       again = λ h. absurd (exhausted (sym status ∙ h));
       others = subst (λ (after : NodeState). LeavesOthers state after call) (sym e) (record { rows = refl; staged = refl; published = refl });
@@ -107,6 +115,7 @@ having_room node state number call room through =
     record {
       refused = λ h. subst (IsSameApart state) (sym e) (let stays = facts.stays (λ k. h (status ∙ k)) in
           record {
+            rows = grown-by_call state call kept;
             staged = sym (keep-staged (volume_of call) kept next ∙ ap (λ (c : Change). (changed state c).staged) stays);
             published = sym (keep-published (volume_of call) kept next ∙ ap (λ (c : Change). (changed state c).published) stays);
           });

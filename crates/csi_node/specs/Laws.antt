@@ -1,6 +1,6 @@
 -- Laws that the node's table keeps, in the words of CSI's spec.md ("idempotent" calls, and what each call
--- ensures), apart from the rows and what is kept in them.
-use Rattle.std.specs.Prelude.{◌≡◌, ◌≢◌, ℕ, ◌==◌, List, filter, Bool, true, not, Option, Some, None, option_map}
+-- ensures), apart from what is kept of the last calls.
+use Rattle.std.specs.Prelude.{◌≡◌, ◌≢◌, ◌⊎◌, ℕ, ◌==◌, List, [], ◌∷◌, ◌++◌, map, filter, Bool, true, not, Option, Some, None, option_map}
 use Rattle.csi_types.specs.declared.number.Number.{Number}
 use Rattle.csi_types.specs.declared.call.Call.{Call}
 use Rattle.csi_types.specs.declared.call.Call.TheVariants as calls
@@ -15,7 +15,7 @@ use Rattle.csi_types.specs.Lawful.{Plugin}
 use Rattle.csi_types.specs.Frame.{Frame}
 use Rattle.csi_types.specs.Number.{IsBefore}
 use Rattle.csi_types.specs.Replies.{call_frame, reply_frame}
-use Rattle.csi_node.specs.State.{NodeState, PublishedVolume, empty_node, staged_of, published_at, volume_of}
+use Rattle.csi_node.specs.State.{NodeState, Answered, PublishedVolume, empty_node, staged_of, published_at, volume_of}
 use Rattle.csi_node.specs.Table.{node_row}
 use Rattle.csi_node.specs.Fenced.{fenced, kept_for, after_frames}
 
@@ -31,8 +31,17 @@ state_after node state number call = (fenced node state (call_frame number (Node
 abbrev pub IsLetThrough : NodeState → Number → Call → Type 0
 IsLetThrough state number call = fence.IsLetThrough (option_map (λ kept. kept.number) (kept_for call state)) number
 
--- the two differ in nothing but the rows
+-- the volumes that have a row
+abbrev pub ids_in : List Answered → List ℕ
+ids_in rows = map (λ row. row.id) rows
+
+-- the rows are of the same volumes, in the same order, but for one that may be new and then stands last
+abbrev pub HasAtMostOneMore : List Answered → List Answered → Type 0
+HasAtMostOneMore old new = (ids_in new ≡ ids_in old) ⊎ ((id : ℕ) × (ids_in new ≡ ids_in old ++ id ∷ []))
+
+-- the two differ in nothing but what is kept of the last calls, and a row that may be new for it
 pub record IsSameApart (old new : NodeState) : Type 0 where
+  pub rows : HasAtMostOneMore old.rows new.rows
   pub staged : old.staged ≡ new.staged
   pub published : old.published ≡ new.published
 
