@@ -13,6 +13,7 @@ pub mod Copies
 pub mod Apart
 pub mod Exclusive
 pub mod Attached
+pub mod Showing
 pub mod Moves
 pub mod Finds
 pub mod Frames

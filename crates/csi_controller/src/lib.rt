@@ -11,7 +11,7 @@ mod rows;
 
 pub use controller::Controller;
 pub use fault::CoreFault;
-pub use laws::{delivery_law, exclusive_law, names_law, safety_law, table_law};
+pub use laws::{delivery_law, exclusive_law, names_law, safety_law, showing_law, table_law};
 pub use record::ControllerRecord;
 pub use row::{ControllerRow, NodeHolding};
 

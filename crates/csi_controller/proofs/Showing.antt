@@ -1,0 +1,34 @@
+-- Rows that keep the rules of a record show a state.
+use Rattle.std.proofs.Common.{◌≡◌, ◌<◌, ◌≤◌, ℕ, ◌^◌, ◌%◌, Bool, true, false, cond, map, refl, sym, ◌∙◌, ap, arith}
+use Rattle.std.specs.Prelude.{◌==◌}
+use Rattle.std.proofs.lemmas.Bool.{eqb-true, eqb-false}
+use Rattle.csi_controller.specs.declared.row.ControllerRow.{ControllerRow}
+use Rattle.csi_controller.specs.State.{ControllerState}
+use Rattle.csi_controller.specs.Shown.{volume_of_row}
+use Rattle.csi_controller.specs.Core.{Parts, IsShown, IsSound, next_shown}
+use Rattle.csi_controller.specs.Views.{attached}
+use Rattle.csi_controller.proofs.Attached.{attached-of}
+use Rattle.csi_controller.proofs.Sound.{rising-one}
+
+-- the state in which the holdings stand by rising id
+abbrev state_by_id : Parts → ControllerState
+state_by_id parts = record { volumes = map volume_of_row parts.rows; next_id = next_shown parts.next_id; holdings = attached parts.rows }
+
+next-by : (n : ℕ) (b : Bool) → (n == 0) ≡ b → n < 2 ^ 64 → (n ≡ cond b (2 ^ 64) n % 2 ^ 64) × (1 ≤ cond b (2 ^ 64) n) × (cond b (2 ^ 64) n ≤ 2 ^ 64)
+next-by n true e below = (let zero : n ≡ 0 = eqb-true n 0 e in omega arith, omega arith, omega arith)
+next-by n false e below = (omega arith, (let some = eqb-false n 0 e in omega arith), omega arith)
+
+pub shows-a_state : (parts : Parts) → IsSound parts.next_id parts.rows → parts.next_id < 2 ^ 64 → (state : ControllerState) × IsShown parts state
+shows-a_state parts sound below =
+    let next = next-by parts.next_id (parts.next_id == 0) refl below in (
+      state_by_id parts,
+      record {
+        shows = record {
+          next = next.0;
+          volumes = refl;
+          holdings = λ id. sym (attached-of parts.rows id (rising-one parts.rows sound.rising));
+        };
+        next_from = next.1;
+        next_to = next.2;
+      },
+    )
