@@ -1,14 +1,19 @@
 -- One more row of those whose holdings are attached.
-use Rattle.std.proofs.Common.{◌≡◌, ◌<◌, ◌+◌, ℕ, Bool, true, false, cond, List, [], ◌∷◌, ◌++◌, map, take, get_or, length, refl, sym, ◌∙◌, ap, append_assoc}
+use Rattle.std.proofs.Common.{◌≡◌, ◌<◌, ◌+◌, ℕ, Bool, true, false, cond, List, [], ◌∷◌, ◌++◌, map, take, get_or, length, refl, sym, ◌∙◌, ap, append_assoc, arith}
 use Rattle.std.specs.Prelude.{Some, find, filter, ◌==◌}
 use Rattle.std.proofs.lemmas.List.{take_more}
 use Rattle.std.proofs.lemmas.List.Elements.{filter-append}
+use Rattle.std.specs.List.{AllByRecursion}
+use Rattle.csi_lists.specs.Members.{EachTwo}
+use Rattle.csi_lists.proofs.Each.{each-append, each-weaker}
+use Rattle.csi_lists.proofs.Members.{each_of}
+use Rattle.csi_lists.proofs.Pairs.{two-joined}
 use Rattle.csi_types.specs.declared.holding.Holding.{Holding}
 use Rattle.csi_controller.specs.declared.row.NodeHolding.{NodeHolding}
 use Rattle.csi_controller.specs.declared.row.ControllerRow.{ControllerRow}
 use Rattle.csi_controller.specs.Shown.{holdings_in_row, holdings_in}
-use Rattle.csi_controller.specs.Core.{Parts, IsShown, IsSound, AtMostOne, held_by}
-use Rattle.csi_controller.specs.Views.{attached, HasHoldingsOf}
+use Rattle.csi_controller.specs.Core.{Parts, IsShown, IsSound, IsRising, AtMostOne, held_by}
+use Rattle.csi_controller.specs.Views.{attached, IsHeldBefore, HasHoldingsOf}
 use Rattle.csi_controller.proofs.Sound.{rising-one}
 use Rattle.csi_controller.specs.State.{ControllerState}
 
@@ -55,3 +60,29 @@ attached-of (r ∷ rs) id one =
 
 pub attached-shown : (parts : Parts) (state : ControllerState) → IsSound parts.next_id parts.rows → IsShown parts state → HasHoldingsOf state (attached parts.rows)
 attached-shown parts state sound shown = λ id. attached-of parts.rows id (rising-one parts.rows sound.rising) ∙ shown.shows.holdings id
+
+-- the holdings stand by rising id of their volumes
+own_volumes : (id : ℕ) (items : List NodeHolding) → AllByRecursion (λ (h : Holding). h.volume ≡ id) (map (held_by id) items)
+own_volumes id [] = tt
+own_volumes id (held ∷ later) = (refl, own_volumes id later)
+
+above_all : (id : ℕ) (rows : List ControllerRow) → AllByRecursion (λ (later : ControllerRow). id < later.id) rows → AllByRecursion (λ (h : Holding). id < h.volume) (attached rows)
+above_all id [] above = tt
+above_all id (row ∷ rows) above =
+    each-append (λ (h : Holding). id < h.volume) (holdings_in_row row) (attached rows)
+    (each-weaker (λ (h : Holding). h.volume ≡ row.id) (λ (h : Holding). id < h.volume) (holdings_in_row row) (λ h e. (let lower = above.0 in omega arith)) (own_volumes row.id row.holdings.items))
+    (above_all id rows above.1)
+
+of_one_volume : (id : ℕ) (items : List NodeHolding) → EachTwo IsHeldBefore (map (held_by id) items)
+of_one_volume id [] = tt
+of_one_volume id (held ∷ later) =
+    (each-weaker (λ (h : Holding). h.volume ≡ id) (IsHeldBefore (held_by id held)) (map (held_by id) later) (λ h e. omega arith) (own_volumes id later), of_one_volume id later)
+
+pub attached-rising : (rows : List ControllerRow) → IsRising rows → EachTwo IsHeldBefore (attached rows)
+attached-rising [] rising = tt
+attached-rising (row ∷ rows) rising =
+    two-joined IsHeldBefore (holdings_in_row row) (attached rows) (of_one_volume row.id row.holdings.items) (attached-rising rows rising.1)
+    (λ x y here there.
+    let own = each_of (λ (h : Holding). h.volume ≡ row.id) (holdings_in_row row) x (own_volumes row.id row.holdings.items) here in
+    let higher = each_of (λ (h : Holding). row.id < h.volume) (attached rows) y (above_all row.id rows rising.0) there in
+    omega arith)

@@ -1,5 +1,5 @@
 -- What a controller's readers show of a state, and its record.
-use Rattle.std.specs.Prelude.{◌≡◌, ℕ, ◌==◌, List, [], ◌∷◌, ◌++◌, filter, Option, Some, None, option_map, if◌then◌else◌}
+use Rattle.std.specs.Prelude.{◌≡◌, ◌≤◌, ℕ, ◌==◌, List, [], ◌∷◌, ◌++◌, filter, Option, Some, None, option_map, if◌then◌else◌}
 use Rattle.csi_controller.specs.declared.row.ControllerRow.{ControllerRow}
 use Rattle.csi_controller.specs.State.{Volume, ControllerState, volume_with_id, holdings_of}
 use Rattle.csi_types.specs.declared.holding.Holding.{Holding}
@@ -39,6 +39,10 @@ IsCopyOf (Some row) (Some copy) = IsSameRow row copy
 abbrev pub attached : List ControllerRow → List Holding
 attached [] = []
 attached (row ∷ rows) = holdings_in_row row ++ attached rows
+
+-- a holding of a volume of a lower id, or of the same volume
+abbrev pub IsHeldBefore : Holding → Holding → Type 0
+IsHeldBefore first second = first.volume ≤ second.volume
 
 -- a list of holdings has each volume's, in order
 abbrev pub HasHoldingsOf : ControllerState → List Holding → Type 0

@@ -41,7 +41,8 @@ impl Model for Controller {
 impl Controller {
     ghost use Rattle.csi_controller.specs.State.{ControllerState, empty_controller, volume_named};
     ghost use Rattle.csi_controller.specs.Fenced.{fenced};
-    ghost use Rattle.csi_controller.specs.Views.{shown_if_live, attached, HasHoldingsOf, IsCopyOf, IsRowOf};
+    ghost use Rattle.csi_lists.specs.Members.{EachTwo};
+    ghost use Rattle.csi_controller.specs.Views.{shown_if_live, attached, IsHeldBefore, HasHoldingsOf, IsCopyOf, IsRowOf};
     ghost use Rattle.csi_controller.specs.Core.{IsShown, IsSound, IsAnsweredOk, IsUndoing};
 
     /// A controller that made no volume. It takes no memory.
@@ -142,6 +143,7 @@ impl Controller {
     /// Where each volume is held, by rising id, and for each volume in the order of its row.
     pub fn attachments(&self, alloc: Global) -> Result<Vec<Holding>, CoreFault>
         ensures order { IfOk result (λ all. all.items ≡ attached self.now.rows) }
+        ensures rising { IfOk result (λ all. EachTwo IsHeldBefore all.items) }
         ensures state { (state : ControllerState) → IsShown self.now state → IfOk result (λ all. HasHoldingsOf state all.items) }
     {
         attachments(&self.core.rows, alloc)
