@@ -1,13 +1,2 @@
--- Facts of lists, for the laws of the plugins and of worlds.
-use Rattle.std.specs.Prelude.{◌≡◌, ◌⊎◌, List, [], ◌∷◌}
-use Rattle.std.specs.List.{AllByRecursion}
-
--- the value is in the list
-abbrev pub IsAmong : {X : Type 0} → X → List X → Type 0
-IsAmong x [] = ⊥
-IsAmong x (y ∷ ys) = (x ≡ y) ⊎ IsAmong x ys
-
--- each value and each one after it
-abbrev pub EachTwo : {X : Type 0} → (X → X → Type 0) → List X → Type 0
-EachTwo R [] = Unit {0}
-EachTwo R (x ∷ xs) = AllByRecursion (R x) xs × EachTwo R xs
+-- The words on lists of `csi_lists`, for crates that cite them from here.
+pub use Rattle.csi_lists.specs.Members.{IsAmong, EachTwo}
