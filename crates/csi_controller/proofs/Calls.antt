@@ -1,6 +1,6 @@
 -- Each call at its row: what the definitions answer, and the rules of the rows afterwards.
 use Rattle.std.proofs.Common.{◌≡◌, ◌≤◌, ℕ, zero, suc, Bool, List, [], ◌∷◌, get_or, length, refl, sym, ◌∙◌, ap, subst, arith}
-use Rattle.std.specs.Prelude.{Result, IfOk, OnErr}
+use Rattle.std.specs.Prelude.{Result, IfOk, OnErr, IfNone}
 use Rattle.std.specs.declared.result.Result.TheVariants as results
 use Rattle.std.specs.Prelude.{Option, Some, None, option_map, find, position, count_by, ◌==◌, ◌&&◌, ◌||◌, nat_le, IsTrue, codes}
 use Rattle.std.specs.List.{list_any, position_or_len}
@@ -29,7 +29,7 @@ use Rattle.csi_controller.specs.State.{Volume, ControllerState, volume_named}
 use Rattle.csi_controller.specs.Table.{Outcome, delete, publish, unpublish}
 use Rattle.csi_controller.specs.Fenced.{fenced_call, kept_for}
 use Rattle.csi_controller.specs.Shown.{volume_of_row}
-use Rattle.csi_controller.specs.Core.{IsShown, Answers, IsSound, IsSoundRow, held_by, RowOutcome, RowAttaches, by_line, RowGives, row_after, create_line, delete_line, publish_line, unpublish_line, fence_answer, IsSameRow, IsAnsweredOk}
+use Rattle.csi_controller.specs.Core.{IsShown, Answers, IsSound, IsSoundRow, held_by, RowOutcome, RowAttaches, by_line, RowGives, row_after, create_line, delete_line, publish_line, unpublish_line, IsSameRow, IsAnsweredOk}
 use Rattle.csi_controller.proofs.FirstAt.{IsAt, FirstAt, FirstAt-position, FirstAt-find, FirstAt-is_at, FirstAt-passes, All-at, find-view}
 use Rattle.csi_controller.proofs.Lines.{create-told, delete-told, publish-told, unpublish-told, full-told, sees-row, live-nowhere, held-nowhere}
 use Rattle.csi_controller.proofs.Sound.{sound-after, sound-same, sound-set, rising-one}
@@ -158,16 +158,10 @@ publish-answers config n rows state number id wanted place row new frame sound s
     (fenced_call config state number (ControllerPublishVolume k wanted.node wanted.capability wanted.readonly) (kept_for (ControllerPublishVolume k wanted.node wanted.capability wanted.readonly) state))) rows place row id at is
     (λ first. publish-own config n rows state number wanted place row new frame sound shown first gives)
 
--- what the fence answers at a row, which stays as it is
-fence-gives : (number : Number) (kind : Kind) (outcome : RowOutcome) (row : ControllerRow) (frame : Frame) (verdict : Verdict) → Some frame ≡ fence_answer number kind row verdict → RowGives row frame (row_after number kind outcome row verdict)
-fence-gives number kind outcome row frame Stale e = record { reply = cc; volume = refl; items = refl }
-fence-gives number kind outcome row frame Repeated e = record { reply = cc; volume = refl; items = refl }
-fence-gives number kind outcome row frame Fresh e = absurd cc
-
-pub fence-fresh : (number : Number) (kind : Kind) (row : ControllerRow) (verdict : Verdict) (answer : Option Frame) → ((frame : Frame) → answer ≡ Some frame → ⊥) → answer ≡ fence_answer number kind row verdict → verdict ≡ Fresh
-fence-fresh number kind row Stale answer none e = absurd (none _ e)
-fence-fresh number kind row Repeated answer none e = absurd (none _ e)
-fence-fresh number kind row Fresh answer none e = refl
+-- what follows where nothing was answered
+pub where_none : {X : Type 0} (o : Option X) (P : Type 0) → ((x : X) → o ≡ Some x → ⊥) → IfNone o P → P
+where_none None P none p = p
+where_none (Some x) P none p = absurd (none x refl)
 
 set-own : (rows : List ControllerRow) (place : ℕ) (row : ControllerRow) → IsAt rows place row → set rows place row ≡ rows
 set-own [] place row at = absurd at
@@ -196,7 +190,7 @@ publish-gives rows id place row again new frame number wanted configured full li
 
 pub publish-fenced : (config : Config) (n : ℕ) (rows : List ControllerRow) (state : ControllerState) (number : Number) (id : ℕ) (wanted : NodeHolding) (place : ℕ) (row : ControllerRow) (frame : Frame)
     → IsSound n rows → IsShown (record { config = config; next_id = n; rows = rows }) state → Some place ≡ position (λ (r : ControllerRow). r.id == id) rows → row ≡ get_or rows place row
-    → Some frame ≡ fence_answer number kinds.ControllerPublishVolume row (verdict_of (Some row.last) number)
+    → ((outcome : RowOutcome) → RowGives row frame (row_after number kinds.ControllerPublishVolume outcome row (verdict_of (Some row.last) number)))
     → Answers (record { config = config; next_id = n; rows = rows }) frame
     (fenced_call config state number (ControllerPublishVolume id wanted.node wanted.capability wanted.readonly) (kept_for (ControllerPublishVolume id wanted.node wanted.capability wanted.readonly) state))
 publish-fenced config n rows state number id wanted place row frame sound shown at is answered =
@@ -204,7 +198,7 @@ publish-fenced config n rows state number id wanted place row frame sound shown 
     subst (λ (now : List ControllerRow). Answers (record { config = config; next_id = n; rows = now }) frame
     (fenced_call config state number (ControllerPublishVolume id wanted.node wanted.capability wanted.readonly) (kept_for (ControllerPublishVolume id wanted.node wanted.capability wanted.readonly) state)))
     own
-    (publish-answers config n rows state number id wanted place row row frame sound shown at is (fence-gives number kinds.ControllerPublishVolume _ row frame (verdict_of (Some row.last) number) answered))
+    (publish-answers config n rows state number id wanted place row row frame sound shown at is (answered _))
 
 -- a search that gives no place finds nothing
 past-none : (p : ControllerRow → Bool) (rows : List ControllerRow) → length rows ≤ position_or_len p rows → find p rows ≡ None

@@ -209,12 +209,6 @@ row_after number kind outcome row Fresh =
       items = items_after outcome.change row.holdings.items;
     }
 
--- what the fence answers at a row; none for a fresh call
-abbrev pub fence_answer : Number → Kind → ControllerRow → Verdict → Option Frame
-fence_answer number kind row Stale = Some (reply_frame number Controller kind stale_reply)
-fence_answer number kind row Repeated = Some (reply_frame number Controller row.kind row.reply)
-fence_answer number kind row Fresh = None
-
 -- the row after what it answered
 pub record RowGives (new : ControllerRow) (frame : Frame) (after : RowAfter) : Type 0 where
   pub reply : frame ≡ after.frame

@@ -1,8 +1,8 @@
 -- Tests whether some of a list pass, or all, by what is among it.
-use Rattle.std.proofs.Common.{◌≡◌, ◌⊎◌, ℕ, List, [], ◌∷◌, map, Bool, true, false, cond, refl, sym, ◌∙◌, ap, inl, inr}
+use Rattle.std.proofs.Common.{◌≡◌, ◌⊎◌, ℕ, List, [], ◌∷◌, map, Bool, true, false, cond, not, refl, sym, ◌∙◌, ap, inl, inr}
 use Rattle.std.specs.Prelude.{Some, None, find, filter, is_some, ◌==◌, ◌||◌}
 use Rattle.std.specs.List.{list_any, list_all}
-use Rattle.std.proofs.lemmas.Bool.{and_parts, and_from, or_cases, or_left, or_right, or_parts, false≢true}
+use Rattle.std.proofs.lemmas.Bool.{and_parts, and_from, or_cases, or_left, or_right, or_parts, false≢true, false_from_ne_true}
 use Rattle.csi_lists.specs.Members.{IsAmong}
 use Rattle.csi_lists.proofs.Members.{among-by_key}
 
@@ -11,6 +11,10 @@ pub alike : (a b : Bool) → (a ≡ true → b ≡ true) → (b ≡ true → a �
 alike true b there back = sym (there refl)
 alike false true there back = back refl
 alike false false there back = refl
+
+-- where a test can't be passed, its contrary is
+pub not-where : (b : Bool) → (b ≡ true → ⊥) → not b ≡ true
+not-where b f = ap not (false_from_ne_true b f)
 
 -- ---- all
 

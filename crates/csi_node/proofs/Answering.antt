@@ -14,7 +14,7 @@ use Rattle.csi_types.specs.Call.{kind_of}
 use Rattle.csi_types.specs.Fence.{Kept, verdict_of}
 use Rattle.csi_types.specs.Frame.{Frame}
 use Rattle.csi_types.specs.Replies.{reply_frame, plain_reply}
-use Rattle.csi_types.proofs.Lists.{find-passes}
+use Rattle.csi_lists.proofs.Searches.{find-passes}
 use Rattle.csi_node.specs.State.{NodeState, StagedVolume, volume_of}
 use Rattle.csi_node.specs.Table.{Outcome, lifecycle_row, node_row, has_no_room, changed}
 use Rattle.csi_node.specs.Fenced.{Fenced, keep, answered_only, carried_out, judged, fenced_call, kept_for}

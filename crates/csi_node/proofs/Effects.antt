@@ -1,19 +1,21 @@
 -- What an outcome of the table does to the things of a node.
 use Rattle.std.proofs.Common.{◌≡◌, ◌≢◌, ℕ, List, Bool, true, false, cond, not, refl, sym, ◌∙◌, ap}
 use Rattle.std.specs.Prelude.{Option, Some, None, option_map, find, ◌==◌}
-use Rattle.std.proofs.lemmas.Bool.{and_parts, eqb-true, eq-eqb}
-use Rattle.csi_types.proofs.Among.{find-filter}
+use Rattle.std.proofs.lemmas.Bool.{and_parts, eqb-true, eq-eqb, false_from_ne_true}
+use Rattle.csi_lists.proofs.Searches.{find-filter}
 use Rattle.csi_types.proofs.Equality.{same_text-tells, same_key-tells}
-use Rattle.csi_types.proofs.Lists.{find-append_one, find-filter_not}
+use Rattle.csi_lists.proofs.Searches.{find-append_one, find-filter_not}
 use Rattle.csi_types.specs.declared.call.Call.{Call}
 use Rattle.csi_types.specs.declared.call.Call.TheVariants as calls
 use Rattle.csi_types.specs.declared.status.Status.TheVariants.{Ok}
 use Rattle.csi_types.specs.Key.{Key, Exists, Attached, Staged, Published, Form, StagedAs, PublishedAs, same_key, asked}
 use Rattle.csi_types.specs.Same.{same_text}
+use Rattle.csi_lists.proofs.Options.{none-from_map}
+use Rattle.csi_lists.proofs.Searches.{find-append_other}
+use Rattle.csi_lists.proofs.Tests.{not-where}
 use Rattle.csi_node.specs.State.{NodeState, StagedVolume, PublishedVolume, is_published_at}
 use Rattle.csi_node.specs.Table.{Outcome, Change, Stays, Stages, Unstages, Publishes, Unpublishes, refused, met, done, changed}
 use Rattle.csi_node.specs.View.{held_on, key_of}
-use Rattle.csi_node.proofs.Finds.{not_passed, passed_not, no_fact, find-append_other}
 use Rattle.csi_node.proofs.Things.{here}
 use Rattle.csi_node.proofs.Moves.{Move, at_itself, refuses, was_staged, stages, unstages, was_published, publishes, was_unpublished, unpublishes, stage_call, publish_call}
 
@@ -72,7 +74,7 @@ module _ (node : List ℕ) (state : NodeState) where
   stages_others s (Published id there target) differ = refl
   stages_others s (Staged id there) differ = by_place (same_text there node) _ _ (λ same.
       let place = (same_text-tells there node).0 same in
-      let fails = not_passed (s.volume == id) (λ h.
+      let fails = false_from_ne_true (s.volume == id) (λ h.
       let volume = eqb-true s.volume id h in is_not (Staged id there) (Staged s.volume node) differ (λ i. Staged (sym volume i) (place i))) in
       ap staged_form (find-append_other (λ (s : StagedVolume). s.volume == id) state.staged s fails))
 
@@ -83,7 +85,7 @@ module _ (node : List ℕ) (state : NodeState) where
   unstages_others id (Staged volume there) differ = by_place (same_text there node) _ _ (λ same.
       let place = (same_text-tells there node).0 same in
       ap staged_form
-      (find-filter (λ (s : StagedVolume). s.volume == volume) (λ (s : StagedVolume). not (s.volume == id)) state.staged (λ s found. passed_not (s.volume == id) (λ h.
+      (find-filter (λ (s : StagedVolume). s.volume == volume) (λ (s : StagedVolume). not (s.volume == id)) state.staged (λ s found. not-where (s.volume == id) (λ h.
       let number = sym (eqb-true s.volume volume found) ∙ eqb-true s.volume id h in is_not (Staged volume there) (Staged id node) differ (λ i. Staged (number i) (place i))))))
 
   publishes_others : (p : PublishedVolume) (other : Key) → same_key other (Published p.volume node p.target) ≡ false → held_on node (changed state (Publishes p)) other ≡ held_on node state other
@@ -92,7 +94,7 @@ module _ (node : List ℕ) (state : NodeState) where
   publishes_others p (Staged id there) differ = refl
   publishes_others p (Published id there target) differ = by_place (same_text there node) _ _ (λ same.
       let place = (same_text-tells there node).0 same in
-      let fails = not_passed (is_published_at id target p) (λ h.
+      let fails = false_from_ne_true (is_published_at id target p) (λ h.
       let at = is_at id target p h in is_not (Published id there target) (Published p.volume node p.target) differ (λ i. Published (sym at.0 i) (place i) (sym at.1 i))) in
       ap published_form (find-append_other (is_published_at id target) state.published p fails))
 
@@ -103,7 +105,7 @@ module _ (node : List ℕ) (state : NodeState) where
   unpublishes_others id target (Published volume there aim) differ = by_place (same_text there node) _ _ (λ same.
       let place = (same_text-tells there node).0 same in
       ap published_form
-      (find-filter (is_published_at volume aim) (λ (p : PublishedVolume). not (is_published_at id target p)) state.published (λ p found. passed_not (is_published_at id target p) (λ h.
+      (find-filter (is_published_at volume aim) (λ (p : PublishedVolume). not (is_published_at id target p)) state.published (λ p found. not-where (is_published_at id target p) (λ h.
       let first = is_at volume aim p found in
       let second = is_at id target p h in
       let number = sym first.0 ∙ second.0 in
@@ -114,7 +116,7 @@ module _ (node : List ℕ) (state : NodeState) where
   effect _ _ (refuses call status detail not_ok) = refused_effect call (refused status detail) (key_of node call) not_ok refl
   effect _ _ (was_staged s is) = met_effect (stage_call s) (Staged s.volume node) (rw (here node) (ap (option_map StagedAs) is))
   effect _ _ (stages s none) =
-      let free = no_fact (λ (s : StagedVolume). s.capability) (find (λ (t : StagedVolume). t.volume == s.volume) state.staged) none in
+      let free = none-from_map (λ (s : StagedVolume). s.capability) (find (λ (t : StagedVolume). t.volume == s.volume) state.staged) none in
       let found = find-append_one (λ (t : StagedVolume). t.volume == s.volume) state.staged s (eq-eqb s.volume s.volume refl) free in
       done_effect (stage_call s) (Stages s) (Staged s.volume node) (rw (here node) (ap staged_form found)) (stages_others s)
   effect _ _ (unstages id none) =

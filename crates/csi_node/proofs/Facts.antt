@@ -13,9 +13,10 @@ use Rattle.csi_types.specs.Same.{same_text, same_flag, same_capability}
 use Rattle.csi_node.specs.State.{NodeState, Answered, StagedVolume, PublishedVolume, staged_of, published_of, published_at, is_published_at, volume_of}
 use Rattle.csi_node.specs.Table.{Outcome, Change, Stays, Stages, Unstages, Publishes, Unpublishes, refused, met, done, begins_with_slash, stage, unstage, publish_at_target, publish, unpublish, lifecycle_row, changed}
 use Rattle.csi_node.specs.Laws.{is_another, IsDone}
-use Rattle.csi_node.proofs.Finds.{no_fact}
 use Rattle.csi_node.proofs.Moves.{Move, at_itself, refuses, was_staged, stages, unstages, was_published, publishes, was_unpublished, unpublishes, lifecycle_moves, stage_call, publish_call}
-use Rattle.csi_types.proofs.Lists.{find-append_one, find-filter_not, filter-append_one, filter-filter, filter-not_none}
+use Rattle.csi_lists.proofs.Searches.{find-append_one, find-filter_not}
+use Rattle.csi_lists.proofs.Filters.{filter-append_one, filter-filter, filter-not_none}
+use Rattle.csi_lists.proofs.Options.{none-from_map}
 
 -- the table would answer this call OK, and change nothing
 pub IsReady : NodeState → Call → Type 0
@@ -65,7 +66,7 @@ unfolding IsReady
 move_facts state _ _ (refuses call status detail not_ok) = refused_facts state call status detail not_ok
 move_facts state _ _ (was_staged staged is) = met_facts state (stage_call staged) is
 move_facts state _ _ (stages staged none) =
-    let free = no_fact (λ (s : StagedVolume). s.capability) (find (λ (s : StagedVolume). s.volume == staged.volume) state.staged) none in
+    let free = none-from_map (λ (s : StagedVolume). s.capability) (find (λ (s : StagedVolume). s.volume == staged.volume) state.staged) none in
     let found = find-append_one (λ (s : StagedVolume). s.volume == staged.volume) state.staged staged (same_id staged.volume) free in
     done_facts state (stage_call staged) (Stages staged) (ap (option_map (λ (s : StagedVolume). s.capability)) found)
     (record { staged = filter-append_one (λ (s : StagedVolume). not (s.volume == staged.volume)) state.staged staged (not_another staged.volume); published = refl })
@@ -107,7 +108,7 @@ ready_stage state id capability o is =
 
 ready_unstage : (state : NodeState) (id : ℕ) (targets : List PublishedVolume) → targets ≡ [] → staged_of id state ≡ None → IsMet state (unstage id targets)
 ready_unstage state id targets is none =
-    let found = no_fact (λ (staged : StagedVolume). staged.capability) (find (λ (staged : StagedVolume). staged.volume == id) state.staged) none in
+    let found = none-from_map (λ (staged : StagedVolume). staged.capability) (find (λ (staged : StagedVolume). staged.volume == id) state.staged) none in
     subst (λ (targets : List PublishedVolume). IsMet state (unstage id targets)) (sym is)
     (record { is_ok = refl; staged = filter-not_none (λ (staged : StagedVolume). staged.volume == id) state.staged found; published = refl })
 

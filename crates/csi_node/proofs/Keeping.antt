@@ -2,10 +2,11 @@
 use Rattle.std.proofs.Common.{◌≡◌, ◌⊎◌, ℕ, List, [], ◌∷◌, ◌++◌, map, Bool, true, false, cond, not, refl, sym, ◌∙◌, ap, inl, inr}
 use Rattle.std.specs.Prelude.{Option, Some, None, option_map, find, filter, ◌==◌}
 use Rattle.std.proofs.lemmas.Bool.{eq-eqb, eqb-true}
-use Rattle.csi_node.proofs.Finds.{passed_not}
-use Rattle.csi_types.proofs.Among.{find-filter}
-use Rattle.csi_types.proofs.Lists.{find-append_one, filter-append_one, filter-map, find-map, find-passes}
+use Rattle.csi_lists.proofs.Searches.{find-filter}
+use Rattle.csi_lists.proofs.Searches.{find-append_one, find-map, find-passes}
+use Rattle.csi_lists.proofs.Filters.{filter-append_one, filter-map}
 use Rattle.csi_types.specs.Fence.{Kept}
+use Rattle.csi_lists.proofs.Tests.{not-where}
 use Rattle.csi_node.specs.State.{NodeState, Answered, row_with_id}
 use Rattle.csi_node.specs.Table.{Change, Stays, Stages, Unstages, Publishes, Unpublishes, changed}
 use Rattle.csi_node.specs.Fenced.{kept_in, kept_rows, keep}
@@ -92,7 +93,7 @@ not_both : true ≡ false → ⊥
 not_both h = cc
 
 other_id : (other id n : ℕ) → (other == id) ≡ false → (n == other) ≡ true → not (n == id) ≡ true
-other_id other id n differ same = passed_not (n == id) (λ h. not_both (sym (eq-eqb other id (sym (eqb-true n other same) ∙ eqb-true n id h)) ∙ differ))
+other_id other id n differ same = not-where (n == id) (λ h. not_both (sym (eq-eqb other id (sym (eqb-true n other same) ∙ eqb-true n id h)) ∙ differ))
 
 -- another volume's row is found as it was
 keep-other : (id other : ℕ) (kept : Kept) (state : NodeState) → (other == id) ≡ false → kept_in_row other (keep (Some id) kept state) ≡ kept_in_row other state

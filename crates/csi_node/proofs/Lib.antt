@@ -1,5 +1,4 @@
 pub mod Moves
-pub mod Finds
 pub mod Keeping
 pub mod Passages
 pub mod Effects
@@ -7,7 +6,6 @@ pub mod Numbers
 pub mod Things
 pub mod Delivered
 pub mod Facts
-pub mod Lists
 pub mod OneRow
 pub mod RowChanges
 pub mod StateChanges

@@ -7,7 +7,11 @@ use Rattle.std.proofs.lemmas.List.{append-nil, length-map}
 use Rattle.std.proofs.lemmas.List.Elements.{filter-append}
 use Rattle.std.proofs.lemmas.List.Folds.{flat_map-map}
 use Rattle.csi_types.specs.declared.capability.Capability.{Capability}
-use Rattle.csi_types.specs.Lists.{EachTwo}
+use Rattle.csi_lists.specs.Members.{EachTwo}
+use Rattle.csi_lists.proofs.Each.{each-append, each-weaker}
+use Rattle.csi_lists.proofs.Members.{each_of}
+use Rattle.csi_lists.proofs.Pairs.{two-joined}
+use Rattle.csi_lists.proofs.Filters.{filter-each, filter-no_one, each-passes}
 use Rattle.csi_node.specs.declared.row.NodeRow.{NodeRow}
 use Rattle.csi_node.specs.declared.row.NodeTarget.{NodeTarget}
 use Rattle.csi_node.specs.State.{NodeState, Answered, StagedVolume, PublishedVolume}
@@ -18,29 +22,6 @@ use Rattle.csi_node.specs.Views.{IsStagedBefore, IsPublishedBefore, ListsStaged,
 use Rattle.csi_node.proofs.Lists.{find-of_map}
 use Rattle.csi_node.proofs.Steps.{ShowsAll, row_of, alone_in, answered_of, all-from_shows, shows-from_all}
 use Rattle.csi_node.proofs.Rules.{IsRising}
-
--- each of two lists
-each-append : {X : Type 0} (P : X → Type 0) (xs ys : List X) → AllByRecursion P xs → AllByRecursion P ys → AllByRecursion P (xs ++ ys)
-each-append P [] ys first second = second
-each-append P (x ∷ xs) ys first second = (first.0, each-append P xs ys first.1 second)
-
--- any two of two lists
-two-join : {X : Type 0} (R : X → X → Type 0) (xs ys : List X) → EachTwo R xs → EachTwo R ys → AllByRecursion (λ x. AllByRecursion (R x) ys) xs → EachTwo R (xs ++ ys)
-two-join R [] ys first second across = second
-two-join R (x ∷ xs) ys first second across = (each-append (R x) xs ys first.0 across.0, two-join R xs ys first.1 second across.1)
-
--- a fact of each that follows from another
-each-weaker : {X : Type 0} (P Q : X → Type 0) (xs : List X) → ((x : X) → P x → Q x) → AllByRecursion P xs → AllByRecursion Q xs
-each-weaker P Q [] f all = tt
-each-weaker P Q (x ∷ xs) f all = (f x all.0, each-weaker P Q xs f all.1)
-
-filter_each : {X : Type 0} (p : X → Bool) (xs : List X) → AllByRecursion (λ x. p x ≡ true) xs → filter p xs ≡ xs
-filter_each p [] all = refl
-filter_each p (x ∷ xs) all = rw all.0 (ap (λ (rest : List _). x ∷ rest) (filter_each p xs all.1))
-
-filter_no_one : {X : Type 0} (p : X → Bool) (xs : List X) → AllByRecursion (λ x. p x ≡ false) xs → filter p xs ≡ []
-filter_no_one p [] all = refl
-filter_no_one p (x ∷ xs) all = rw all.0 (filter_no_one p xs all.1)
 
 -- the first has the lower id
 abbrev IsRowBefore : RowShown → RowShown → Type 0
@@ -66,23 +47,15 @@ AreOf volume id xs = AllByRecursion (λ x. volume x ≡ id) xs
 
 filter_own : {X : Type 0} (volume : X → ℕ) (id own : ℕ) (xs : List X) → (own == id) ≡ true → AreOf volume own xs → filter (λ x. volume x == id) xs ≡ xs
 filter_own volume id own xs same all =
-    filter_each (λ x. volume x == id) xs (each-weaker (λ x. volume x ≡ own) (λ x. (volume x == id) ≡ true) xs (λ x e. eq-eqb (volume x) id (e ∙ eqb-true own id same)) all)
+    filter-each (λ x. volume x == id) xs (each-weaker (λ x. volume x ≡ own) (λ x. (volume x == id) ≡ true) xs (λ x e. eq-eqb (volume x) id (e ∙ eqb-true own id same)) all)
 
 filter_other : {X : Type 0} (volume : X → ℕ) (id own : ℕ) (xs : List X) → (own == id) ≡ false → AreOf volume own xs → filter (λ x. volume x == id) xs ≡ []
 filter_other volume id own xs other all =
-    filter_no_one (λ x. volume x == id) xs (each-weaker (λ x. volume x ≡ own) (λ x. (volume x == id) ≡ false) xs (λ x e. ap (λ n. n == id) e ∙ other) all)
+    filter-no_one (λ x. volume x == id) xs (each-weaker (λ x. volume x ≡ own) (λ x. (volume x == id) ≡ false) xs (λ x e. ap (λ n. n == id) e ∙ other) all)
 
 filter_higher : {X : Type 0} (volume : X → ℕ) (id own : ℕ) (xs : List X) → (own == id) ≡ true → AllByRecursion (λ x. own < volume x) xs → filter (λ x. volume x == id) xs ≡ []
 filter_higher volume id own xs same all =
-    filter_no_one (λ x. volume x == id) xs (each-weaker (λ x. own < volume x) (λ x. (volume x == id) ≡ false) xs (λ x lt. higher own (volume x) id same lt) all)
-
-passed : {X : Type 0} (p : X → Bool) (xs : List X) → AllByRecursion (λ x. p x ≡ true) (filter p xs)
-passed p [] = tt
-passed p (x ∷ xs) = step (p x) refl (passed p xs)
-  where
-    step : (b : Bool) → p x ≡ b → AllByRecursion (λ x. p x ≡ true) (filter p xs) → AllByRecursion (λ x. p x ≡ true) (cond b (x ∷ filter p xs) (filter p xs))
-    step true e all = (e, all)
-    step false e all = all
+    filter-no_one (λ x. volume x == id) xs (each-weaker (λ x. own < volume x) (λ x. (volume x == id) ≡ false) xs (λ x lt. higher own (volume x) id same lt) all)
 
 -- what rows have of their volumes, one row after another
 module _ {X : Type 0} (volume : X → ℕ) (part : RowShown → List X) (own : (row : RowShown) → AreOf volume row.id (part row)) where
@@ -117,10 +90,10 @@ module _ {X : Type 0} (volume : X → ℕ) (part : RowShown → List X) (own : (
   any_two : (R : X → X → Type 0) → ((x y : X) → volume x < volume y → R x y) → ((row : RowShown) → EachTwo R (part row)) → (rows : List RowShown) → EachTwo IsRowBefore rows → EachTwo R (flat_map part rows)
   any_two R lower within [] rise = tt
   any_two R lower within (row ∷ rows) rise =
-      two-join R (part row) (flat_map part rows) (within row) (any_two R lower within rows rise.1)
-      (each-weaker (λ x. volume x ≡ row.id) (λ x. AllByRecursion (R x) (flat_map part rows)) (part row)
-      (λ x e. each-weaker (λ y. row.id < volume y) (R x) (flat_map part rows) (λ y lt. lower x y (omega (arith, e, lt))) (above_all row.id rows rise.0))
-      (own row))
+      two-joined R (part row) (flat_map part rows) (within row) (any_two R lower within rows rise.1) (λ x y here there.
+      let own = each_of (λ z. volume z ≡ row.id) (part row) x (own row) here in
+      let above = each_of (λ z. row.id < volume z) (flat_map part rows) y (above_all row.id rows rise.0) there in
+      lower x y (omega (arith, own, above)))
 
 staged_own : (id : ℕ) (o : Option Capability) → AreOf (λ (s : StagedVolume). s.volume) id (staged_by id o)
 staged_own id None = tt
@@ -178,8 +151,8 @@ module _ (rows : List RowShown) (state : NodeState) (rise : EachTwo IsRowBefore 
   staged_of_one : (id : ℕ) → filter (λ (s : StagedVolume). s.volume == id) (flat_map (λ (row : RowShown). (alone row).staged) rows) ≡ filter (λ (s : StagedVolume). s.volume == id) state.staged
   staged_of_one id =
       staged_same id _ _
-      (each-weaker (λ (s : StagedVolume). (s.volume == id) ≡ true) (λ (s : StagedVolume). s.volume ≡ id) _ (λ s e. eqb-true s.volume id e) (passed (λ (s : StagedVolume). s.volume == id) (flat_map (λ (row : RowShown). (alone row).staged) rows)))
-      (each-weaker (λ (s : StagedVolume). (s.volume == id) ≡ true) (λ (s : StagedVolume). s.volume ≡ id) _ (λ s e. eqb-true s.volume id e) (passed (λ (s : StagedVolume). s.volume == id) state.staged))
+      (each-weaker (λ (s : StagedVolume). (s.volume == id) ≡ true) (λ (s : StagedVolume). s.volume ≡ id) _ (λ s e. eqb-true s.volume id e) (each-passes (λ (s : StagedVolume). s.volume == id) (flat_map (λ (row : RowShown). (alone row).staged) rows)))
+      (each-weaker (λ (s : StagedVolume). (s.volume == id) ≡ true) (λ (s : StagedVolume). s.volume ≡ id) _ (λ s e. eqb-true s.volume id e) (each-passes (λ (s : StagedVolume). s.volume == id) state.staged))
       (ap (map (λ (s : StagedVolume). s.capability)) (of_one (λ (s : StagedVolume). s.volume) (λ row. (alone row).staged) (λ row. staged_own row.id row.staged) id rows rise ∙ staged_part (row_of id rows)) ∙ all.staged id)
 
   staged_listed : ListsStaged (flat_map (λ (row : RowShown). (alone row).staged) rows) state

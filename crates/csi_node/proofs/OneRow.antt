@@ -6,11 +6,12 @@ use Rattle.csi_types.specs.declared.capability.Capability.{Capability}
 use Rattle.csi_types.specs.declared.status.Status.TheVariants.{FailedPrecondition}
 use Rattle.csi_types.specs.Same.{same_text, same_capability}
 use Rattle.csi_types.proofs.Equality.{same_capability-tells}
+use Rattle.csi_lists.proofs.Searches.{find-of_map, find-same}
+use Rattle.csi_lists.proofs.Filters.{filter-of_map, filter-all}
 use Rattle.csi_node.specs.declared.row.NodeTarget.{NodeTarget}
 use Rattle.csi_node.specs.State.{StagedVolume, PublishedVolume, is_published_at, published_at, published_of, staged_of}
 use Rattle.csi_node.specs.Table.{Outcome, refused, publish, publish_at_target, publish_staged, publish_new, unpublish, begins_with_slash}
 use Rattle.csi_node.specs.OneRow.{RowShown, IsNew, HasRoomFor, alone, staged_by, published_so, published_by, target_in, publish_by_row, unpublish_by_row}
-use Rattle.csi_node.proofs.Lists.{find-of_map, find-same, filter-of_map, filter-all}
 use Rattle.csi_node.specs.declared.line.Line.{Line}
 use Rattle.csi_node.specs.declared.line.Line.TheVariants.{Refused, Met, Done}
 use Rattle.csi_node.specs.Lines.{WhereDone}

@@ -2,7 +2,7 @@
 -- rules.
 use Rattle.std.proofs.Common.{◌≡◌, ℕ, ◌≤◌, List, [], ◌∷◌, ◌++◌, map, length, Bool, true, false, cond, not, ◌&&◌, refl, sym, ◌∙◌, ap, subst, arith, length-append}
 use Rattle.std.specs.Prelude.{Option, Some, None, filter, ◌==◌}
-use Rattle.std.proofs.lemmas.Bool.{eq-eqb}
+use Rattle.std.proofs.lemmas.Bool.{eq-eqb, both_ways, false_from_ne_true}
 use Rattle.std.proofs.lemmas.List.{map-append}
 use Rattle.csi_types.specs.declared.capability.Capability.{Capability}
 use Rattle.csi_types.specs.declared.call.Call.{Call}
@@ -13,8 +13,14 @@ use Rattle.csi_types.specs.Fence.{Kept}
 use Rattle.csi_types.specs.Call.{kind_of, is_node_kind}
 use Rattle.csi_types.specs.Same.{same_text}
 use Rattle.csi_types.specs.Sharing.{allows_one_target}
-use Rattle.csi_types.proofs.Lists.{find-append, or_else, or_else-none}
+use Rattle.csi_lists.proofs.Searches.{find-append}
 use Rattle.csi_types.proofs.Equality.{same_text-tells}
+use Rattle.std.specs.Option.{option_or}
+use Rattle.std.proofs.lemmas.Option.{same_Some}
+use Rattle.std.proofs.lemmas.List.Elements.{filter_agree}
+use Rattle.csi_lists.proofs.Options.{option_or-none}
+use Rattle.csi_lists.proofs.Filters.{filter-of_map}
+use Rattle.csi_lists.proofs.Searches.{find-none_in_filter}
 use Rattle.csi_node.specs.declared.row.NodeTarget.{NodeTarget}
 use Rattle.csi_node.specs.declared.line.Line.{Line}
 use Rattle.csi_node.specs.declared.line.Line.TheVariants.{Refused, Met, Done}
@@ -22,7 +28,6 @@ use Rattle.csi_node.specs.State.{NodeState, StagedVolume, PublishedVolume, is_pu
 use Rattle.csi_node.specs.Table.{Change, Outcome, lifecycle_row, changed, begins_with_slash}
 use Rattle.csi_node.specs.Lines.{outcome_shown, reply_shown, WhereDone, is_done}
 use Rattle.csi_node.specs.OneRow.{RowShown, alone, staged_by, published_so, published_by, target_among, row_changed, change_of, CanChange, AreDistinct, AreAbsolute, TargetsFit, IsRow, IsAfter}
-use Rattle.csi_node.proofs.Lists.{filter-of_map, filter-same, find-none_in_filter}
 
 itself : (id : ℕ) → (id == id) ≡ true
 itself id = eq-eqb id id refl
@@ -30,22 +35,12 @@ itself id = eq-eqb id id refl
 itself_and : (id : ℕ) (b : Bool) → ((id == id) && b) ≡ b
 itself_and id b = rw (itself id) refl
 
-same_some : {X : Type 0} (a b : X) → Some a ≡ Some b → a ≡ b
-same_some a b h = cc
-
-true_then : (b : Bool) → (b ≡ true → ⊥) → b ≡ false
-true_then true h = absurd (h refl)
-true_then false h = refl
-
-false_clash : (b : Bool) → b ≡ false → b ≡ true → ⊥
-false_clash b f t = cc
-
 -- texts differ both ways
 differs : (a b : List ℕ) → same_text a b ≡ false → same_text b a ≡ false
-differs a b h = true_then (same_text b a) (λ same. false_clash (same_text a b) h ((same_text-tells a b).1 (sym ((same_text-tells b a).0 same))))
+differs a b h = false_from_ne_true (same_text b a) (λ same. both_ways (same_text a b) h ((same_text-tells a b).1 (sym ((same_text-tells b a).0 same))))
 
-or_none : {X : Type 0} (o other : Option X) → o ≡ None → other ≡ None → or_else o other ≡ None
-or_none o other a b = or_else-none o other a ∙ b
+or_none : {X : Type 0} (o other : Option X) → o ≡ None → other ≡ None → option_or o other ≡ None
+or_none o other a b = option_or-none o other a ∙ b
 
 -- a state by its three lists
 abbrev of_parts : List StagedVolume → List PublishedVolume → NodeState
@@ -64,26 +59,26 @@ unpublished_by : (id : ℕ) (o : Option Capability) (targets : List NodeTarget) 
 unpublished_by id None targets target = refl
 unpublished_by id (Some capability) targets target =
     filter-of_map (λ (p : PublishedVolume). not (is_published_at id target p)) (published_so id capability) targets
-    ∙ ap (map (published_so id capability)) (filter-same (λ there. not (is_published_at id target (published_so id capability there))) (λ there. not (same_text there.target target)) targets
-    (λ there. ap not (itself_and id (same_text there.target target))))
+    ∙ ap (map (published_so id capability)) (filter_agree (λ there. not (is_published_at id target (published_so id capability there))) (λ there. not (same_text there.target target))
+    (λ there. ap not (itself_and id (same_text there.target target))) targets)
 
 -- the state of the row alone after a change
 pub alone-changed : (row : RowShown) (call : Call) → volume_of call ≡ Some row.id → TargetsFit row.staged row.targets → CanChange row call
     → alone (row_changed row call) ≡ changed (alone row) (change_of call)
 alone-changed row (calls.NodeStageVolume id capability) volume fits can =
-    let same : id ≡ row.id = same_some id row.id volume in
+    let same : id ≡ row.id = same_Some id row.id volume in
     let none : row.targets ≡ [] = fits.unstaged can in
     rw (same, can, none) refl
 alone-changed row (calls.NodeUnstageVolume id) volume fits can =
-    let same : id ≡ row.id = same_some id row.id volume in
+    let same : id ≡ row.id = same_Some id row.id volume in
     let staged : [] ≡ filter (λ (s : StagedVolume). not (s.volume == row.id)) (staged_by row.id row.staged) = sym (unstaged_by row.id row.staged) in
     let published : [] ≡ published_by row.id row.staged row.targets = sym (ap (published_by row.id row.staged) can ∙ nothing_published row.id row.staged) in
     rw same (λ i. of_parts (staged i) (published i))
 alone-changed row (calls.NodePublishVolume id target capability readonly) volume fits can =
-    let same : id ≡ row.id = same_some id row.id volume in
+    let same : id ≡ row.id = same_Some id row.id volume in
     rw (same, can.staged) (ap (of_parts (staged_by row.id (Some capability))) (map-append (published_so row.id capability) row.targets _))
 alone-changed row (calls.NodeUnpublishVolume id target) volume fits can =
-    let same : id ≡ row.id = same_some id row.id volume in
+    let same : id ≡ row.id = same_Some id row.id volume in
     rw same (ap (of_parts (staged_by row.id row.staged)) (sym (unpublished_by row.id row.staged row.targets target)))
 alone-changed row (calls.CreateVolume name required limit capabilities) volume fits can = absurd can
 alone-changed row (calls.DeleteVolume id) volume fits can = absurd can
@@ -151,7 +146,7 @@ fits-changed row (calls.NodePublishVolume id target capability readonly) fits ca
   absolute = append_absolute row.targets _ fits.absolute can.absolute;
   distinct = append_distinct row.targets _ fits.distinct can.«new»;
   single = λ other is one.
-      let same : other ≡ capability = same_some other capability (sym is ∙ can.staged) in
+      let same : other ≡ capability = same_Some other capability (sym is ∙ can.staged) in
       let none : row.targets ≡ [] = can.single (ap (λ (c : Capability). allows_one_target c.mode) (sym same) ∙ one) in
       rw none (omega arith);
   limit = let few = can.limit in omega (arith, length-append {A = NodeTarget});

@@ -1,13 +1,15 @@
 -- Rows that keep the rules of a record show no state but safe ones.
-use Rattle.std.proofs.Common.{◌≡◌, ℕ, suc, ◌≤◌, List, [], ◌∷◌, map, length, Bool, true, false, cond, refl, sym, ◌∙◌, ap, subst, arith, inl, inr}
+use Rattle.std.proofs.Common.{◌≡◌, ℕ, ◌≤◌, List, [], ◌∷◌, map, length, Bool, true, false, refl, sym, ◌∙◌, ap, subst, arith, inl, inr}
 use Rattle.std.specs.Prelude.{Option, Some, None, filter, ◌==◌, All}
 use Rattle.std.proofs.lemmas.Bool.{eq-eqb, eqb-true}
 use Rattle.std.proofs.lemmas.List.{length-map}
 use Rattle.csi_types.specs.declared.capability.Capability.{Capability}
-use Rattle.csi_types.specs.Lists.{IsAmong, EachTwo}
+use Rattle.csi_lists.specs.Members.{IsAmong, EachTwo}
 use Rattle.csi_types.specs.Sharing.{allows_one_target}
-use Rattle.csi_types.proofs.Among.{all_of, among-find, in_filter}
-use Rattle.csi_types.proofs.Lists.{find-passes}
+use Rattle.csi_lists.proofs.Members.{all_of, among-find, in_filter}
+use Rattle.csi_lists.proofs.Searches.{find-passes}
+use Rattle.csi_lists.proofs.Members.{one-of_all}
+use Rattle.csi_lists.proofs.Counts.{two-pass, no_fewer}
 use Rattle.csi_node.specs.declared.row.NodeRow.{NodeRow}
 use Rattle.csi_node.specs.declared.row.NodeTarget.{NodeTarget}
 use Rattle.csi_node.specs.State.{NodeState, PublishedVolume, staged_of, published_of}
@@ -19,29 +21,8 @@ use Rattle.csi_node.proofs.OneRow.{staged_of-alone}
 use Rattle.csi_node.proofs.StateChanges.{part-staged}
 use Rattle.csi_node.proofs.Steps.{ShowsAll, row_of, alone_in, part_of, all-from_shows}
 
--- what is so at each place is so of what is there
-at_places : {X : Type 0} (P : X → Type 0) (xs : List X) (x : X) → All P xs → IsAmong x xs → P x
-at_places P [] x all among = absurd among
-at_places P (y ∷ ys) x all (inl e) = subst P (sym e) (all 0 x (omega arith))
-at_places P (y ∷ ys) x all (inr among) = at_places P ys x (λ k d lt. all (suc k) d (omega arith)) among
-
 none_some : {X : Type 0} {Y : Type 0} (x : X) → None ≡ Some x → Y
 none_some x h = cc
-
--- two of a list that both pass a test
-two_pass : {X : Type 0} (p : X → Bool) (x y : X) (ys : List X) → p x ≡ true → p y ≡ true → IsAmong y ys → 2 ≤ length (filter p (x ∷ ys))
-two_pass p x y ys first second among = rw first (let one = some_passes (filter p ys) (in_filter p ys y among second) in omega arith)
-  where
-    some_passes : (zs : List _) → IsAmong y zs → 1 ≤ length zs
-    some_passes [] there = absurd there
-    some_passes (z ∷ zs) there = omega arith
-
-no_fewer : {X : Type 0} (p : X → Bool) (x : X) (xs : List X) → length (filter p xs) ≤ length (filter p (x ∷ xs))
-no_fewer p x xs = step (p x)
-  where
-    step : (b : Bool) → length (filter p xs) ≤ length (cond b (x ∷ filter p xs) (filter p xs))
-    step true = omega arith
-    step false = omega arith
 
 -- where there is one in such a mode, there isn't another
 not_two : (b : Bool) (n : ℕ) → 2 ≤ n → (b ≡ true → n ≤ 1) → b ≡ false
@@ -64,7 +45,7 @@ two_allowed (p ∷ ps) few = (
 )
   where
     both : (q : PublishedVolume) → p.volume ≡ q.volume → IsAmong q ps → 2 ≤ count_of p.volume (p ∷ ps)
-    both q same among = two_pass (λ (r : PublishedVolume). r.volume == p.volume) p q ps (eq-eqb p.volume p.volume refl) (eq-eqb q.volume p.volume (sym same)) among
+    both q same among = two-pass (λ (r : PublishedVolume). r.volume == p.volume) p q ps (eq-eqb p.volume p.volume refl) (eq-eqb q.volume p.volume (sym same)) among
 
 -- targets are published in the capability in which the volume is staged
 in_capability : (id : ℕ) (capability : Capability) (targets : List NodeTarget) (p : PublishedVolume) → IsAmong p (map (published_so id capability) targets) → p.capability ≡ capability
@@ -83,7 +64,7 @@ no_more id (Some capability) targets = let same = length-map targets (published_
 module _ (rows : List RowShown) (state : NodeState) (each : All IsRow rows) (all : ShowsAll rows state) where
   -- the row of an id keeps the rules, and stands for it
   row_rules : (id : ℕ) (row : RowShown) → row_of id rows ≡ Some row → IsRow row
-  row_rules id row found = at_places IsRow rows row each (among-find (λ (r : RowShown). r.id == id) rows row found)
+  row_rules id row found = one-of_all IsRow rows row each (among-find (λ (r : RowShown). r.id == id) rows row found)
 
   own : (id : ℕ) (row : RowShown) → row_of id rows ≡ Some row → row.id ≡ id
   own id row found = eqb-true row.id id (find-passes (λ (r : RowShown). r.id == id) rows row found)

@@ -1,8 +1,8 @@
 -- In a node's state what is published is staged, at as many targets as its mode allows, whatever frames came.
 use Rattle.std.proofs.Common.{◌≡◌, ◌⊎◌, ℕ, List, [], ◌∷◌, Bool, true, false, cond, not, refl, sym, ◌∙◌, ap, subst, inl, inr}
 use Rattle.std.specs.Prelude.{Option, Some, None, option_map, find, ◌==◌}
-use Rattle.std.proofs.lemmas.Bool.{eqb-true, eq-eqb}
-use Rattle.csi_types.proofs.Lists.{find-append, or_else, or_else-some}
+use Rattle.std.proofs.lemmas.Bool.{eqb-true, eq-eqb, true≢false, false_from_ne_true}
+use Rattle.csi_lists.proofs.Searches.{find-append}
 use Rattle.csi_types.specs.declared.capability.Capability.{Capability}
 use Rattle.csi_types.specs.declared.number.Number.{Number}
 use Rattle.csi_types.specs.declared.call.Call.{Call}
@@ -17,35 +17,28 @@ use Rattle.csi_types.specs.Sharing.{allows_one_target}
 use Rattle.csi_node.specs.State.{NodeState, StagedVolume, PublishedVolume, empty_node, staged_of, published_of, is_published_at, volume_of}
 use Rattle.csi_node.specs.Table.{Outcome, Change, Stages, Unstages, Publishes, Unpublishes, lifecycle_row, changed}
 use Rattle.csi_node.specs.Fenced.{Fenced, keep, fenced_call, kept_for, fenced_parts, fenced, after_frames}
-use Rattle.csi_types.specs.Lists.{IsAmong}
+use Rattle.csi_lists.specs.Members.{IsAmong}
 use Rattle.csi_node.specs.Safe.{AllowTwo, IsPublishedRight}
-use Rattle.csi_node.proofs.Finds.{not_passed, passed_not}
 use Rattle.csi_node.proofs.Moves.{Fits, Move, refuses, was_staged, stages, unstages, was_published, publishes, was_unpublished, unpublishes, lifecycle_moves}
 use Rattle.csi_node.proofs.Passages.{Passage, stale, repeated, no_room, carried, call_passes, kept_of}
-use Rattle.csi_types.proofs.Among.{among-either, among-filter, none_kept, find-filter, two-append, two-filter}
+use Rattle.csi_lists.proofs.Members.{among-either, among-filter, none_kept}
+use Rattle.csi_lists.proofs.Searches.{find-filter}
+use Rattle.csi_lists.proofs.Pairs.{two-append, two-filter}
+use Rattle.std.proofs.lemmas.Option.{same_Some}
+use Rattle.csi_lists.proofs.Options.{option_or-read}
+use Rattle.csi_lists.proofs.Tests.{not-where}
 
 -- a change keeps that
 abbrev Keeps : NodeState → Change → Type 0
 Keeps state change = IsPublishedRight state → IsPublishedRight (changed state change)
 
--- what was staged is staged still
-or_else-same : {X Y : Type 0} (f : X → Y) (o other : Option X) (y : Y) → option_map f o ≡ Some y → option_map f (or_else o other) ≡ Some y
-or_else-same f None other y h = absurd (clash h)
-  where
-    clash : None ≡ Some y → ⊥
-    clash e = cc
-or_else-same f (Some x) other y h = ap (option_map f) (or_else-some (Some x) other x refl) ∙ h
-
 stages_keeps : (state : NodeState) (staged : StagedVolume) → Keeps state (Stages staged)
 stages_keeps state staged right = record {
   staged = λ p among.
       ap (option_map (λ (s : StagedVolume). s.capability)) (find-append (λ (s : StagedVolume). s.volume == p.volume) state.staged staged)
-      ∙ or_else-same (λ (s : StagedVolume). s.capability) (find (λ (s : StagedVolume). s.volume == p.volume) state.staged) _ p.capability (right.staged p among);
+      ∙ option_or-read (λ (s : StagedVolume). s.capability) (find (λ (s : StagedVolume). s.volume == p.volume) state.staged) _ p.capability (right.staged p among);
   targets = right.targets;
 }
-
-not_both : true ≡ false → ⊥
-not_both h = cc
 
 -- a volume that isn't published is no other's
 unstages_keeps : (state : NodeState) (id : ℕ) → published_of id state ≡ [] → Keeps state (Unstages id)
@@ -54,24 +47,21 @@ unstages_keeps state id none right = record {
       let other : (p.volume == id) ≡ false = none_kept (λ (q : PublishedVolume). q.volume == id) state.published p none among in
       ap (option_map (λ (s : StagedVolume). s.capability))
       (find-filter (λ (s : StagedVolume). s.volume == p.volume) (λ (s : StagedVolume). not (s.volume == id)) state.staged
-      (λ s same. passed_not (s.volume == id) (λ h. not_both (sym (eq-eqb p.volume id (sym (eqb-true s.volume p.volume same) ∙ eqb-true s.volume id h)) ∙ other))))
+      (λ s same. not-where (s.volume == id) (λ h. true≢false (sym (eq-eqb p.volume id (sym (eqb-true s.volume p.volume same) ∙ eqb-true s.volume id h)) ∙ other))))
       ∙ right.staged p among;
   targets = right.targets;
 }
 
-some_same : {X : Type 0} (x y : X) → Some x ≡ Some y → x ≡ y
-some_same x y h = cc
-
 -- what is published of the volume has the mode in which it is staged
 one_mode : (state : NodeState) (p q : PublishedVolume) → IsPublishedRight state → staged_of p.volume state ≡ Some p.capability → IsAmong q state.published → q.volume ≡ p.volume → q.capability ≡ p.capability
 one_mode state p q right is among same =
-    some_same q.capability p.capability (sym (right.staged q among) ∙ ap (λ n. staged_of n state) same ∙ is)
+    same_Some q.capability p.capability (sym (right.staged q among) ∙ ap (λ n. staged_of n state) same ∙ is)
 
 -- where the volume is published already, its mode allows more targets than one
 shared : (state : NodeState) (p q : PublishedVolume) → Fits state p → IsAmong q state.published → q.volume ≡ p.volume → allows_one_target p.capability.mode ≡ false
 shared state p q fits among same =
-    not_passed (allows_one_target p.capability.mode)
-    (λ one. not_both (sym (eq-eqb q.volume p.volume same) ∙ none_kept (λ (r : PublishedVolume). r.volume == p.volume) state.published q (fits.alone one) among))
+    false_from_ne_true (allows_one_target p.capability.mode)
+    (λ one. true≢false (sym (eq-eqb q.volume p.volume same) ∙ none_kept (λ (r : PublishedVolume). r.volume == p.volume) state.published q (fits.alone one) among))
 
 publishes_keeps : (state : NodeState) (p : PublishedVolume) → Fits state p → Keeps state (Publishes p)
 publishes_keeps state p fits right = record {

@@ -1,9 +1,10 @@
 -- In a node's state each volume is staged at most once: what the list has is what is found, whatever frames came.
-use Rattle.std.proofs.Common.{◌≡◌, ◌⊎◌, ℕ, List, [], ◌∷◌, ◌++◌, Bool, true, false, cond, not, refl, sym, ◌∙◌, ap, subst, inl, inr}
-use Rattle.std.specs.Prelude.{Option, Some, None, option_map, find, filter, ◌==◌}
-use Rattle.std.proofs.lemmas.Bool.{eqb-true, eq-eqb, false≢true}
-use Rattle.csi_types.proofs.Among.{among-either, among-filter, find-filter}
-use Rattle.csi_types.proofs.Lists.{find-append, or_else, or_else-some, or_else-none}
+use Rattle.std.proofs.Common.{◌≡◌, ◌⊎◌, ℕ, List, [], ◌∷◌, Bool, true, false, cond, not, refl, sym, ◌∙◌, ap, subst, inl, inr}
+use Rattle.std.specs.Prelude.{Option, Some, None, option_map, find, ◌==◌}
+use Rattle.std.proofs.lemmas.Bool.{eqb-true, eq-eqb}
+use Rattle.csi_lists.proofs.Members.{among-either, among-filter}
+use Rattle.csi_lists.proofs.Searches.{find-filter}
+use Rattle.csi_lists.proofs.Searches.{find-append}
 use Rattle.csi_types.specs.declared.capability.Capability.{Capability}
 use Rattle.csi_types.specs.declared.number.Number.{Number}
 use Rattle.csi_types.specs.declared.call.Call.{Call}
@@ -13,10 +14,12 @@ use Rattle.csi_types.specs.declared.frame.Body.{Body}
 use Rattle.csi_types.specs.declared.frame.Body.TheVariants as bodies
 use Rattle.csi_types.specs.Fence.{Kept}
 use Rattle.csi_types.specs.Frame.{Frame}
-use Rattle.csi_types.specs.Lists.{IsAmong}
+use Rattle.csi_lists.specs.Members.{IsAmong}
 use Rattle.csi_types.specs.Same.{same_text}
+use Rattle.csi_lists.proofs.Options.{option_or-none, option_or-read, none-from_map}
+use Rattle.csi_lists.proofs.Members.{passes-filter}
 use Rattle.csi_node.specs.State.{NodeState, StagedVolume, empty_node, staged_of, volume_of}
-use Rattle.csi_node.specs.Table.{Outcome, Change, Stages, Unstages, lifecycle_row, changed}
+use Rattle.csi_node.specs.Table.{Outcome, Stages, Unstages, lifecycle_row, changed}
 use Rattle.csi_node.specs.Fenced.{Fenced, keep, fenced_call, kept_for, fenced_parts, fenced, after_frames}
 use Rattle.csi_node.proofs.Moves.{Move, refuses, was_staged, stages, unstages, was_published, publishes, was_unpublished, unpublishes, lifecycle_moves}
 use Rattle.csi_node.proofs.Passages.{Passage, stale, repeated, no_room, carried, call_passes, kept_of}
@@ -25,25 +28,8 @@ use Rattle.csi_node.proofs.Passages.{Passage, stale, repeated, no_room, carried,
 abbrev pub AreFound : NodeState → Type 0
 AreFound state = (staged : StagedVolume) → IsAmong staged state.staged → staged_of staged.volume state ≡ Some staged.capability
 
--- what passes a filter
-passes-filter : {X : Type 0} (p : X → Bool) (xs : List X) (x : X) → IsAmong x (filter p xs) → p x ≡ true
-passes-filter p [] x among = absurd among
-passes-filter p (y ∷ ys) x among = by (p y) refl among (passes-filter p ys x)
-  where
-    by : (b : Bool) → p y ≡ b → IsAmong x (cond b (y ∷ filter p ys) (filter p ys)) → (IsAmong x (filter p ys) → p x ≡ true) → p x ≡ true
-    by true e (inl same) rest = ap p same ∙ e
-    by true e (inr there) rest = rest there
-    by false e there rest = rest there
-
 capability_of : StagedVolume → Capability
 capability_of staged = staged.capability
-
-none-mapped : (o : Option StagedVolume) → option_map (λ (s : StagedVolume). s.capability) o ≡ None → o ≡ None
-none-mapped None h = refl
-none-mapped (Some s) h = absurd (clash h)
-  where
-    clash : Some s.capability ≡ None → ⊥
-    clash e = cc
 
 stages-found : (state : NodeState) (new : StagedVolume) → staged_of new.volume state ≡ None → AreFound state → AreFound (changed state (Stages new))
 stages-found state new none found staged among = by (among-either state.staged new staged among)
@@ -51,23 +37,16 @@ stages-found state new none found staged among = by (among-either state.staged n
     is_of : ℕ → StagedVolume → Bool
     is_of id s = s.volume == id
 
-    old : (o other : Option StagedVolume) → option_map (λ (s : StagedVolume). s.capability) o ≡ Some staged.capability → option_map (λ (s : StagedVolume). s.capability) (or_else o other) ≡ Some staged.capability
-    old None other h = absurd (clash h)
-      where
-        clash : None ≡ Some staged.capability → ⊥
-        clash e = cc
-    old (Some s) other h = ap (option_map (λ (s : StagedVolume). s.capability)) (or_else-some (Some s) other s refl) ∙ h
-
     now : staged_of new.volume (changed state (Stages new)) ≡ Some new.capability
     now =
         ap (option_map (λ (s : StagedVolume). s.capability)) (find-append (is_of new.volume) state.staged new)
-        ∙ ap (option_map (λ (s : StagedVolume). s.capability)) (or_else-none (find (is_of new.volume) state.staged) (cond (new.volume == new.volume) (Some new) None) (none-mapped (find (is_of new.volume) state.staged) none))
+        ∙ ap (option_map (λ (s : StagedVolume). s.capability)) (option_or-none (find (is_of new.volume) state.staged) (cond (new.volume == new.volume) (Some new) None) (none-from_map (λ (s : StagedVolume). s.capability) (find (is_of new.volume) state.staged) none))
         ∙ ap (λ b. option_map (λ (s : StagedVolume). s.capability) (cond b (Some new) None)) (eq-eqb new.volume new.volume refl)
 
     by : IsAmong staged state.staged ⊎ (staged ≡ new) → staged_of staged.volume (changed state (Stages new)) ≡ Some staged.capability
     by (inl there) =
         ap (option_map (λ (s : StagedVolume). s.capability)) (find-append (is_of staged.volume) state.staged new)
-        ∙ old (find (is_of staged.volume) state.staged) (cond (new.volume == staged.volume) (Some new) None) (found staged there)
+        ∙ option_or-read (λ (s : StagedVolume). s.capability) (find (is_of staged.volume) state.staged) (cond (new.volume == staged.volume) (Some new) None) staged.capability (found staged there)
     by (inr e) = subst (λ (s : StagedVolume). staged_of s.volume (changed state (Stages new)) ≡ Some s.capability) (sym e) now
 
 unstages-found : (state : NodeState) (id : ℕ) → AreFound state → AreFound (changed state (Unstages id))

@@ -9,13 +9,11 @@ use Rattle.csi_types.specs.declared.call.Call.TheVariants as calls
 use Rattle.csi_types.specs.declared.status.Status.TheVariants.{InvalidArgument, AlreadyExists, FailedPrecondition, ResourceExhausted}
 use Rattle.csi_types.specs.Same.{same_text, same_capability, same_flag}
 use Rattle.csi_types.specs.Sharing.{allows_one_target}
-use Rattle.csi_types.proofs.Lists.{filter-filter}
+use Rattle.csi_lists.proofs.Filters.{filter-filter, filter-swap, filter-none, filter-append_passes}
+use Rattle.std.proofs.lemmas.Option.{same_Some}
+use Rattle.csi_lists.proofs.Searches.{find-first, find-filter, first_of_list}
 use Rattle.csi_node.specs.State.{NodeState, StagedVolume, PublishedVolume, staged_of, published_of, published_at, is_published_at, volume_of}
 use Rattle.csi_node.specs.Table.{Change, Stays, Stages, Unstages, Publishes, Unpublishes, Outcome, refused, met, done, stage, unstage, publish, publish_at_target, publish_staged, publish_new, unpublish, lifecycle_row, changed, begins_with_slash}
-use Rattle.csi_node.proofs.Lists.{find-filter, find-in_filter, filter-swap, filter-none, filter-append_passes, first_of_list}
-
-same_some : {X : Type 0} (a b : X) → Some a ≡ Some b → a ≡ b
-same_some a b h = cc
 
 itself : (id : ℕ) → (id == id) ≡ true
 itself id = eq-eqb id id refl
@@ -29,10 +27,10 @@ pub record IsPart (id : ℕ) (part state : NodeState) : Type 0 where
 module _ (id : ℕ) (part state : NodeState) (is : IsPart id part state) where
   pub part-staged : staged_of id part ≡ staged_of id state
   part-staged =
-      find-filter (λ (s : StagedVolume). s.volume == id) (λ (s : StagedVolume). s.capability) part.staged
+      find-first (λ (s : StagedVolume). s.volume == id) (λ (s : StagedVolume). s.capability) part.staged
       ∙ ap (λ (l : List StagedVolume). first_of_list (map (λ (s : StagedVolume). s.capability) l)) is.of_id
       ∙ ap first_of_list is.staged
-      ∙ sym (find-filter (λ (s : StagedVolume). s.volume == id) (λ (s : StagedVolume). s.capability) state.staged)
+      ∙ sym (find-first (λ (s : StagedVolume). s.volume == id) (λ (s : StagedVolume). s.capability) state.staged)
 
   part-published : published_of id part ≡ published_of id state
   part-published =
@@ -42,7 +40,7 @@ module _ (id : ℕ) (part state : NodeState) (is : IsPart id part state) where
   part-published_at : (target : List ℕ) → published_at id target part ≡ published_at id target state
   part-published_at target =
       ap (find (is_published_at id target)) is.published
-      ∙ find-in_filter (is_published_at id target) (λ (p : PublishedVolume). p.volume == id) state.published (λ x h. (and_parts (x.volume == id) (same_text x.target target) h).0)
+      ∙ find-filter (is_published_at id target) (λ (p : PublishedVolume). p.volume == id) state.published (λ x h. (and_parts (x.volume == id) (same_text x.target target) h).0)
 
 publish_staged-same : (part state : NodeState) (p : PublishedVolume) (o : Option Capability) → published_of p.volume part ≡ published_of p.volume state
     → publish_staged part p o ≡ publish_staged state p o
@@ -66,11 +64,11 @@ no_volume h = cc
 
 -- the table answers by the volume alone
 pub lifecycle-part : (id : ℕ) (part state : NodeState) (call : Call) → volume_of call ≡ Some id → IsPart id part state → lifecycle_row part call ≡ lifecycle_row state call
-lifecycle-part id part state (calls.NodeStageVolume volume capability) v is = rw (same_some volume id v) (ap (stage (record { volume = id; capability = capability })) (part-staged id part state is))
-lifecycle-part id part state (calls.NodeUnstageVolume volume) v is = rw (same_some volume id v) (ap (unstage id) (part-published id part state is))
+lifecycle-part id part state (calls.NodeStageVolume volume capability) v is = rw (same_Some volume id v) (ap (stage (record { volume = id; capability = capability })) (part-staged id part state is))
+lifecycle-part id part state (calls.NodeUnstageVolume volume) v is = rw (same_Some volume id v) (ap (unstage id) (part-published id part state is))
 lifecycle-part id part state (calls.NodePublishVolume volume target capability readonly) v is =
-    rw (same_some volume id v) (publish-same part state (record { volume = id; target = target; capability = capability; readonly = readonly }) (part-staged id part state is) (part-published id part state is) (part-published_at id part state is target))
-lifecycle-part id part state (calls.NodeUnpublishVolume volume target) v is = rw (same_some volume id v) (ap (unpublish id target) (part-published_at id part state is target))
+    rw (same_Some volume id v) (publish-same part state (record { volume = id; target = target; capability = capability; readonly = readonly }) (part-staged id part state is) (part-published id part state is) (part-published_at id part state is target))
+lifecycle-part id part state (calls.NodeUnpublishVolume volume target) v is = rw (same_Some volume id v) (ap (unpublish id target) (part-published_at id part state is target))
 lifecycle-part id part state (calls.CreateVolume name required limit capabilities) v is = refl
 lifecycle-part id part state (calls.DeleteVolume volume) v is = refl
 lifecycle-part id part state (calls.ControllerPublishVolume volume node capability readonly) v is = refl
@@ -129,10 +127,10 @@ about_unpublish id volume target (Some there) h = h
 -- the table changes nothing but the call's volume
 pub lifecycle-about : (id : ℕ) (state : NodeState) (call : Call) → volume_of call ≡ Some id → IsAbout id (lifecycle_row state call).change
 unfolding IsAbout
-lifecycle-about id state (calls.NodeStageVolume volume capability) v = about_stage id (record { volume = volume; capability = capability }) (staged_of volume state) (same_some volume id v)
-lifecycle-about id state (calls.NodeUnstageVolume volume) v = about_unstage id volume (published_of volume state) (same_some volume id v)
-lifecycle-about id state (calls.NodePublishVolume volume target capability readonly) v = about_publish id state (record { volume = volume; target = target; capability = capability; readonly = readonly }) (same_some volume id v)
-lifecycle-about id state (calls.NodeUnpublishVolume volume target) v = about_unpublish id volume target (published_at volume target state) (same_some volume id v)
+lifecycle-about id state (calls.NodeStageVolume volume capability) v = about_stage id (record { volume = volume; capability = capability }) (staged_of volume state) (same_Some volume id v)
+lifecycle-about id state (calls.NodeUnstageVolume volume) v = about_unstage id volume (published_of volume state) (same_Some volume id v)
+lifecycle-about id state (calls.NodePublishVolume volume target capability readonly) v = about_publish id state (record { volume = volume; target = target; capability = capability; readonly = readonly }) (same_Some volume id v)
+lifecycle-about id state (calls.NodeUnpublishVolume volume target) v = about_unpublish id volume target (published_at volume target state) (same_Some volume id v)
 lifecycle-about id state (calls.CreateVolume name required limit capabilities) v = tt
 lifecycle-about id state (calls.DeleteVolume volume) v = tt
 lifecycle-about id state (calls.ControllerPublishVolume volume node capability readonly) v = tt

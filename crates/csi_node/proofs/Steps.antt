@@ -7,7 +7,11 @@ use Rattle.std.proofs.lemmas.List.{length-map}
 use Rattle.csi_types.specs.declared.capability.Capability.{Capability}
 use Rattle.csi_types.specs.declared.call.Call.{Call}
 use Rattle.csi_types.specs.Fence.{Kept}
-use Rattle.csi_types.proofs.Lists.{find-append_one, find-append, find-map, find-passes, filter-filter, or_else, or_else-none, or_else-some}
+use Rattle.csi_lists.proofs.Searches.{find-append_one, find-append, find-map, find-passes}
+use Rattle.csi_lists.proofs.Filters.{filter-filter}
+use Rattle.std.specs.Option.{option_or}
+use Rattle.csi_lists.proofs.Options.{option_or-left}
+use Rattle.csi_lists.proofs.Searches.{find-of_map}
 use Rattle.csi_node.specs.declared.row.NodeRow.{NodeRow}
 use Rattle.csi_node.specs.State.{NodeState, Answered, StagedVolume, PublishedVolume, empty_node, row_with_id, published_of, volume_of, row_of_volume, row_for}
 use Rattle.csi_node.specs.Table.{Change, Stays, Stages, Unstages, Publishes, Unpublishes, Outcome, lifecycle_row, has_no_room, changed}
@@ -16,7 +20,6 @@ use Rattle.csi_node.specs.Laws.{is_another}
 use Rattle.csi_node.specs.Shown.{Shows, answered_of_row, published_in, staged_in, row_in}
 use Rattle.csi_node.specs.OneRow.{RowShown, shown, alone}
 use Rattle.csi_node.proofs.Facts.{lifecycle_facts}
-use Rattle.csi_node.proofs.Lists.{find-of_map}
 use Rattle.csi_node.proofs.StateChanges.{IsPart, IsAbout, lifecycle-part, lifecycle-about, changed-published, changed-staged}
 
 -- the row of an id
@@ -185,16 +188,12 @@ another : (id k n : ℕ) (call : Call) → volume_of call ≡ Some id → (k == 
 another id k n call v h e =
     ap (λ (o : Option ℕ). is_another o n) v ∙ ap not (apart k id n h e)
 
-no_other : (p : Option Answered) → or_else p None ≡ p
-no_other None = or_else-none None None refl
-no_other (Some row) = or_else-some (Some row) None row refl
-
 kept-elsewhere : (id k : ℕ) (kept : Kept) (rows : List Answered) (o : Option Answered) → (k == id) ≡ false
     → find (λ (row : Answered). row.id == k) (kept_rows id kept rows o) ≡ find (λ (row : Answered). row.id == k) rows
 kept-elsewhere id k kept rows None h =
     find-append (λ (row : Answered). row.id == k) rows (record { id = id; kept = kept })
-    ∙ ap (λ (b : Bool). or_else (find (λ (row : Answered). row.id == k) rows) (cond b (Some (record { id = id; kept = kept })) None)) (turned k id h)
-    ∙ no_other (find (λ (row : Answered). row.id == k) rows)
+    ∙ ap (λ (b : Bool). option_or (find (λ (row : Answered). row.id == k) rows) (cond b (Some (record { id = id; kept = kept })) None)) (turned k id h)
+    ∙ option_or-left (find (λ (row : Answered). row.id == k) rows)
 kept-elsewhere id k kept rows (Some there) h =
     find-map (λ (row : Answered). row.id == k) (kept_in id kept) rows (λ row. ap (λ n. n == k) (kept_in-id id kept row))
     ∙ mapped-other id k kept (find (λ (row : Answered). row.id == k) rows) (λ row found. apart k id row.id h (find-passes (λ (r : Answered). r.id == k) rows row found))

@@ -1,20 +1,16 @@
 -- Laws that the node's table keeps, in the words of CSI's spec.md ("idempotent" calls, and what each call
 -- ensures), apart from what is kept of the last calls.
-use Rattle.std.specs.Prelude.{◌≡◌, ◌≢◌, ◌⊎◌, ℕ, ◌==◌, List, [], ◌∷◌, ◌++◌, map, filter, Bool, true, not, Option, Some, None, option_map}
+use Rattle.std.specs.Prelude.{◌≡◌, ◌⊎◌, ℕ, ◌==◌, List, [], ◌∷◌, ◌++◌, map, filter, Bool, true, not, Option, Some, None, option_map}
 use Rattle.csi_types.specs.declared.number.Number.{Number}
 use Rattle.csi_types.specs.declared.call.Call.{Call}
 use Rattle.csi_types.specs.declared.call.Call.TheVariants as calls
 use Rattle.csi_types.specs.declared.call.Party.TheVariants.{Node}
-use Rattle.csi_types.specs.declared.status.Status.TheVariants.{Ok}
-use Rattle.csi_types.specs.declared.fence.Verdict.TheVariants.{Fresh}
 use Rattle.csi_types.specs.declared.reply.Reply.{Reply}
-use Rattle.csi_types.specs.Call.{kind_of}
 use Rattle.csi_types.specs.Fence as fence
 use Rattle.csi_types.specs.Lawful as lawful
 use Rattle.csi_types.specs.Lawful.{Plugin}
 use Rattle.csi_types.specs.Frame.{Frame}
-use Rattle.csi_types.specs.Number.{IsBefore}
-use Rattle.csi_types.specs.Replies.{call_frame, reply_frame}
+use Rattle.csi_types.specs.Replies.{call_frame}
 use Rattle.csi_node.specs.State.{NodeState, Answered, PublishedVolume, empty_node, staged_of, published_at, volume_of}
 use Rattle.csi_node.specs.Table.{node_row}
 use Rattle.csi_node.specs.Fenced.{fenced, kept_for, after_frames}

@@ -2,7 +2,7 @@
 -- several targets.
 use Rattle.std.specs.Prelude.{◌≡◌, ℕ, false, List, Some}
 use Rattle.csi_types.specs.Frame.{Frame}
-use Rattle.csi_types.specs.Lists.{IsAmong, EachTwo}
+use Rattle.csi_lists.specs.Members.{IsAmong, EachTwo}
 use Rattle.csi_types.specs.Sharing.{allows_one_target}
 use Rattle.csi_node.specs.State.{NodeState, PublishedVolume, empty_node, staged_of}
 use Rattle.csi_node.specs.Fenced.{after_frames}

@@ -10,7 +10,7 @@ use Rattle.csi_types.specs.Delivery.{View, view_by, IsDelivered, IsEmpty, IsClos
 use Rattle.csi_types.specs.Fence.{Kept}
 use Rattle.csi_types.specs.Frame.{Frame}
 use Rattle.csi_types.specs.Key.{Key, Exists, Attached, Staged, Published, Form, StagedAs, PublishedAs}
-use Rattle.csi_types.specs.Lists.{IsAmong}
+use Rattle.csi_lists.specs.Members.{IsAmong}
 use Rattle.csi_types.specs.Replies.{call_frame}
 use Rattle.csi_types.specs.Same.{same_text}
 use Rattle.csi_node.specs.State.{NodeState, StagedVolume, empty_node, row_with_id, staged_of, published_at}

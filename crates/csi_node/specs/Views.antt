@@ -1,6 +1,6 @@
 -- What a node's lists of stagings and targets show. This profile's own.
 use Rattle.std.specs.Prelude.{◌≡◌, ℕ, ◌==◌, ◌<◌, ◌≤◌, List, filter}
-use Rattle.csi_types.specs.Lists.{EachTwo}
+use Rattle.csi_lists.specs.Members.{EachTwo}
 use Rattle.csi_node.specs.declared.entries.Staged.{Staged}
 use Rattle.csi_node.specs.declared.entries.Published.{Published}
 use Rattle.csi_node.specs.State.{NodeState, StagedVolume, PublishedVolume, published_of}

@@ -1,40 +1,38 @@
 //! The fence at a row, and what a row keeps.
-ghost use Rattle.std.specs.Prelude.{◌≡◌, [], Some, IsTrue, IsOk, IfOk, OnOk, OnErr};
+ghost use Rattle.std.specs.Prelude.{◌≡◌, [], Some, IsTrue, IsOk, IfOk, OnOk, OnErr, IfSome, IfNone, IsNone};
 ghost use Rattle.csi_types.specs.declared.call.Party.TheVariants.{Controller};
 ghost use Rattle.csi_types.specs.declared.fence.Verdict.TheVariants.{Fresh};
 ghost use Rattle.csi_types.specs.Call.{is_party_of};
 ghost use Rattle.csi_types.specs.Fence.{verdict_of as verdict_by};
 ghost use Rattle.csi_types.specs.Reply.{has_id_by_rule};
-ghost use Rattle.csi_types.specs.Replies.{reply_frame};
-ghost use Rattle.csi_controller.specs.Core.{fence_answer};
+ghost use Rattle.csi_types.specs.Replies.{ok_reply, reply_frame};
+ghost use Rattle.csi_controller.specs.Core.{RowGives, RowOutcome, row_after};
 
-use super::answer::{frame_of, plain};
+use super::answer::{carried, done, frame_of, refusal};
 use crate::fault::CoreFault;
 use crate::row::ControllerRow;
 use csi_types::{Frame, Kind, Number, Reply, Status, Verdict, verdict_of};
 use std::alloc::Global;
 
-/// What the fence answers at a row to a call of this number and kind: a refusal where a later call was
-/// answered, the kept reply where this one was, and nothing where it is to be carried out.
+/// What the fence answers at a row to a call of this number and kind, whatever its line of the table is: a refusal
+/// where a later call was answered, the kept reply where this one was, and nothing where it is to be carried out.
 pub fn fence(
     row: &ControllerRow,
     alloc: Global,
     number: Number,
     kind: Kind,
-) -> Result<Option<Frame>, CoreFault>
+) -> Option<Result<Frame, CoreFault>>
     requires party { IsTrue (is_party_of kind Controller) }
     requires kept_party { IsTrue (is_party_of row.now.kind Controller) }
     requires kept_id { IsTrue (has_id_by_rule row.now.kind row.now.reply) }
-    ensures ok { IfOk result (λ answer. answer ≡ fence_answer number kind row.now (verdict_by (Some row.now.last) number)) }
-    ensures fresh { verdict_by (Some row.now.last) number ≡ Fresh → IsOk result }
+    ensures closed { IfSome result (λ answer. IfOk answer (λ frame. (outcome : RowOutcome) → RowGives row.now frame (row_after number kind outcome row.now (verdict_by (Some row.now.last) number)))) }
+    ensures open { IfNone result (verdict_by (Some row.now.last) number ≡ Fresh) }
+    ensures fresh { verdict_by (Some row.now.last) number ≡ Fresh → IsNone result }
 {
     match verdict_of(Some(row.last), number) {
-        Verdict::Stale => {
-            let reply = plain(alloc, Status::Aborted, "stale")?;
-            Ok(Some(frame_of(alloc, number, kind, &reply)?))
-        }
-        Verdict::Repeated => Ok(Some(frame_of(alloc, number, row.kind, &row.reply)?)),
-        Verdict::Fresh => Ok(None),
+        Verdict::Stale => Some(refusal(alloc, number, kind, Status::Aborted, "stale")),
+        Verdict::Repeated => Some(frame_of(alloc, number, row.kind, &row.reply)),
+        Verdict::Fresh => None,
     }
 }
 
@@ -58,4 +56,17 @@ pub fn keep(
     row.kind = kind;
     row.reply = reply;
     Ok(frame)
+}
+
+/// Keeps in a row that a call was carried out, and gives the frame that says so. It takes no memory.
+pub fn keep_done(row: &mut ControllerRow, alloc: Global, number: Number, kind: Kind) -> Frame
+    requires party { IsTrue (is_party_of kind Controller) }
+    requires id { IsTrue (has_id_by_rule kind ok_reply) }
+    ensures frame { result ≡ reply_frame number Controller kind ok_reply }
+    ensures kept { row.new ≡ record row.old { last = number; kind = kind; reply = ok_reply } }
+{
+    row.last = number;
+    row.kind = kind;
+    row.reply = done(alloc, None);
+    carried(number, kind, done(alloc, None))
 }

@@ -1,5 +1,5 @@
 //! The controller's rows in a vector, in the order of their ids, and what it does with a call.
-ghost use Rattle.std.specs.Prelude.{◌≡◌, ◌==◌, ◌<◌, ◌&&◌, ◌||◌, ◌∷◌, ℕ, List, Some, None, [], length, position, count_by, nat_le, IfOk, OnErr, OnOk, IsOk, IfSome, IsTrue, IfErr, MatchResult, option_map};
+ghost use Rattle.std.specs.Prelude.{◌≡◌, ◌==◌, ◌<◌, ◌&&◌, ◌||◌, ◌∷◌, ℕ, true, false, List, Some, None, [], length, position, count_by, nat_le, IfOk, OnErr, OnOk, IsOk, IfSome, IfNone, IsTrue, IfErr, MatchResult, option_map};
 ghost use Rattle.std.specs.List.{find, list_any};
 ghost use Rattle.std.specs.Option.{option_copied};
 ghost use Rattle.csi_controller.specs.Views.{row_if_live, AreSameRows, IsCopyOf};
@@ -7,6 +7,7 @@ ghost use Rattle.csi_types.specs.declared.capability.Capability.{Capability as O
 ghost use Rattle.csi_types.specs.declared.call.Kind.TheVariants.{CreateVolume as CreateKind, ControllerPublishVolume as PublishKind};
 ghost use Rattle.csi_types.specs.declared.call.Call.{Call as OneCall};
 ghost use Rattle.csi_types.specs.declared.call.Party.TheVariants.{Controller};
+ghost use Rattle.csi_types.specs.Call.{kind_of, is_node_kind};
 ghost use Rattle.csi_types.specs.Config.{has_node};
 ghost use Rattle.csi_types.specs.Reply.{has_id_by_rule};
 ghost use Rattle.csi_types.specs.Replies.{ok_reply_with, plain_reply, reply_frame};
@@ -15,7 +16,7 @@ ghost use Rattle.csi_controller.specs.Shown.{volume_of_row};
 ghost use Rattle.csi_controller.specs.Wanted.{wanted_shown};
 ghost use Rattle.csi_controller.specs.Core.{made_volume, IsSameRow};
 
-use super::answer::{done, frame_of, plain};
+use super::answer::{carried, done, refusal, refused};
 use super::fence::fence;
 use super::lines::{argument_fault, is_held_at, publish_by_row};
 use super::new_row::{copied_row, new_row};
@@ -152,11 +153,10 @@ impl Core {
         ensures err { OnErr result (parts_of self.new ≡ parts_of self.old) }
     {
         let alloc = self.alloc;
-        let frame = frame_of(alloc, number, Kind::CreateVolume, &done(alloc, Some(id)))?;
         let row = new_row(alloc, number, id, name, capacity, capabilities)?;
         self.rows.push(row)?;
         self.next_id = self.next_id.wrapping_add(1);
-        Ok(frame)
+        Ok(carried(number, Kind::CreateVolume, done(alloc, Some(id))))
     }
 
     // CreateVolume of a name that has no row. A refusal changes nothing.
@@ -178,14 +178,21 @@ impl Core {
     {
         let alloc = self.alloc;
         let wished = capabilities.as_slice();
-        if let Some(reply) = argument_fault(alloc, required, limit, wished)? {
-            return frame_of(alloc, number, Kind::CreateVolume, &reply);
+        match argument_fault(alloc, required, limit, wished) {
+            Ok(Some(reply)) => return Ok(carried(number, Kind::CreateVolume, reply)),
+            Ok(None) => {}
+            Err(fault) => return Err(fault),
         }
         match self.room_for(required, limit) {
             Ok(made) => self.make(number, made.0, made.1, name, capabilities),
-            Err(refusal) => {
-                let reply = plain(alloc, refusal.status, refusal.detail)?;
-                frame_of(alloc, number, Kind::CreateVolume, &reply)
+            Err(refused) => {
+                refusal(
+                    alloc,
+                    number,
+                    Kind::CreateVolume,
+                    refused.status,
+                    refused.detail,
+                )
             }
         }
     }
@@ -236,7 +243,7 @@ impl Core {
         let alloc = self.alloc;
         match self.place_of_id(id) {
             Some(place) => delete(&mut self.rows[place], alloc, number),
-            None => frame_of(alloc, number, Kind::DeleteVolume, &done(alloc, None)),
+            None => Ok(carried(number, Kind::DeleteVolume, done(alloc, None))),
         }
     }
 
@@ -250,11 +257,16 @@ impl Core {
         ensures id { IfOk result (λ line. IfSome line (λ reply. IsTrue (has_id_by_rule PublishKind reply))) }
     {
         let alloc = self.alloc;
-        let line = publish_by_row(row, alloc, wanted, self.has_node(wanted.node))?;
-        if line.is_none() && (row.holdings.len() >= 64 || self.is_full(wanted.node)) {
-            return Ok(Some(plain(alloc, Status::ResourceExhausted, "slots")?));
+        match publish_by_row(row, alloc, wanted, self.has_node(wanted.node)) {
+            Ok(None) => {
+                if row.holdings.len() >= 64 || self.is_full(wanted.node) {
+                    refused(alloc, Status::ResourceExhausted, "slots")
+                } else {
+                    Ok(None)
+                }
+            }
+            line => line,
         }
-        Ok(line)
     }
 
     // ControllerPublishVolume, behind the fence. A refusal changes nothing.
@@ -282,16 +294,21 @@ impl Core {
         match self.place_of_id(id) {
             Some(place) => {
                 let row = &self.rows[place];
-                if let Some(frame) = fence(row, alloc, number, Kind::ControllerPublishVolume)? {
-                    return Ok(frame);
+                if let Some(answer) = fence(row, alloc, number, Kind::ControllerPublishVolume) {
+                    return answer;
                 }
-                let line = self.publish_line(row, wanted)?;
-                publish(&mut self.rows[place], alloc, number, wanted, line)
+                match self.publish_line(row, wanted) {
+                    Ok(line) => publish(&mut self.rows[place], alloc, number, wanted, line),
+                    Err(fault) => Err(fault),
+                }
             }
-            None => {
-                let reply = plain(alloc, Status::NotFound, "volume")?;
-                frame_of(alloc, number, Kind::ControllerPublishVolume, &reply)
-            }
+            None => refusal(
+                alloc,
+                number,
+                Kind::ControllerPublishVolume,
+                Status::NotFound,
+                "volume",
+            ),
         }
     }
 
@@ -309,12 +326,41 @@ impl Core {
         let alloc = self.alloc;
         match self.place_of_id(id) {
             Some(place) => unpublish(&mut self.rows[place], alloc, number, node),
-            None => frame_of(
-                alloc,
-                number,
-                Kind::ControllerUnpublishVolume,
-                &done(alloc, None),
-            ),
+            None => Ok(carried(number, Kind::ControllerUnpublishVolume, done(alloc, None))),
+        }
+    }
+
+    // Answers a call of the controller; `None` for a node's.
+    fn answer(&mut self, number: Number, call: &Call) -> Option<Result<Frame, CoreFault>>
+        requires sound { IsSound self.old.next_id self.old.rows.items }
+        ensures own { IfSome result (λ answer. is_node_kind (kind_of call.now) ≡ false) }
+        ensures others { IfNone result (is_node_kind (kind_of call.now) ≡ true) }
+        ensures ok { (state : ControllerState) → IsShown (parts_of self.old) state → IfSome result (λ answer. IfOk answer (λ frame. Answers (parts_of self.new) frame
+            (fenced_call self.old.config state number call.now (kept_for call.now state)))) }
+        ensures err { (state : ControllerState) → IsShown (parts_of self.old) state → IfSome result (λ answer. OnErr answer (IsShown (parts_of self.new) state)) }
+        ensures none { (state : ControllerState) → IsShown (parts_of self.old) state → IfNone result (IsShown (parts_of self.new) state) }
+        ensures sound { IsSound self.new.next_id self.new.rows.items }
+        ensures config { self.new.config ≡ self.old.config }
+        ensures undone { (state : ControllerState) → IsShown (parts_of self.old) state → IsUndoing call.now → IsAnsweredOk self.old.config state number call.now → IfSome result (λ answer. IsOk answer) }
+    {
+        match call {
+            Call::CreateVolume {
+                name,
+                required,
+                limit,
+                capabilities,
+            } => Some(self.create(number, name, *required, *limit, capabilities)),
+            Call::DeleteVolume { id } => Some(self.delete(number, *id)),
+            Call::ControllerPublishVolume {
+                id,
+                node,
+                capability,
+                readonly,
+            } => Some(self.publish(number, *id, node, capability, *readonly)),
+            Call::ControllerUnpublishVolume { id, node } => {
+                Some(self.unpublish(number, *id, node))
+            }
+            _ => None,
         }
     }
 
@@ -334,25 +380,7 @@ impl Core {
         let Body::Call(call) = frame.body() else {
             return Ok(None);
         };
-        match call {
-            Call::CreateVolume {
-                name,
-                required,
-                limit,
-                capabilities,
-            } => Ok(Some(self.create(number, name, *required, *limit, capabilities)?)),
-            Call::DeleteVolume { id } => Ok(Some(self.delete(number, *id)?)),
-            Call::ControllerPublishVolume {
-                id,
-                node,
-                capability,
-                readonly,
-            } => Ok(Some(self.publish(number, *id, node, capability, *readonly)?)),
-            Call::ControllerUnpublishVolume { id, node } => {
-                Ok(Some(self.unpublish(number, *id, node)?))
-            }
-            _ => Ok(None),
-        }
+        self.answer(number, call).transpose()
     }
 
     /// The row of this name.

@@ -10,10 +10,10 @@ ghost use Rattle.csi_types.specs.Reply.{has_id_by_rule};
 ghost use Rattle.csi_controller.specs.Table.{serves as is_served};
 ghost use Rattle.csi_controller.specs.Shown.{volume_of_row};
 ghost use Rattle.csi_controller.specs.Wanted.{wanted_shown};
-ghost use Rattle.csi_controller.specs.Core.{held_by, by_line, delete_line as delete_told, again_line as again_told, argument_fault as fault_told, unpublish_line as unpublish_told, publish_line as publish_told, by_slots};
+ghost use Rattle.csi_controller.specs.Core.{held_by, by_line, delete_line as delete_told, again_line as again_told, create_line as create_told, argument_fault as fault_told, unpublish_line as unpublish_told, publish_line as publish_told, by_slots};
 ghost use Rattle.csi_controller.specs.Core.RowChange.{RowStays, RowEnds};
 
-use super::answer::{done, plain};
+use super::answer::{done, plain, refused};
 use super::wanted::Wanted;
 use crate::fault::CoreFault;
 use crate::row::{ControllerRow, NodeHolding};
@@ -83,19 +83,19 @@ pub fn argument_fault(
     ensures id { IfOk result (λ fault. IfSome fault (λ reply. IsTrue (has_id_by_rule CreateVolume reply))) }
 {
     if wished.is_empty() {
-        return Ok(Some(plain(alloc, Status::InvalidArgument, "capabilities")?));
+        return refused(alloc, Status::InvalidArgument, "capabilities");
     }
     if (required == 0 && limit == 0) || required > MAX_CAPACITY || limit > MAX_CAPACITY {
-        return Ok(Some(plain(alloc, Status::InvalidArgument, "capacity")?));
+        return refused(alloc, Status::InvalidArgument, "capacity");
     }
     if limit != 0 && limit < required {
-        return Ok(Some(plain(alloc, Status::OutOfRange, "range")?));
+        return refused(alloc, Status::OutOfRange, "range");
     }
     Ok(None)
 }
 
-/// CreateVolume with good arguments, of a name that has this row.
-pub fn again_line(
+// CreateVolume with good arguments, of a name that has this row.
+fn again_line(
     row: &ControllerRow,
     alloc: Global,
     required: u64,
@@ -111,6 +111,24 @@ pub fn again_line(
     plain(alloc, Status::AlreadyExists, "name")
 }
 
+/// CreateVolume of a name that has this row.
+pub fn create_line(
+    row: &ControllerRow,
+    alloc: Global,
+    required: u64,
+    limit: u64,
+    wished: &[Capability],
+) -> Result<Reply, CoreFault>
+    ensures ok { IfOk result (λ reply. create_told row.now required limit wished.now ≡ record { reply = reply; change = RowStays }) }
+    ensures id { IfOk result (λ reply. IsTrue (has_id_by_rule CreateVolume reply)) }
+{
+    match argument_fault(alloc, required, limit, wished) {
+        Ok(Some(reply)) => Ok(reply),
+        Ok(None) => again_line(row, alloc, required, limit, wished),
+        Err(fault) => Err(fault),
+    }
+}
+
 /// DeleteVolume of this row's volume. What is answered 0 takes no memory.
 pub fn delete_line(row: &ControllerRow, alloc: Global) -> Result<Option<Reply>, CoreFault>
     ensures ok { IfOk result (λ line. delete_told row.now ≡ by_line RowEnds line) }
@@ -121,7 +139,7 @@ pub fn delete_line(row: &ControllerRow, alloc: Global) -> Result<Option<Reply>, 
         return Ok(Some(done(alloc, None)));
     }
     match row.holdings.first() {
-        Some(held) => Ok(Some(plain(alloc, Status::FailedPrecondition, held.node.as_str())?)),
+        Some(held) => refused(alloc, Status::FailedPrecondition, held.node.as_str()),
         None => Ok(None),
     }
 }
@@ -182,22 +200,22 @@ pub fn publish_by_row(
     ensures id { IfOk result (λ line. IfSome line (λ reply. IsTrue (has_id_by_rule ControllerPublishVolume reply))) }
 {
     if !row.live {
-        return Ok(Some(plain(alloc, Status::NotFound, "volume")?));
+        return refused(alloc, Status::NotFound, "volume");
     }
     if !is_configured {
-        return Ok(Some(plain(alloc, Status::NotFound, "node")?));
+        return refused(alloc, Status::NotFound, "node");
     }
     if !has(row.capabilities.as_slice(), wanted.capability) {
-        return Ok(Some(plain(alloc, Status::InvalidArgument, "capability")?));
+        return refused(alloc, Status::InvalidArgument, "capability");
     }
     if let Some(held) = held_at(row, wanted.node) {
         if is_held_so(held, wanted) {
             return Ok(Some(done(alloc, None)));
         }
-        return Ok(Some(plain(alloc, Status::AlreadyExists, "held otherwise")?));
+        return refused(alloc, Status::AlreadyExists, "held otherwise");
     }
     if let Some(other) = excluding(row, wanted) {
-        return Ok(Some(plain(alloc, Status::FailedPrecondition, other.node.as_str())?));
+        return refused(alloc, Status::FailedPrecondition, other.node.as_str());
     }
     Ok(None)
 }

@@ -10,9 +10,8 @@ ghost use Rattle.csi_controller.specs.Wanted.{wanted_shown};
 ghost use Rattle.csi_controller.specs.Core.{IsSoundRow, IsSameRow, RowGives, row_after, create_line as create_told, delete_line as delete_told, unpublish_line as unpublish_told, by_line};
 ghost use Rattle.csi_controller.specs.Core.RowChange.{RowAttaches};
 
-use super::answer::{done, frame_of};
-use super::fence::{fence, keep};
-use super::lines::{again_line, argument_fault, delete_line, is_held_at};
+use super::fence::{fence, keep, keep_done};
+use super::lines::{create_line, delete_line, is_held_at};
 use super::wanted::Wanted;
 use crate::fault::CoreFault;
 use crate::row::{ControllerRow, NodeHolding};
@@ -32,14 +31,13 @@ pub fn create_again(
     ensures ok { IfOk result (λ frame. RowGives row.new frame (row_after number CreateVolume (create_told row.old required limit wished.now) row.old (verdict_of (Some row.old.last) number))) }
     ensures err { OnErr result (IsSameRow row.old row.new) }
 {
-    if let Some(frame) = fence(row, alloc, number, Kind::CreateVolume)? {
-        return Ok(frame);
+    if let Some(answer) = fence(row, alloc, number, Kind::CreateVolume) {
+        return answer;
     }
-    let reply = match argument_fault(alloc, required, limit, wished)? {
-        Some(reply) => reply,
-        None => again_line(row, alloc, required, limit, wished)?,
-    };
-    keep(row, alloc, number, Kind::CreateVolume, reply)
+    match create_line(row, alloc, required, limit, wished) {
+        Ok(reply) => keep(row, alloc, number, Kind::CreateVolume, reply),
+        Err(fault) => Err(fault),
+    }
 }
 
 /// DeleteVolume of the volume of this row. A refusal changes nothing. What the table answers 0 takes no memory.
@@ -49,15 +47,17 @@ pub fn delete(row: &mut ControllerRow, alloc: Global, number: Number) -> Result<
     ensures err { OnErr result (IsSameRow row.old row.new) }
     ensures succeeds { verdict_of (Some row.old.last) number ≡ Fresh → (delete_told row.old).reply.status ≡ OkStatus → IsOk result }
 {
-    if let Some(frame) = fence(row, alloc, number, Kind::DeleteVolume)? {
-        return Ok(frame);
+    if let Some(answer) = fence(row, alloc, number, Kind::DeleteVolume) {
+        return answer;
     }
-    if let Some(reply) = delete_line(row, alloc)? {
-        return keep(row, alloc, number, Kind::DeleteVolume, reply);
+    match delete_line(row, alloc) {
+        Ok(Some(reply)) => keep(row, alloc, number, Kind::DeleteVolume, reply),
+        Ok(None) => {
+            row.live = false;
+            Ok(keep_done(row, alloc, number, Kind::DeleteVolume))
+        }
+        Err(fault) => Err(fault),
     }
-    let frame = keep(row, alloc, number, Kind::DeleteVolume, done(alloc, None))?;
-    row.live = false;
-    Ok(frame)
 }
 
 // Adds a holding, the last one. A refusal changes nothing.
@@ -91,13 +91,10 @@ pub fn publish(
     if let Some(reply) = line {
         return keep(row, alloc, number, Kind::ControllerPublishVolume, reply);
     }
-    let reply = done(alloc, None);
-    let frame = frame_of(alloc, number, Kind::ControllerPublishVolume, &reply)?;
-    add(&mut row.holdings, wanted)?;
-    row.last = number;
-    row.kind = Kind::ControllerPublishVolume;
-    row.reply = reply;
-    Ok(frame)
+    match add(&mut row.holdings, wanted) {
+        Ok(()) => Ok(keep_done(row, alloc, number, Kind::ControllerPublishVolume)),
+        Err(fault) => Err(fault),
+    }
 }
 
 // Takes out what is held at the node. The others keep their order.
@@ -120,19 +117,12 @@ pub fn unpublish(
     ensures err { OnErr result (IsSameRow row.old row.new) }
     ensures succeeds { verdict_of (Some row.old.last) number ≡ Fresh → IsOk result }
 {
-    if let Some(frame) = fence(row, alloc, number, Kind::ControllerUnpublishVolume)? {
-        return Ok(frame);
+    if let Some(answer) = fence(row, alloc, number, Kind::ControllerUnpublishVolume) {
+        return answer;
     }
-    let is_held = is_held_at(row, node);
-    let frame = keep(
-        row,
-        alloc,
-        number,
-        Kind::ControllerUnpublishVolume,
-        done(alloc, None),
-    )?;
-    if is_held {
-        take_out(&mut row.holdings, node);
+    if !is_held_at(row, node) {
+        return Ok(keep_done(row, alloc, number, Kind::ControllerUnpublishVolume));
     }
-    Ok(frame)
+    take_out(&mut row.holdings, node);
+    Ok(keep_done(row, alloc, number, Kind::ControllerUnpublishVolume))
 }

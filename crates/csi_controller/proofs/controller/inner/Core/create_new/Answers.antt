@@ -2,31 +2,26 @@
 use Rattle.std.proofs.Common.{◌≡◌, ◌∙◌, ap, subst, sym, length, Some, None}
 use Rattle.std.proofs.lemmas.Result.{IfOk-weaker}
 use Rattle.csi_types.specs.declared.call.Call.TheVariants.{CreateVolume}
-use Rattle.csi_types.specs.declared.call.Kind.TheVariants as kinds
-use Rattle.csi_types.specs.declared.call.Party.TheVariants.{Controller}
-use Rattle.csi_types.specs.declared.reply.Reply.{Reply}
-use Rattle.csi_types.specs.Replies.{plain_reply, reply_frame}
+use Rattle.csi_types.specs.Replies.{plain_reply}
 use Rattle.csi_controller.specs.Fenced.{fenced_call, kept_for}
 use Rattle.csi_controller.specs.Core.{Parts, Answers, IsSound, argument_fault, next_shown}
 use Rattle.csi_controller.specs.CoreParts.{parts_of}
 use Rattle.csi_controller.proofs.Calls.{either_way}
-use Rattle.csi_controller.proofs.Made.{fault-answers, refused-answers, made-answers, made-sound, made-well, none-where, ok-both, parts-made}
+use Rattle.csi_controller.proofs.Made.{fault-answers, refused-answers, made-answers, made-sound, made-well, ok-both, parts-made}
 use Rattle.csi_controller.proofs.controller.inner.Core.create_new.Goals as goal
 
-pub returns-in-Some-clause-ok : goal.returns-in-Some-clause-ok
-returns-in-Some-clause-ok c = λ state shown.
+pub returns-in-Ok-Some-clause-ok : goal.returns-in-Ok-Some-clause-ok
+returns-in-Ok-Some-clause-ok c = λ state shown.
     let core = c.args.self.now in
-    let fault : argument_fault c.args.required c.args.limit c.args.capabilities.now ≡ Some c.in-Some.reply
-    = ap (argument_fault c.args.required c.args.limit) (sym c.as_slice-wished.ensures.value) ∙ sym c.in_ok-reply.ensures.ok ∙ c.in-Some.is in
-    IfOk-weaker c.frame_of.result _ _
-    (λ frame is. fault-answers core.config core.next_id core.rows.items state c.args.number c.args.name.now c.args.required c.args.limit c.args.capabilities.now frame c.in-Some.reply shown c.requires.new fault is)
-    c.frame_of.ensures.ok
+    let fault : argument_fault c.args.required c.args.limit c.args.capabilities.now ≡ Some c.in-Ok-Some.reply
+    = ap (argument_fault c.args.required c.args.limit) (sym c.as_slice-wished.ensures.value) ∙ sym (rw c.in-Ok-Some.field-0-is at c.in-Ok-Some.ensures.ok) in
+    fault-answers core.config core.next_id core.rows.items state c.args.number c.args.name.now c.args.required c.args.limit c.args.capabilities.now c.carried.result c.in-Ok-Some.reply shown c.requires.new fault c.carried.ensures
 
 pub returns-in-Ok-clause-ok : goal.returns-in-Ok-clause-ok
 returns-in-Ok-clause-ok c = λ state shown.
     let core = c.args.self.now in
     let good : argument_fault c.args.required c.args.limit c.args.capabilities.now ≡ None
-    = ap (argument_fault c.args.required c.args.limit) (sym c.as_slice-wished.ensures.value) ∙ sym c.in_ok-reply.ensures.ok ∙ none-where _ c.in_default.not-Some in
+    = ap (argument_fault c.args.required c.args.limit) (sym c.as_slice-wished.ensures.value) ∙ sym (rw c.in-Ok-None.field-0-is at c.in-Ok-None.ensures.ok) in
     ok-both c.make.result _ _ _
     (λ frame is made. subst (λ (k : Parts). Answers k frame (fenced_call core.config state c.args.number (CreateVolume c.args.name.now c.args.required c.args.limit c.args.capabilities.now) (kept_for (CreateVolume c.args.name.now c.args.required c.args.limit c.args.capabilities.now) state)))
     (parts-made core c.make.new.self c.args.number c.in-Ok.made.0 c.args.name.now c.in-Ok.made.1 c.args.capabilities.now made)
@@ -38,7 +33,7 @@ pub returns-in-Ok-clause-sound : goal.returns-in-Ok-clause-sound
 returns-in-Ok-clause-sound c =
     let core = c.args.self.now in
     let good : argument_fault c.args.required c.args.limit c.args.capabilities.now ≡ None
-    = ap (argument_fault c.args.required c.args.limit) (sym c.as_slice-wished.ensures.value) ∙ sym c.in_ok-reply.ensures.ok ∙ none-where _ c.in_default.not-Some in
+    = ap (argument_fault c.args.required c.args.limit) (sym c.as_slice-wished.ensures.value) ∙ sym (rw c.in-Ok-None.field-0-is at c.in-Ok-None.ensures.ok) in
     let well = made-well core.config.greatest (length core.rows.items) (next_shown core.next_id) c.args.name.now c.args.required c.args.limit c.in-Ok.made.1 c.in-Ok.made.0 c.args.capabilities.now good
     (c.in-Ok.ensures.line c.args.name.now c.args.capabilities.now) in
     either_way c.make.result _ _ _
@@ -48,14 +43,13 @@ returns-in-Ok-clause-sound c =
     (λ (same : parts_of c.make.new.self ≡ parts_of core). subst (λ (k : Parts). IsSound k.next_id k.rows) (sym same) c.requires.sound)
     c.make.ensures.made c.make.ensures.err
 
-pub returns-in_ok-reply-in-Err-clause-ok : goal.returns-in_ok-reply-in-Err-clause-ok
-returns-in_ok-reply-in-Err-clause-ok c = λ state shown.
+pub returns-in-Err-room_for-clause-ok : goal.returns-in-Err-room_for-clause-ok
+returns-in-Err-room_for-clause-ok c = λ state shown.
     let core = c.args.self.now in
     let good : argument_fault c.args.required c.args.limit c.args.capabilities.now ≡ None
-    = ap (argument_fault c.args.required c.args.limit) (sym c.as_slice-wished.ensures.value) ∙ sym c.in_ok-reply.ensures.ok ∙ none-where _ c.in_default.not-Some in
-    let refusal = c.in-Err.refusal in
-    IfOk-weaker c.frame_of-in-Err.result _ _
-    (λ frame is. refused-answers core.config core.next_id core.rows.items state c.args.number c.args.name.now c.args.required c.args.limit c.args.capabilities.now frame (plain_reply refusal.status refusal.detail.now) shown c.requires.new good
-    (c.in-Err.ensures.line c.args.name.now c.args.capabilities.now)
-    (is ∙ ap (λ (reply : Reply). reply_frame c.args.number Controller kinds.CreateVolume reply) c.in_ok-reply-in-Err.ensures.ok))
-    c.frame_of-in-Err.ensures.ok
+    = ap (argument_fault c.args.required c.args.limit) (sym c.as_slice-wished.ensures.value) ∙ sym (rw c.in-Ok-None.field-0-is at c.in-Ok-None.ensures.ok) in
+    let refused = c.in-Err-room_for.refused in
+    IfOk-weaker c.refusal.result _ _
+    (λ frame is. refused-answers core.config core.next_id core.rows.items state c.args.number c.args.name.now c.args.required c.args.limit c.args.capabilities.now frame (plain_reply refused.status refused.detail.now) shown c.requires.new good
+    (c.in-Err-room_for.ensures.line c.args.name.now c.args.capabilities.now) is)
+    c.refusal.ensures.ok

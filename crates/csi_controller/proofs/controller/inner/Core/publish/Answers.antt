@@ -1,59 +1,57 @@
 -- ControllerPublishVolume at its row, or with none.
-use Rattle.std.proofs.Common.{◌∙◌, ap, refl, sym, Some}
+use Rattle.std.proofs.Common.{◌≡◌, refl, Some}
 use Rattle.std.specs.Prelude.{◌==◌}
 use Rattle.std.proofs.lemmas.Result.{IfOk-weaker, on_err_weaker}
-use Rattle.csi_types.specs.declared.call.Party.TheVariants.{Controller}
 use Rattle.csi_types.specs.declared.call.Kind.TheVariants.{ControllerPublishVolume}
-use Rattle.csi_types.specs.declared.reply.Reply.{Reply}
+use Rattle.csi_types.specs.declared.fence.Verdict.TheVariants.{Fresh}
 use Rattle.csi_types.specs.Fence.{verdict_of}
-use Rattle.csi_types.specs.Replies.{reply_frame}
 use Rattle.csi_controller.specs.declared.row.NodeHolding.{NodeHolding}
 use Rattle.csi_controller.specs.declared.row.ControllerRow.{ControllerRow}
 use Rattle.csi_controller.proofs.Fit.{publish-good}
-use Rattle.csi_controller.proofs.Calls.{publish-answers, publish-fenced, publish-gives, fence-fresh, publish-nowhere, shown-refused, sound-gives, sound-refused, either_way}
+use Rattle.csi_controller.proofs.Calls.{publish-answers, publish-fenced, publish-gives, where_none, publish-nowhere, shown-refused, sound-gives, sound-refused, either_way}
 use Rattle.csi_controller.proofs.controller.inner.Core.publish.Goals as goal
 
-pub returns-in-Some-2-clause-ok : goal.returns-in-Some-2-clause-ok
-returns-in-Some-2-clause-ok c = λ state shown.
+pub returns-in-Some-fence-clause-ok : goal.returns-in-Some-fence-clause-ok
+returns-in-Some-fence-clause-ok c = λ state shown.
     let core = c.args.self.now in
-    publish-fenced core.config core.next_id core.rows.items state c.args.number c.args.id (let w : NodeHolding = record { node = c.args.node.now; capability = c.args.capability.now; readonly = c.args.readonly } in w) c.in-Some.place c.index-row.result.now c.in-Some-2.frame c.requires.sound shown c.in-Some.ensures c.index-row.ensures
-    (sym c.in-Some-2.is ∙ c.in_ok-frame-in-Some.ensures.ok)
+    IfOk-weaker c.in-Some-fence.answer _ _
+    (λ frame gives. publish-fenced core.config core.next_id core.rows.items state c.args.number c.args.id (let w : NodeHolding = record { node = c.args.node.now; capability = c.args.capability.now; readonly = c.args.readonly } in w) c.in-Some.place c.index-row.result.now frame c.requires.sound shown c.in-Some.ensures c.index-row.ensures gives)
+    c.in-Some-fence.ensures.closed
 
-pub returns-in_ok-line-in-Some-clause-ok : goal.returns-in_ok-line-in-Some-clause-ok
-returns-in_ok-line-in-Some-clause-ok c = λ state shown.
+pub returns-in-Ok-clause-ok : goal.returns-in-Ok-clause-ok
+returns-in-Ok-clause-ok c = λ state shown.
     let core = c.args.self.now in
     let row = c.index-row.result.now in
     let wanted : NodeHolding = record { node = c.args.node.now; capability = c.args.capability.now; readonly = c.args.readonly } in
-    let fresh = fence-fresh c.args.number ControllerPublishVolume row (verdict_of (Some row.last) c.args.number) c.in_ok-frame-in-Some.field-0 c.in_default.not-Some c.in_ok-frame-in-Some.ensures.ok in
+    let fresh = where_none c.fence.result (verdict_of (Some row.last) c.args.number ≡ Fresh) c.in_default.not-Some c.fence.ensures.open in
     IfOk-weaker c.publish.result _ _
     (λ frame gives. publish-answers core.config core.next_id core.rows.items state c.args.number c.args.id wanted c.in-Some.place row c.publish.new.row frame c.requires.sound shown c.in-Some.ensures c.index-row.ensures
-    (publish-gives core.rows.items c.args.id c.in-Some.place row c.index_mut.result.now c.publish.new.row frame c.args.number wanted _ _ c.in_ok-line-in-Some.line c.in-Some.ensures c.index-row.ensures c.index_mut.ensures.value c.in_ok-line-in-Some.ensures.ok fresh gives))
+    (publish-gives core.rows.items c.args.id c.in-Some.place row c.index_mut.result.now c.publish.new.row frame c.args.number wanted _ _ c.in-Ok.line c.in-Some.ensures c.index-row.ensures c.index_mut.ensures.value c.in-Ok.ensures.ok fresh gives))
     c.publish.ensures.ok
 
-pub returns-in_ok-line-in-Some-clause-err : goal.returns-in_ok-line-in-Some-clause-err
-returns-in_ok-line-in-Some-clause-err c = λ state shown.
+pub returns-in-Ok-clause-err : goal.returns-in-Ok-clause-err
+returns-in-Ok-clause-err c = λ state shown.
     let core = c.args.self.now in
     on_err_weaker c.publish.result
     (λ same. shown-refused (λ (r : ControllerRow). r.id == c.args.id) core.config core.next_id core.rows.items state c.in-Some.place c.index_mut.result.now c.publish.new.row c.requires.sound c.in-Some.ensures c.index_mut.ensures.value same shown)
     c.publish.ensures.err
 
-pub returns-in_ok-line-in-Some-clause-sound : goal.returns-in_ok-line-in-Some-clause-sound
-returns-in_ok-line-in-Some-clause-sound c =
+pub returns-in-Ok-clause-sound : goal.returns-in-Ok-clause-sound
+returns-in-Ok-clause-sound c =
     let core = c.args.self.now in
     let row = c.index-row.result.now in
     let wanted : NodeHolding = record { node = c.args.node.now; capability = c.args.capability.now; readonly = c.args.readonly } in
-    let fresh = fence-fresh c.args.number ControllerPublishVolume row (verdict_of (Some row.last) c.args.number) c.in_ok-frame-in-Some.field-0 c.in_default.not-Some c.in_ok-frame-in-Some.ensures.ok in
+    let fresh = where_none c.fence.result (verdict_of (Some row.last) c.args.number ≡ Fresh) c.in_default.not-Some c.fence.ensures.open in
     either_way c.publish.result _ _ _
     (λ frame gives. sound-gives (λ (r : ControllerRow). r.id == c.args.id) core.next_id core.rows.items c.in-Some.place row c.publish.new.row frame c.args.number ControllerPublishVolume _ c.requires.sound c.in-Some.ensures c.index-row.ensures refl
     (publish-good row wanted _ _) (verdict_of (Some row.last) c.args.number)
-    (publish-gives core.rows.items c.args.id c.in-Some.place row c.index_mut.result.now c.publish.new.row frame c.args.number wanted _ _ c.in_ok-line-in-Some.line c.in-Some.ensures c.index-row.ensures c.index_mut.ensures.value c.in_ok-line-in-Some.ensures.ok fresh gives))
+    (publish-gives core.rows.items c.args.id c.in-Some.place row c.index_mut.result.now c.publish.new.row frame c.args.number wanted _ _ c.in-Ok.line c.in-Some.ensures c.index-row.ensures c.index_mut.ensures.value c.in-Ok.ensures.ok fresh gives))
     (λ same. sound-refused (λ (r : ControllerRow). r.id == c.args.id) core.next_id core.rows.items c.in-Some.place c.index_mut.result.now c.publish.new.row c.requires.sound c.in-Some.ensures c.index_mut.ensures.value same)
     c.publish.ensures.ok c.publish.ensures.err
 
-pub returns-in_ok-reply-in-None-clause-ok : goal.returns-in_ok-reply-in-None-clause-ok
-returns-in_ok-reply-in-None-clause-ok c = λ state shown.
+pub returns-in-None-clause-ok : goal.returns-in-None-clause-ok
+returns-in-None-clause-ok c = λ state shown.
     let core = c.args.self.now in
-    IfOk-weaker c.frame_of.result _ _
-    (λ frame is. publish-nowhere core.config core.next_id core.rows.items state c.args.number c.args.id (let w : NodeHolding = record { node = c.args.node.now; capability = c.args.capability.now; readonly = c.args.readonly } in w) frame shown c.in-None.ensures
-    (is ∙ ap (λ (reply : Reply). reply_frame c.args.number Controller ControllerPublishVolume reply) c.in_ok-reply-in-None.ensures.ok))
-    c.frame_of.ensures.ok
+    IfOk-weaker c.refusal.result _ _
+    (λ frame is. publish-nowhere core.config core.next_id core.rows.items state c.args.number c.args.id (let w : NodeHolding = record { node = c.args.node.now; capability = c.args.capability.now; readonly = c.args.readonly } in w) frame shown c.in-None.ensures is)
+    c.refusal.ensures.ok

@@ -45,7 +45,5 @@ returns-in-Some-clause-succeeds c = λ state shown answered.
 pub returns-in-None-clause-ok : goal.returns-in-None-clause-ok
 returns-in-None-clause-ok c = λ state shown.
     let core = c.args.self.now in
-    IfOk-weaker c.frame_of.result _ _
-    (λ frame is. unpublish-nowhere core.config core.next_id core.rows.items state c.args.number c.args.id c.args.node.now frame shown c.in-None.ensures
-    (is ∙ ap (λ (reply : Reply). reply_frame c.args.number Controller ControllerUnpublishVolume reply) c.done.ensures))
-    c.frame_of.ensures.ok
+    unpublish-nowhere core.config core.next_id core.rows.items state c.args.number c.args.id c.args.node.now c.carried.result shown c.in-None.ensures
+    (c.carried.ensures ∙ ap (λ (reply : Reply). reply_frame c.args.number Controller ControllerUnpublishVolume reply) c.done.ensures)
