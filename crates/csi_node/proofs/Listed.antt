@@ -19,7 +19,7 @@ use Rattle.csi_node.specs.Shown.{Shows}
 use Rattle.csi_node.specs.OneRow.{RowShown, shown, alone, staged_by, published_by, published_so}
 use Rattle.csi_node.specs.Record.{parts, id_at, IsRecord}
 use Rattle.csi_node.specs.Views.{IsStagedBefore, IsPublishedBefore, ListsStaged, ListsPublished}
-use Rattle.csi_node.proofs.Lists.{find-of_map}
+use Rattle.csi_lists.proofs.Searches.{find-of_map}
 use Rattle.csi_node.proofs.Steps.{ShowsAll, row_of, alone_in, answered_of, all-from_shows, shows-from_all}
 use Rattle.csi_node.proofs.Rules.{IsRising}
 
