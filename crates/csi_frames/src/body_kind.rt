@@ -7,7 +7,7 @@ ghost use Rattle.csi_types.specs.Same.{kind_number};
 use csi_types::Kind;
 
 /// Calls of a kind, or replies to them.
-#[derive(Clone, Copy, Debug, PartialEq, Eq)]
+#[derive(Clone, Copy)]
 pub(crate) enum BodyKind {
     Call(Kind),
     Reply(Kind),

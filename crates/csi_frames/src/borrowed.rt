@@ -3,13 +3,13 @@
 use arrayvec::ArrayVec;
 use csi_types::{Kind, Mode, Number, Status, VolumeId};
 
-#[derive(Clone, Copy, Debug)]
+#[derive(Clone, Copy)]
 pub(crate) enum AccessRef<'a> {
     Block,
     Mount(&'a str),
 }
 
-#[derive(Clone, Copy, Debug)]
+#[derive(Clone, Copy)]
 pub(crate) struct CapabilityRef<'a> {
     pub access: AccessRef<'a>,
     pub mode: Mode,
@@ -25,13 +25,13 @@ impl Default for CapabilityRef<'_> {
     }
 }
 
-#[derive(Clone, Copy, Debug)]
+#[derive(Clone, Copy)]
 pub(crate) enum PartyRef<'a> {
     Controller,
     Node(&'a str),
 }
 
-#[derive(Debug, Drop)]
+#[derive(Drop)]
 pub(crate) enum CallRef<'a> {
     CreateVolume {
         name: &'a str,
@@ -71,21 +71,21 @@ pub(crate) enum CallRef<'a> {
     },
 }
 
-#[derive(Clone, Copy, Debug)]
+#[derive(Clone, Copy)]
 pub(crate) struct ReplyRef<'a> {
     pub status: Status,
     pub id: Option<VolumeId>,
     pub detail: &'a str,
 }
 
-#[derive(Debug, Drop)]
+#[derive(Drop)]
 pub(crate) enum BodyRef<'a> {
     Call(CallRef<'a>),
     Reply(Kind, ReplyRef<'a>),
 }
 
 /// A frame whose texts are slices of the bytes that it was read from.
-#[derive(Debug, Drop)]
+#[derive(Drop)]
 pub(crate) struct FrameRef<'a> {
     pub number: Number,
     pub party: PartyRef<'a>,

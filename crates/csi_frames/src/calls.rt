@@ -1,5 +1,6 @@
 //! Capabilities, calls and replies, read from the bytes of a body.
-ghost use Rattle.std.specs.Prelude.{◌≡◌, ◌≤◌};
+ghost use Rattle.std.specs.Prelude.{◌≡◌, ◌≤◌, ◌&&◌};
+ghost use Rattle.csi_types.specs.Reply.{is_create, is_ok_status};
 ghost use Rattle.csi_frames.specs.Borrowed.{owned_access, owned_capability, owned_capabilities, owned_call, owned_reply};
 ghost use Rattle.csi_frames.specs.Gives.{Gives};
 ghost use Rattle.csi_frames.specs.Reading.{access_at, mode_at, capability_at, capabilities_at, create_at, call_at, status_at, reply_id_at, reply_at};
@@ -148,6 +149,13 @@ fn status_at(fields: &mut Fields<'_>) -> Result<Status, Stop>
     Status::from_code(byte).ok_or(bad)
 }
 
+// Whether a reply of this kind and status has an id.
+fn has_id(kind: Kind, status: Status) -> bool
+    ensures { result ≡ (is_create kind && is_ok_status status) }
+{
+    kind == Kind::CreateVolume && status == Status::Ok
+}
+
 // The id of a reply: 0, for none, but in an `Ok` to CreateVolume, where it isn't 0.
 #[tactic(auto, unfolding(crate::specs::Reading::word_at, crate::specs::Reading::reply_id_at))]
 fn reply_id_at(
@@ -160,8 +168,7 @@ fn reply_id_at(
     let bad = fields.stop(FaultKind::BadId);
     let number = fields.word()?;
     let id = VolumeId::try_new(number);
-    let must = kind == Kind::CreateVolume && status == Status::Ok;
-    if id.is_some() != must {
+    if id.is_some() != has_id(kind, status) {
         return Err(bad);
     }
     Ok(id)

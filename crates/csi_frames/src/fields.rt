@@ -8,7 +8,7 @@ use csi_types::VolumeId;
 use std::str;
 
 /// Where reading stopped: the fault, and how many bytes were left from the field at fault on.
-#[derive(Clone, Copy, Debug)]
+#[derive(Clone, Copy)]
 pub(crate) struct Stop {
     pub kind: FaultKind,
     pub left: usize,
@@ -16,7 +16,7 @@ pub(crate) struct Stop {
 
 /// The bytes of a body that are left. Each method reads a field from their front; where it answers where
 /// it stopped, the body is at fault and the rest isn't read.
-#[derive(Debug, Drop)]
+#[derive(Drop)]
 pub(crate) struct Fields<'a> {
     pub bytes: &'a [u8],
 }
