@@ -3,11 +3,12 @@ use Rattle.std.proofs.Common.{◌≡◌, ◌<◌, ◌+◌, ℕ, Bool, true, fals
 use Rattle.std.specs.Prelude.{Some, find, filter, ◌==◌}
 use Rattle.std.proofs.lemmas.List.{take_more}
 use Rattle.std.proofs.lemmas.List.Elements.{filter-append}
+use Rattle.csi_lists.specs.Places.{AtMostOne}
 use Rattle.csi_types.specs.declared.holding.Holding.{Holding}
 use Rattle.csi_controller.specs.declared.row.NodeHolding.{NodeHolding}
 use Rattle.csi_controller.specs.declared.row.ControllerRow.{ControllerRow}
 use Rattle.csi_controller.specs.Shown.{holdings_in_row, holdings_in}
-use Rattle.csi_controller.specs.Core.{Parts, IsShown, IsSound, AtMostOne, held_by}
+use Rattle.csi_controller.specs.Core.{Parts, IsShown, IsSound, held_by}
 use Rattle.csi_controller.specs.Views.{attached, HasHoldingsOf}
 use Rattle.csi_controller.proofs.Sound.{rising-one}
 use Rattle.csi_controller.specs.State.{ControllerState}
