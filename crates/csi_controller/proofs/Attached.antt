@@ -5,6 +5,7 @@ use Rattle.std.proofs.lemmas.List.{take_more}
 use Rattle.std.proofs.lemmas.List.Elements.{filter-append}
 use Rattle.std.specs.List.{AllByRecursion}
 use Rattle.csi_lists.specs.Members.{EachTwo}
+use Rattle.csi_lists.specs.Places.{AtMostOne}
 use Rattle.csi_lists.proofs.Each.{each-append, each-weaker}
 use Rattle.csi_lists.proofs.Members.{each_of}
 use Rattle.csi_lists.proofs.Pairs.{two-joined}
@@ -12,7 +13,7 @@ use Rattle.csi_types.specs.declared.holding.Holding.{Holding}
 use Rattle.csi_controller.specs.declared.row.NodeHolding.{NodeHolding}
 use Rattle.csi_controller.specs.declared.row.ControllerRow.{ControllerRow}
 use Rattle.csi_controller.specs.Shown.{holdings_in_row, holdings_in}
-use Rattle.csi_controller.specs.Core.{Parts, IsShown, IsSound, IsRising, AtMostOne, held_by}
+use Rattle.csi_controller.specs.Core.{Parts, IsShown, IsSound, IsRising, held_by}
 use Rattle.csi_controller.specs.Views.{attached, IsHeldBefore, HasHoldingsOf}
 use Rattle.csi_controller.proofs.Sound.{rising-one}
 use Rattle.csi_controller.specs.State.{ControllerState}

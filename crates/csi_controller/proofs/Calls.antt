@@ -7,6 +7,10 @@ use Rattle.std.specs.List.{list_any, position_or_len}
 use Rattle.std.proofs.Math.ListN.{set}
 use Rattle.std.proofs.lemmas.Bool.{eqb-true}
 use Rattle.std.proofs.lemmas.Bool.Decides.{nat_tests}
+use Rattle.csi_lists.proofs.Each.{each-at}
+use Rattle.csi_lists.proofs.Places.{FirstAt-find, FirstAt-is_at, FirstAt-passes, FirstAt-position, same-at}
+use Rattle.csi_lists.proofs.Searches.{find-of_map}
+use Rattle.csi_lists.specs.Places.{FirstAt, IsAt}
 use Rattle.csi_types.specs.declared.number.Number.{Number}
 use Rattle.csi_types.specs.declared.capability.Capability.{Capability}
 use Rattle.csi_types.specs.declared.call.Kind.{Kind}
@@ -30,7 +34,6 @@ use Rattle.csi_controller.specs.Table.{Outcome, delete, publish, unpublish}
 use Rattle.csi_controller.specs.Fenced.{fenced_call, kept_for}
 use Rattle.csi_controller.specs.Shown.{volume_of_row}
 use Rattle.csi_controller.specs.Core.{IsShown, Answers, IsSound, IsSoundRow, held_by, RowOutcome, RowAttaches, by_line, RowGives, row_after, create_line, delete_line, publish_line, unpublish_line, IsSameRow, IsAnsweredOk}
-use Rattle.csi_controller.proofs.FirstAt.{IsAt, FirstAt, FirstAt-position, FirstAt-find, FirstAt-is_at, FirstAt-passes, All-at, find-view}
 use Rattle.csi_controller.proofs.Lines.{create-told, delete-told, publish-told, unpublish-told, full-told, sees-row, live-nowhere, held-nowhere}
 use Rattle.csi_controller.proofs.Sound.{sound-after, sound-same, sound-set, rising-one}
 use Rattle.csi_controller.proofs.Fit.{IsGood, create-ends_not, unpublish-ends_not, publish-ends_not}
@@ -41,7 +44,7 @@ pub at-place : (p : ControllerRow → Bool) (rows : List ControllerRow) (place :
 at-place p rows place row at is = FirstAt-position p rows place row (sym at) is
 
 pub sound-at : (p : ControllerRow → Bool) (n : ℕ) (rows : List ControllerRow) (place : ℕ) (row : ControllerRow) → IsSound n rows → Some place ≡ position p rows → row ≡ get_or rows place row → IsSoundRow n row
-sound-at p n rows place row sound at is = All-at (IsSoundRow n) rows place row sound.each (FirstAt-is_at p rows place row (at-place p rows place row at is))
+sound-at p n rows place row sound at is = each-at (IsSoundRow n) rows place row sound.each (FirstAt-is_at p rows place row (at-place p rows place row at is))
 
 same_id : (number : Number) (kind : Kind) (outcome : RowOutcome) (row : ControllerRow) (verdict : Verdict) → (row_after number kind outcome row verdict).volume.id ≡ row.id
 same_id number kind outcome row Stale = refl
@@ -82,7 +85,7 @@ pub create-answers : (config : Config) (n : ℕ) (rows : List ControllerRow) (st
 create-answers config n rows state number name required limit wished place row new frame sound shown at is gives =
     let first = at-place (λ (r : ControllerRow). same_text r.name name) rows place row at is in
     let named : volume_named name state ≡ Some (volume_of_row row)
-    = ap (find (λ (v : Volume). same_text v.name name)) (sym shown.shows.volumes) ∙ find-view volume_of_row (λ (v : Volume). same_text v.name name) rows
+    = ap (find (λ (v : Volume). same_text v.name name)) (sym shown.shows.volumes) ∙ find-of_map (λ (v : Volume). same_text v.name name) volume_of_row rows
     ∙ ap (option_map volume_of_row) (FirstAt-find (λ (r : ControllerRow). same_text r.name name) rows place row first) in
     row-answers config n rows state number (CreateVolume name required limit wished) place row new frame (create_line row required limit wished) shown first (sound.names name) (rising-one rows sound.rising)
     (λ ends. absurd (create-ends_not row required limit wished ends)) (create-told config state name required limit wished row named) gives
@@ -167,12 +170,6 @@ set-own : (rows : List ControllerRow) (place : ℕ) (row : ControllerRow) → Is
 set-own [] place row at = absurd at
 set-own (r ∷ rs) zero row at = ap (λ x. x ∷ rs) (sym at)
 set-own (r ∷ rs) (suc place) row at = ap (λ xs. r ∷ xs) (set-own rs place row at)
-
--- two that stand at one place
-same-at : {X : Type 0} (xs : List X) (place : ℕ) (x y : X) → IsAt xs place x → IsAt xs place y → x ≡ y
-same-at [] place x y at there = absurd at
-same-at (z ∷ zs) zero x y at there = sym at ∙ there
-same-at (z ∷ zs) (suc place) x y at there = same-at zs place x y at there
 
 -- what the lines answer is what the row does, behind the fence
 pub publish-gives : (rows : List ControllerRow) (id place : ℕ) (row again new : ControllerRow) (frame : Frame) (number : Number) (wanted : NodeHolding) (configured full : Bool) (line : Option Reply)

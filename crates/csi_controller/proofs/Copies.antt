@@ -2,12 +2,13 @@
 use Rattle.std.proofs.Common.{◌≡◌, ◌<◌, ◌≤◌, ℕ, suc, length, arith, Bool, true, false, cond, List, [], ◌∷◌, ◌++◌, map, refl, sym, ◌∙◌, ap, subst}
 use Rattle.std.specs.Prelude.{Some, None, find, ◌==◌}
 use Rattle.std.specs.List.{AllByRecursion}
+use Rattle.csi_lists.specs.Places.{AtMostOne}
 use Rattle.csi_types.specs.Config.{Config}
 use Rattle.csi_types.specs.Same.{same_text}
 use Rattle.csi_controller.specs.declared.row.ControllerRow.{ControllerRow}
 use Rattle.csi_controller.specs.State.{Volume, ControllerState}
 use Rattle.csi_controller.specs.Shown.{volume_of_row, holdings_in}
-use Rattle.csi_controller.specs.Core.{IsShown, IsSound, IsSoundRow, IsRising, AtMostOne, IsSameRow, held_by}
+use Rattle.csi_controller.specs.Core.{IsShown, IsSound, IsSoundRow, IsRising, IsSameRow, held_by}
 use Rattle.csi_controller.specs.Views.{AreSameRows}
 use Rattle.csi_controller.proofs.Sound.{sound-same}
 

@@ -1,10 +1,14 @@
 -- A call that is delivered acts or rests.
 use Rattle.std.proofs.Common.{◌≡◌, ◌⊎◌, ℕ, List, Bool, true, false, not, refl, sym, ◌∙◌, ap, subst, inl, inr, arith}
 use Rattle.std.specs.Prelude.{Option, Some, None, option_map, is_some, find, ◌==◌, ◌&&◌, IsTrue}
-use Rattle.std.proofs.lemmas.Bool.{and_parts, eqb-true, not-false, not-true, true≢false}
+use Rattle.std.proofs.lemmas.Bool.{and_parts, eqb-true, not-false, not-true, true≢false, and_left}
 use Rattle.std.proofs.lemmas.Bool.Decides.{nat_tests}
-use Rattle.csi_types.proofs.Among.{among-find, none_passes}
-use Rattle.csi_types.proofs.Lists.{find-map, find-passes}
+use Rattle.std.proofs.lemmas.Option.{none-some}
+use Rattle.csi_lists.proofs.Maps.{map-none}
+use Rattle.csi_lists.proofs.Members.{among-find, none_passes}
+use Rattle.csi_lists.proofs.Options.{none-from_map, option_map-map}
+use Rattle.csi_lists.proofs.Searches.{find-map, find-none, find-passes}
+use Rattle.csi_lists.specs.Members.{IsAmong}
 use Rattle.csi_types.proofs.Order.{before-trans}
 use Rattle.csi_types.proofs.Spent.{spent-earlier}
 use Rattle.csi_types.specs.declared.number.Number.{Number}
@@ -20,7 +24,6 @@ use Rattle.csi_types.specs.Config.{Config}
 use Rattle.csi_types.specs.Delivery.{Delivery, Acts, Rests, Becomes, IsSameView, IsDelivered, IsEmpty, IsClosed, last_of}
 use Rattle.csi_types.specs.Fence.{Kept, is_spent}
 use Rattle.csi_types.specs.Key.{Key, Exists, Attached, Staged, Published, HasId}
-use Rattle.csi_types.specs.Lists.{IsAmong}
 use Rattle.csi_types.specs.Number.{is_before}
 use Rattle.csi_types.specs.Replies.{stale_reply}
 use Rattle.csi_types.specs.Reply.{has_id_by_rule}
@@ -30,7 +33,6 @@ use Rattle.csi_controller.specs.Table.{Outcome, Change, Stays, changed, controll
 use Rattle.csi_controller.specs.Fenced.{Fenced, kept_in, keep, carried_out, fenced_call, kept_for}
 use Rattle.csi_controller.specs.Safe.{IsExclusive}
 use Rattle.csi_controller.specs.View.{held_in, kept_in_row, live_named, view_of, key_of, IsDeliveredTo}
-use Rattle.csi_controller.proofs.Finds.{first_fails, none_is_some, find-none, map-none, option_map-map}
 use Rattle.csi_controller.proofs.LastCalls.{row_of, kept_of_row, IsLater, IsFreshFor, kept_later, kept_after, row_known}
 use Rattle.csi_controller.proofs.Moves.{Move, was_refused, was_found, was_made, was_ended, was_ended_before, was_attached, was_attached_before, was_detached, was_detached_before, moved, Judgement, was_first, was_fresh, was_repeated, was_stale, was_judged}
 use Rattle.csi_controller.proofs.Orderly.{IsOrderly, kept_same, keep_leaves, live_with_id, is_row}
@@ -95,12 +97,8 @@ own_spent number = grind (arith, nat_tests)
 among_row : (state : ControllerState) (key : Key) (v : Volume) → row_of state key ≡ Some v → IsAmong v state.volumes
 among_row state (Exists name) v is = among-find (λ (u : Volume). same_text u.name name) state.volumes v is
 among_row state (Attached id node) v is = among-find (λ (u : Volume). u.id == id) state.volumes v is
-among_row state (Staged id node) v is = absurd (none_is_some v is)
-among_row state (Published id node target) v is = absurd (none_is_some v is)
-
-none_mapped : {X Y : Type 0} (f : X → Y) (o : Option X) → option_map f o ≡ None → o ≡ None
-none_mapped f None h = refl
-none_mapped f (Some x) h = absurd (none_is_some (f x) (sym h))
+among_row state (Staged id node) v is = absurd (none-some v is)
+among_row state (Published id node target) v is = absurd (none-some v is)
 
 -- the call and its reply, as they are told
 abbrev told : Number → Call → Reply → Delivery
@@ -170,10 +168,10 @@ renumbered kept number same = let back = sym same in λ i. record { number = bac
 
 -- a call whose thing isn't known is the call of no row
 row_unknown : (state : ControllerState) (call : Call) → IsTrue (is_party_of (kind_of call) Controller) → key_of state call ≡ None → row_for call state ≡ None
-row_unknown state (calls.CreateVolume name required limit capabilities) party none = absurd (none_is_some (Exists name) (sym none))
-row_unknown state (calls.DeleteVolume id) party none = none_mapped (λ (v : Volume). Exists v.name) (volume_with_id id state) none
-row_unknown state (calls.ControllerPublishVolume id node capability readonly) party none = none_mapped (λ v. Attached id node) (volume_with_id id state) none
-row_unknown state (calls.ControllerUnpublishVolume id node) party none = none_mapped (λ v. Attached id node) (volume_with_id id state) none
+row_unknown state (calls.CreateVolume name required limit capabilities) party none = absurd (none-some (Exists name) (sym none))
+row_unknown state (calls.DeleteVolume id) party none = none-from_map (λ (v : Volume). Exists v.name) (volume_with_id id state) none
+row_unknown state (calls.ControllerPublishVolume id node capability readonly) party none = none-from_map (λ v. Attached id node) (volume_with_id id state) none
+row_unknown state (calls.ControllerUnpublishVolume id node) party none = none-from_map (λ v. Attached id node) (volume_with_id id state) none
 row_unknown state (calls.NodeStageVolume id capability) party none = absurd (true≢false (sym party))
 row_unknown state (calls.NodeUnstageVolume id) party none = absurd (true≢false (sym party))
 row_unknown state (calls.NodePublishVolume id target capability readonly) party none = absurd (true≢false (sym party))
@@ -185,7 +183,7 @@ held_known state id node held safe is none =
     let at = and_parts (held.volume == id) (same_text held.node node) (find-passes (is_held_at id node) state.holdings held is) in
     let live = safe.attached_while_live held (among-find (is_held_at id node) state.holdings held is) in
     let dead : live_volume held.volume state ≡ None = subst (λ n. live_volume n state ≡ None) (sym (eqb-true held.volume id at.0))
-    (find-none (λ (v : Volume). (v.id == id) && v.is_live) state.volumes (λ v among. first_fails (v.id == id) v.is_live (none_passes (λ (u : Volume). u.id == id) state.volumes v none among))) in
+    (find-none (λ (v : Volume). (v.id == id) && v.is_live) state.volumes (λ v among. and_left (v.id == id) v.is_live (none_passes (λ (u : Volume). u.id == id) state.volumes v none among))) in
     true≢false (sym live ∙ ap is_some dead)
 
 -- the table changes nothing of a thing that isn't known
@@ -193,11 +191,11 @@ unknown_stays : (config : Config) (state : ControllerState) (call : Call) (outco
     → key_of state call ≡ None → Move config state call outcome → outcome.change ≡ Stays
 unknown_stays config state call outcome orderly safe party none key (was_refused _ status detail not_ok) = refl
 unknown_stays config state call outcome orderly safe party none key (was_found name required limit first others volume range named live serving) = refl
-unknown_stays config state call outcome orderly safe party none key (was_made name required limit first others range unnamed) = absurd (none_is_some (Exists name) (sym key))
-unknown_stays config state call outcome orderly safe party none key (was_ended id volume live free) = absurd (none_is_some volume (sym none ∙ live_with_id state id volume orderly live))
+unknown_stays config state call outcome orderly safe party none key (was_made name required limit first others range unnamed) = absurd (none-some (Exists name) (sym key))
+unknown_stays config state call outcome orderly safe party none key (was_ended id volume live free) = absurd (none-some volume (sym none ∙ live_with_id state id volume orderly live))
 unknown_stays config state call outcome orderly safe party none key (was_ended_before id dead) = refl
 unknown_stays config state call outcome orderly safe party none key (was_attached holding volume can free fits) =
-    absurd (none_is_some volume (sym none ∙ live_with_id state holding.volume volume orderly can.live))
+    absurd (none-some volume (sym none ∙ live_with_id state holding.volume volume orderly can.live))
 unknown_stays config state call outcome orderly safe party none key (was_attached_before holding volume can held) = refl
 unknown_stays config state call outcome orderly safe party none key (was_detached id node held there) = absurd (held_known state id node held safe there none)
 unknown_stays config state call outcome orderly safe party none key (was_detached_before id node free) = refl

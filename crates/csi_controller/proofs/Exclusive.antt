@@ -2,18 +2,17 @@
 use Rattle.std.proofs.Common.{◌≡◌, ℕ, Bool, true, false, cond, List, [], ◌∷◌, map, refl}
 use Rattle.std.specs.Prelude.{Some, None, find}
 use Rattle.std.specs.List.{AllByRecursion}
+use Rattle.csi_lists.proofs.Options.{some_is_not_none}
+use Rattle.csi_lists.specs.Members.{EachTwo}
+use Rattle.csi_lists.specs.Places.{AtMostOne}
 use Rattle.csi_types.proofs.Equality.{same_text-tells}
 use Rattle.csi_types.specs.Holding.{is_compatible, AreApart}
-use Rattle.csi_types.specs.Lists.{EachTwo}
 use Rattle.csi_types.specs.Same.{same_text}
 use Rattle.csi_controller.specs.declared.row.NodeHolding.{NodeHolding}
 use Rattle.csi_controller.specs.declared.row.ControllerRow.{ControllerRow}
-use Rattle.csi_controller.specs.Core.{AtMostOne, AreCompatible, IsSoundRow, held_by}
+use Rattle.csi_controller.specs.Core.{AreCompatible, IsSoundRow, held_by}
 use Rattle.csi_controller.specs.Exclusive.{IsRowExclusive}
 use Rattle.csi_controller.proofs.Apart.{apart, turned}
-
-some_is_none : {X : Type 0} (x : X) → Some x ≡ None → ⊥
-some_is_none x h = cc
 
 -- no later one is at the same node
 other_nodes : (node : List ℕ) (later : List NodeHolding) → find (λ (h : NodeHolding). same_text h.node node) later ≡ None → AllByRecursion (λ (h : NodeHolding). same_text h.node node ≡ false) later
@@ -22,7 +21,7 @@ other_nodes node (h ∷ hs) none = by (same_text h.node node) refl (other_nodes 
   where
     by : (b : Bool) → same_text h.node node ≡ b → (find (λ (h : NodeHolding). same_text h.node node) hs ≡ None → AllByRecursion (λ (h : NodeHolding). same_text h.node node ≡ false) hs)
         → cond b (Some h) (find (λ (h : NodeHolding). same_text h.node node) hs) ≡ None → (same_text h.node node ≡ false) × AllByRecursion (λ (h : NodeHolding). same_text h.node node ≡ false) hs
-    by true e f k = absurd (some_is_none h k)
+    by true e f k = absurd (some_is_not_none h k)
     by false e f k = (e, f k)
 
 -- which volume they are of doesn't matter

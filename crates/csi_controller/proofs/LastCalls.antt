@@ -1,8 +1,11 @@
 -- What is kept of the last call of each thing's volume, after one more was carried out.
 use Rattle.std.proofs.Common.{◌≡◌, ◌⊎◌, ℕ, List, Bool, true, false, cond, refl, sym, ◌∙◌, ap, subst, inl, inr}
 use Rattle.std.specs.Prelude.{Option, Some, None, option_map, find, ◌==◌}
+use Rattle.std.specs.Option.{option_or}
+use Rattle.std.proofs.lemmas.Option.{none-some}
+use Rattle.csi_lists.proofs.Options.{option_or-none, option_or-some}
+use Rattle.csi_lists.proofs.Searches.{find-append, find-append_one, find-map}
 use Rattle.csi_types.proofs.Equality.{same_text-tells}
-use Rattle.csi_types.proofs.Lists.{find-map, find-append, find-append_one, or_else, or_else-some, or_else-none}
 use Rattle.csi_types.specs.declared.call.Call.{Call}
 use Rattle.csi_types.specs.declared.call.Call.TheVariants as calls
 use Rattle.csi_types.specs.declared.status.Status.TheVariants.{Ok}
@@ -15,7 +18,6 @@ use Rattle.csi_controller.specs.State.{Volume, ControllerState, volume_named, vo
 use Rattle.csi_controller.specs.Table.{Outcome, Change, Stays, Makes, Ends, Attaches, Detaches, changed, ended}
 use Rattle.csi_controller.specs.Fenced.{kept_in, keep}
 use Rattle.csi_controller.specs.View.{kept_in_row, key_of}
-use Rattle.csi_controller.proofs.Finds.{none_is_some}
 use Rattle.csi_controller.proofs.Moves.{Move, was_refused, was_found, was_made, was_ended, was_ended_before, was_attached, was_attached_before, was_detached, was_detached_before}
 use Rattle.csi_controller.proofs.Orderly.{IsOrderly, LeavesNames, keep_leaves, end_leaves, same_row, with_id_by_name}
 use Rattle.csi_controller.proofs.Things.{at_key, by_volume}
@@ -54,10 +56,10 @@ ended_comes : (kept : Kept) (id : ℕ) (o : Option Volume) → Comes kept o (opt
 ended_comes kept id None = none_comes
 ended_comes kept id (Some v) = same_comes v (ended id v) ((end_leaves id).ids v) ((end_leaves id).names v) (ended_kept id v)
 
-added_comes : (kept : Kept) (n : Volume) (o : Option Volume) (b : Bool) → n.kept ≡ kept → Comes kept o (or_else o (cond b (Some n) None))
-added_comes kept n None true is = subst (Comes kept None) (sym (or_else-none None (Some n) refl)) (new_comes n is)
-added_comes kept n None false is = subst (Comes kept None) (sym (or_else-none None None refl)) none_comes
-added_comes kept n (Some v) b is = subst (Comes kept (Some v)) (sym (or_else-some (Some v) (cond b (Some n) None) v refl)) (itself_comes kept (Some v))
+added_comes : (kept : Kept) (n : Volume) (o : Option Volume) (b : Bool) → n.kept ≡ kept → Comes kept o (option_or o (cond b (Some n) None))
+added_comes kept n None true is = subst (Comes kept None) (sym (option_or-none None (Some n) refl)) (new_comes n is)
+added_comes kept n None false is = subst (Comes kept None) (sym (option_or-none None None refl)) none_comes
+added_comes kept n (Some v) b is = subst (Comes kept (Some v)) (sym (option_or-some (Some v) (cond b (Some n) None) v refl)) (itself_comes kept (Some v))
 
 -- a test of ids and names alone
 abbrev IsTest : (Volume → Bool) → Type 0
@@ -137,9 +139,9 @@ comes_kept call kept o next (new_comes w is) rows there = ap Some (new_keeps cal
 comes_kept call kept o next (same_comes v w ids names same) rows there = ap Some (taken call kept w (same_row call v w ids names ∙ rows v refl))
 
 stays_there : (kept : Kept) (o next : Option Volume) (v : Volume) → Comes kept o next → o ≡ Some v → next ≡ None → ⊥
-stays_there kept o next v none_comes is gone = none_is_some v is
-stays_there kept o next v (new_comes w k) is gone = none_is_some v is
-stays_there kept o next v (same_comes u w ids names same) is gone = none_is_some w (sym gone)
+stays_there kept o next v none_comes is gone = none-some v is
+stays_there kept o next v (new_comes w k) is gone = none-some v is
+stays_there kept o next v (same_comes u w ids names same) is gone = none-some w (sym gone)
 
 -- the row of a call's thing is the call's row
 pub row_known : (state : ControllerState) (call : Call) (key : Key) → IsOrderly state → key_of state call ≡ Some key → row_of state key ≡ row_for call state
@@ -150,33 +152,33 @@ row_known state (calls.ControllerPublishVolume id node capability readonly) key 
     by_volume (λ k. row_of state k ≡ volume_with_id id state) (λ v. Attached id node) (volume_with_id id state) key is (λ v own. refl)
 row_known state (calls.ControllerUnpublishVolume id node) key orderly is =
     by_volume (λ k. row_of state k ≡ volume_with_id id state) (λ v. Attached id node) (volume_with_id id state) key is (λ v own. refl)
-row_known state (calls.NodeStageVolume id capability) key orderly is = absurd (none_is_some key is)
-row_known state (calls.NodeUnstageVolume id) key orderly is = absurd (none_is_some key is)
-row_known state (calls.NodePublishVolume id target capability readonly) key orderly is = absurd (none_is_some key is)
-row_known state (calls.NodeUnpublishVolume id target) key orderly is = absurd (none_is_some key is)
+row_known state (calls.NodeStageVolume id capability) key orderly is = absurd (none-some key is)
+row_known state (calls.NodeUnstageVolume id) key orderly is = absurd (none-some key is)
+row_known state (calls.NodePublishVolume id target capability readonly) key orderly is = absurd (none-some key is)
+row_known state (calls.NodeUnpublishVolume id target) key orderly is = absurd (none-some key is)
 
 -- a call that gets an OK, and has a thing, has a row then
 there_after : (config : Config) (state : ControllerState) (key : Key) (call : Call) (outcome : Outcome) (kept : Kept) → IsOrderly state → key_of state call ≡ Some key → Move config state call outcome
     → outcome.reply.status ≡ Ok → row_of (changed state kept outcome.change) key ≡ None → ⊥
 there_after config state key call outcome kept orderly is (was_refused _ status detail not_ok) ok = absurd (not_ok ok)
 there_after config state key call outcome kept orderly is (was_found name required limit first others volume range named live serving) ok =
-    at_key (λ k. row_of state k ≡ None → ⊥) (Exists name) key is (λ gone. none_is_some volume (sym gone ∙ named))
+    at_key (λ k. row_of state k ≡ None → ⊥) (Exists name) key is (λ gone. none-some volume (sym gone ∙ named))
 there_after config state key call outcome kept orderly is (was_made name required limit first others range unnamed) ok =
     at_key (λ k. row_of (changed state kept outcome.change) k ≡ None → ⊥) (Exists name) key is
-    (λ gone. none_is_some _ (sym gone ∙ find-append_one (λ (v : Volume). same_text v.name name) state.volumes _ ((same_text-tells name name).1 refl) unnamed))
+    (λ gone. none-some _ (sym gone ∙ find-append_one (λ (v : Volume). same_text v.name name) state.volumes _ ((same_text-tells name name).1 refl) unnamed))
 there_after config state key call outcome kept orderly is (was_ended id volume live free) ok =
     by_volume (λ k. row_of (changed state kept outcome.change) k ≡ None → ⊥) (λ (v : Volume). Exists v.name) (volume_with_id id state) key is
     (λ v own. stays_there kept _ _ v (row_comes state kept outcome.change (Exists v.name)) (with_id_by_name state id v orderly own))
 there_after config state key call outcome kept orderly is (was_ended_before id none) ok =
-    by_volume (λ k. row_of state k ≡ None → ⊥) (λ (v : Volume). Exists v.name) (volume_with_id id state) key is (λ v own gone. none_is_some v (sym gone ∙ with_id_by_name state id v orderly own))
+    by_volume (λ k. row_of state k ≡ None → ⊥) (λ (v : Volume). Exists v.name) (volume_with_id id state) key is (λ v own gone. none-some v (sym gone ∙ with_id_by_name state id v orderly own))
 there_after config state key call outcome kept orderly is (was_attached holding volume can free fits) ok =
-    by_volume (λ k. row_of state k ≡ None → ⊥) (λ v. Attached holding.volume holding.node) (volume_with_id holding.volume state) key is (λ v own gone. none_is_some v (sym gone ∙ own))
+    by_volume (λ k. row_of state k ≡ None → ⊥) (λ v. Attached holding.volume holding.node) (volume_with_id holding.volume state) key is (λ v own gone. none-some v (sym gone ∙ own))
 there_after config state key call outcome kept orderly is (was_attached_before holding volume can held) ok =
-    by_volume (λ k. row_of state k ≡ None → ⊥) (λ v. Attached holding.volume holding.node) (volume_with_id holding.volume state) key is (λ v own gone. none_is_some v (sym gone ∙ own))
+    by_volume (λ k. row_of state k ≡ None → ⊥) (λ v. Attached holding.volume holding.node) (volume_with_id holding.volume state) key is (λ v own gone. none-some v (sym gone ∙ own))
 there_after config state key call outcome kept orderly is (was_detached id node held there) ok =
-    by_volume (λ k. row_of state k ≡ None → ⊥) (λ v. Attached id node) (volume_with_id id state) key is (λ v own gone. none_is_some v (sym gone ∙ own))
+    by_volume (λ k. row_of state k ≡ None → ⊥) (λ v. Attached id node) (volume_with_id id state) key is (λ v own gone. none-some v (sym gone ∙ own))
 there_after config state key call outcome kept orderly is (was_detached_before id node none) ok =
-    by_volume (λ k. row_of state k ≡ None → ⊥) (λ v. Attached id node) (volume_with_id id state) key is (λ v own gone. none_is_some v (sym gone ∙ own))
+    by_volume (λ k. row_of state k ≡ None → ⊥) (λ v. Attached id node) (volume_with_id id state) key is (λ v own gone. none-some v (sym gone ∙ own))
 
 -- then that row keeps the call
 pub kept_after : (config : Config) (state : ControllerState) (key : Key) (call : Call) (outcome : Outcome) (kept : Kept) → IsOrderly state → key_of state call ≡ Some key → Move config state call outcome

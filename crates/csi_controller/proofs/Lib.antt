@@ -1,4 +1,3 @@
-pub mod FirstAt
 pub mod Holdings
 pub mod Lines
 pub mod Sound

@@ -1,7 +1,11 @@
 -- What the table answers to a call, by the row that the call has.
 use Rattle.std.proofs.Common.{◌≡◌, ℕ, suc, Bool, true, false, cond, not, List, [], ◌∷◌, map, length, refl, sym, ◌∙◌, ap}
-use Rattle.std.specs.Prelude.{Option, Some, None, find, option_map, count_by, ◌&&◌, ◌||◌, ◌==◌, nat_le, codes}
+use Rattle.std.specs.Prelude.{Option, Some, None, find, option_map, count_by, ◌&&◌, ◌||◌, ◌==◌, nat_le, codes, is_some}
 use Rattle.std.specs.List.{AllByRecursion, list_any}
+use Rattle.csi_lists.proofs.Places.{FirstAt-find, find-and_first}
+use Rattle.csi_lists.proofs.Searches.{find-and_filter, find-and_none, find-of_map}
+use Rattle.csi_lists.proofs.Tests.{any-find}
+use Rattle.csi_lists.specs.Places.{AtMostOne, FirstAt}
 use Rattle.csi_types.specs.declared.capability.Capability.{Capability}
 use Rattle.csi_types.specs.declared.config.NodeSlots.{NodeSlots}
 use Rattle.csi_types.specs.declared.holding.Holding.{Holding}
@@ -16,8 +20,7 @@ use Rattle.csi_controller.specs.declared.row.ControllerRow.{ControllerRow}
 use Rattle.csi_controller.specs.State.{Volume, ControllerState, volume_named, live_volume, holdings_of, holding_at}
 use Rattle.csi_controller.specs.Table.{create, create_named, delete, delete_live, publish, publish_held, attach, is_full, unpublish, met, serves, refused}
 use Rattle.csi_controller.specs.Shown.{Shows, volume_of_row, holdings_in}
-use Rattle.csi_controller.specs.Core.{AtMostOne, IsSoundRow, held_by, outcome_of, create_line, again_line, by_fault, delete_line, publish_line, held_line, attach_line, unpublish_line, row_done, row_refused, RowStays, RowDetaches}
-use Rattle.csi_controller.proofs.FirstAt.{FirstAt, FirstAt-find, find-and_none, find-and_first, find-view, find-filter}
+use Rattle.csi_controller.specs.Core.{IsSoundRow, held_by, outcome_of, create_line, again_line, by_fault, delete_line, publish_line, held_line, attach_line, unpublish_line, row_done, row_refused, RowStays, RowDetaches}
 use Rattle.csi_controller.proofs.Holdings.{count-rows}
 
 -- what the searches of the state give at a volume that has this row
@@ -66,32 +69,19 @@ delete-told state row sees =
     by true e = ap (delete_live row.id) sees.held ∙ delete_live-told row row.holdings.items e refl
     by false e = rw e refl
 
--- ControllerUnpublishVolume
-abbrev is_there : {X : Type 0} → Option X → Bool
-is_there None = false
-is_there (Some x) = true
-
-find-any : {X : Type 0} (q : X → Bool) (xs : List X) → list_any q xs ≡ is_there (find q xs)
-find-any q [] = refl
-find-any q (x ∷ xs) = by (q x) (find-any q xs)
-  where
-    by : (b : Bool) → list_any q xs ≡ is_there (find q xs) → (b || list_any q xs) ≡ is_there (cond b (Some x) (find q xs))
-    by true h = refl
-    by false h = h
-
 pub held-told : (state : ControllerState) (row : ControllerRow) (node : List ℕ) → SeesRow state row → holding_at row.id node state ≡ option_map (held_by row.id) (find (λ (held : NodeHolding). same_text held.node node) row.holdings.items)
 held-told state row node sees =
-    find-filter (λ (h : Holding). h.volume == row.id) (λ (h : Holding). same_text h.node node) state.holdings
+    find-and_filter (λ (h : Holding). h.volume == row.id) (λ (h : Holding). same_text h.node node) state.holdings
     ∙ ap (find (λ (h : Holding). same_text h.node node)) sees.held
-    ∙ find-view (held_by row.id) (λ (h : Holding). same_text h.node node) row.holdings.items
+    ∙ find-of_map (λ (h : Holding). same_text h.node node) (held_by row.id) row.holdings.items
 
 pub unpublish-told : (state : ControllerState) (row : ControllerRow) (node : List ℕ) → SeesRow state row → unpublish row.id node (holding_at row.id node state) ≡ outcome_of row.id (unpublish_line row node)
 unpublish-told state row node sees =
     ap (unpublish row.id node) (held-told state row node sees)
     ∙ by (find (λ (held : NodeHolding). same_text held.node node) row.holdings.items) (list_any (λ (held : NodeHolding). same_text held.node node) row.holdings.items)
-    (find-any (λ (held : NodeHolding). same_text held.node node) row.holdings.items)
+    (any-find (λ (held : NodeHolding). same_text held.node node) row.holdings.items)
   where
-    by : (o : Option NodeHolding) (b : Bool) → b ≡ is_there o → unpublish row.id node (option_map (held_by row.id) o) ≡ outcome_of row.id (cond b (row_done (RowDetaches node)) (row_done RowStays))
+    by : (o : Option NodeHolding) (b : Bool) → b ≡ is_some o → unpublish row.id node (option_map (held_by row.id) o) ≡ outcome_of row.id (cond b (row_done (RowDetaches node)) (row_done RowStays))
     by None b e = rw e refl
     by (Some held) b e = rw e refl
 
@@ -106,7 +96,7 @@ held_so-told : (config : Config) (state : ControllerState) (row : ControllerRow)
     → publish_held config state (held_by row.id wanted) (option_map (held_by row.id) o) ≡ outcome_of row.id (held_line row wanted full o)
 held_so-told config state row wanted full None sees e =
     ap (λ all. attach config state (held_by row.id wanted) (find (λ other. not (is_compatible (held_by row.id wanted) other)) all)) sees.held
-    ∙ ap (attach config state (held_by row.id wanted)) (find-view (held_by row.id) (λ other. not (is_compatible (held_by row.id wanted) other)) row.holdings.items)
+    ∙ ap (attach config state (held_by row.id wanted)) (find-of_map (λ other. not (is_compatible (held_by row.id wanted) other)) (held_by row.id) row.holdings.items)
     ∙ attach-told config state row wanted full _ e
 held_so-told config state row wanted full (Some held) sees e = by (same_holding (held_by row.id held) (held_by row.id wanted))
   where
@@ -159,5 +149,5 @@ live-nowhere n rows state id shows none =
 
 pub held-nowhere : (n : ℕ) (rows : List ControllerRow) (state : ControllerState) (id : ℕ) (node : List ℕ) → Shows n rows state → find (λ (r : ControllerRow). r.id == id) rows ≡ None → holding_at id node state ≡ None
 held-nowhere n rows state id node shows none =
-    find-filter (λ (h : Holding). h.volume == id) (λ (h : Holding). same_text h.node node) state.holdings
+    find-and_filter (λ (h : Holding). h.volume == id) (λ (h : Holding). same_text h.node node) state.holdings
     ∙ ap (find (λ (h : Holding). same_text h.node node)) (sym (shows.holdings id) ∙ ap holdings_in none)

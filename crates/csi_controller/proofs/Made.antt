@@ -2,6 +2,12 @@
 use Rattle.std.proofs.Common.{◌≡◌, ◌≤◌, ◌<◌, ◌+◌, ◌%◌, ℕ, Bool, true, false, cond, List, [], ◌∷◌, ◌++◌, map, length, refl, sym, ◌∙◌, ap, subst, arith}
 use Rattle.std.specs.Prelude.{Result, IfOk, OnOk}
 use Rattle.std.specs.declared.result.Result.TheVariants as results
+use Rattle.csi_lists.proofs.Each.{each-append_one, each-weaker}
+use Rattle.csi_lists.proofs.Maps.{map-none_shown}
+use Rattle.csi_lists.proofs.Options.{some_is_not_none}
+use Rattle.csi_lists.proofs.Places.{AtMostOne-append}
+use Rattle.csi_lists.proofs.Searches.{find-of_map}
+use Rattle.csi_lists.specs.Places.{AtMostOne}
 use Rattle.csi_controller.specs.declared.controller.inner.Core.{Core}
 use Rattle.csi_controller.specs.CoreParts.{parts_of, IsMade}
 use Rattle.std.specs.Prelude.{Option, Some, None, option_map, find, ◌==◌, ◌||◌, nat_le, nat_lt, codes, IsTrue}
@@ -31,13 +37,9 @@ use Rattle.csi_controller.specs.State.{Volume, ControllerState, volume_named}
 use Rattle.csi_controller.specs.Table.{Outcome, Stays, Makes, create, create_named, controller_row, refused}
 use Rattle.csi_controller.specs.Fenced.{fenced_call, kept_for, carried_out, kept_in}
 use Rattle.csi_controller.specs.Shown.{volume_of_row, holdings_in}
-use Rattle.csi_controller.specs.Core.{IsShown, Answers, IsSound, IsSoundRow, IsRising, AreCompatible, AtMostOne, held_by, next_shown, argument_fault, new_line, made_volume}
-use Rattle.csi_controller.proofs.FirstAt.{AtMostOne-append, All-append, All-weaker, map-none, find-view}
+use Rattle.csi_controller.specs.Core.{IsShown, Answers, IsSound, IsSoundRow, IsRising, AreCompatible, held_by, next_shown, argument_fault, new_line, made_volume}
 use Rattle.csi_controller.proofs.Lines.{length-view}
 use Rattle.csi_controller.proofs.Steps.{nowhere-answers}
-
-some_is_none : {X : Type 0} (x : X) → Some x ≡ None → ⊥
-some_is_none x h = cc
 
 next-is : (n m : ℕ) → n ≡ m % 18446744073709551616 → 1 ≤ m → m ≤ 18446744073709551616 → m ≡ next_shown n
 next-is n m e from to = grind (arith, nat_tests)
@@ -61,23 +63,23 @@ with_fault config state name required limit (capability ∷ others) reply e = by
         → cond bad (refused InvalidArgument (codes "capacity")) (cond none (refused OutOfRange (codes "range")) (create_named config state name required limit (capability ∷ others) (volume_named name state))) ≡ record { reply = reply; change = Stays }
     by true none h = let same : plain_reply InvalidArgument (codes "capacity") ≡ reply = cc in λ i. record { reply = same i; change = Stays }
     by false true h = let same : plain_reply OutOfRange (codes "range") ≡ reply = cc in λ i. record { reply = same i; change = Stays }
-    by false false h = absurd (some_is_none reply (sym h))
+    by false false h = absurd (some_is_not_none reply (sym h))
 
 no_fault : (config : Config) (state : ControllerState) (name : List ℕ) (required limit : ℕ) (wished : List Capability) → argument_fault required limit wished ≡ None
     → create config state name required limit wished ≡ create_named config state name required limit wished (volume_named name state)
-no_fault config state name required limit [] e = absurd (some_is_none _ e)
+no_fault config state name required limit [] e = absurd (some_is_not_none _ e)
 no_fault config state name required limit (capability ∷ others) e = by (is_bad_range required limit) (is_empty_range required limit) e
   where
     by : (bad none : Bool) → cond bad (Some (plain_reply InvalidArgument (codes "capacity"))) (cond none (Some (plain_reply OutOfRange (codes "range"))) None) ≡ None
         → cond bad (refused InvalidArgument (codes "capacity")) (cond none (refused OutOfRange (codes "range")) (create_named config state name required limit (capability ∷ others) (volume_named name state)))
         ≡ create_named config state name required limit (capability ∷ others) (volume_named name state)
-    by true none h = absurd (some_is_none _ h)
-    by false true h = absurd (some_is_none _ h)
+    by true none h = absurd (some_is_not_none _ h)
+    by false true h = absurd (some_is_not_none _ h)
     by false false h = refl
 
 named-nowhere : (config : Config) (n : ℕ) (rows : List ControllerRow) (state : ControllerState) (name : List ℕ) → IsShown (record { config = config; next_id = n; rows = rows }) state → find (λ (r : ControllerRow). same_text r.name name) rows ≡ None → volume_named name state ≡ None
 named-nowhere config n rows state name shown none =
-    ap (find (λ (v : Volume). same_text v.name name)) (sym shown.shows.volumes) ∙ find-view volume_of_row (λ (v : Volume). same_text v.name name) rows ∙ ap (option_map volume_of_row) none
+    ap (find (λ (v : Volume). same_text v.name name)) (sym shown.shows.volumes) ∙ find-of_map (λ (v : Volume). same_text v.name name) volume_of_row rows ∙ ap (option_map volume_of_row) none
 
 new-told : (config : Config) (n : ℕ) (rows : List ControllerRow) (state : ControllerState) (name : List ℕ) (required limit : ℕ) (wished : List Capability) → IsShown (record { config = config; next_id = n; rows = rows }) state
     → find (λ (r : ControllerRow). same_text r.name name) rows ≡ None → argument_fault required limit wished ≡ None
@@ -121,7 +123,7 @@ held-append (r ∷ rs) row id empty = by (r.id == id) (held-append rs row id emp
 IsRising-append : (rows : List ControllerRow) (row : ControllerRow) → IsRising rows → AllByRecursion (λ (r : ControllerRow). r.id < row.id) rows → IsRising (rows ++ row ∷ [])
 IsRising-append [] row rising below = (tt, tt)
 IsRising-append (r ∷ rs) row rising below =
-    (All-append (λ (later : ControllerRow). r.id < later.id) rs row (rising.0) (below.0), IsRising-append rs row (rising.1) (below.1))
+    (each-append_one (λ (later : ControllerRow). r.id < later.id) rs row (rising.0) (below.0), IsRising-append rs row (rising.1) (below.1))
 
 same_either_way : {X : Type 0} (b : Bool) (x : X) → x ≡ cond b x x
 same_either_way true x = refl
@@ -140,7 +142,7 @@ made-answers config n rows state number name required limit capacity id wished r
     let next : state.next_id ≡ n = next-is n state.next_id shown.shows.next shown.next_from shown.next_to ∙ next_self n (omega arith) in
     let found : kept_for call state ≡ None = ap (option_map (λ (v : Volume). v.kept)) (named-nowhere config n rows state name shown none) in
     let whole : controller_row config state call ≡ record { reply = ok_reply_with id; change = Makes name capacity wished } = new-told config n rows state name required limit wished shown none good ∙ line in
-    let others : map (kept_in call kept) (map volume_of_row rows) ≡ map volume_of_row rows = map-none volume_of_row (λ (v : Volume). same_text v.name name) (λ (v : Volume). record v { kept = kept }) rows none in
+    let others : map (kept_in call kept) (map volume_of_row rows) ≡ map volume_of_row rows = map-none_shown volume_of_row (λ (v : Volume). same_text v.name name) (λ (v : Volume). record v { kept = kept }) rows none in
     let new : Volume = record { id = state.next_id; name = name; capacity = capacity; capabilities = wished; is_live = true; kept = kept } in
     let with_id : ℕ → Volume = λ k. record { id = k; name = name; capacity = capacity; capabilities = wished; is_live = true; kept = kept } in
     let last : volume_of_row row ≡ kept_in call kept new = volume ∙ ap with_id (is ∙ sym next) ∙ same_either_way (same_text name name) new in
@@ -195,7 +197,7 @@ made-capacity greatest count next name required limit capacity id wished line =
 
 pub made-well : (greatest count next : ℕ) (name : List ℕ) (required limit capacity id : ℕ) (wished : List Capability) → argument_fault required limit wished ≡ None
     → new_line greatest count next name required limit wished ≡ record { reply = ok_reply_with id; change = Makes name capacity wished } → IsMadeWell count capacity wished
-made-well greatest count next name required limit capacity id [] good line = absurd (some_is_none _ good)
+made-well greatest count next name required limit capacity id [] good line = absurd (some_is_not_none _ good)
 made-well greatest count next name required limit capacity id (capability ∷ others) good line =
     let made = made-capacity greatest count next name required limit capacity id (capability ∷ others) line in
     let range = wanted-range required limit (fits (is_bad_range required limit) (is_empty_range required limit) refl good) in
@@ -203,7 +205,7 @@ made-well greatest count next name required limit capacity id (capability ∷ ot
     record { capacity_from = omega (arith, same, from); capacity_to = omega (arith, same, to); capable = omega arith; room = made.1 }
   where
     fits : (bad none : Bool) → is_bad_range required limit ≡ bad → cond bad (Some (plain_reply InvalidArgument (codes "capacity"))) (cond none (Some (plain_reply OutOfRange (codes "range"))) None) ≡ None → is_bad_range required limit ≡ false
-    fits true none e h = absurd (some_is_none _ h)
+    fits true none e h = absurd (some_is_not_none _ h)
     fits false none e h = e
 
 -- and the rules are kept
@@ -221,8 +223,8 @@ made-sound n rows number name capacity id wished row sound none is from fits vol
     let one : next_shown n ≡ n = next_self n (omega arith) in
     record {
       limit = omega (arith, room, longer);
-      each = All-append (IsSoundRow ((n + 1) % 18446744073709551616)) rows row
-          (All-weaker (IsSoundRow n) (IsSoundRow ((n + 1) % 18446744073709551616)) rows (λ r own. let lower = own.below in record { below = omega (arith, up, one, lower); party = own.party; reply = own.reply; apart = own.apart; compatible = own.compatible; gone = own.gone; capacity_from = own.capacity_from; capacity_to = own.capacity_to; capable = own.capable; listed = own.listed; limit = own.limit }) sound.each)
+      each = each-append_one (IsSoundRow ((n + 1) % 18446744073709551616)) rows row
+          (each-weaker (IsSoundRow n) (IsSoundRow ((n + 1) % 18446744073709551616)) rows (λ r own. let lower = own.below in record { below = omega (arith, up, one, lower); party = own.party; reply = own.reply; apart = own.apart; compatible = own.compatible; gone = own.gone; capacity_from = own.capacity_from; capacity_to = own.capacity_to; capable = own.capable; listed = own.listed; limit = own.limit }) sound.each)
           (record {
             below = omega (arith, up, row_id);
             party = subst (λ k. IsTrue (is_party_of k Controller)) (sym kind) refl;
@@ -236,14 +238,10 @@ made-sound n rows number name capacity id wished row sound none is from fits vol
             listed = subst (AllByRecursion (λ (held : NodeHolding). IsTrue (has_capability row.capabilities held.capability))) (sym empty) tt;
             limit = subst (λ (items : List NodeHolding). length items ≤ 64) (sym empty) (omega arith);
           });
-      rising = IsRising-append rows row sound.rising (All-weaker (IsSoundRow n) (λ (r : ControllerRow). r.id < row.id) rows (λ r own. let lower = own.below in omega (arith, one, row_id, lower)) sound.each);
+      rising = IsRising-append rows row sound.rising (each-weaker (IsSoundRow n) (λ (r : ControllerRow). r.id < row.id) rows (λ r own. let lower = own.below in omega (arith, one, row_id, lower)) sound.each);
       names = λ k. AtMostOne-append (λ (r : ControllerRow). same_text r.name k) rows row (sound.names k)
           (λ e. subst (λ x. find (λ (r : ControllerRow). same_text r.name x) rows ≡ None) (sym row_name ∙ (same_text-tells row.name k).0 e) none);
     }
-
-pub none-where : {X : Type 0} (o : Option X) → ((x : X) → o ≡ Some x → ⊥) → o ≡ None
-none-where None f = refl
-none-where (Some x) f = absurd (f x refl)
 
 pub ok-both : {T E : Type 0} (r : Result T E) (P S : T → Type 0) (Q : Type 0) → ((x : T) → P x → Q → S x) → IfOk r P → OnOk r Q → IfOk r S
 ok-both (results.Ok x) P S Q f p q = f x p q

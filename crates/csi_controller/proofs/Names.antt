@@ -2,8 +2,10 @@
 use Rattle.std.proofs.Common.{◌≡◌, ℕ, List, ◌<◌, map, refl, ◌∙◌, ap, subst}
 use Rattle.std.specs.Prelude.{Option, Some, None, option_map, ◌==◌, ◌&&◌}
 use Rattle.std.proofs.lemmas.Bool.{and_parts, eqb-true}
-use Rattle.csi_types.proofs.Among.{among-find}
-use Rattle.csi_types.proofs.Lists.{find-map, find-append, find-passes, or_else, or_else-some}
+use Rattle.std.specs.Option.{option_or}
+use Rattle.csi_lists.proofs.Members.{among-find}
+use Rattle.csi_lists.proofs.Options.{option_map-map, option_or-some}
+use Rattle.csi_lists.proofs.Searches.{find-append, find-map, find-passes}
 use Rattle.csi_types.specs.declared.number.Number.{Number}
 use Rattle.csi_types.specs.declared.call.Call.{Call}
 use Rattle.csi_types.specs.Config.{Config}
@@ -14,7 +16,6 @@ use Rattle.csi_controller.specs.State.{Volume, ControllerState, empty_controller
 use Rattle.csi_controller.specs.Table.{Change, Stays, Makes, Ends, Attaches, Detaches, changed, ended, controller_row}
 use Rattle.csi_controller.specs.Fenced.{fenced, carried_out, kept_in, after_frames}
 use Rattle.csi_controller.specs.View.{AreNamed, id_named}
-use Rattle.csi_controller.proofs.Finds.{option_map-map}
 use Rattle.csi_controller.proofs.Frames.{frame_keeps}
 use Rattle.csi_controller.proofs.Orderly.{IsOrderly, reached_orderly, named_by_id, with_id_by_name, is_named, LeavesNames, keep_leaves, end_leaves}
 
@@ -40,9 +41,9 @@ mapped_id f leaves name state =
     ap (option_map (λ (v : Volume). v.id)) (find-map (λ (v : Volume). same_text v.name name) f state.volumes (λ v. ap (λ n. same_text n name) (leaves.names v)))
     ∙ option_map-map (λ (v : Volume). v.id) f (volume_named name state) leaves.ids
 
-still : (o other : Option Volume) (id : ℕ) → option_map (λ (v : Volume). v.id) o ≡ Some id → option_map (λ (v : Volume). v.id) (or_else o other) ≡ Some id
+still : (o other : Option Volume) (id : ℕ) → option_map (λ (v : Volume). v.id) o ≡ Some id → option_map (λ (v : Volume). v.id) (option_or o other) ≡ Some id
 still None other id h = cc
-still (Some v) other id h = ap (option_map (λ (u : Volume). u.id)) (or_else-some (Some v) other v refl) ∙ h
+still (Some v) other id h = ap (option_map (λ (u : Volume). u.id)) (option_or-some (Some v) other v refl) ∙ h
 
 changed_id : (name : List ℕ) (id : ℕ) (state : ControllerState) (kept : Kept) (change : Change) → HasIdOf name id state → HasIdOf name id (changed state kept change)
 changed_id name id state kept Stays h = h

@@ -3,22 +3,22 @@
 use Rattle.std.proofs.Common.{◌≡◌, ◌⊎◌, ℕ, ◌+◌, ◌<◌, List, [], ◌∷◌, ◌++◌, map, Bool, true, false, cond, refl, sym, ◌∙◌, ap, subst, inl, inr, arith}
 use Rattle.std.specs.Prelude.{Some, None, option_map, ◌==◌, ◌&&◌}
 use Rattle.std.proofs.lemmas.Bool.{and_parts, eqb-true, eq-eqb, ne_eqb}
-use Rattle.csi_types.proofs.Among.{among-either, among-find}
+use Rattle.csi_lists.proofs.Members.{among-either, among-find, among-map}
+use Rattle.csi_lists.proofs.Options.{option_or-some}
+use Rattle.csi_lists.proofs.Searches.{find-append, find-append_one, find-map, find-none, find-passes}
+use Rattle.csi_lists.specs.Members.{IsAmong}
 use Rattle.csi_types.proofs.Equality.{same_text-tells}
-use Rattle.csi_types.proofs.Lists.{find-map, find-append, find-append_one, find-passes, or_else-some}
 use Rattle.csi_types.specs.declared.number.Number.{Number}
 use Rattle.csi_types.specs.declared.call.Call.{Call}
 use Rattle.csi_types.specs.declared.call.Call.TheVariants as calls
 use Rattle.csi_types.specs.Config.{Config}
 use Rattle.csi_types.specs.Fence.{Kept}
 use Rattle.csi_types.specs.Frame.{Frame}
-use Rattle.csi_types.specs.Lists.{IsAmong}
 use Rattle.csi_types.specs.Same.{same_text}
 use Rattle.csi_controller.specs.State.{Volume, ControllerState, empty_controller, volume_named, volume_with_id, live_volume, is_row_for, row_for}
 use Rattle.csi_controller.specs.Table.{Outcome, ended, changed, controller_row}
 use Rattle.csi_controller.specs.Fenced.{kept_in, carried_out, after_frames}
 use Rattle.csi_controller.specs.Laws.{keeping}
-use Rattle.csi_controller.proofs.Finds.{find-none, among-map}
 use Rattle.csi_controller.proofs.Frames.{frames_keep}
 use Rattle.csi_controller.proofs.Moves.{Move, was_refused, was_found, was_made, was_ended, was_ended_before, was_attached, was_attached_before, was_detached, was_detached_before, moved}
 
@@ -75,10 +75,10 @@ pub record LeavesNames (f : Volume → Volume) : Type 0 where
 map_orderly : (f : Volume → Volume) → LeavesNames f → (state : ControllerState) → IsOrderly state → IsOrderly (record state { volumes = map f state.volumes })
 map_orderly f leaves state orderly w among =
     let image = among-map f state.volumes w among in
-    let v = image.source in
-    let own = orderly v image.among in
+    let v = image.0 in
+    let own = orderly v image.1 in
     let after : ControllerState = record state { volumes = map f state.volumes } in
-    subst (IsOwn after) (sym image.is)
+    subst (IsOwn after) (sym image.2)
     (record {
       by_name = find-map (λ (u : Volume). same_text u.name (f v).name) f state.volumes (λ u. ap (λ n. same_text n (f v).name) (leaves.names u))
           ∙ ap (λ n. option_map f (volume_named n state)) (leaves.names v) ∙ ap (option_map f) own.by_name;
@@ -95,8 +95,8 @@ made_orderly state n is_next unnamed orderly w among = by (among-either state.vo
     by (inl old) =
         let own = orderly w old in
         record {
-          by_name = find-append (λ (v : Volume). same_text v.name w.name) state.volumes n ∙ or_else-some (volume_named w.name state) _ w own.by_name;
-          by_id = find-append (λ (v : Volume). v.id == w.id) state.volumes n ∙ or_else-some (volume_with_id w.id state) _ w own.by_id;
+          by_name = find-append (λ (v : Volume). same_text v.name w.name) state.volumes n ∙ option_or-some (volume_named w.name state) _ w own.by_name;
+          by_id = find-append (λ (v : Volume). v.id == w.id) state.volumes n ∙ option_or-some (volume_with_id w.id state) _ w own.by_id;
           given = let less = own.given in omega arith;
         }
     by (inr e) =

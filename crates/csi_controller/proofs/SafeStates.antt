@@ -1,8 +1,12 @@
 -- In a controller's state two holdings of one volume are apart, and what is held is live, whatever frames came.
 use Rattle.std.proofs.Common.{◌≡◌, ◌⊎◌, ℕ, List, [], ◌∷◌, Bool, true, false, cond, not, refl, sym, ◌∙◌, ap, subst, inl, inr}
-use Rattle.std.specs.Prelude.{Option, Some, None, option_map, is_some, find, ◌==◌, ◌&&◌, IsSome}
+use Rattle.std.specs.Prelude.{Some, None, is_some, find, ◌==◌, ◌&&◌, IsSome}
 use Rattle.std.proofs.lemmas.Bool.{eqb-true, eq-eqb, not-false}
-use Rattle.csi_types.proofs.Lists.{find-append, find-map, or_else, or_else-some}
+use Rattle.csi_lists.proofs.Members.{among-either, among-filter, in_filter, none_kept, none_passes}
+use Rattle.csi_lists.proofs.Options.{is_some-map, option_or-is_some}
+use Rattle.csi_lists.proofs.Pairs.{two-append, two-filter}
+use Rattle.csi_lists.proofs.Searches.{find-append, find-map}
+use Rattle.csi_lists.specs.Members.{IsAmong}
 use Rattle.csi_types.specs.declared.capability.Capability.{Capability}
 use Rattle.csi_types.specs.declared.holding.Holding.{Holding}
 use Rattle.csi_types.specs.declared.number.Number.{Number}
@@ -16,12 +20,10 @@ use Rattle.csi_types.specs.Same.{same_text}
 use Rattle.csi_controller.specs.State.{Volume, ControllerState, empty_controller, live_volume, holdings_of, is_held_at, holding_at, is_row_for}
 use Rattle.csi_controller.specs.Table.{Outcome, Change, Stays, Makes, Ends, Attaches, Detaches, controller_row, ended, changed}
 use Rattle.csi_controller.specs.Fenced.{kept_in, keep, carried_out, fenced, after_frames}
-use Rattle.csi_types.specs.Lists.{IsAmong}
 use Rattle.csi_controller.specs.Safe.{AreExclusive, IsExclusive}
 use Rattle.csi_controller.proofs.Apart.{apart}
 use Rattle.csi_controller.proofs.Frames as each
 use Rattle.csi_controller.proofs.Moves.{Move, was_refused, was_found, was_made, was_ended, was_ended_before, was_attached, was_attached_before, was_detached, was_detached_before, moved}
-use Rattle.csi_types.proofs.Among.{among-either, among-filter, in_filter, none_passes, none_kept, two-append, two-filter}
 
 -- a change keeps that
 abbrev Keeps : ControllerState → Change → Type 0
@@ -30,21 +32,13 @@ Keeps state change = (kept : Kept) → IsExclusive state → IsExclusive (change
 stays : (state : ControllerState) → Keeps state Stays
 stays state kept safe = safe
 
--- CreateVolume
-or_else-is_some : {X : Type 0} (o other : Option X) → is_some o ≡ true → is_some (or_else o other) ≡ true
-or_else-is_some None other h = absurd (clash h)
-  where
-    clash : false ≡ true → ⊥
-    clash e = cc
-or_else-is_some (Some x) other h = ap is_some (or_else-some (Some x) other x refl)
-
 makes_keeps : (state : ControllerState) (name : List ℕ) (capacity : ℕ) (capabilities : List Capability) → Keeps state (Makes name capacity capabilities)
 makes_keeps state name capacity capabilities kept safe =
     let volume : Volume = record { id = state.next_id; name = name; capacity = capacity; capabilities = capabilities; is_live = true; kept = kept } in
     record {
       exclusive = safe.exclusive;
       attached_while_live = λ h among. ap is_some (find-append (λ (v : Volume). (v.id == h.volume) && v.is_live) state.volumes volume)
-          ∙ or_else-is_some (live_volume h.volume state) _ (safe.attached_while_live h among);
+          ∙ option_or-is_some (live_volume h.volume state) _ (safe.attached_while_live h among);
     }
 
 -- DeleteVolume
@@ -68,10 +62,6 @@ ended_test id n volume other = by (volume.id == id) refl
     by : (b : Bool) → (volume.id == id) ≡ b → (((cond b (record volume { is_live = false }) volume).id == n) && (cond b (record volume { is_live = false }) volume).is_live) ≡ ((volume.id == n) && volume.is_live)
     by false same = refl
     by true same = let differs : (volume.id == n) ≡ false = other_number volume.id id n other same in rw differs refl
-
-is_some-map : {X : Type 0} (f : X → X) (o : Option X) → is_some (option_map f o) ≡ is_some o
-is_some-map f None = refl
-is_some-map f (Some x) = refl
 
 ends_keeps : (state : ControllerState) (id : ℕ) → holdings_of id state ≡ [] → Keeps state (Ends id)
 ends_keeps state id is = λ kept safe. record {

@@ -5,6 +5,11 @@ use Rattle.std.specs.List.{AllByRecursion}
 use Rattle.std.proofs.lemmas.Bool.{eq-eqb, eqb-true}
 use Rattle.std.proofs.Math.ListN.{set}
 use Rattle.std.proofs.lemmas.List.{length-append, length-set}
+use Rattle.csi_lists.proofs.Each.{each-append_one, each-at, each-filter, each-set, each-weaker}
+use Rattle.csi_lists.proofs.Filters.{filter-no_longer}
+use Rattle.csi_lists.proofs.Places.{AtMostOne-append, AtMostOne-filter, AtMostOne-set}
+use Rattle.csi_lists.proofs.Searches.{find_none-all}
+use Rattle.csi_lists.specs.Places.{AtMostOne, IsAt}
 use Rattle.csi_types.specs.declared.number.Number.{Number}
 use Rattle.csi_types.specs.declared.call.Kind.{Kind}
 use Rattle.csi_types.specs.declared.call.Party.TheVariants.{Controller}
@@ -22,61 +27,23 @@ use Rattle.csi_controller.specs.declared.row.NodeHolding.{NodeHolding}
 use Rattle.csi_controller.specs.declared.row.ControllerRow.{ControllerRow}
 use Rattle.csi_controller.specs.State.{Volume}
 use Rattle.csi_controller.specs.Shown.{volume_of_row}
-use Rattle.csi_controller.specs.Core.{AtMostOne, IsRising, AreCompatible, IsSoundRow, IsSound, IsFit, held_by, next_shown, RowChange, RowStays, RowEnds, RowAttaches, RowDetaches, RowOutcome, RowGives, row_after, live_after, items_after}
-use Rattle.csi_controller.proofs.FirstAt.{IsAt, AtMostOne-set, AtMostOne-append, All-set, All-at, All-append, All-weaker}
-
-some_is_none : {X : Type 0} (x : X) → Some x ≡ None → ⊥
-some_is_none x h = cc
+use Rattle.csi_controller.specs.Core.{IsRising, AreCompatible, IsSoundRow, IsSound, IsFit, held_by, next_shown, RowChange, RowStays, RowEnds, RowAttaches, RowDetaches, RowOutcome, RowGives, row_after, live_after, items_after}
 
 false_is_true : false ≡ true → ⊥
 false_is_true h = cc
-
--- where none fails, each passes
-find_none-all : {X : Type 0} (p : X → Bool) (xs : List X) → find (λ x. not (p x)) xs ≡ None → AllByRecursion (λ x. p x ≡ true) xs
-find_none-all p [] none = tt
-find_none-all p (x ∷ xs) none = by (p x) refl (find_none-all p xs) none
-  where
-    by : (b : Bool) → p x ≡ b → (find (λ x. not (p x)) xs ≡ None → AllByRecursion (λ x. p x ≡ true) xs) → cond (not b) (Some x) (find (λ x. not (p x)) xs) ≡ None → (p x ≡ true) × AllByRecursion (λ x. p x ≡ true) xs
-    by true e f k = (e, f k)
-    by false e f k = absurd (some_is_none x k)
-
-find_none-filter : {X : Type 0} (p q : X → Bool) (xs : List X) → find p xs ≡ None → find p (filter q xs) ≡ None
-find_none-filter p q [] none = refl
-find_none-filter p q (x ∷ xs) none = by (p x) (q x) refl (find_none-filter p q xs) none
-  where
-    by : (a b : Bool) → p x ≡ a → (find p xs ≡ None → find p (filter q xs) ≡ None) → cond a (Some x) (find p xs) ≡ None → find p (cond b (x ∷ filter q xs) (filter q xs)) ≡ None
-    by true b e f k = absurd (some_is_none x k)
-    by false true e f k = rw e (f k)
-    by false false e f k = f k
-
-AtMostOne-filter : {X : Type 0} (p q : X → Bool) (xs : List X) → AtMostOne p xs → AtMostOne p (filter q xs)
-AtMostOne-filter p q [] one = tt
-AtMostOne-filter p q (x ∷ xs) one = by (q x) (AtMostOne-filter p q xs (one.1))
-  where
-    by : (b : Bool) → AtMostOne p (filter q xs) → AtMostOne p (cond b (x ∷ filter q xs) (filter q xs))
-    by true k = (λ e. find_none-filter p q xs (one.0 e), k)
-    by false k = k
-
-All-filter : {X : Type 0} (P : X → Type 0) (q : X → Bool) (xs : List X) → AllByRecursion P xs → AllByRecursion P (filter q xs)
-All-filter P q [] all = tt
-All-filter P q (x ∷ xs) all = by (q x) (All-filter P q xs (all.1))
-  where
-    by : (b : Bool) → AllByRecursion P (filter q xs) → AllByRecursion P (cond b (x ∷ filter q xs) (filter q xs))
-    by true k = (all.0, k)
-    by false k = k
 
 AreCompatible-filter : (q : NodeHolding → Bool) (items : List NodeHolding) → AreCompatible items → AreCompatible (filter q items)
 AreCompatible-filter q [] all = tt
 AreCompatible-filter q (held ∷ later) all = by (q held) (AreCompatible-filter q later (all.1))
   where
     by : (b : Bool) → AreCompatible (filter q later) → AreCompatible (cond b (held ∷ filter q later) (filter q later))
-    by true k = (All-filter _ q later (all.0), k)
+    by true k = (each-filter _ q later (all.0), k)
     by false k = k
 
 AreCompatible-append : (items : List NodeHolding) (wanted : NodeHolding) → AreCompatible items → AllByRecursion (λ (held : NodeHolding). is_compatible (held_by 1 wanted) (held_by 1 held) ≡ true) items → AreCompatible (items ++ wanted ∷ [])
 AreCompatible-append [] wanted all each = (tt, tt)
 AreCompatible-append (held ∷ later) wanted all each =
-    (All-append (λ (other : NodeHolding). is_compatible (held_by 1 other) (held_by 1 held) ≡ true) later wanted (all.0) (each.0), AreCompatible-append later wanted (all.1) (each.1))
+    (each-append_one (λ (other : NodeHolding). is_compatible (held_by 1 other) (held_by 1 held) ≡ true) later wanted (all.0) (each.0), AreCompatible-append later wanted (all.1) (each.1))
 
 self : (id : ℕ) → (id == id) ≡ true
 self id = eq-eqb id id refl
@@ -90,14 +57,6 @@ compatible-any a b x y =
 -- the holding's capability is among these
 abbrev IsListed : List Capability → NodeHolding → Type 0
 IsListed capabilities held = IsTrue (has_capability capabilities held.capability)
-
-filter-no_longer : {X : Type 0} (p : X → Bool) (xs : List X) → length (filter p xs) ≤ length xs
-filter-no_longer p [] = omega arith
-filter-no_longer p (x ∷ xs) = by (p x) (filter-no_longer p xs)
-  where
-    by : (b : Bool) → length (filter p xs) ≤ length xs → length (cond b (x ∷ filter p xs) (filter p xs)) ≤ suc (length xs)
-    by true h = omega (arith, h)
-    by false h = omega (arith, h)
 
 one_more : (items : List NodeHolding) (held : NodeHolding) → length items < 64 → length (items ++ held ∷ []) ≤ 64
 one_more items held room = let longer : length (items ++ held ∷ []) ≡ length items + 1 = length-append items (held ∷ []) in omega (arith, room, longer)
@@ -153,16 +112,16 @@ sound-after n row new frame number kind outcome sound party reply change is fit 
             (λ node. AtMostOne-append (λ (other : NodeHolding). same_text other.node node) row.holdings.items held (sound.apart node)
             (λ e. subst (λ k. find (λ (other : NodeHolding). same_text other.node k) row.holdings.items ≡ None) ((same_text-tells held.node node).0 e) (fit.1)))
             (AreCompatible-append row.holdings.items held sound.compatible
-            (All-weaker _ _ row.holdings.items (λ other e. compatible-any 1 row.id held other ∙ e) (find_none-all (λ other. is_compatible (held_by row.id held) (held_by row.id other)) row.holdings.items (fit.2))))
+            (each-weaker _ _ row.holdings.items (λ other e. compatible-any 1 row.id held other ∙ e) (find_none-all (λ other. is_compatible (held_by row.id held) (held_by row.id other)) row.holdings.items (fit.2))))
             (λ e. absurd (false_is_true (sym e ∙ live ∙ fit.0)))
-            c cs (All-append (IsListed row.capabilities) row.holdings.items held sound.listed (fit.3)) (one_more row.holdings.items held (fit.4))
+            c cs (each-append_one (IsListed row.capabilities) row.holdings.items held sound.listed (fit.3)) (one_more row.holdings.items held (fit.4))
         last (RowDetaches node) fit live items c cs id p r =
             let left : List NodeHolding = filter (λ (held : NodeHolding). not (same_text held.node node)) row.holdings.items in
             sound-from n row new left sound id p r items
             (λ other. AtMostOne-filter (λ (held : NodeHolding). same_text held.node other) (λ (held : NodeHolding). not (same_text held.node node)) row.holdings.items (sound.apart other))
             (AreCompatible-filter (λ (held : NodeHolding). not (same_text held.node node)) row.holdings.items sound.compatible)
             (λ e. ap (filter (λ (held : NodeHolding). not (same_text held.node node))) (sound.gone (sym live ∙ e)))
-            c cs (All-filter (IsListed row.capabilities) (λ (held : NodeHolding). not (same_text held.node node)) row.holdings.items sound.listed)
+            c cs (each-filter (IsListed row.capabilities) (λ (held : NodeHolding). not (same_text held.node node)) row.holdings.items sound.listed)
             (let shorter : length left ≤ length row.holdings.items = filter-no_longer (λ (held : NodeHolding). not (same_text held.node node)) row.holdings.items in let limit = sound.limit in omega (arith, shorter, limit))
 
 -- ids in rising order: each id has one row
@@ -182,7 +141,7 @@ rising-one (row ∷ rows) rising id =
 above-set : (rows : List ControllerRow) (place : ℕ) (row new : ControllerRow) (id : ℕ) → IsAt rows place row → new.id ≡ row.id → AllByRecursion (λ (later : ControllerRow). id < later.id) rows
     → AllByRecursion (λ (later : ControllerRow). id < later.id) (set rows place new)
 above-set rows place row new id at same all =
-    All-set (λ (later : ControllerRow). id < later.id) rows place new all (subst (λ k. id < k) (sym same) (All-at (λ (later : ControllerRow). id < later.id) rows place row all at))
+    each-set (λ (later : ControllerRow). id < later.id) rows place new all (subst (λ k. id < k) (sym same) (each-at (λ (later : ControllerRow). id < later.id) rows place row all at))
 
 IsRising-set : (rows : List ControllerRow) (place : ℕ) (row new : ControllerRow) → IsAt rows place row → new.id ≡ row.id → IsRising rows → IsRising (set rows place new)
 IsRising-set [] place row new at same rising = tt
@@ -196,7 +155,7 @@ pub sound-set : (n : ℕ) (rows : List ControllerRow) (place : ℕ) (row new : C
 sound-set n rows place row new sound at id name own =
     record {
       limit = let limit = sound.limit in let same : length (set rows place new) ≡ length rows = length-set rows place new in omega (arith, limit, same);
-      each = All-set (IsSoundRow n) rows place new sound.each own;
+      each = each-set (IsSoundRow n) rows place new sound.each own;
       rising = IsRising-set rows place row new at id sound.rising;
       names = λ k. AtMostOne-set (λ (r : ControllerRow). same_text r.name k) rows place row new at (ap (λ x. same_text x k) name) (sound.names k);
     }

@@ -3,6 +3,10 @@ use Rattle.std.proofs.Common.{◌≡◌, ◌≤◌, ◌^◌, ◌%◌, ℕ, zero,
 use Rattle.std.specs.Prelude.{Option, Some, None, find, filter, option_map, ◌==◌}
 use Rattle.std.proofs.Math.ListN.{set}
 use Rattle.std.proofs.lemmas.Bool.{eqb-true}
+use Rattle.csi_lists.proofs.Maps.{map-none_shown, map-twice}
+use Rattle.csi_lists.proofs.Places.{FirstAt-find, FirstAt-is_at, FirstAt-only, find-set_first, find-set_other, map-first}
+use Rattle.csi_lists.proofs.Searches.{find-of_map}
+use Rattle.csi_lists.specs.Places.{AtMostOne, FirstAt, IsAt}
 use Rattle.csi_types.specs.declared.number.Number.{Number}
 use Rattle.csi_types.specs.declared.holding.Holding.{Holding}
 use Rattle.csi_types.specs.declared.call.Call.{Call}
@@ -21,8 +25,7 @@ use Rattle.csi_controller.specs.State.{Volume, ControllerState, is_row_for, row_
 use Rattle.csi_controller.specs.Table.{Outcome, Stays, controller_row, changed, ended}
 use Rattle.csi_controller.specs.Fenced.{kept_in, keep, carried_out, judged, fenced_call, kept_for}
 use Rattle.csi_controller.specs.Shown.{volume_of_row, holdings_in}
-use Rattle.csi_controller.specs.Core.{IsShown, Answers, AtMostOne, held_by, RowChange, RowStays, RowEnds, RowAttaches, RowDetaches, RowOutcome, outcome_of, change_of, RowGives, row_after, live_after, items_after}
-use Rattle.csi_controller.proofs.FirstAt.{IsAt, FirstAt, FirstAt-find, FirstAt-is_at, FirstAt-only, map-none, map-first, find-set_other, find-set_first, find-view}
+use Rattle.csi_controller.specs.Core.{IsShown, Answers, held_by, RowChange, RowStays, RowEnds, RowAttaches, RowDetaches, RowOutcome, outcome_of, change_of, RowGives, row_after, live_after, items_after}
 use Rattle.csi_controller.proofs.Holdings.{held_after, row_list-after, own_list-after, other_list-after}
 
 -- the volumes after a change of the row of this id, before the reply is kept
@@ -98,11 +101,6 @@ pub shown-same : (config : Config) (n : ℕ) (rows : List ControllerRow) (state 
 shown-same config n rows state place row new shown at one volume items =
     shown-after config n rows state state place row new RowStays shown at one refl (same-volumes rows place row new at volume ∙ shown.shows.volumes) refl (ap (λ (v : Volume). v.id) volume) items
 
--- two changes of volumes in turn
-map-twice : {X : Type 0} (f g h : X → X) (xs : List X) → ((x : X) → f (g x) ≡ h x) → map f (map g xs) ≡ map h xs
-map-twice f g h [] same = refl
-map-twice f g h (x ∷ xs) same = let first = same x in let rest = map-twice f g h xs same in λ i. first i ∷ rest i
-
 kept_and_ended : (id : ℕ) (kept : Kept) (volume : Volume) → kept_in (DeleteVolume id) kept (ended id volume) ≡ cond (volume.id == id) (record volume { is_live = false; kept = kept }) volume
 kept_and_ended id kept volume = by (volume.id == id) refl
   where
@@ -165,7 +163,7 @@ pub row-answers : (config : Config) (n : ℕ) (rows : List ControllerRow) (state
     → Answers (record { config = config; next_id = n; rows = set rows place new }) frame (fenced_call config state number call (kept_for call state))
 row-answers config n rows state number call place row new frame outcome shown first one ids ends line gives =
     let found : row_for call state ≡ Some (volume_of_row row)
-    = ap (find (is_row_for call)) (sym shown.shows.volumes) ∙ find-view volume_of_row (is_row_for call) rows ∙ ap (option_map volume_of_row) (FirstAt-find (λ (r : ControllerRow). is_row_for call (volume_of_row r)) rows place row first) in
+    = ap (find (is_row_for call)) (sym shown.shows.volumes) ∙ find-of_map (is_row_for call) volume_of_row rows ∙ ap (option_map volume_of_row) (FirstAt-find (λ (r : ControllerRow). is_row_for call (volume_of_row r)) rows place row first) in
     let kept : kept_for call state ≡ Some (record { number = row.last; kind = row.kind; reply = row.reply }) = ap (option_map (λ (v : Volume). v.kept)) found in
     subst (λ (k : Option Kept). Answers (record { config = config; next_id = n; rows = set rows place new }) frame (fenced_call config state number call k)) (sym kept)
     (judged-answers config n rows state number call place row new frame outcome shown first one ids ends line (verdict_of (Some row.last) number) gives)
@@ -178,9 +176,9 @@ pub nowhere-answers : (config : Config) (n : ℕ) (rows : List ControllerRow) (s
 nowhere-answers config n rows state number call frame reply shown none line is =
     let kept : Kept = record { number = number; kind = kind_of call; reply = reply } in
     let found : kept_for call state ≡ None
-    = ap (option_map (λ (v : Volume). v.kept)) (ap (find (is_row_for call)) (sym shown.shows.volumes) ∙ find-view volume_of_row (is_row_for call) rows ∙ ap (option_map volume_of_row) none) in
+    = ap (option_map (λ (v : Volume). v.kept)) (ap (find (is_row_for call)) (sym shown.shows.volumes) ∙ find-of_map (is_row_for call) volume_of_row rows ∙ ap (option_map volume_of_row) none) in
     let volumes : map (kept_in call kept) state.volumes ≡ state.volumes
-    = ap (map (kept_in call kept)) (sym shown.shows.volumes) ∙ map-none volume_of_row (is_row_for call) (λ (v : Volume). record v { kept = kept }) rows none ∙ shown.shows.volumes in
+    = ap (map (kept_in call kept)) (sym shown.shows.volumes) ∙ map-none_shown volume_of_row (is_row_for call) (λ (v : Volume). record v { kept = kept }) rows none ∙ shown.shows.volumes in
     let answer : Answers (record { config = config; next_id = n; rows = rows }) frame (carried_out state number call (record { reply = reply; change = Stays }))
     = record {
       reply = ap Some (sym is);
@@ -199,4 +197,4 @@ pub kept-there : (config : Config) (n : ℕ) (rows : List ControllerRow) (state 
     → kept_for call state ≡ Some (record { number = row.last; kind = row.kind; reply = row.reply })
 kept-there config n rows state call place row shown first =
     ap (option_map (λ (v : Volume). v.kept))
-    (ap (find (is_row_for call)) (sym shown.shows.volumes) ∙ find-view volume_of_row (is_row_for call) rows ∙ ap (option_map volume_of_row) (FirstAt-find (λ (r : ControllerRow). is_row_for call (volume_of_row r)) rows place row first))
+    (ap (find (is_row_for call)) (sym shown.shows.volumes) ∙ find-of_map (is_row_for call) volume_of_row rows ∙ ap (option_map volume_of_row) (FirstAt-find (λ (r : ControllerRow). is_row_for call (volume_of_row r)) rows place row first))

@@ -3,7 +3,9 @@ use Rattle.std.proofs.Common.{◌≡◌, ◌⊎◌, ◌≤◌, ℕ, List, [], �
 use Rattle.std.specs.Prelude.{Option, Some, None, option_map, ◌==◌, ◌&&◌, ◌||◌, nat_le, nat_lt, length, codes, ◌^◌, IsTrue}
 use Rattle.std.specs.List.{AllByRecursion}
 use Rattle.std.proofs.lemmas.Bool.{not-true}
-use Rattle.csi_types.proofs.Lists.{find-map, find-passes, filter-map, map-map}
+use Rattle.csi_lists.proofs.Filters.{filter-map}
+use Rattle.csi_lists.proofs.Maps.{map-map}
+use Rattle.csi_lists.proofs.Searches.{find-map, find-passes}
 use Rattle.csi_types.specs.declared.capability.Capability.{Capability}
 use Rattle.csi_types.specs.declared.holding.Holding.{Holding}
 use Rattle.csi_types.specs.declared.number.Number.{Number}

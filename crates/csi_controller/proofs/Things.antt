@@ -1,10 +1,13 @@
 -- What each move of the table does to the things of a controller.
 use Rattle.std.proofs.Common.{◌≡◌, ◌≢◌, ℕ, List, ◌∷◌, map, Bool, true, false, not, refl, sym, ◌∙◌, ap, subst}
 use Rattle.std.specs.Prelude.{Option, Some, None, option_map, ◌==◌, ◌&&◌}
-use Rattle.std.proofs.lemmas.Bool.{and_parts, and_from, eqb-true, eq-eqb, true≢false}
-use Rattle.csi_types.proofs.Among.{find-filter, none_passes}
+use Rattle.std.proofs.lemmas.Bool.{and_parts, and_from, eqb-true, eq-eqb, true≢false, and_left}
+use Rattle.std.proofs.lemmas.Option.{none-some, same_Some}
+use Rattle.csi_lists.proofs.Members.{among-map, none_passes}
+use Rattle.csi_lists.proofs.Options.{option_map-map}
+use Rattle.csi_lists.proofs.Searches.{find-and, find-append_one, find-append_other, find-filter, find-filter_not, find-map_among, find-none, find-passes}
+use Rattle.csi_lists.specs.Members.{IsAmong}
 use Rattle.csi_types.proofs.Equality.{same_text-tells}
-use Rattle.csi_types.proofs.Lists.{find-append_one, find-filter_not, find-and, find-passes}
 use Rattle.csi_types.specs.declared.capability.Capability.{Capability}
 use Rattle.csi_types.specs.declared.holding.Holding.{Holding}
 use Rattle.csi_types.specs.declared.call.Call.{Call}
@@ -15,13 +18,12 @@ use Rattle.csi_types.specs.Capacity.{wanted}
 use Rattle.csi_types.specs.Config.{Config}
 use Rattle.csi_types.specs.Fence.{Kept}
 use Rattle.csi_types.specs.Key.{Key, Exists, Attached, Staged, Published, Form, HasId, AttachedAs, same_key, asked}
-use Rattle.csi_types.specs.Lists.{IsAmong}
 use Rattle.csi_types.specs.Replies.{ok_reply, ok_reply_with}
 use Rattle.csi_types.specs.Same.{same_text}
 use Rattle.csi_controller.specs.State.{Volume, ControllerState, volume_named, volume_with_id, live_volume, is_held_at, holding_at}
 use Rattle.csi_controller.specs.Table.{Outcome, Makes, Ends, Attaches, Detaches, changed, ended}
 use Rattle.csi_controller.specs.View.{live_named, held_in, key_of}
-use Rattle.csi_controller.proofs.Finds.{first_fails, some_is, none_is_some, find-none, find-append_other, find-map_among, among-map, option_map-map, text-turned}
+use Rattle.csi_controller.proofs.Finds.{text-turned}
 use Rattle.csi_controller.proofs.Moves.{Move, publish_call, was_refused, was_found, was_made, was_ended, was_ended_before, was_attached, was_attached_before, was_detached, was_detached_before}
 use Rattle.csi_controller.proofs.Orderly.{IsOrderly, is_named, is_with_id, with_id_by_name, end_leaves}
 
@@ -46,7 +48,7 @@ second_fails false b f = refl
 none_named : (state : ControllerState) (name : List ℕ) → volume_named name state ≡ None → live_named name state ≡ None
 none_named state name none =
     find-none (λ (v : Volume). same_text v.name name && v.is_live) state.volumes
-    (λ v among. first_fails (same_text v.name name) v.is_live (none_passes (λ (u : Volume). same_text u.name name) state.volumes v none among))
+    (λ v among. and_left (same_text v.name name) v.is_live (none_passes (λ (u : Volume). same_text u.name name) state.volumes v none among))
 
 -- CreateVolume
 made_things : (config : Config) (state : ControllerState) (name : List ℕ) (required limit : ℕ) (capabilities : List Capability) (capacity : ℕ) (kept : Kept) → volume_named name state ≡ None
@@ -63,7 +65,7 @@ made_things config state name required limit capabilities capacity kept unnamed 
     others : (volume : Volume) (other : Key) → same_key other (Exists name) ≡ false
         → held_in (changed state kept (Makes name capacity capabilities)) other ≡ held_in state other
     others volume (Exists else) h = ap (option_map (λ (v : Volume). HasId v.id))
-        (find-append_other (λ (v : Volume). same_text v.name else && v.is_live) state.volumes _ (first_fails (same_text name else) true (text-turned name else ∙ h)))
+        (find-append_other (λ (v : Volume). same_text v.name else && v.is_live) state.volumes _ (and_left (same_text name else) true (text-turned name else ∙ h)))
     others volume (Attached id node) h = refl
     others volume (Staged id node) h = refl
     others volume (Published id node target) h = refl
@@ -84,10 +86,10 @@ by_id P id volume f g = by (volume.id == id) refl
     by false h = subst P (sym (ended_other id volume h)) (g h)
 
 same_volume : (state : ControllerState) (id : ℕ) (volume other : Volume) → IsOrderly state → volume_with_id id state ≡ Some volume → IsAmong other state.volumes → (other.id == id) ≡ true → other ≡ volume
-same_volume state id volume other orderly is among same = some_is other volume (sym (is_with_id state id other orderly among same) ∙ is)
+same_volume state id volume other orderly is among same = same_Some other volume (sym (is_with_id state id other orderly among same) ∙ is)
 
 same_named : (state : ControllerState) (id : ℕ) (volume other : Volume) → IsOrderly state → volume_with_id id state ≡ Some volume → IsAmong other state.volumes → same_text other.name volume.name ≡ true → other ≡ volume
-same_named state id volume other orderly is among same = some_is other volume (sym (is_named state volume.name other orderly among same) ∙ with_id_by_name state id volume orderly is)
+same_named state id volume other orderly is among same = same_Some other volume (sym (is_named state volume.name other orderly among same) ∙ with_id_by_name state id volume orderly is)
 
 has_own_id : (state : ControllerState) (id : ℕ) (volume : Volume) → volume_with_id id state ≡ Some volume → (volume.id == id) ≡ true
 has_own_id state id volume is = find-passes (λ (v : Volume). v.id == id) state.volumes volume is
@@ -100,7 +102,7 @@ ended_things state id volume kept orderly is = record { done = λ h. ap (option_
     own v among =
         by_id (λ (w : Volume). (same_text w.name volume.name && w.is_live) ≡ false) id v
         (λ same. second_fails (same_text (ended id v).name volume.name) (ended id v).is_live (λ h. ended_own id v same))
-        (λ differs. first_fails (same_text v.name volume.name) v.is_live (other_name v among differs (same_text v.name volume.name) refl))
+        (λ differs. and_left (same_text v.name volume.name) v.is_live (other_name v among differs (same_text v.name volume.name) refl))
       where
         other_name : (v : Volume) → IsAmong v state.volumes → (v.id == id) ≡ false → (b : Bool) → same_text v.name volume.name ≡ b → b ≡ false
         other_name v among differs false h = refl
@@ -109,7 +111,7 @@ ended_things state id volume kept orderly is = record { done = λ h. ap (option_
 
     gone : live_named volume.name (changed state kept (Ends id)) ≡ None
     gone = find-none (λ (v : Volume). same_text v.name volume.name && v.is_live) (map (ended id) state.volumes)
-        (λ w among. let image = among-map (ended id) state.volumes w among in subst (λ (u : Volume). (same_text u.name volume.name && u.is_live) ≡ false) (sym image.is) (own image.source image.among))
+        (λ w among. let image = among-map (ended id) state.volumes w among in subst (λ (u : Volume). (same_text u.name volume.name && u.is_live) ≡ false) (sym image.2) (own image.0 image.1))
 
     unmoved : (name : List ℕ) → same_text name volume.name ≡ false → (v : Volume) → IsAmong v state.volumes
         → (same_text (ended id v).name name && (ended id v).is_live) ≡ (same_text v.name name && v.is_live)
@@ -117,7 +119,7 @@ ended_things state id volume kept orderly is = record { done = λ h. ap (option_
         by_id (λ (w : Volume). (same_text w.name name && w.is_live) ≡ (same_text v.name name && v.is_live)) id v
         (λ same.
         let e : same_text v.name name ≡ false = ap (λ (u : Volume). same_text u.name name) (same_volume state id volume v orderly is among same) ∙ text-turned volume.name name ∙ differs in
-        first_fails (same_text (ended id v).name name) (ended id v).is_live (ap (λ n. same_text n name) ((end_leaves id).names v) ∙ e) ∙ sym (first_fails (same_text v.name name) v.is_live e))
+        and_left (same_text (ended id v).name name) (ended id v).is_live (ap (λ n. same_text n name) ((end_leaves id).names v) ∙ e) ∙ sym (and_left (same_text v.name name) v.is_live e))
         (λ differ. refl)
 
     others : (other : Key) → same_key other (Exists volume.name) ≡ false → held_in (changed state kept (Ends id)) other ≡ held_in state other
@@ -206,10 +208,10 @@ detached_things state id node kept = record {
 
 -- the key that a call has
 pub at_key : (P : Key → Type 0) (k key : Key) → Some k ≡ Some key → P k → P key
-at_key P k key e p = subst P (some_is k key e) p
+at_key P k key e p = subst P (same_Some k key e) p
 
 pub by_volume : (P : Key → Type 0) (f : Volume → Key) (o : Option Volume) (key : Key) → option_map f o ≡ Some key → ((v : Volume) → o ≡ Some v → P (f v)) → P key
-by_volume P f None key e g = absurd (none_is_some key e)
+by_volume P f None key e g = absurd (none-some key e)
 by_volume P f (Some v) key e g = at_key P (f v) key e (g v refl)
 
 -- each move does what the call asks

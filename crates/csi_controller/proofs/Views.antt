@@ -1,17 +1,17 @@
 -- What the readers show, by the rows.
 use Rattle.std.proofs.Common.{◌≡◌, ℕ, List, map, refl, sym, ◌∙◌, ap}
 use Rattle.std.specs.Prelude.{Option, Some, None, option_map, find, ◌==◌}
+use Rattle.csi_lists.proofs.Searches.{find-of_map}
 use Rattle.csi_types.specs.Same.{same_text}
 use Rattle.csi_controller.specs.declared.row.ControllerRow.{ControllerRow}
 use Rattle.csi_controller.specs.State.{Volume, ControllerState, volume_named}
 use Rattle.csi_controller.specs.Shown.{volume_of_row, holdings_in_row}
 use Rattle.csi_controller.specs.Core.{Parts, IsShown, held_by}
 use Rattle.csi_controller.specs.Views.{shown_if_live, row_if_live, IsCopyOf, IsRowOf}
-use Rattle.csi_controller.proofs.FirstAt.{find-view}
 
 named-shown : (parts : Parts) (state : ControllerState) (name : List ℕ) → IsShown parts state → volume_named name state ≡ option_map volume_of_row (find (λ (r : ControllerRow). same_text r.name name) parts.rows)
 named-shown parts state name shown =
-    ap (find (λ (v : Volume). same_text v.name name)) (sym shown.shows.volumes) ∙ find-view volume_of_row (λ (v : Volume). same_text v.name name) parts.rows
+    ap (find (λ (v : Volume). same_text v.name name)) (sym shown.shows.volumes) ∙ find-of_map (λ (v : Volume). same_text v.name name) volume_of_row parts.rows
 
 pub volume-shown : (parts : Parts) (state : ControllerState) (name : List ℕ) → IsShown parts state → row_if_live (find (λ (r : ControllerRow). same_text r.name name) parts.rows) ≡ shown_if_live (volume_named name state)
 volume-shown parts state name shown = sym (ap shown_if_live (named-shown parts state name shown) ∙ by (find (λ (r : ControllerRow). same_text r.name name) parts.rows))
@@ -46,6 +46,6 @@ pub row-shown : (parts : Parts) (state : ControllerState) (id : ℕ) (copy : Opt
 row-shown parts state id copy shown same =
     copy-shown state id (find (λ (r : ControllerRow). r.id == id) parts.rows) copy same
     (record {
-      volume = sym (ap (find (λ (v : Volume). v.id == id)) (sym shown.shows.volumes) ∙ find-view volume_of_row (λ (v : Volume). v.id == id) parts.rows);
+      volume = sym (ap (find (λ (v : Volume). v.id == id)) (sym shown.shows.volumes) ∙ find-of_map (λ (v : Volume). v.id == id) volume_of_row parts.rows);
       holdings = shown.shows.holdings id;
     })

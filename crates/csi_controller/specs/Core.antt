@@ -1,6 +1,7 @@
 -- How a controller's parts are a state, and what one row answers to a call of its own.
 use Rattle.std.specs.Prelude.{◌≡◌, ℕ, ◌<◌, ◌≤◌, ◌^◌, ◌==◌, List, [], ◌∷◌, ◌++◌, filter, find, length, Bool, true, false, not, ◌||◌, nat_le, nat_lt, Option, Some, None, if◌then◌else◌, codes, IsTrue}
 use Rattle.std.specs.List.{AllByRecursion, list_any}
+use Rattle.csi_lists.specs.Places.{AtMostOne}
 use Rattle.csi_types.specs.declared.capability.Capability.{Capability}
 use Rattle.csi_types.specs.declared.holding.Holding.{Holding}
 use Rattle.csi_types.specs.declared.number.Number.{Number}
@@ -45,11 +46,6 @@ pub record IsShown (parts : Parts) (state : ControllerState) : Type 0 where
 -- the next id, where 0 stands for 2^64
 abbrev pub next_shown : ℕ → ℕ
 next_shown n = if n == 0 then 2 ^ 64 else n
-
--- no two elements pass
-abbrev pub AtMostOne : {X : Type 0} → (X → Bool) → List X → Type 0
-AtMostOne p [] = Unit {0}
-AtMostOne p (x ∷ xs) = (p x ≡ true → find p xs ≡ None) × AtMostOne p xs
 
 -- each id is below the later ones
 abbrev pub IsRising : List ControllerRow → Type 0

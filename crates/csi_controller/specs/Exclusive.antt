@@ -1,8 +1,8 @@
 -- What is so of the holdings of every controller, said of its rows: CSI's spec.md, "CreateVolume" (`AccessMode`)
 -- and "ControllerPublishVolume".
 use Rattle.std.specs.Prelude.{◌≡◌, [], false}
+use Rattle.csi_lists.specs.Members.{EachTwo}
 use Rattle.csi_types.specs.Holding.{AreApart}
-use Rattle.csi_types.specs.Lists.{EachTwo}
 use Rattle.csi_controller.specs.declared.row.ControllerRow.{ControllerRow}
 use Rattle.csi_controller.specs.Shown.{holdings_in_row}
 

@@ -1,11 +1,11 @@
 -- What a controller keeps by itself, whatever frames come: CSI's spec.md, "CreateVolume" (`AccessMode`) and "Volume
 -- Lifecycle".
 use Rattle.std.specs.Prelude.{◌≡◌, List, IsSome}
+use Rattle.csi_lists.specs.Members.{EachTwo, IsAmong}
 use Rattle.csi_types.specs.declared.holding.Holding.{Holding}
 use Rattle.csi_types.specs.Config.{Config}
 use Rattle.csi_types.specs.Frame.{Frame}
 use Rattle.csi_types.specs.Holding.{AreApart}
-use Rattle.csi_types.specs.Lists.{IsAmong, EachTwo}
 use Rattle.csi_controller.specs.State.{ControllerState, empty_controller, live_volume}
 use Rattle.csi_controller.specs.Fenced.{after_frames}
 

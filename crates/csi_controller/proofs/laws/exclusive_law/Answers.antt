@@ -1,11 +1,11 @@
 -- By the rules of each row.
+use Rattle.csi_lists.proofs.Each.{each-weaker}
 use Rattle.csi_controller.specs.Core.{IsSoundRow}
 use Rattle.csi_controller.specs.Exclusive.{IsRowExclusive}
-use Rattle.csi_controller.proofs.FirstAt.{All-weaker}
 use Rattle.csi_controller.proofs.Exclusive.{row-exclusive}
 use Rattle.csi_controller.proofs.laws.exclusive_law.Goals as goal
 
 pub returns : goal.returns
 returns c =
     let parts = c.args.controller.now in
-    All-weaker (IsSoundRow parts.next_id) IsRowExclusive parts.rows (row-exclusive parts.next_id) c.assert_sound.ensures.each
+    each-weaker (IsSoundRow parts.next_id) IsRowExclusive parts.rows (row-exclusive parts.next_id) c.assert_sound.ensures.each

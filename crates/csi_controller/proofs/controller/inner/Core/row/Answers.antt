@@ -1,9 +1,9 @@
 -- The row at its place.
 use Rattle.std.proofs.Common.{Some, None, sym, subst}
 use Rattle.std.specs.Prelude.{Option, ◌==◌}
+use Rattle.csi_lists.proofs.Places.{FirstAt-find}
 use Rattle.csi_controller.specs.declared.row.ControllerRow.{ControllerRow}
 use Rattle.csi_controller.specs.Views.{IsCopyOf}
-use Rattle.csi_controller.proofs.FirstAt.{FirstAt-find}
 use Rattle.csi_controller.proofs.Calls.{at-place, nowhere}
 use Rattle.csi_controller.proofs.controller.inner.Core.row.Goals as goal
 
