@@ -6,6 +6,7 @@ mod answer;
 mod fence;
 mod inner;
 mod lines;
+mod listing;
 mod new_row;
 mod row_calls;
 mod wanted;

@@ -22,3 +22,4 @@ pub mod Hearing
 pub mod Laws
 pub mod Rows
 pub mod CoreMoves
+pub mod Refusals

@@ -2,6 +2,8 @@
 ghost use Rattle.std.specs.Prelude.{◌≡◌};
 ghost use Rattle.csi_orchestrator.specs.declared.fault.OrchFault.TheVariants.{NoMemory as WantsMemory};
 
+mod numbers;
+
 use csi_types::{Frame, NoMemory};
 use std::alloc::{AllocError, AllocFailed};
 use thiserror::Error;
