@@ -1,9 +1,10 @@
 -- What is written where an entry is found, and at the end where none is.
 use Rattle.std.proofs.Common.{◌≡◌, ◌<◌, ◌≤◌, ◌+◌, ℕ, zero, suc, Bool, true, false, cond, List, [], ◌∷◌, ◌++◌, length, get_or, map, filter, take, drop, set, refl, sym, ◌∙◌, ap, subst, arith}
-use Rattle.std.specs.Prelude.{Some, None, is_some, find, not, ◌||◌, nat_lt, position}
+use Rattle.std.specs.Prelude.{Option, Some, None, is_some, find, not, ◌||◌, nat_lt, position}
+use Rattle.std.proofs.lemmas.List.Folds.{list_any_at}
 use Rattle.std.specs.List.{position_or_len, list_any}
 use Rattle.std.proofs.lemmas.Bool.Decides.{nat_tests}
-use Rattle.std.proofs.lemmas.List.{length-map, map-set, map-append}
+use Rattle.std.proofs.lemmas.List.{length-map, map-id, map-set, map-append}
 use Rattle.std.proofs.lemmas.List.Edits.{map_over_more}
 use Rattle.std.proofs.lemmas.List.Quantifiers.{position-Some}
 use Rattle.csi_types.specs.Same.{same_text}
@@ -144,3 +145,15 @@ any-found p (x ∷ xs) = by (p x) (any-found p xs)
     by : (b : Bool) → list_any p xs ≡ is_some (find p xs) → b || list_any p xs ≡ is_some (cond b (Some x) (find p xs))
     by true h = refl
     by false h = h
+
+-- one is found where it has a place
+pub placed-found : {X : Type 0} (p : X → Bool) (xs : List X) (d : X) → is_some (find p xs) ≡ is_some (position p xs)
+placed-found p xs d = by (position p xs) refl
+  where
+    by : (o : Option ℕ) → position p xs ≡ o → is_some (find p xs) ≡ is_some o
+    by None none = ap is_some (find-no_place p xs none)
+    by (Some i) at = let there = position-Some p xs i d at in sym (any-found p xs) ∙ list_any_at p xs i d there.0 there.1
+
+-- the entry of a place is the one that is found
+pub find-placed : {X : Type 0} (p : X → Bool) (xs : List X) (i : ℕ) (x : X) → position p xs ≡ Some i → x ≡ get_or xs i x → find p xs ≡ Some x
+find-placed p xs i x at there = ap (find p) (sym (map-id xs)) ∙ find-place (λ y. y) p xs i x at there

@@ -9,7 +9,11 @@ use Rattle.csi_types.specs.Lists.{IsAmong, EachTwo}
 use Rattle.csi_types.specs.Same.{same_text}
 use Rattle.csi_types.proofs.Among.{each_of, all_of, in_filter, two-filter}
 use Rattle.csi_types.proofs.Equality.{same_text-tells}
+use Rattle.csi_orchestrator.specs.declared.row.Aim.{Aim}
 use Rattle.csi_orchestrator.specs.Readings.{distinct}
+use Rattle.csi_orchestrator.specs.RowMoves.{others_count}
+use Rattle.csi_orchestrator.specs.Shown.{PlaceShown, others_in}
+use Rattle.csi_orchestrator.specs.Thing.{is_no}
 use Rattle.csi_orchestrator.proofs.Following.{same_text-flip, passes, any-among}
 use Rattle.csi_orchestrator.proofs.DueCalls.{text-same, mapped, first-of}
 
@@ -85,6 +89,11 @@ any-counted p xs =
     ∙ alike (nat_lt 0 (length (filter p xs))) (list_any p xs)
     (λ e. let found = has-some (filter p xs) e in let there = passes p xs found.0 found.1 in any-among p xs found.0 there.0 there.1)
     (λ e. let found = any-found p xs e in some-has (filter p xs) found.0 (in_filter p xs found.0 found.1 found.2))
+
+-- the same of the other targets of a place
+pub others-counted : (target : List ℕ) (place : Option PlaceShown) → nat_lt 0 (others_count target place) ≡ others_in target place
+others-counted target None = refl
+others-counted target (Some place) = any-counted (λ (aim : Aim). not (same_text aim.target target) && not (is_no aim.published)) place.aims
 
 -- each text is there once
 abbrev pub AreOnce : List (List ℕ) → Type 0

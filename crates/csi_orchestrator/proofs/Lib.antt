@@ -34,7 +34,6 @@ pub mod Joined
 pub mod ThingsNoted
 pub mod CalledRows
 pub mod GivenUp
-pub mod NextCalls
 pub mod HeardRows
 pub mod DueParties
 pub mod HeardParts

@@ -18,7 +18,6 @@ use Rattle.csi_orchestrator.specs.declared.thing.Thing.TheVariants.{Attached, St
 use Rattle.csi_orchestrator.specs.Thing.{is_no}
 use Rattle.csi_orchestrator.specs.Commands.{next_number}
 use Rattle.csi_orchestrator.specs.Due.{Due}
-use Rattle.csi_orchestrator.specs.Found.{kind_due, frame_due}
 use Rattle.csi_orchestrator.specs.RowChanges.{wanted, with_entry, entry_for, with_aim, new_aim}
 use Rattle.csi_orchestrator.specs.RowMoves.{IsRefusal}
 use Rattle.csi_orchestrator.specs.Shown.{PlaceShown, RowShown, place_of, others_in, marks_at, marks_for, due_with, due_in}
@@ -35,13 +34,6 @@ passed-on (Err y) P is p = subst P (sym is) p
 pub holds-at_err : {T E P : Type 0} (r : Result T E) → P → OnErr r P
 holds-at_err (Ok x) p = tt
 holds-at_err (Err y) p = p
-
--- the call to send, by its kind, its number and its frame
-pub outgoing-made : (due : Option Due) (next : Option Number) (number : Number) (kind : Kind) (frame : Option Frame) (made : Option Outgoing) → Some kind ≡ kind_due due → next ≡ Some number → frame ≡ frame_due number due
-    → made ≡ option_map (λ f. let o : Outgoing = record { frame = f; number = number; kind = kind } in o) frame → outgoing_by due next ≡ Ok made
-outgoing-made None next number kind frame made k n f m = cc
-outgoing-made (Some due) None number kind frame made k n f m = cc
-outgoing-made (Some due) (Some next) number kind frame made k n f m = cc
 
 -- another target isn't taken by an entry for a use
 new-aim-free : (target other : List ℕ) → (not (same_text target other) && not (is_no (new_aim target).published)) ≡ false

@@ -1,10 +1,8 @@
--- The code's due call, its kind and its frame; and an orchestrator's parts, for what asks for some of them alone.
+-- The code's due call and its kind; and an orchestrator's parts, for what asks for some of them alone.
 use Rattle.std.specs.Prelude.{ℕ, List, [], Option, option_map}
 use Rattle.csi_types.specs.declared.call.Kind.{Kind}
 use Rattle.csi_types.specs.declared.number.Number.{Number}
 use Rattle.csi_types.specs.Call.{kind_of}
-use Rattle.csi_types.specs.Frame.{Frame}
-use Rattle.csi_types.specs.Replies.{call_frame}
 use Rattle.csi_orchestrator.specs.declared.due.Due.{Due as KeptDue}
 use Rattle.csi_orchestrator.specs.Due.{Due}
 use Rattle.csi_orchestrator.specs.Shown.{RowShown, Parts}
@@ -16,10 +14,6 @@ due_shown due = record { party = due.party; call = due.call }
 -- the kind of the call that is due, if one is
 abbrev pub kind_due : Option Due → Option Kind
 kind_due due = option_map (λ due. kind_of due.call) due
-
--- its frame under this number
-abbrev pub frame_due : Number → Option Due → Option Frame
-frame_due number due = option_map (λ due. call_frame number due.party due.call) due
 
 -- the parts, for what asks for no rows
 abbrev pub without_rows : List (List ℕ) → Number → Parts

@@ -185,5 +185,6 @@ pub(crate) fn add_entry(alloc: Global, row: &mut Row, usage: &Usage) -> Result<(
     ensures memory { IfErr result (λ fault. fault ≡ OrchFault.NoMemory) }
     ensures err { OnErr result (row_shown row.new ≡ row_shown row.old) }
 {
-    add_place(alloc, &mut row.places, usage).map_err(|_refused| OrchFault::NoMemory)
+    add_place(alloc, &mut row.places, usage)?;
+    Ok(())
 }

@@ -8,8 +8,8 @@ ghost use Rattle.csi_orchestrator.specs.RowMoves.{IsRefusal, creates, row_moves}
 ghost use Rattle.csi_orchestrator.specs.Shown.{row_shown, arguments_shown};
 
 use crate::fault::OrchFault;
-use crate::going_on::{Outgoing, row_index};
-use crate::inner::Core;
+use crate::going_on::Outgoing;
+use crate::inner::{Core, row_index};
 use crate::refusals::first_fault;
 use crate::row::{Arguments, Usage};
 use crate::row_commands::{begin, create_again, delete_row, stop_row, use_row};

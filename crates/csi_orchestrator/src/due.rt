@@ -2,19 +2,18 @@
 ghost use Rattle.std.specs.Prelude.{◌≡◌, ℕ, List, IfOk, IfErr, IfSome, IsTrue, is_some, option_map};
 ghost use Rattle.csi_types.specs.declared.call.Call.{Call as CallShown};
 ghost use Rattle.csi_types.specs.Call.{kind_of, is_party_of};
-ghost use Rattle.csi_types.specs.Replies.{call_frame};
 ghost use Rattle.csi_orchestrator.specs.declared.fault.OrchFault.{OrchFault as Fault};
 ghost use Rattle.csi_orchestrator.specs.History.{Arguments as ArgumentsShown};
 ghost use Rattle.csi_orchestrator.specs.Commands.{next_number as number_after};
 ghost use Rattle.csi_orchestrator.specs.Moves.{is_forward as leads_on};
 ghost use Rattle.csi_orchestrator.specs.Shown.{arguments_shown, create_due as create_told, use_due as use_told, stop_due as stop_told, delete_due as delete_told, due_with};
-ghost use Rattle.csi_orchestrator.specs.Found.{due_shown, kind_due, frame_due};
+ghost use Rattle.csi_orchestrator.specs.Found.{due_shown, kind_due};
 
 use crate::calls::{attach_call, create_call, publish_call, stage_call};
 use crate::fault::OrchFault;
 use crate::marks::Marks;
 use crate::row::{Arguments, Goal, Usage};
-use csi_types::{Call, Frame, Kind, Name, NodeId, Number, Party, Target, VolumeId};
+use csi_types::{Call, Kind, Name, NodeId, Number, Party, Target, VolumeId};
 
 /// A call, and the plugin that it goes to.
 #[derive(Drop)]
@@ -79,8 +78,8 @@ fn use_due(id: VolumeId, marks: Marks, usage: &Usage) -> Result<Option<Due>, Orc
     Ok(None)
 }
 
-// The call that is due until the volume isn't published at the target, and then isn't at the node.
-fn stop_due(
+/// The call that is due until the volume isn't published at the target, and then isn't at the node.
+pub(crate) fn stop_due(
     id: VolumeId,
     marks: Marks,
     node: &NodeId,
@@ -139,49 +138,6 @@ pub(crate) fn due_for(
     }
 }
 
-// The frame of a due call.
-fn frame_of(number: Number, due: Due) -> Frame
-    requires { IsTrue (is_party_of (kind_of due.call) due.party) }
-    ensures { result ≡ call_frame number due.party due.call }
-{
-    Frame::call(number, due.party, due.call).unwrap()
-}
-
-/// The frame of the call that is due, under this number.
-pub(crate) fn due_frame(
-    number: Number,
-    name: &Name,
-    arguments: &Arguments,
-    id: Option<VolumeId>,
-    marks: Marks,
-    goal: &Goal,
-) -> Result<Option<Frame>, OrchFault>
-    ensures ok { IfOk result (λ frame. frame ≡ frame_due number (due_with name.now (arguments_shown arguments.now) id marks goal.now)) }
-    ensures err { IfErr result (λ fault. fault ≡ Fault.NoMemory) }
-{
-    match due_for(name, arguments, id, marks, goal)? {
-        Some(due) => Ok(Some(frame_of(number, due))),
-        None => Ok(None),
-    }
-}
-
-/// The same, for a stop of a use at this node and target.
-pub(crate) fn stop_frame(
-    number: Number,
-    id: VolumeId,
-    marks: Marks,
-    node: &NodeId,
-    target: &Target,
-) -> Result<Option<Frame>, OrchFault>
-    ensures ok { IfOk result (λ frame. frame ≡ frame_due number (stop_told node.now target.now marks id)) }
-    ensures err { IfErr result (λ fault. fault ≡ Fault.NoMemory) }
-{
-    match stop_due(id, marks, node, target)? {
-        Some(due) => Ok(Some(frame_of(number, due))),
-        None => Ok(None),
-    }
-}
-
 // The kind of the call that is due until the volume is published at the target.
 fn use_kind(marks: Marks) -> Option<Kind>
     ensures { (usage : Usage) (id : ℕ) → result ≡ kind_due (use_told usage marks id) }
@@ -198,7 +154,7 @@ fn use_kind(marks: Marks) -> Option<Kind>
     None
 }
 
-/// The same, until it isn't published there, and then isn't at the node.
+/// Its kind, until it isn't published there, and then isn't at the node.
 pub(crate) fn stop_kind(marks: Marks) -> Option<Kind>
     ensures { (node : List ℕ) (target : List ℕ) (id : ℕ) → result ≡ kind_due (stop_told node target marks id) }
 {

@@ -1,19 +1,20 @@
 //! What goes on for a row: the call that is sent next, or that nothing is wanted any more.
-ghost use Rattle.std.specs.Prelude.{◌≡◌, Some, Ok, position, option_map, IfOk, IfErr, OnOk, OnErr};
-ghost use Rattle.csi_types.specs.Same.{same_text};
+ghost use Rattle.std.specs.Prelude.{◌≡◌, Some, Ok, IsTrue, IfOk, IfErr, OnOk, OnErr};
+ghost use Rattle.csi_types.specs.Call.{kind_of, is_party_of};
+ghost use Rattle.csi_types.specs.Replies.{call_frame};
 ghost use Rattle.csi_orchestrator.specs.History.{Arguments as ArgumentsShown};
 ghost use Rattle.csi_orchestrator.specs.Commands.{next_number as number_after};
-ghost use Rattle.csi_orchestrator.specs.Shown.{row_shown, arguments_shown, due_by};
-ghost use Rattle.csi_orchestrator.specs.Found.{frame_due, kind_due};
+ghost use Rattle.csi_orchestrator.specs.Shown.{row_shown, arguments_shown, due_with, due_by};
+ghost use Rattle.csi_orchestrator.specs.Found.{kind_due};
 ghost use Rattle.csi_orchestrator.specs.RowMoves.{IsRefusal};
 ghost use Rattle.csi_orchestrator.specs.CoreMoves.{due_for, outgoing_by, gone_on, with_entry_for, row_wants};
 
 use crate::changes::{add_entry, drop_goal, send, want};
-use crate::due::{due_frame, due_kind, next_number, stop_frame, stop_kind};
+use crate::due::{Due, due_for as due_call, due_kind, is_due, next_number, stop_due, stop_kind};
 use crate::fault::OrchFault;
-use crate::marks::{known_for, marks_in};
+use crate::marks::{Marks, known_for, marks_in};
 use crate::row::{Arguments, Goal, Row};
-use csi_types::{Frame, Kind, Name, NodeId, Number, Target};
+use csi_types::{Frame, Kind, Name, NodeId, Number, Target, VolumeId};
 use std::alloc::Global;
 
 /// A call to send: its frame, and what the row keeps of it.
@@ -24,17 +25,43 @@ pub(crate) struct Outgoing {
     pub kind: Kind,
 }
 
-/// The frame, if there is one, with its number and kind.
-pub(crate) fn outgoing_with(number: Number, kind: Kind, frame: Option<Frame>) -> Option<Outgoing>
-    ensures { result ≡ option_map (λ frame. record { frame = frame; number = number; kind = kind }) frame }
+// A due call under this number.
+fn outgoing_of(number: Number, due: Due) -> Outgoing
+    requires { IsTrue (is_party_of (kind_of due.call) due.party) }
+    ensures { result ≡ record { frame = call_frame number due.party due.call; number = number; kind = kind_of due.call } }
 {
-    match frame {
-        Some(frame) => Some(Outgoing {
-            frame,
-            number,
-            kind,
-        }),
-        None => None,
+    let kind = due.call.kind();
+    let frame = Frame::call(number, due.party, due.call).unwrap();
+    Outgoing {
+        frame,
+        number,
+        kind,
+    }
+}
+
+/// The call to send for a goal of a volume of this name, these arguments and this id, by what is known of it.
+pub(crate) fn outgoing_as_known(
+    last: Number,
+    name: &Name,
+    arguments: &Arguments,
+    id: Option<VolumeId>,
+    marks: Marks,
+    goal: &Goal,
+) -> Result<Option<Outgoing>, OrchFault>
+    ensures ok { IfOk result (λ next. outgoing_by (due_with name.now (arguments_shown arguments.now) id marks goal.now) (number_after last) ≡ Ok next) }
+    ensures err { IfErr result (IsRefusal (outgoing_by (due_with name.now (arguments_shown arguments.now) id marks goal.now) (number_after last))) }
+{
+    let known = marks;
+    let own = id;
+    if !is_due(own, known, goal) {
+        return Ok(None);
+    }
+    let Some(number) = next_number(last) else {
+        return Err(OrchFault::NumbersSpent);
+    };
+    match due_call(name, arguments, id, marks, goal)? {
+        Some(due) => Ok(Some(outgoing_of(number, due))),
+        None => Ok(None),
     }
 }
 
@@ -43,20 +70,6 @@ pub(crate) fn kind_for(row: &Row, goal: &Goal) -> Option<Kind>
     ensures { (arguments : ArgumentsShown) → result ≡ kind_due (due_for (row_shown row.now) arguments goal.now) }
 {
     due_kind(row.id, known_for(row, goal), goal)
-}
-
-// Its frame under this number, by these arguments.
-fn frame_for(
-    number: Number,
-    row: &Row,
-    arguments: &Arguments,
-    goal: &Goal,
-) -> Result<Option<Frame>, OrchFault>
-    ensures ok { IfOk result (λ frame. frame ≡ frame_due number (due_for (row_shown row.now) (arguments_shown arguments.now) goal.now)) }
-    ensures err { IfErr result (λ fault. fault ≡ OrchFault.NoMemory) }
-{
-    let marks = known_for(row, goal);
-    due_frame(number, &row.name, arguments, row.id, marks, goal)
 }
 
 /// The call to send for this goal of the row, by these arguments.
@@ -69,14 +82,8 @@ pub(crate) fn outgoing_for(
     ensures ok { IfOk result (λ next. outgoing_by (due_for (row_shown row.now) (arguments_shown arguments.now) goal.now) (number_after last) ≡ Ok next) }
     ensures err { IfErr result (IsRefusal (outgoing_by (due_for (row_shown row.now) (arguments_shown arguments.now) goal.now) (number_after last))) }
 {
-    let Some(kind) = kind_for(row, goal) else {
-        return Ok(None);
-    };
-    let Some(number) = next_number(last) else {
-        return Err(OrchFault::NumbersSpent);
-    };
-    let frame = frame_for(number, row, arguments, goal)?;
-    Ok(outgoing_with(number, kind, frame))
+    let marks = known_for(row, goal);
+    outgoing_as_known(last, &row.name, arguments, row.id, marks, goal)
 }
 
 /// The call to send for a stop of the row's use at this node and target.
@@ -92,14 +99,17 @@ pub(crate) fn outgoing_to_stop(
     let Some(id) = row.id else {
         return Ok(None);
     };
-    let Some(kind) = stop_kind(marks_in(row, node, target)) else {
+    let marks = marks_in(row, node, target);
+    if stop_kind(marks).is_none() {
         return Ok(None);
-    };
+    }
     let Some(number) = next_number(last) else {
         return Err(OrchFault::NumbersSpent);
     };
-    let frame = stop_frame(number, id, marks_in(row, node, target), node, target)?;
-    Ok(outgoing_with(number, kind, frame))
+    match stop_due(id, marks, node, target)? {
+        Some(due) => Ok(Some(outgoing_of(number, due))),
+        None => Ok(None),
+    }
 }
 
 /// Keeps that the call is sent. Where none is due, the goal is dropped.
@@ -140,11 +150,4 @@ pub(crate) fn pursue(
     want(row, goal);
     go_on(row, &next);
     Ok(next)
-}
-
-/// Where the row of this name stands.
-pub(crate) fn row_index(rows: &[Row], name: &Name) -> Option<usize>
-    ensures { result ≡ position (λ row. same_text row.name name.now) rows.now }
-{
-    rows.iter().position(|row| row.name == *name)
 }

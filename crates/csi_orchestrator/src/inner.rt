@@ -1,5 +1,5 @@
 //! The orchestrator's parts, what its rows know of a thing, and its restart.
-ghost use Rattle.std.specs.Prelude.{◌≡◌, ◌+◌, ◌<◌, ◌^◌, IfErr, OnErr, OnOk, None, IsTrue, not, nat_lt, map, find, option_map};
+ghost use Rattle.std.specs.Prelude.{◌≡◌, ◌+◌, ◌<◌, ◌^◌, IfErr, OnErr, OnOk, None, IsTrue, not, nat_lt, map, position, option_map};
 ghost use Rattle.std.specs.Option.{option_copied};
 ghost use Rattle.csi_types.specs.Same.{same_text};
 ghost use Rattle.csi_orchestrator.specs.declared.fault.OrchFault.{OrchFault as Fault};
@@ -8,6 +8,7 @@ ghost use Rattle.csi_orchestrator.specs.Shown.{row_shown, place_shown, row_of, p
 ghost use Rattle.csi_orchestrator.specs.Core.{parts_of};
 
 use crate::fault::OrchFault;
+use crate::places::{aim_index, place_index};
 use crate::row::{Aim, Place, Row};
 use crate::thing::{Known, Thing};
 use csi_types::{Name, NodeId, Number, Target};
@@ -23,39 +24,41 @@ pub(crate) struct Core {
     pub rows: Vec<Row>,
 }
 
-// The row of this name.
-fn find_row<'a>(rows: &'a [Row], name: &Name) -> Option<&'a Row>
-    ensures { option_copied result ≡ find (λ row. same_text row.name name.now) rows.now }
+/// Where the row of this name stands.
+pub(crate) fn row_index(rows: &[Row], name: &Name) -> Option<usize>
+    ensures { result ≡ position (λ row. same_text row.name name.now) rows.now }
 {
-    rows.iter().find(|row| row.name == *name)
+    rows.iter().position(|row| row.name == *name)
 }
 
-// The same, as it is shown.
+// The row of this name, as it is shown.
 fn row_named<'a>(rows: &'a [Row], name: &Name) -> Option<&'a Row>
     ensures { option_map row_shown (option_copied result) ≡ row_of (map row_shown rows.now) name.now }
 {
-    find_row(rows, name)
+    match row_index(rows, name) {
+        Some(index) => Some(&rows[index]),
+        None => None,
+    }
 }
 
-// What the row has of this node.
-fn find_place<'a>(row: &'a Row, node: &NodeId) -> Option<&'a Place>
-    ensures { option_copied result ≡ find (λ place. same_text place.node node.now) row.now.places.items }
-{
-    row.places.iter().find(|place| place.node == *node)
-}
-
-// The same, as it is shown.
+// What the row has of this node, as it is shown.
 pub(crate) fn place_at<'a>(row: &'a Row, node: &NodeId) -> Option<&'a Place>
     ensures { option_map place_shown (option_copied result) ≡ place_of (row_shown row.now) node.now }
 {
-    find_place(row, node)
+    match place_index(&row.places, node) {
+        Some(index) => Some(&row.places[index]),
+        None => None,
+    }
 }
 
 // What the place has of this target.
 fn aim_at<'a>(place: &'a Place, target: &Target) -> Option<&'a Aim>
     ensures { option_copied result ≡ aim_of (place_shown place.now) target.now }
 {
-    place.aims.iter().find(|aim| aim.target == *target)
+    match aim_index(&place.aims, target) {
+        Some(index) => Some(&place.aims[index]),
+        None => None,
+    }
 }
 
 // Whether the volume is published at the target.

@@ -12,29 +12,15 @@ pub fn form_law()
     ensures { MovesKeepForm }
 {}
 
-// What is shown after each item of a history is told by what was shown before it.
-fn view_follows()
-    ensures { ViewFollows }
-{}
-
-// The call that is due by the history is the one that is due by the row.
-fn due_is_told()
-    ensures { DueIsTold }
-{}
-
-// What an orchestrator does by its history is what it does by its rows.
-fn rows_tell()
-    ensures { RowsTell }
-{}
-
-// What the type keeps of its rows stays so.
-fn rows_stay_kept()
-    ensures { RowsStayKept }
-{}
-
-// Each call that is sent by the rows may be sent by the history.
-fn moves_are_guarded()
-    ensures { MovesAreGuarded }
+// What an orchestrator does by its rows is what it does by its history: what is shown after each item is told by what was
+// shown before it, the call that is due by the history is the one that is due by the row, what is done by the one is done by
+// the other, what the type keeps of its rows stays so, and each call that is sent by the rows may be sent by the history.
+fn rows_follow()
+    ensures view_follows { ViewFollows }
+    ensures due_is_told { DueIsTold }
+    ensures rows_tell { RowsTell }
+    ensures rows_stay_kept { RowsStayKept }
+    ensures moves_are_guarded { MovesAreGuarded }
 {}
 
 /// A law, and nothing that runs: whatever comes, each call that an orchestrator sends has the next number and may be sent

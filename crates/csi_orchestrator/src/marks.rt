@@ -1,9 +1,11 @@
 //! What is known of what a goal names.
-ghost use Rattle.std.specs.Prelude.{◌≡◌, Some, option_map};
-ghost use Rattle.csi_orchestrator.specs.Shown.{row_shown, place_shown, others_in, marks_of_volume, marks_at, marks_for};
+ghost use Rattle.std.specs.Prelude.{◌≡◌, count_by, not, ◌&&◌};
+ghost use Rattle.csi_types.specs.Same.{same_text};
+ghost use Rattle.csi_orchestrator.specs.Thing.{is_no};
+ghost use Rattle.csi_orchestrator.specs.Shown.{row_shown, marks_of_volume, marks_at, marks_for};
 
 use crate::inner::{place_at, published_at};
-use crate::row::{Goal, Place, Row};
+use crate::row::{Aim, Goal, Row};
 use crate::thing::Known;
 use csi_types::{NodeId, Target};
 
@@ -18,14 +20,17 @@ pub(crate) struct Marks {
     pub others: bool,
 }
 
-/// Whether the volume may be published at another target of the place.
-pub(crate) fn has_others(place: &Place, target: &Target) -> bool
-    ensures { result ≡ others_in target.now (Some (place_shown place.now)) }
+/// At how many of these targets, other than this one, the volume may be published.
+pub(crate) fn others_of(aims: &[Aim], target: &Target) -> usize
+    ensures { result ≡ count_by (λ aim. not (same_text aim.target target.now) && not (is_no aim.published)) aims.now }
 {
-    place
-        .aims
-        .iter()
-        .any(|aim| aim.target != *target && !aim.published.is_no())
+    let mut count = 0;
+    for aim in aims {
+        if aim.target != *target && !aim.published.is_no() {
+            count += 1;
+        }
+    }
+    count
 }
 
 // What is known of the volume alone: of no node, or of one that has no entry.
@@ -51,7 +56,7 @@ pub(crate) fn marks_in(row: &Row, node: &NodeId, target: &Target) -> Marks
             attached: place.attached,
             staged: place.staged,
             published: published_at(place, target),
-            others: has_others(place, target),
+            others: others_of(&place.aims, target) > 0,
         },
         None => of_volume(row),
     }

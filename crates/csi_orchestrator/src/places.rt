@@ -1,6 +1,5 @@
 //! The entries of a row: where they stand, and how they are marked, tidied and added.
 ghost use Rattle.std.specs.Prelude.{◌≡◌, [], map, filter, find, position, Some, None, IfOk, OnOk, OnErr};
-ghost use Rattle.std.specs.List.{list_any};
 ghost use Rattle.csi_types.specs.Same.{same_text};
 ghost use Rattle.csi_orchestrator.specs.Shown.{place_shown};
 ghost use Rattle.csi_orchestrator.specs.RowChanges.{attached_as, staged_as, published_as, aimed_as, is_aim_kept, is_place_kept as is_kept_shown, with_kept_aims, tidied, with_aim, entry_for, new_aim as new_aim_shown};
@@ -11,15 +10,15 @@ use crate::thing::Known;
 use csi_types::{NoMemory, NodeId, Target};
 use std::alloc::Global;
 
-// Where the entry of this node stands.
-fn place_index(places: &[Place], node: &NodeId) -> Option<usize>
+/// Where the entry of this node stands.
+pub(crate) fn place_index(places: &[Place], node: &NodeId) -> Option<usize>
     ensures { result ≡ position (λ place. same_text place.node node.now) places.now }
 {
     places.iter().position(|place| place.node == *node)
 }
 
-// Where the entry of this target stands.
-fn aim_index(aims: &[Aim], target: &Target) -> Option<usize>
+/// Where the entry of this target stands.
+pub(crate) fn aim_index(aims: &[Aim], target: &Target) -> Option<usize>
     ensures { result ≡ position (λ aim. same_text aim.target target.now) aims.now }
 {
     aims.iter().position(|aim| aim.target == *target)
@@ -110,19 +109,12 @@ fn new_aim(target: &Target) -> Result<Aim, NoMemory>
     })
 }
 
-// Whether the target has an entry.
-fn has_aim(aims: &[Aim], target: &Target) -> bool
-    ensures { result ≡ list_any (λ aim. same_text aim.target target.now) aims.now }
-{
-    aims.iter().any(|aim| aim.target == *target)
-}
-
 // Adds the target, unless it has an entry. A refusal changes nothing.
 fn add_aim(aims: &mut Vec<Aim>, target: &Target) -> Result<(), NoMemory>
     ensures ok { OnOk result (aims.new.items ≡ with_aim target.now aims.old.items) }
     ensures err { OnErr result (aims.new.items ≡ aims.old.items) }
 {
-    if has_aim(aims, target) {
+    if aim_index(aims, target).is_some() {
         return Ok(());
     }
     let aim = new_aim(target)?;

@@ -76,10 +76,10 @@ pub(crate) fn use_fault(nodes: &[NodeId], usage: &Usage, row: &Row) -> Option<Or
     if !is_capable(row.arguments.capabilities.as_slice(), &usage.capability) {
         return Some(OrchFault::NotCapable);
     }
-    if is_held_elsewhere(row, usage) {
+    if is_held_elsewhere(&row.places, usage) {
         return Some(OrchFault::HeldElsewhere);
     }
-    if is_written_elsewhere(row, usage) {
+    if is_written_elsewhere(&row.places, usage) {
         return Some(OrchFault::WriterElsewhere);
     }
     if is_held_otherwise(row, usage) {
@@ -139,7 +139,7 @@ pub(crate) fn delete_fault(row: &Row) -> Option<OrchFault>
     if row.id.is_none() {
         return Some(OrchFault::NotCreated);
     }
-    if is_attached_somewhere(row) {
+    if is_attached_somewhere(&row.places) {
         return Some(OrchFault::InUse);
     }
     None

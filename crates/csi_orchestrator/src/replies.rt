@@ -9,7 +9,6 @@ ghost use Rattle.csi_orchestrator.specs.Shown.{row_shown, due_in, due_by, open_i
 ghost use Rattle.csi_orchestrator.specs.RowMoves.{is_issued_as, hears_reply, row_replied, row_moves, IsRefusal};
 ghost use Rattle.csi_orchestrator.specs.Found.{kind_due};
 ghost use Rattle.csi_orchestrator.specs.Hearing.{is_node_of, is_to as is_to_told, is_due_as as is_told_as, next_refused, next_heard as next_told, row_refused, row_heard};
-ghost use Rattle.csi_orchestrator.specs.CoreMoves.{frame_in, last_after};
 ghost use Rattle.csi_orchestrator.specs.Kept.{IsKept, AreKept};
 ghost use Rattle.csi_orchestrator.specs.Core.{parts_of};
 
@@ -155,20 +154,6 @@ fn settle(row: &mut Row, kind: Kind, reply: &Reply, next: &Option<Outgoing>)
     }
 }
 
-// The frame of the next call, whose number is the last one then.
-fn take_next(last: &mut Number, next: Option<Outgoing>) -> Option<Frame>
-    ensures frame { result ≡ frame_in next }
-    ensures last { last.new ≡ last_after last.old next }
-{
-    match next {
-        Some(next) => {
-            *last = next.number;
-            Some(next.frame)
-        }
-        None => None,
-    }
-}
-
 impl Core {
     // What becomes of a reply to the call of this number and kind.
     fn hear(
@@ -189,7 +174,7 @@ impl Core {
             Some(index) => {
                 let next = next_heard(self.last, &self.rows[index], kind, reply)?;
                 settle(&mut self.rows[index], kind, reply, &next);
-                Ok(Heard::Taken(take_next(&mut self.last, next)))
+                Ok(Heard::Taken(self.issue(next)))
             }
             None => Ok(Heard::Ignored),
         }

@@ -1,15 +1,15 @@
 //! Whether a use can be beside what a volume is used for already.
-ghost use Rattle.std.specs.Prelude.{◌≡◌, Some, not, ◌&&◌, ◌||◌};
+ghost use Rattle.std.specs.Prelude.{◌≡◌, Some, map, not, ◌&&◌, ◌||◌};
 ghost use Rattle.std.specs.List.{list_any};
 ghost use Rattle.csi_types.specs.Same.{same_text, same_flag as is_same_flag, same_capability as is_same_capability, has_capability};
 ghost use Rattle.csi_types.specs.Sharing.{is_single_writer, are_two_writers, allows_one_target as allows_one};
 ghost use Rattle.csi_orchestrator.specs.Thing.{is_no};
 ghost use Rattle.csi_orchestrator.specs.Commands.{is_for_one_node as is_one_node, is_second_writer as is_second, is_otherwise as is_other};
 ghost use Rattle.csi_orchestrator.specs.Shown.{row_shown, place_shown, usage_shown, place_of, mark_in, published_in, others_in, held_at};
-ghost use Rattle.csi_orchestrator.specs.RowMoves.{is_so_elsewhere, has_elsewhere, is_place_otherwise, others_count as count_others, is_attached_somewhere as is_somewhere};
+ghost use Rattle.csi_orchestrator.specs.RowMoves.{is_so_elsewhere, is_place_otherwise, others_count as count_others};
 
 use crate::inner::{place_at, published_at};
-use crate::marks::has_others;
+use crate::marks::others_of;
 use crate::row::{Place, Row, Usage};
 use csi_types::{Capability, Mode, NodeId, Target, single_node, writes};
 
@@ -31,14 +31,24 @@ fn same_flag(a: bool, b: bool) -> bool
 pub(crate) fn has_node(nodes: &[NodeId], node: &NodeId) -> bool
     ensures { result ≡ list_any (same_text node.now) nodes.now }
 {
-    nodes.iter().any(|own| *node == *own)
+    for own in nodes {
+        if *node == *own {
+            return true;
+        }
+    }
+    false
 }
 
 /// Whether the capability is one of these.
 pub(crate) fn is_capable(capabilities: &[Capability], wished: &Capability) -> bool
     ensures { result ≡ has_capability capabilities.now wished.now }
 {
-    capabilities.iter().any(|own| same_capability(wished, own))
+    for own in capabilities {
+        if same_capability(wished, own) {
+            return true;
+        }
+    }
+    false
 }
 
 // Whether one of the two modes is for one node.
@@ -90,18 +100,16 @@ fn excludes(usage: &Usage, place: &Place) -> bool
     is_elsewhere(&usage.node, place) && is_for_one_node(usage, place)
 }
 
-// Whether some place does so.
-fn any_excludes(row: &Row, usage: &Usage) -> bool
-    ensures { result ≡ list_any (λ place. is_so_elsewhere (is_one_node (usage_shown usage.now)) usage.now.node (place_shown place)) row.now.places.items }
+/// Whether the volume may be attached at one of these places, of another node, and one of the two modes is for one node.
+pub(crate) fn is_held_elsewhere(places: &[Place], usage: &Usage) -> bool
+    ensures { result ≡ list_any (is_so_elsewhere (is_one_node (usage_shown usage.now)) usage.now.node) (map place_shown places.now) }
 {
-    row.places.iter().any(|place| excludes(usage, place))
-}
-
-/// Whether the volume may be attached at another node, and one of the two modes is for one node.
-pub(crate) fn is_held_elsewhere(row: &Row, usage: &Usage) -> bool
-    ensures { result ≡ has_elsewhere (is_one_node (usage_shown usage.now)) usage.now.node (row_shown row.now) }
-{
-    any_excludes(row, usage)
+    for place in places {
+        if excludes(usage, place) {
+            return true;
+        }
+    }
+    false
 }
 
 // Whether it may be attached at this other node, and the use would be a second writer.
@@ -111,18 +119,17 @@ fn writes_beside(usage: &Usage, place: &Place) -> bool
     is_elsewhere(&usage.node, place) && is_second_writer(usage, place)
 }
 
-// Whether some place does so.
-fn any_writes_beside(row: &Row, usage: &Usage) -> bool
-    ensures { result ≡ list_any (λ place. is_so_elsewhere (is_second (usage_shown usage.now)) usage.now.node (place_shown place)) row.now.places.items }
+/// Whether the volume may be attached at one of these places, of another node, both write, and one of the two modes has a
+/// single writer.
+pub(crate) fn is_written_elsewhere(places: &[Place], usage: &Usage) -> bool
+    ensures { result ≡ list_any (is_so_elsewhere (is_second (usage_shown usage.now)) usage.now.node) (map place_shown places.now) }
 {
-    row.places.iter().any(|place| writes_beside(usage, place))
-}
-
-/// Whether the volume may be attached at another node, both write, and one of the two modes has a single writer.
-pub(crate) fn is_written_elsewhere(row: &Row, usage: &Usage) -> bool
-    ensures { result ≡ has_elsewhere (is_second (usage_shown usage.now)) usage.now.node (row_shown row.now) }
-{
-    any_writes_beside(row, usage)
+    for place in places {
+        if writes_beside(usage, place) {
+            return true;
+        }
+    }
+    false
 }
 
 // Whether the volume is held so at the place.
@@ -143,32 +150,11 @@ pub(crate) fn is_held_otherwise(row: &Row, usage: &Usage) -> bool
     }
 }
 
-// Whether the volume may be published at another target of the node.
-fn has_other_targets(row: &Row, node: &NodeId, target: &Target) -> bool
-    ensures { result ≡ others_in target.now (place_of (row_shown row.now) node.now) }
-{
-    match place_at(row, node) {
-        Some(place) => has_others(place, target),
-        None => false,
-    }
-}
-
 /// Whether the mode allows one target, and another one of the node is taken.
 pub(crate) fn is_target_taken(row: &Row, usage: &Usage) -> bool
     ensures { result ≡ (allows_one usage.now.capability.mode && others_in usage.now.target (place_of (row_shown row.now) usage.now.node)) }
 {
-    single_node(usage.capability.mode) && has_other_targets(row, &usage.node, &usage.target)
-}
-
-// How many other targets of the place the volume may be published at.
-fn others_of(place: &Place, target: &Target) -> usize
-    ensures { result ≡ count_others target.now (Some (place_shown place.now)) }
-{
-    place
-        .aims
-        .iter()
-        .filter(|aim| aim.target != *target && !aim.published.is_no())
-        .count()
+    single_node(usage.capability.mode) && others_count(row, &usage.node, &usage.target) > 0
 }
 
 /// At how many other targets of the node the volume may be published.
@@ -176,7 +162,7 @@ pub(crate) fn others_count(row: &Row, node: &NodeId, target: &Target) -> usize
     ensures { result ≡ count_others target.now (place_of (row_shown row.now) node.now) }
 {
     match place_at(row, node) {
-        Some(place) => others_of(place, target),
+        Some(place) => others_of(&place.aims, target),
         None => 0,
     }
 }
@@ -191,16 +177,14 @@ pub(crate) fn is_unpublished(row: &Row, node: &NodeId, target: &Target) -> bool
     }
 }
 
-// Whether it may be attached at one of these places.
-fn any_attached(row: &Row) -> bool
-    ensures { result ≡ list_any (λ place. not (is_no (place_shown place).attached)) row.now.places.items }
+/// Whether the volume may be attached at one of these places.
+pub(crate) fn is_attached_somewhere(places: &[Place]) -> bool
+    ensures { result ≡ list_any (λ place. not (is_no place.attached)) (map place_shown places.now) }
 {
-    row.places.iter().any(|place| !place.attached.is_no())
-}
-
-/// Whether the volume may be attached somewhere.
-pub(crate) fn is_attached_somewhere(row: &Row) -> bool
-    ensures { result ≡ is_somewhere (row_shown row.now) }
-{
-    any_attached(row)
+    for place in places {
+        if !place.attached.is_no() {
+            return true;
+        }
+    }
+    false
 }

@@ -1,23 +1,21 @@
 //! Which call is sent after a success.
-ghost use Rattle.std.specs.Prelude.{◌≡◌, Option, Ok, Some, IfOk, IfErr};
+ghost use Rattle.std.specs.Prelude.{◌≡◌, Ok, Some, IfOk, IfErr};
 ghost use Rattle.std.specs.Option.{option_or};
-ghost use Rattle.csi_orchestrator.specs.declared.fault.OrchFault.{OrchFault as Fault};
 ghost use Rattle.csi_orchestrator.specs.Commands.{next_number as number_after};
 ghost use Rattle.csi_orchestrator.specs.Shown.{row_shown, due_in};
 ghost use Rattle.csi_orchestrator.specs.RowChanges.{id_told, succeeded};
 ghost use Rattle.csi_orchestrator.specs.RowMoves.{IsRefusal};
-ghost use Rattle.csi_orchestrator.specs.Found.{kind_due, frame_due};
-ghost use Rattle.csi_orchestrator.specs.Hearing.{marks_heard, due_heard};
+ghost use Rattle.csi_orchestrator.specs.Found.{kind_due};
+ghost use Rattle.csi_orchestrator.specs.Hearing.{marks_heard};
 ghost use Rattle.csi_orchestrator.specs.CoreMoves.{outgoing_by};
 ghost use Rattle.csi_orchestrator.specs.Kept.{IsKept};
 
-use crate::due::{due_frame, due_kind, next_number};
 use crate::fault::OrchFault;
-use crate::going_on::{Outgoing, outgoing_with};
+use crate::going_on::{Outgoing, outgoing_as_known};
 use crate::marks::{Marks, known_for};
-use crate::row::{Goal, Row};
+use crate::row::Row;
 use crate::thing::Known;
-use csi_types::{Frame, Kind, Number, Reply, VolumeId};
+use csi_types::{Kind, Number, Reply, VolumeId};
 
 // What is known once the call of this kind that was due succeeded.
 fn heard(marks: Marks, kind: Kind) -> Marks
@@ -69,54 +67,6 @@ fn id_heard(row: &Row, kind: Kind, reply: &Reply) -> Option<VolumeId>
     }
 }
 
-// The kind of the call that is due for the goal, once the one of this kind succeeded with this reply.
-fn kind_after(row: &Row, kind: Kind, reply: &Reply, goal: &Goal) -> Option<Kind>
-    ensures { result ≡ kind_due (due_heard kind reply.now.id (row_shown row.now) (Some goal.now)) }
-{
-    due_kind(
-        id_heard(row, kind, reply),
-        heard(known_for(row, goal), kind),
-        goal,
-    )
-}
-
-// Its frame under this number.
-fn frame_after(
-    number: Number,
-    row: &Row,
-    kind: Kind,
-    reply: &Reply,
-    goal: &Goal,
-) -> Result<Option<Frame>, OrchFault>
-    ensures ok { IfOk result (λ frame. frame ≡ frame_due number (due_heard kind reply.now.id (row_shown row.now) (Some goal.now))) }
-    ensures err { IfErr result (λ fault. fault ≡ Fault.NoMemory) }
-{
-    let id = id_heard(row, kind, reply);
-    let marks = heard(known_for(row, goal), kind);
-    due_frame(number, &row.name, &row.arguments, id, marks, goal)
-}
-
-// The next call for the goal, once the one that was due succeeded with this reply.
-fn next_for(
-    last: Number,
-    row: &Row,
-    kind: Kind,
-    reply: &Reply,
-    goal: &Goal,
-) -> Result<Option<Outgoing>, OrchFault>
-    ensures ok { IfOk result (λ next. outgoing_by (due_heard kind reply.now.id (row_shown row.now) (Some goal.now)) (number_after last) ≡ Ok next) }
-    ensures err { IfErr result (IsRefusal (outgoing_by (due_heard kind reply.now.id (row_shown row.now) (Some goal.now)) (number_after last))) }
-{
-    let Some(due) = kind_after(row, kind, reply, goal) else {
-        return Ok(None);
-    };
-    let Some(number) = next_number(last) else {
-        return Err(OrchFault::NumbersSpent);
-    };
-    let frame = frame_after(number, row, kind, reply, goal)?;
-    Ok(outgoing_with(number, due, frame))
-}
-
 /// The next call for the row, once its due call of this kind succeeded with this reply.
 pub(crate) fn next_after(
     last: Number,
@@ -130,7 +80,11 @@ pub(crate) fn next_after(
     ensures err { IfErr result (IsRefusal (outgoing_by (due_in (succeeded kind reply.now.id (row_shown row.now))) (number_after last))) }
 {
     match &row.goal {
-        Some(goal) => next_for(last, row, kind, reply, goal),
+        Some(goal) => {
+            let id = id_heard(row, kind, reply);
+            let marks = heard(known_for(row, goal), kind);
+            outgoing_as_known(last, &row.name, &row.arguments, id, marks, goal)
+        }
         None => Ok(None),
     }
 }

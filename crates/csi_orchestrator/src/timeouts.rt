@@ -12,8 +12,8 @@ ghost use Rattle.csi_orchestrator.specs.Shown.{row_shown, due_by};
 use crate::changes::{close, stop_use};
 use crate::due::is_forward;
 use crate::fault::OrchFault;
-use crate::going_on::{Outgoing, go_on, kind_for, outgoing_for, outgoing_to_stop, row_index};
-use crate::inner::Core;
+use crate::going_on::{Outgoing, go_on, kind_for, outgoing_for, outgoing_to_stop};
+use crate::inner::{Core, row_index};
 use crate::row::{Goal, Row};
 use csi_types::{Frame, Name, Number};
 

@@ -1,9 +1,12 @@
--- Found among what is shown.
-use Rattle.std.proofs.Common.{◌∙◌, ap}
-use Rattle.std.specs.Prelude.{option_map}
-use Rattle.csi_orchestrator.specs.Shown.{place_shown}
-use Rattle.csi_orchestrator.proofs.Entries.{place-found}
+-- By where it stands.
+use Rattle.std.proofs.Common.{sym}
+use Rattle.csi_types.specs.Same.{same_text}
+use Rattle.csi_orchestrator.specs.Shown.{PlaceShown, place_shown}
+use Rattle.csi_orchestrator.proofs.ChangedEntries.{find-place, find-none_placed}
 use Rattle.csi_orchestrator.proofs.inner.place_at.Goals as goal
 
-pub returns : goal.returns
-returns c = ap (option_map place_shown) c.find_place.ensures ∙ place-found c.args.row.now c.args.node.now
+pub returns-in-Some : goal.returns-in-Some
+returns-in-Some c = sym (find-place place_shown (λ (place : PlaceShown). same_text place.node c.args.node.now) c.args.row.now.places.items c.in-Some.index c.index.result.now (cc) (cc))
+
+pub returns-in-None : goal.returns-in-None
+returns-in-None c = sym (find-none_placed place_shown (λ (place : PlaceShown). same_text place.node c.args.node.now) c.args.row.now.places.items (cc))

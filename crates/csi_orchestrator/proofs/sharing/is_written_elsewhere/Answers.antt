@@ -1,12 +1,10 @@
--- Among what is shown.
-use Rattle.std.proofs.Common.{◌∙◌}
+-- This place is so.
+use Rattle.std.proofs.Common.{sym}
 use Rattle.csi_orchestrator.specs.Commands.{is_second_writer}
-use Rattle.csi_orchestrator.specs.Shown.{usage_shown}
 use Rattle.csi_orchestrator.specs.RowMoves.{is_so_elsewhere}
-use Rattle.csi_orchestrator.proofs.PlacesSeen.{place-is-so}
+use Rattle.csi_orchestrator.specs.Shown.{place_shown, usage_shown}
+use Rattle.csi_orchestrator.proofs.PlacesSeen.{one-here}
 use Rattle.csi_orchestrator.proofs.sharing.is_written_elsewhere.Goals as goal
 
-pub returns : goal.returns
-returns c =
-    c.any_writes_beside.ensures
-    ∙ place-is-so (is_so_elsewhere (is_second_writer (usage_shown c.args.usage.now)) c.args.usage.now.node) c.args.row.now
+pub returns-then-writes_beside : goal.returns-then-writes_beside
+returns-then-writes_beside c = sym (one-here place_shown (is_so_elsewhere (is_second_writer (usage_shown c.args.usage.now)) c.args.usage.now.node) c.args.places.now c.loop-place.place-index c.place-item.result c.loop-place-test.true c.place-item.is (cc))

@@ -1,11 +1,13 @@
 -- The row that the reply is to is found, and written where it stands.
-use Rattle.std.proofs.Common.{◌≡◌, Some, get_or, refl, ap}
+use Rattle.std.proofs.Common.{◌≡◌, Some, get_or, refl, sym, ◌∙◌, ap}
 use Rattle.std.specs.Prelude.{position}
 use Rattle.std.proofs.lemmas.Result.{err_from_is_err_and}
 use Rattle.csi_orchestrator.specs.Core.{parts_of}
 use Rattle.csi_orchestrator.specs.declared.row.Row.{Row}
-use Rattle.csi_orchestrator.specs.Shown.{row_shown, open_in_row}
-use Rattle.csi_orchestrator.specs.RowMoves.{is_issued_as, hears_reply}
+use Rattle.csi_orchestrator.specs.CoreMoves.{last_after}
+use Rattle.csi_orchestrator.specs.Moves.{hears}
+use Rattle.csi_orchestrator.specs.Shown.{Parts, row_shown, open_in_row}
+use Rattle.csi_orchestrator.specs.RowMoves.{told, is_issued_as, hears_reply}
 use Rattle.csi_orchestrator.proofs.HeardParts.{kept-there, kind-there, heard-there, refused-there, found-differs, unfound}
 use Rattle.csi_orchestrator.proofs.inner.Core.hear.Goals as goal
 
@@ -30,8 +32,9 @@ returns-in_err-next-in-Some-clause-ignored c = λ none.
 
 pub returns-in_ok-next-in-Some-clause-ok : goal.returns-in_ok-next-in-Some-clause-ok
 returns-in_ok-next-in-Some-clause-ok c =
-    heard-there (parts_of c.args.self.now) c.args.self.now.rows.items c.in-Some.index c.index.result.now c.index_mut.result.now c.settle.new.row c.args.number c.take_next.new.last c.args.party.now c.args.kind c.args.reply.now
-    c.in_ok-next-in-Some.next c.take_next.result refl c.requires (cc) (cc) (cc) c.in_ok-next-in-Some.ensures.ok c.settle.ensures c.take_next.ensures.last c.take_next.ensures.frame
+    heard-there (parts_of c.args.self.now) c.args.self.now.rows.items c.in-Some.index c.index.result.now c.index_mut.result.now c.settle.new.row c.args.number (last_after c.args.self.now.last c.in_ok-next-in-Some.next) c.args.party.now c.args.kind c.args.reply.now
+    c.in_ok-next-in-Some.next c.issue.result refl c.requires (cc) (cc) (cc) c.in_ok-next-in-Some.ensures.ok c.settle.ensures refl c.issue.ensures.frame
+    ∙ ap (λ (parts : Parts). told parts (hears c.issue.result)) (sym c.issue.ensures.parts)
 
 pub returns-in-None-clause-ok : goal.returns-in-None-clause-ok
 returns-in-None-clause-ok c =

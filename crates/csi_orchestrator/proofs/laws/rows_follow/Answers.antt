@@ -1,0 +1,28 @@
+-- Item by item, goal by goal and input by input.
+use Rattle.csi_orchestrator.proofs.DueCalls.{due-told}
+use Rattle.csi_orchestrator.proofs.Following.{started-follows, sent-follows, accepted-follows, closed-follows, noted-follows}
+use Rattle.csi_orchestrator.proofs.Keeping.{rows-stay-kept}
+use Rattle.csi_orchestrator.proofs.TellingReplies.{rows-tell, moves-are-guarded}
+use Rattle.csi_orchestrator.proofs.laws.rows_follow.Goals as goal
+
+pub returns-clause-view_follows : goal.returns-clause-view_follows
+returns-clause-view_follows c =
+    record {
+      started = λ view history session agrees rises. started-follows view history session agrees;
+      sent = sent-follows;
+      accepted = accepted-follows;
+      closed = closed-follows;
+      noted = noted-follows;
+    }
+
+pub returns-clause-due_is_told : goal.returns-clause-due_is_told
+returns-clause-due_is_told c = due-told
+
+pub returns-clause-rows_tell : goal.returns-clause-rows_tell
+returns-clause-rows_tell c = rows-tell
+
+pub returns-clause-rows_stay_kept : goal.returns-clause-rows_stay_kept
+returns-clause-rows_stay_kept c = rows-stay-kept
+
+pub returns-clause-moves_are_guarded : goal.returns-clause-moves_are_guarded
+returns-clause-moves_are_guarded c = moves-are-guarded
