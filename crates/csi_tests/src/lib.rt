@@ -1,0 +1,8 @@
+//! The tests of the crates below, which see of them what any user sees. There is nothing else here: a crate that has
+//! no test of its own is proved once less.
+#![tactic(auto)]
+
+#[cfg(test)]
+mod types;
+#[cfg(test)]
+mod values;
