@@ -3,6 +3,8 @@
 #![tactic(auto)]
 
 #[cfg(test)]
+mod orchestrator;
+#[cfg(test)]
 mod types;
 #[cfg(test)]
 mod values;
