@@ -1,9 +1,8 @@
 //! The words of the command line.
 
-use crate::commands::FileCommand;
-use crate::ending::Ending;
 use clap::error::ErrorKind;
 use clap::{Arg, ArgMatches, Command, Error};
+use csi_commands::{Ending, FileCommand};
 use std::alloc::{AllocError, Global};
 
 // A command and the file that it reads.

@@ -1,16 +1,9 @@
 //! Answers the frames of a file as a new controller plugin does, or shows them.
 #![tactic(auto)]
 
-mod answers;
 mod command_line;
-mod commands;
-mod ending;
-mod lines;
-mod reading;
-mod schedule;
-mod shown;
 
-use ending::Ending;
+use csi_commands::{Ending, file};
 use std::io::Write;
 use std::process::ExitCode;
 use std::rt::{Env, Files};
@@ -23,7 +16,7 @@ fn run(rt: &(impl Env + Files + Print + AllocGlobal)) -> Result<Ending, Ending> 
     let (command, path) = command_line::parse(rt.alloc(), words.as_slice())?;
     let input = fs::read(rt, path).map_err(|error| Ending::of_device(error.kind()))?;
     let mut out = Vec::new(rt.alloc());
-    let ending = commands::file(rt.alloc(), command, input.as_slice(), &mut out);
+    let ending = file(rt.alloc(), command, input.as_slice(), &mut out);
     io::writer(rt)
         .write_all(out.as_slice())
         .map_err(|error| Ending::of_device(error.kind()))?;

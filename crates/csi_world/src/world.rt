@@ -73,8 +73,8 @@ impl World {
         &self.system.controller
     }
 
-    // The nodes, in the order of the configuration.
-    pub(crate) fn nodes(&self) -> &[Node]
+    /// The nodes, in the order of the configuration. It takes no memory.
+    pub fn nodes(&self) -> &[Node]
         ensures { result.now ≡ self.now.nodes }
     {
         self.system.nodes.as_slice()

@@ -1,7 +1,6 @@
 use super::{ending_of, parse};
-use crate::commands::FileCommand;
-use crate::ending::Ending;
 use clap::error::ErrorKind;
+use csi_commands::{Ending, FileCommand};
 use std::alloc::{AllocError, Global};
 use std::process::Abort;
 use std::test::Fail;

@@ -1,0 +1,107 @@
+-- How far a stream was read.
+use Rattle.std.proofs.Common.{◌≡◌, ◌∙◌, sym, ap, subst, refl, ℕ, ◌+◌, ◌<◌, ◌≤◌, List, [], ◌∷◌, ◌++◌, length, drop, arith, length-append, length-drop, append_assoc}
+use Rattle.std.specs.List.{flat_map, AllByRecursion}
+use Rattle.std.proofs.lemmas.List.{append-nil, drop-drop}
+use Rattle.std.proofs.lemmas.List.Concat.{flat_map-append}
+use Rattle.std.proofs.Math.ListN.{drop_of_length-le}
+use Rattle.csi_types.specs.Frame.{Frame}
+use Rattle.csi_types.specs.Limits.{IsFrame}
+use Rattle.csi_frames.specs.declared.fault.FaultKind.{FaultKind}
+use Rattle.csi_frames.specs.Spelling.{spelling, BeginsWith}
+use Rattle.csi_frames.specs.Fault.{IsFaulty}
+use Rattle.csi_frames.specs.Stream.{FramesOf}
+use Rattle.csi_frames.specs.Bytes.{AreBytes}
+use Rattle.csi_commands.specs.declared.answers.AnswerFault.{AnswerFault}
+use Rattle.csi_commands.specs.declared.answers.AnswerFault.TheVariants as faults
+use Rattle.csi_commands.specs.Replay.{IsFaultOf, Stops, Grows}
+use Rattle.csi_commands.specs.Answering.{StopsAt, Takes}
+use Rattle.csi_commands.proofs.Streams.{never_both, AreBytes-drop, IsFront, front_of, all_read, splits_at, count_is, none_in_nothing}
+
+-- these frames were read
+pub record Taken (input : List ℕ) (done : List Frame) (place : ℕ) : Type 0 where
+  pub each : AllByRecursion IsFrame done
+  pub within : place ≤ length input
+  pub taken : input ≡ flat_map spelling done ++ drop place input
+  pub here : place ≡ length (flat_map spelling done)
+
+pub nothing_taken : (input : List ℕ) → Taken input [] 0
+nothing_taken input = record { each = tt; within = omega arith; taken = refl; here = refl }
+
+each-push : (frames : List Frame) (frame : Frame) → AllByRecursion IsFrame frames → IsFrame frame → AllByRecursion IsFrame (frames ++ frame ∷ [])
+each-push [] frame each fits = (fits, tt)
+each-push (f ∷ frames) frame each fits = (each.0, each-push frames frame each.1 fits)
+
+spellings-push : (frames : List Frame) (frame : Frame) → flat_map spelling (frames ++ frame ∷ []) ≡ flat_map spelling frames ++ spelling frame
+spellings-push frames frame = flat_map-append spelling frames (frame ∷ []) ∙ ap (λ more. flat_map spelling frames ++ more) (append-nil (spelling frame))
+
+-- one frame more
+pub taken_more : (input : List ℕ) (done : List Frame) (place n : ℕ) (frame : Frame) → Taken input done place → BeginsWith (drop place input) frame n → Taken input (done ++ frame ∷ []) (place + n)
+taken_more input done place n frame p begins =
+    let is : n ≡ length (spelling frame) = count_is (drop place input) frame n begins in
+    record {
+      each = each-push done frame p.each begins.spelled.fits;
+      within = omega (arith, p.within, begins.within, length-drop {A = ℕ});
+      taken =
+          p.taken
+          ∙ ap (λ bytes. flat_map spelling done ++ bytes) (splits_at (drop place input) frame n begins ∙ ap (λ bytes. spelling frame ++ bytes) (drop-drop n place input))
+          ∙ sym (append_assoc (flat_map spelling done) (spelling frame) (drop (place + n) input))
+          ∙ ap (λ front. front ++ drop (place + n) input) (sym (spellings-push done frame));
+      here = omega (arith, p.here, is, ap length (spellings-push done frame), length-append (flat_map spelling done) (spelling frame));
+    }
+
+-- the frames that were read are the first ones of the stream
+pub front : (input : List ℕ) (done : List Frame) (place : ℕ) (p : Taken input done place) (frames : List Frame) (rest : List ℕ) → FramesOf input frames rest → AreBytes input → IsFront done frames (drop place input) rest
+front input done place p frames rest of are = front_of done frames (drop place input) rest p.each of.each of.longest (sym p.taken ∙ of.whole) (subst AreBytes p.taken are)
+
+-- all bytes were read
+pub taken_all : (input : List ℕ) (done : List Frame) (place : ℕ) (p : Taken input done place) → AreBytes input → length input ≤ place → (frames : List Frame) (rest : List ℕ) → FramesOf input frames rest → (frames ≡ done) × (rest ≡ [])
+taken_all input done place p are end frames rest of =
+    let nothing : length (drop place input) ≤ 0 = omega (arith, length-drop {A = ℕ}, end) in
+    let read : (frames ≡ done) × (rest ≡ drop place input) =
+    all_read done frames (drop place input) rest (front input done place p frames rest of are) (none_in_nothing (drop place input) nothing) in
+    (read.0, read.1 ∙ drop_of_length-le input end)
+
+-- the bytes that are left are at fault
+pub stopped_at : (input : List ℕ) (done : List Frame) (place : ℕ) (p : Taken input done place) → AreBytes input → place < length input → (kind : FaultKind) (stream_place : ℕ) → StopsAt input place (faults.Frame kind stream_place) → (frames : List Frame) (rest : List ℕ) → FramesOf input frames rest → (frames ≡ done) × IsFaultOf frames rest kind stream_place
+stopped_at input done place p are before kind stream_place stop frames rest of =
+    let read : (frames ≡ done) × (rest ≡ drop place input) =
+    all_read done frames (drop place input) rest (front input done place p frames rest of are)
+    (λ frame n begins. never_both (drop place input) frame n kind stop.0 (AreBytes-drop place input are) begins stop.1) in (
+      read.0,
+      record {
+        at = stop.0;
+        something = λ nothing. omega (arith, ap length (sym read.1 ∙ nothing), length-drop place input, before);
+        faulty = subst (λ bytes. IsFaulty bytes kind stop.0) (sym read.1) stop.1;
+        here = omega (arith, stop.2, p.here, ap (λ fs. length (flat_map spelling fs)) read.0);
+      },
+    )
+
+pub stops : (input : List ℕ) (done : List Frame) (place : ℕ) → Taken input done place → AreBytes input → place < length input → (fault : AnswerFault) → StopsAt input place fault → (frames : List Frame) (rest : List ℕ) → FramesOf input frames rest → Stops frames rest fault
+stops input done place p are before (faults.Frame kind stream_place) stop frames rest of = (stopped_at input done place p are before kind stream_place stop frames rest of).1
+stops input done place p are before faults.NoMemory stop frames rest of = tt
+
+pub grows-none : (old : List ℕ) → Grows old old
+grows-none old = record { more = []; appended = sym (append-nil old) }
+
+pub grows-twice : (old new newest : List ℕ) → Grows old new → Grows new newest → Grows old newest
+grows-twice old new newest first second = record {
+  more = first.more ++ second.more;
+  appended = second.appended ∙ ap (λ bytes. bytes ++ second.more) first.appended ∙ append_assoc old first.more second.more;
+}
+
+-- what was there, and the lines of the frames that were read
+pub record Showing (input old : List ℕ) (place : ℕ) (out : List ℕ) : Type 0 where
+  pub done : List Frame
+  pub read : Taken input done place
+  pub grown : Grows old out
+
+pub showing_none : (input old : List ℕ) → Showing input old 0 old
+showing_none input old = record { done = []; read = nothing_taken input; grown = grows-none old }
+
+pub showing_more : (input old : List ℕ) (place n : ℕ) (out out' : List ℕ) → Showing input old place out → Takes (drop place input) n → Grows out out' → Showing input old (place + n) out'
+showing_more input old place n out out' p takes grown =
+    record {
+      done = p.done ++ takes.frame ∷ [];
+      read = taken_more input p.done place n takes.frame p.read takes.begins;
+      grown = grows-twice old out out' p.grown grown;
+    }

@@ -1,0 +1,60 @@
+-- What a replay answers: the replies of a new controller to the frames of a stream, as bytes. This profile's own.
+use Rattle.std.specs.Prelude.{◌≡◌, ◌≢◌, ℕ, ◌+◌, ◌≤◌, List, [], ◌∷◌, ◌++◌, length, take}
+use Rattle.std.specs.Option.{option_to_list}
+use Rattle.std.specs.List.{flat_map}
+use Rattle.csi_types.specs.Config.{Config}
+use Rattle.csi_types.specs.Frame.{Frame}
+use Rattle.csi_frames.specs.declared.fault.FaultKind.{FaultKind}
+use Rattle.csi_frames.specs.Spelling.{spelling}
+use Rattle.csi_frames.specs.Fault.{IsFaulty}
+use Rattle.csi_controller.specs.State.{ControllerState, empty_controller}
+use Rattle.csi_controller.specs.Fenced.{fenced}
+use Rattle.csi_commands.specs.declared.answers.AnswerFault.{AnswerFault}
+use Rattle.csi_commands.specs.declared.answers.AnswerFault.TheVariants as faults
+
+-- the greatest capacity that a call may name, 2^63 - 1, and no nodes
+abbrev pub replay_config : Config
+replay_config = record { greatest = 9223372036854775807; nodes = [] }
+
+-- the replies to these frames, one after another
+abbrev pub replies_from : ControllerState → List Frame → List Frame
+replies_from state [] = []
+replies_from state (frame ∷ frames) = option_to_list (fenced replay_config state frame).reply ++ replies_from (fenced replay_config state frame).state frames
+
+-- the spellings of a new controller's replies
+unfoldable pub answered : List Frame → List ℕ
+answered frames = flat_map spelling (replies_from empty_controller frames)
+
+-- the first fault of the rest, which isn't empty; its place counts from the front of the stream
+pub record IsFaultOf (frames : List Frame) (rest : List ℕ) (kind : FaultKind) (place : ℕ) : Type 0 where
+  pub at : ℕ
+  pub something : rest ≢ []
+  pub faulty : IsFaulty rest kind at
+  pub here : place ≡ length (flat_map spelling frames) + at
+
+-- what was there stays at the front
+pub record Grows (old new : List ℕ) : Type 0 where
+  pub more : List ℕ
+  pub appended : new ≡ old ++ more
+
+-- The rest is at fault; or memory ran out.
+abbrev pub Stops : List Frame → List ℕ → AnswerFault → Type 0
+Stops frames rest (faults.Frame kind place) = IsFaultOf frames rest kind place
+Stops frames rest faults.NoMemory = Unit {0}
+
+-- the replies to the first k frames were appended, for some k
+pub record AnswersFront (frames : List Frame) (old new : List ℕ) : Type 0 where
+  pub count : ℕ
+  pub within : count ≤ length frames
+  pub appended : new ≡ old ++ answered (take count frames)
+
+-- The frames of the stream, and the rest, were answered so. The rest is empty: all frames are counted and answered.
+pub record AnswersAll (frames : List Frame) (rest old new : List ℕ) (count : ℕ) : Type 0 where
+  pub whole : rest ≡ []
+  pub counted : count ≡ length frames
+  pub appended : new ≡ old ++ answered frames
+
+-- The rest is at fault, and all frames before it are answered; or memory ran out.
+abbrev pub Fails : List Frame → List ℕ → List ℕ → List ℕ → AnswerFault → Type 0
+Fails frames rest old new (faults.Frame kind place) = IsFaultOf frames rest kind place × (new ≡ old ++ answered frames)
+Fails frames rest old new faults.NoMemory = AnswersFront frames old new

@@ -1,0 +1,151 @@
+//! A stream of frames, answered by a new controller.
+ghost use Rattle.std.specs.Prelude.{◌≡◌, ◌≤◌, ◌++◌, ℕ, List, length, drop, IfOk, IfErr, OnOk, OnErr};
+ghost use Rattle.std.specs.Option.{option_to_list, option_copied};
+ghost use Rattle.std.specs.List.{flat_map};
+ghost use Rattle.csi_frames.specs.Spelling.{spelling};
+ghost use Rattle.csi_types.specs.Frame.{Frame as FrameParts};
+ghost use Rattle.csi_frames.specs.Stream.{FramesOf};
+ghost use Rattle.csi_controller.specs.State.{ControllerState, empty_controller};
+ghost use Rattle.csi_controller.specs.Core.{IsShown};
+ghost use Rattle.csi_commands.specs.Replay.{replay_config, AnswersAll, Fails};
+ghost use Rattle.csi_commands.specs.Answering.{IsAnswered, Advances, StopsAt};
+
+use crate::reading::read_at;
+use csi_controller::{Controller, CoreFault};
+use csi_frames::{FaultKind, encode};
+use csi_types::{Config, Frame, MAX_CAPACITY, NoMemory};
+use std::alloc::{AllocError, Global};
+use thiserror::Error;
+
+/// Why a stream wasn't answered whole.
+#[derive(Clone, Copy, Debug, PartialEq, Eq, Error)]
+pub enum AnswerFault {
+    /// The bytes after the last whole frame are no frame: the kind of their first fault, and its place, counted from the
+    /// front of the stream.
+    #[error("{0}, at byte {1} of the stream")]
+    Frame(FaultKind, u64),
+    /// An allocation was refused.
+    #[error("out of memory")]
+    NoMemory,
+}
+
+impl From<NoMemory> for AnswerFault {
+    ghost use Rattle.std.specs.Prelude.{◌≡◌};
+    ghost use Rattle.csi_commands.specs.declared.answers.AnswerFault.TheVariants.{NoMemory as Refused};
+
+    ghost from_gives = { λ _ fault. fault ≡ Refused };
+
+    fn from(_refused: NoMemory) -> AnswerFault {
+        AnswerFault::NoMemory
+    }
+}
+
+impl From<CoreFault> for AnswerFault {
+    ghost use Rattle.std.specs.Prelude.{◌≡◌};
+    ghost use Rattle.csi_commands.specs.declared.answers.AnswerFault.TheVariants.{NoMemory as Refused};
+
+    ghost from_gives = { λ _ fault. fault ≡ Refused };
+
+    fn from(fault: CoreFault) -> AnswerFault {
+        match fault {
+            CoreFault::NoMemory => AnswerFault::NoMemory,
+        }
+    }
+}
+
+impl From<AllocError> for AnswerFault {
+    ghost use Rattle.std.specs.Prelude.{◌≡◌};
+    ghost use Rattle.csi_commands.specs.declared.answers.AnswerFault.TheVariants.{NoMemory as Refused};
+
+    ghost from_gives = { λ _ fault. fault ≡ Refused };
+
+    fn from(_refused: AllocError) -> AnswerFault {
+        AnswerFault::NoMemory
+    }
+}
+
+// Appends the reply, if there is one. An `Err` appends nothing.
+fn append(reply: Option<&Frame>, out: &mut Vec<u8>) -> Result<(), NoMemory>
+    ensures ok { OnOk result (out.new.items ≡ out.old.items ++ flat_map spelling (option_to_list (option_copied reply.entry))) }
+    ensures err { OnErr result (out.new.items ≡ out.old.items) }
+{
+    match reply {
+        Some(reply) => encode(reply, out),
+        None => Ok(()),
+    }
+}
+
+// Answers a frame. An `Err` appends nothing.
+fn answer_frame(
+    controller: &mut Controller,
+    frame: &Frame,
+    out: &mut Vec<u8>,
+) -> Result<(), AnswerFault>
+    requires config { controller.old.config ≡ replay_config }
+    ensures config { controller.new.config ≡ replay_config }
+    ensures ok { (state : ControllerState) → IsShown controller.old state →
+        OnOk result (IsAnswered frame.now state controller.new out.old.items out.new.items) }
+    ensures fault { IfErr result (λ fault. fault ≡ AnswerFault.NoMemory) }
+    ensures err { OnErr result (out.new.items ≡ out.old.items) }
+{
+    let reply = controller.step(frame)?;
+    append(reply.as_ref(), out)?;
+    Ok(())
+}
+
+// Answers the frame in this place, and gives the count of its bytes. An `Err` appends nothing.
+fn answer_one(
+    alloc: Global,
+    controller: &mut Controller,
+    input: &[u8],
+    place: usize,
+    out: &mut Vec<u8>,
+) -> Result<usize, AnswerFault>
+    requires within { place ≤ length input.now }
+    requires config { controller.old.config ≡ replay_config }
+    ensures config { controller.new.config ≡ replay_config }
+    ensures ok { (state : ControllerState) → IsShown controller.old state →
+        IfOk result (λ n. Advances (drop place input.now) n state controller.new out.old.items out.new.items) }
+    ensures fault { IfErr result (StopsAt input.now place) }
+    ensures err { OnErr result (out.new.items ≡ out.old.items) }
+{
+    let read = read_at(alloc, input, place)?;
+    answer_frame(controller, &read.0, out)?;
+    Ok(read.1)
+}
+
+// A controller that made no volume, with the configuration of a replay.
+fn new_controller(alloc: Global) -> Controller
+    ensures config { result.config ≡ replay_config }
+    ensures empty { IsShown result empty_controller }
+{
+    let config = Config::try_new(alloc, MAX_CAPACITY, Vec::new(alloc)).unwrap();
+    Controller::new(alloc, config)
+}
+
+/// Answers the frames of `input` in order, each once, as a new controller does that has no nodes and gives a volume at
+/// most 2^63 - 1 bytes: appends the spellings of the replies to `out`, and gives the count of the frames. A reply and a
+/// frame for a node count, and get nothing. What was appended before an `Err` stays: at `Frame` all replies to the frames
+/// before the fault, at `NoMemory` those to some of the first frames. The stream and the controller's configuration are
+/// this profile's own.
+pub fn answer(alloc: Global, input: &[u8], out: &mut Vec<u8>) -> Result<u64, AnswerFault>
+    // The input is frames and a rest that begins with none,
+    ensures stream { (frames : List FrameParts) × (rest : List ℕ) × FramesOf input.now frames rest }
+    // and these frames were answered.
+    ensures ok { (frames : List FrameParts) (rest : List ℕ) → FramesOf input.now frames rest →
+        IfOk result (AnswersAll frames rest out.old.items out.new.items) }
+    ensures fault { (frames : List FrameParts) (rest : List ℕ) → FramesOf input.now frames rest →
+        IfErr result (Fails frames rest out.old.items out.new.items) }
+{
+    let mut controller = new_controller(alloc);
+    let mut place = 0;
+    let mut count = 0;
+    while place < input.len() {
+        place += answer_one(alloc, &mut controller, input, place, out)?;
+        count += 1;
+    }
+    Ok(count)
+}
+
+#[cfg(test)]
+mod tests;

@@ -1,0 +1,54 @@
+//! The commands that read a file.
+ghost use Rattle.std.specs.Prelude.{List, ℕ};
+ghost use Rattle.csi_types.specs.Frame.{Frame};
+ghost use Rattle.csi_frames.specs.Stream.{FramesOf};
+ghost use Rattle.csi_commands.specs.Ending.{EndsAs};
+
+use crate::answers::{AnswerFault, answer};
+use crate::ending::Ending;
+use crate::lines::show;
+use std::alloc::Global;
+
+/// What is done with the bytes of a file.
+#[derive(Clone, Copy, Debug, PartialEq, Eq)]
+pub enum FileCommand {
+    /// The frames are answered by a new controller.
+    Answer,
+    /// A line is shown for each frame.
+    Show,
+}
+
+/// Carries the command out on the bytes of a file, and appends to `out` what goes to standard output. What was appended
+/// before a fault stays. The ending is never `Usage` nor `Device`.
+pub fn file(alloc: Global, command: FileCommand, input: &[u8], out: &mut Vec<u8>) -> Ending
+    ensures { (frames : List Frame) (rest : List ℕ) → FramesOf input.now frames rest →
+        EndsAs command frames rest out.old.items out.new.items result }
+{
+    match command {
+        FileCommand::Answer => match answer(alloc, input, out) {
+            Ok(_) => Ending::Done,
+            Err(fault) => Ending::from(fault),
+        },
+        FileCommand::Show => match show(alloc, input, out) {
+            Ok(()) => Ending::Done,
+            Err(fault) => Ending::from(fault),
+        },
+    }
+}
+
+impl From<AnswerFault> for Ending {
+    ghost use Rattle.std.specs.Prelude.{◌≡◌};
+    ghost use Rattle.csi_commands.specs.Ending.{ending_of};
+
+    ghost from_gives = { λ fault ending. ending ≡ ending_of fault };
+
+    fn from(fault: AnswerFault) -> Ending {
+        match fault {
+            AnswerFault::Frame(kind, place) => Ending::FrameFault(kind, place),
+            AnswerFault::NoMemory => Ending::Memory,
+        }
+    }
+}
+
+#[cfg(test)]
+mod tests;

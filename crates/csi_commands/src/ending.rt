@@ -1,0 +1,90 @@
+//! How a run of the program ends.
+ghost use Rattle.std.specs.Prelude.{◌≡◌};
+ghost use Rattle.csi_commands.specs.Ending.{exit_status, ending_unless_memory};
+
+use csi_frames::FaultKind;
+use std::alloc::AllocError;
+use std::fmt;
+use std::io::ErrorKind;
+
+/// How a run of the program ends. Its text is the program's line on standard error, without the newline, and none for
+/// `Done`. This profile's own.
+#[derive(Clone, Copy, Debug, PartialEq, Eq)]
+pub enum Ending {
+    /// All was done.
+    Done,
+    /// The input has a fault of this kind in this place, counted in bytes from its front.
+    FrameFault(FaultKind, u64),
+    /// The words on the command line are no command.
+    Usage,
+    /// A file or a stream failed.
+    Device,
+    /// An allocation was refused.
+    Memory,
+}
+
+impl Ending {
+    /// The exit status: 0, 1 for input that is refused, 2 for the command line, 3 for a device or memory. It takes no
+    /// memory.
+    pub fn status(self) -> u8
+        ensures { result ≡ exit_status self }
+    {
+        match self {
+            Ending::Done => 0,
+            Ending::FrameFault(..) => 1,
+            Ending::Usage => 2,
+            Ending::Device | Ending::Memory => 3,
+        }
+    }
+}
+
+impl Ending {
+    /// The ending where a file or a stream fails so.
+    pub fn of_device(kind: ErrorKind) -> Ending
+        ensures { result ≡ ending_unless_memory kind Ending.Device }
+    {
+        match kind {
+            ErrorKind::OutOfMemory => Ending::Memory,
+            _ => Ending::Device,
+        }
+    }
+
+    /// The ending where the words of the command line can't be read: they are no UTF-8, unless memory ran out.
+    pub fn of_words(kind: ErrorKind) -> Ending
+        ensures { result ≡ ending_unless_memory kind Ending.Usage }
+    {
+        match kind {
+            ErrorKind::OutOfMemory => Ending::Memory,
+            _ => Ending::Usage,
+        }
+    }
+}
+
+impl From<AllocError> for Ending {
+    ghost use Rattle.std.specs.Prelude.{◌≡◌};
+    ghost use Rattle.csi_commands.specs.declared.ending.Ending.TheVariants.{Memory as Refused};
+
+    ghost from_gives = { λ _ ending. ending ≡ Refused };
+
+    fn from(_refused: AllocError) -> Ending {
+        Ending::Memory
+    }
+}
+
+impl fmt::Display for Ending {
+    fn fmt<W: fmt::Write>(&self, f: &mut fmt::Formatter<W>) -> fmt::Result {
+        match self {
+            Ending::Done => Ok(()),
+            Ending::FrameFault(kind, place) => {
+                let number = kind.number();
+                write!(f, "csi-replay: frame fault {number} at {place}")
+            }
+            Ending::Usage => write!(f, "csi-replay: usage"),
+            Ending::Device => write!(f, "csi-replay: device"),
+            Ending::Memory => write!(f, "csi-replay: memory"),
+        }
+    }
+}
+
+#[cfg(test)]
+mod tests;

@@ -1,6 +1,0 @@
-pub mod FaultPlaces
-pub mod Streams
-pub mod Taken
-pub mod Progress
-pub mod Items
-pub mod ReadLists

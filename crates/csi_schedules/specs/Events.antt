@@ -1,0 +1,123 @@
+-- The events of a schedule, in JSON. This profile's own.
+use Rattle.std.specs.Prelude.{ℕ, nat_le, if◌then◌else◌, List, length, Option, Some, None, codes, bytes_eq}
+use Rattle.serde_json.specs.Data.{Data}
+use Rattle.serde_json.specs.Find.{get, as_str, as_bool}
+use Rattle.csi_types.specs.declared.capability.Access.{Access}
+use Rattle.csi_types.specs.declared.capability.Access.TheVariants.{Block, Mount}
+use Rattle.csi_types.specs.declared.capability.Capability.{Capability}
+use Rattle.csi_types.specs.Mode.{mode_from_number}
+use Rattle.csi_types.specs.declared.mode.Mode.{Mode}
+use Rattle.csi_world.specs.declared.event.Event.{Event}
+use Rattle.csi_world.specs.declared.event.Event.TheVariants as events
+use Rattle.csi_schedules.specs.Json.{◌>>=◌, number_of, name_of, node_id_of, target_of, fs_type_of, sized_object, only_member, all_of}
+
+-- ---- capabilities
+
+unfoldable pub mode_of : Data → Option Mode
+mode_of d = do
+  number ← number_of d
+  mode_from_number number
+
+unfoldable pub block_of : Data → Option Access
+block_of d = do
+  object ← sized_object 2 d
+  Some Block
+
+unfoldable pub mount_of : Data → Option Access
+mount_of d = do
+  object ← sized_object 3 d
+  fs_type ← get (codes "fs") object >>= fs_type_of
+  Some (Mount fs_type)
+
+unfoldable pub access_of : Data → Option Access
+access_of d = do
+  kind ← get (codes "access") d >>= as_str
+  if bytes_eq kind (codes "block") then block_of d
+      else if bytes_eq kind (codes "mount") then mount_of d
+      else None
+
+unfoldable pub capability_of : Data → Option Capability
+capability_of d = do
+  access ← access_of d
+  mode ← get (codes "mode") d >>= mode_of
+  Some (record { access = access; mode = mode })
+
+-- at most eight
+unfoldable pub capabilities_of : Data → Option (List Capability)
+capabilities_of d = do
+  capabilities ← all_of capability_of d
+  if nat_le (length capabilities) 8 then Some capabilities else None
+
+-- ---- events
+
+unfoldable pub create_of : Data → Option Event
+create_of d = do
+  object ← sized_object 4 d
+  name ← get (codes "name") object >>= name_of
+  required ← get (codes "required") object >>= number_of
+  limit ← get (codes "limit") object >>= number_of
+  capabilities ← get (codes "capabilities") object >>= capabilities_of
+  Some (events.Create name required limit capabilities)
+
+unfoldable pub use_of : Data → Option Event
+use_of d = do
+  object ← sized_object 5 d
+  name ← get (codes "name") object >>= name_of
+  node ← get (codes "node") object >>= node_id_of
+  target ← get (codes "target") object >>= target_of
+  capability ← get (codes "capability") object >>= capability_of
+  readonly ← get (codes "readonly") object >>= as_bool
+  Some (events.Use name node target capability readonly)
+
+unfoldable pub stop_of : Data → Option Event
+stop_of d = do
+  object ← sized_object 3 d
+  name ← get (codes "name") object >>= name_of
+  node ← get (codes "node") object >>= node_id_of
+  target ← get (codes "target") object >>= target_of
+  Some (events.Stop name node target)
+
+unfoldable pub delete_of : Data → Option Event
+delete_of d = do
+  name ← name_of d
+  Some (events.Delete name)
+
+unfoldable pub timeout_of : Data → Option Event
+timeout_of d = do
+  name ← name_of d
+  Some (events.Timeout name)
+
+unfoldable pub deliver_of : Data → Option Event
+deliver_of d = do
+  number ← number_of d
+  Some (events.Deliver number)
+
+unfoldable pub restart_of : Data → Option Event
+restart_of d = do
+  part ← as_str d
+  if bytes_eq part (codes "orchestrator") then Some events.RestartOrchestrator
+      else if bytes_eq part (codes "controller") then Some events.RestartController
+      else None
+
+unfoldable pub restart_node_of : Data → Option Event
+restart_node_of d = do
+  node ← node_id_of d
+  Some (events.RestartNode node)
+
+-- an event by the key that it stands at
+unfoldable pub event_at : List ℕ → Data → Option Event
+event_at key d =
+    if bytes_eq key (codes "create") then create_of d
+    else if bytes_eq key (codes "use") then use_of d
+    else if bytes_eq key (codes "stop") then stop_of d
+    else if bytes_eq key (codes "delete") then delete_of d
+    else if bytes_eq key (codes "timeout") then timeout_of d
+    else if bytes_eq key (codes "deliver") then deliver_of d
+    else if bytes_eq key (codes "restart") then restart_of d
+    else if bytes_eq key (codes "restart_node") then restart_node_of d
+    else None
+
+unfoldable pub event_of : Data → Option Event
+event_of d = do
+  only ← only_member d
+  event_at only.0 only.1

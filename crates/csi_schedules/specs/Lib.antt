@@ -1,0 +1,3 @@
+pub mod Json
+pub mod Events
+pub mod Schedule

@@ -1,0 +1,89 @@
+//! The lists of a schedule, read item by item.
+ghost use Rattle.std.specs.Prelude.{◌≡◌, ◌∷◌, [], ◌++◌, option_map, map, IfOk, IfErr};
+ghost use Rattle.serde_json.specs.View.{view};
+ghost use Rattle.csi_schedules.specs.Json.{Reads, read_all, unless_bad};
+ghost use Rattle.csi_schedules.specs.Events.{capability_of, event_of};
+ghost use Rattle.csi_schedules.specs.Schedule.{node_of, event_fault, events_or_fault, IsFaultOf};
+
+use crate::capabilities::capability;
+use crate::configs::node;
+use crate::events::event;
+use crate::schedule::ScheduleFault;
+use crate::values::Flaw;
+use csi_types::{Capability, NodeSlots};
+use csi_world::Event;
+use serde_json::Value;
+use std::alloc::Global;
+
+// Reads a capability, and appends it. An `Err` appends nothing.
+fn push_capability(alloc: Global, value: &Value, list: &mut Vec<Capability>) -> Result<(), Flaw>
+    ensures { Reads (λ _. list.new.items) result (option_map (λ read. list.old.items ++ read ∷ []) (capability_of (view value.now))) }
+{
+    let capability = capability(alloc, value)?;
+    list.push(capability)?;
+    Ok(())
+}
+
+/// The capabilities that the items are read as, where each is.
+pub fn read_capabilities(alloc: Global, items: &[Value]) -> Result<Vec<Capability>, Flaw>
+    ensures { Reads (λ list. list.items) result (unless_bad (read_all capability_of 1 (map view items.now))) }
+{
+    let mut list = Vec::new(alloc);
+    for item in items {
+        push_capability(alloc, item, &mut list)?;
+    }
+    Ok(list)
+}
+
+// Reads a node, and appends it. An `Err` appends nothing.
+fn push_node(alloc: Global, value: &Value, list: &mut Vec<NodeSlots>) -> Result<(), Flaw>
+    ensures { Reads (λ _. list.new.items) result (option_map (λ read. list.old.items ++ read ∷ []) (node_of (view value.now))) }
+{
+    let node = node(alloc, value)?;
+    list.push(node)?;
+    Ok(())
+}
+
+/// The nodes that the items are read as, where each is.
+pub fn read_nodes(alloc: Global, items: &[Value]) -> Result<Vec<NodeSlots>, Flaw>
+    ensures { Reads (λ list. list.items) result (unless_bad (read_all node_of 1 (map view items.now))) }
+{
+    let mut list = Vec::new(alloc);
+    for item in items {
+        push_node(alloc, item, &mut list)?;
+    }
+    Ok(list)
+}
+
+// Reads an event, and appends it. An `Err` appends nothing.
+fn push_event(alloc: Global, value: &Value, list: &mut Vec<Event>) -> Result<(), Flaw>
+    ensures { Reads (λ _. list.new.items) result (option_map (λ read. list.old.items ++ read ∷ []) (event_of (view value.now))) }
+{
+    let event = event(alloc, value)?;
+    list.push(event)?;
+    Ok(())
+}
+
+// The fault where the event of this place has a flaw.
+fn fault_at(flaw: Flaw, place: u64) -> ScheduleFault
+    ensures { result ≡ event_fault flaw place }
+{
+    match flaw {
+        Flaw::Bad => ScheduleFault::BadSchedule { place },
+        Flaw::NoMemory => ScheduleFault::NoMemory,
+    }
+}
+
+/// The events that the items are read as, or the place of the first that is read as none, counted from 1.
+pub fn read_events(alloc: Global, items: &[Value]) -> Result<Vec<Event>, ScheduleFault>
+    ensures read { IfOk result (λ list. events_or_fault (read_all event_of 1 (map view items.now)) ≡ Ok list.items) }
+    ensures fault { IfErr result (IsFaultOf (events_or_fault (read_all event_of 1 (map view items.now)))) }
+{
+    let mut list = Vec::new(alloc);
+    for (index, item) in items.iter().enumerate() {
+        if let Err(flaw) = push_event(alloc, item, &mut list) {
+            return Err(fault_at(flaw, index as u64 + 1));
+        }
+    }
+    Ok(list)
+}
