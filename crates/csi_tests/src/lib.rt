@@ -5,6 +5,10 @@
 #[cfg(test)]
 mod orchestrator;
 #[cfg(test)]
+mod replay;
+#[cfg(test)]
 mod types;
 #[cfg(test)]
 mod values;
+#[cfg(test)]
+mod world;
