@@ -146,6 +146,3 @@ pub fn answer(alloc: Global, input: &[u8], out: &mut Vec<u8>) -> Result<u64, Ans
     }
     Ok(count)
 }
-
-#[cfg(test)]
-mod tests;

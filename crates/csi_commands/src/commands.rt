@@ -49,6 +49,3 @@ impl From<AnswerFault> for Ending {
         }
     }
 }
-
-#[cfg(test)]
-mod tests;

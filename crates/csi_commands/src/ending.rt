@@ -85,6 +85,3 @@ impl fmt::Display for Ending {
         }
     }
 }
-
-#[cfg(test)]
-mod tests;

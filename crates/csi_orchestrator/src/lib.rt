@@ -22,8 +22,6 @@ mod rows;
 mod sharing;
 mod sorting;
 mod success;
-#[cfg(test)]
-mod tests;
 mod thing;
 mod timeouts;
 

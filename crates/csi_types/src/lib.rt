@@ -34,6 +34,3 @@ pub use sharing::{single_node, writes};
 pub use status::Status;
 pub use text::{Detail, FsType, Name, NodeId, Target, TextFault};
 pub use volume_id::VolumeId;
-
-#[cfg(test)]
-mod tests;

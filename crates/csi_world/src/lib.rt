@@ -13,8 +13,6 @@ mod rows;
 mod sending;
 mod simulation;
 mod system;
-#[cfg(test)]
-mod tests;
 mod violation;
 mod world;
 

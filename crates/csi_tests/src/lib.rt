@@ -1,0 +1,14 @@
+//! The tests of the crates below, which see of them what any user sees. There is nothing else here: a crate that has
+//! no test of its own is proved once less.
+#![tactic(auto)]
+
+#[cfg(test)]
+mod orchestrator;
+#[cfg(test)]
+mod replay;
+#[cfg(test)]
+mod types;
+#[cfg(test)]
+mod values;
+#[cfg(test)]
+mod world;

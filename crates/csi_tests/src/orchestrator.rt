@@ -1,0 +1,90 @@
+//! Tests of the orchestrator. What it is to answer comes from the rules of the lifecycle, written out in tables. A table is
+//! played in every test by the same functions, which also see each growth refused (`playing`).
+mod asking;
+mod frames;
+mod listing;
+mod numbers;
+mod playing;
+mod refusals;
+mod things;
+mod worked;
+
+use csi_orchestrator::{Known, OrchFault};
+use csi_types::{Mode, Status};
+pub(crate) use things::thing_of;
+
+// A mode for one node, one for several nodes of which one writes, and one for several that write.
+const ONE: Mode = Mode::SingleNodeWriter;
+
+const WRITER: Mode = Mode::MultiNodeSingleWriter;
+
+const MANY: Mode = Mode::MultiNodeMultiWriter;
+
+const OK: Status = Status::Ok;
+
+// A call that an orchestrator sends, as a test writes it: about volume 1, for a block device. `Create` is of at least 10
+// bytes. The node comes first, which a node's call is for.
+#[derive(Clone, Copy)]
+enum Sent {
+    Create(&'static str, Mode),
+    Delete,
+    Attach(&'static str, Mode, bool),
+    Detach(&'static str),
+    Stage(&'static str, Mode),
+    Unstage(&'static str),
+    Publish(&'static str, &'static str, Mode, bool),
+    Unpublish(&'static str, &'static str),
+}
+
+// What is asked of an orchestrator: a command about the volume `v`, unless another name is told, a restart, or a frame
+// that comes. `Hear` is the reply to a call under this session's number, with this status; `Echo` is the call itself.
+#[derive(Clone, Copy)]
+enum Ask {
+    Create(&'static str, Mode),
+    Use(&'static str, &'static str, Mode, bool),
+    Stop(&'static str, &'static str),
+    Delete,
+    Timeout,
+    Restart,
+    Hear(u64, u64, Sent, Status),
+    Echo(u64, u64, Sent),
+}
+
+// What it gives: a call under this session's number, nothing to send, that the frame is ignored, or a refusal.
+#[derive(Clone, Copy)]
+enum Gives {
+    Sends(u64, u64, Sent),
+    Nothing,
+    Ignores,
+    Refuses(OrchFault),
+}
+
+// A thing, as a test writes it: name, node and target.
+#[derive(Clone, Copy)]
+pub(crate) enum Fact {
+    Exists(&'static str),
+    Attached(&'static str, &'static str),
+    Staged(&'static str, &'static str),
+    Published(&'static str, &'static str, &'static str),
+}
+
+// A step of a test.
+#[derive(Clone, Copy)]
+enum Step {
+    // It is asked this, and gives that.
+    On(Ask, Gives),
+    // It makes `v` in this mode by call 1 of session 1.
+    Makes(Mode),
+    // It publishes `v` at `/a` of this node by the three calls of session 1 from this one on.
+    Publishes(u64, &'static str, Mode, bool),
+    // It publishes `v` at this further target of `n1` by this call of session 1, in mode `MANY`.
+    PublishesToo(u64, &'static str),
+    // It knows this of a thing.
+    Knows(Fact, Known),
+    // It knows the same of `v`, of its use at `n1` and of `/a` there.
+    KnowsOfEach(Known),
+    // It lists these things, in this order.
+    Lists(&'static [(Fact, Known)]),
+    // It is in this session.
+    IsIn(u64),
+}

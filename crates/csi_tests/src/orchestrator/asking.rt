@@ -1,0 +1,113 @@
+//! What an orchestrator answers when it is asked, and what it is to answer.
+use super::frames::{call_frame, reply_frame};
+use super::{Ask, Gives, Sent};
+use crate::values::{block, blocks, name, node_id, target};
+use csi_orchestrator::{Heard, OrchFault, Orchestrator};
+use csi_types::{Frame, Mode, Number, Status};
+use std::alloc::Global;
+use std::process::Abort;
+
+type Answer = Result<Heard, OrchFault>;
+
+// A command's answer, as it is told of a frame that comes.
+fn told(sent: Result<Option<Frame>, OrchFault>) -> Answer {
+    sent.map(Heard::Taken)
+}
+
+fn create(rt: &(impl Abort + AllocGlobal), o: &mut Orchestrator, text: &str, mode: Mode) -> Answer {
+    let name = name(rt, text);
+    let capabilities = blocks(rt, &[mode]);
+    told(o.create(name, 10, 0, capabilities))
+}
+
+fn use_at(
+    rt: &(impl Abort + AllocGlobal),
+    o: &mut Orchestrator,
+    (at, path): (&str, &str),
+    mode: Mode,
+    readonly: bool,
+) -> Answer {
+    let name = name(rt, "v");
+    let node = node_id(rt, at);
+    let target = target(rt, path);
+    told(o.use_at(&name, node, target, block(mode), readonly))
+}
+
+fn stop(rt: &(impl Abort + AllocGlobal), o: &mut Orchestrator, at: &str, path: &str) -> Answer {
+    let name = name(rt, "v");
+    let node = node_id(rt, at);
+    let target = target(rt, path);
+    told(o.stop(&name, node, target))
+}
+
+fn delete(rt: &(impl Abort + AllocGlobal), o: &mut Orchestrator) -> Answer {
+    let name = name(rt, "v");
+    told(o.delete(&name))
+}
+
+fn timeout(rt: &(impl Abort + AllocGlobal), o: &mut Orchestrator) -> Answer {
+    let name = name(rt, "v");
+    told(o.timeout(&name))
+}
+
+fn restart(o: &mut Orchestrator) -> Answer {
+    match o.restart() {
+        Ok(()) => Ok(Heard::Taken(None)),
+        Err(fault) => Err(fault),
+    }
+}
+
+fn echo(
+    rt: &(impl Abort + AllocGlobal),
+    o: &mut Orchestrator,
+    number: Number,
+    sent: Sent,
+) -> Answer {
+    let frame = call_frame(rt, number, sent);
+    o.deliver(&frame)
+}
+
+fn hear(
+    rt: &(impl Abort + AllocGlobal),
+    o: &mut Orchestrator,
+    number: Number,
+    sent: Sent,
+    status: Status,
+) -> Answer {
+    let frame = reply_frame(rt, number, sent, status);
+    o.deliver(&frame)
+}
+
+// What it answers to this.
+pub(super) fn answer(rt: &(impl Abort + AllocGlobal), o: &mut Orchestrator, ask: Ask) -> Answer {
+    match ask {
+        Ask::Create(text, mode) => create(rt, o, text, mode),
+        Ask::Use(at, path, mode, readonly) => use_at(rt, o, (at, path), mode, readonly),
+        Ask::Stop(at, path) => stop(rt, o, at, path),
+        Ask::Delete => delete(rt, o),
+        Ask::Timeout => timeout(rt, o),
+        Ask::Restart => restart(o),
+        Ask::Hear(session, call, sent, status) => {
+            hear(rt, o, Number { session, call }, sent, status)
+        }
+        Ask::Echo(session, call, sent) => echo(rt, o, Number { session, call }, sent),
+    }
+}
+
+// Whether the frame is this call.
+fn is_call(rt: &(impl Abort + AllocGlobal), frame: &Frame, number: Number, sent: Sent) -> bool {
+    let wanted = call_frame(rt, number, sent);
+    *frame == wanted
+}
+
+// Whether the answer is this.
+pub(super) fn is_given(rt: &(impl Abort + AllocGlobal), answer: &Answer, gives: Gives) -> bool {
+    match (answer, gives) {
+        (Ok(Heard::Taken(Some(frame))), Gives::Sends(session, call, sent)) => {
+            is_call(rt, frame, Number { session, call }, sent)
+        }
+        (Ok(Heard::Taken(None)), Gives::Nothing) | (Ok(Heard::Ignored), Gives::Ignores) => true,
+        (Err(fault), Gives::Refuses(wanted)) => *fault == wanted,
+        _ => false,
+    }
+}

@@ -1,0 +1,38 @@
+//! Tests of what `csi-replay` does with the bytes of a file and reads of a schedule. What is to come of them is written out in
+//! tables, by the formats.
+mod answers;
+mod endings;
+mod files;
+mod running;
+mod shown;
+
+use csi_commands::Ending;
+
+// What a command is to give for the frames of a file, which are written in hexadecimal: for `answer` the replies, for `show`
+// the lines; and how it ends.
+#[derive(Clone, Copy)]
+enum Case {
+    Answers(&'static [&'static str], &'static [&'static str], Ending),
+    Shows(&'static [&'static str], &'static str, Ending),
+}
+
+// DeleteVolume of id 1 under (1, 2), and its reply.
+const DELETE: &str = "0000001b 01 02 0000000000000001 0000000000000002 00 0000000000000001";
+
+const DELETED: &str = "0000001d 01 82 0000000000000001 0000000000000002 00 00 0000000000000000 00";
+
+// The same with a byte too many.
+const DAMAGED: &str = "0000001c 01 02 0000000000000001 0000000000000002 00 0000000000000001 00";
+
+// CreateVolume of `v` under (1, 1), required 10, for a block device of mode 1, and its reply.
+const CREATE: &str =
+    "00000028 01 01 0000000000000001 0000000000000001 00 0176 000000000000000a 0000000000000000 01 00 01";
+
+const CREATED: &str = "0000001d 01 81 0000000000000001 0000000000000001 00 00 0000000000000001 00";
+
+// ControllerPublishVolume of id 1 at `n1` under (1, 2), for a block device of mode 1.
+const CONTROLLER_PUBLISH: &str =
+    "00000021 01 03 0000000000000001 0000000000000002 00 0000000000000001 026e31 0001 00";
+
+const NODE_PUBLISH: &str =
+    "00000024 01 07 0000000000000001 0000000000000004 01 026e31 0000000000000001 022f61 0001 01";

@@ -1,0 +1,53 @@
+//! How a run of the program ends.
+use csi_commands::Ending;
+use csi_frames::FaultKind;
+use std::alloc::{AllocError, Global};
+use std::io::ErrorKind;
+use std::process::Abort;
+
+// Each ending with its line, and the exit status.
+const ENDINGS: &[(Ending, &str, u8)] = &[
+    (Ending::Done, "", 0),
+    (
+        Ending::FrameFault(FaultKind::LengthDiffers, 62),
+        "csi-replay: frame fault 13 at 62",
+        1,
+    ),
+    (Ending::Usage, "csi-replay: usage", 2),
+    (Ending::Device, "csi-replay: device", 3),
+    (Ending::Memory, "csi-replay: memory", 3),
+];
+
+// Whether this is the ending's line, where there is memory for it.
+fn has_line(alloc: Global, ending: Ending, line: &str) -> bool {
+    match format!(in alloc; "{ending}") {
+        Ok(text) => text.as_str() == line,
+        Err(_) => false,
+    }
+}
+
+#[test]
+fn an_ending_has_a_line_and_a_status(rt: HostRuntime) {
+    for (ending, line, status) in ENDINGS {
+        let has = has_line(rt.alloc(), *ending, line) || has_line(rt.alloc(), *ending, line);
+        assert!(&rt; has, "{line}");
+        assert_eq!(&rt; ending.status(), *status);
+    }
+}
+
+const FAILURES: &[(ErrorKind, Ending, Ending)] = &[
+    (ErrorKind::NotFound, Ending::Device, Ending::Usage),
+    (ErrorKind::IsADirectory, Ending::Device, Ending::Usage),
+    (ErrorKind::BrokenPipe, Ending::Device, Ending::Usage),
+    (ErrorKind::Other, Ending::Device, Ending::Usage),
+    (ErrorKind::OutOfMemory, Ending::Memory, Ending::Memory),
+];
+
+#[test]
+fn a_failing_call_of_the_system_has_an_ending(rt: HostRuntime) {
+    for (kind, device, words) in FAILURES {
+        assert_eq!(&rt; Ending::of_device(*kind), *device);
+        assert_eq!(&rt; Ending::of_words(*kind), *words);
+    }
+    assert_eq!(&rt; Ending::from(AllocError), Ending::Memory);
+}

@@ -1,0 +1,86 @@
+//! What a world is to show.
+use crate::orchestrator::{Fact, thing_of};
+use crate::values::node_id;
+use csi_orchestrator::Known;
+use csi_types::{Body, Frame, Kind, Status};
+use csi_world::World;
+use std::alloc::Global;
+use std::process::Abort;
+
+// Whether the frame is this call.
+pub(super) fn is_call(frame: Option<&Frame>, kind: Kind) -> bool {
+    match frame.map(Frame::body) {
+        Some(Body::Call(call)) => call.kind() == kind,
+        _ => false,
+    }
+}
+
+// Whether the frame is this reply.
+pub(super) fn is_reply(frame: Option<&Frame>, status: Status, detail: &str) -> bool {
+    match frame.map(Frame::body) {
+        Some(Body::Reply(_, reply)) => reply.status == status && reply.detail.as_str() == detail,
+        _ => false,
+    }
+}
+
+// How many volumes are attached. Where memory is refused they are listed the second time.
+fn attached(rt: &(impl Abort + AllocGlobal), world: &World) -> usize {
+    let controller = world.controller();
+    match controller.attachments(rt.alloc()) {
+        Ok(all) => all.len(),
+        Err(_) => controller
+            .attachments(rt.alloc())
+            .expect(rt, "memory")
+            .len(),
+    }
+}
+
+// How many are staged at a node.
+fn staged(rt: &(impl Abort + AllocGlobal), world: &World, at: &str) -> usize {
+    let id = node_id(rt, at);
+    let node = world.node(&id).expect(rt, "a node");
+    match node.staged() {
+        Ok(all) => all.len(),
+        Err(_) => node.staged().expect(rt, "memory").len(),
+    }
+}
+
+// How many are published there.
+fn published(rt: &(impl Abort + AllocGlobal), world: &World, at: &str) -> usize {
+    let id = node_id(rt, at);
+    let node = world.node(&id).expect(rt, "a node");
+    match node.published() {
+        Ok(all) => all.len(),
+        Err(_) => node.published().expect(rt, "memory").len(),
+    }
+}
+
+// So many are attached, and at this node so many staged and so many published.
+pub(super) fn has(
+    rt: &(impl Abort + AllocGlobal),
+    world: &World,
+    at: &str,
+    counts: (usize, usize, usize),
+    index: usize,
+) {
+    assert_eq!(rt; attached(rt, world), counts.0, "step {index}");
+    assert_eq!(rt; staged(rt, world, at), counts.1, "step {index}");
+    assert_eq!(rt; published(rt, world, at), counts.2, "step {index}");
+}
+
+pub(super) fn has_node(rt: &(impl Abort + AllocGlobal), world: &World, at: &str) -> bool {
+    let id = node_id(rt, at);
+    world.node(&id).is_some()
+}
+
+// The orchestrator knows this of a thing.
+pub(super) fn knows(
+    rt: &(impl Abort + AllocGlobal),
+    world: &World,
+    fact: Fact,
+    known: Known,
+    index: usize,
+) {
+    let thing = thing_of(rt, fact);
+    assert_eq!(rt; world.orchestrator().known(&thing), known, "step {index}");
+}

@@ -1,0 +1,194 @@
+//! How a table is played. The world is simulated anew after each event, and audited. Where memory is refused it is simulated,
+//! or audited, the second time, so that each test is one of refused growths too (by `rt try --test --fail-alloc N`).
+use super::checking::{has, has_node, is_call, is_reply, knows};
+use super::events::event;
+use super::{Does, Step};
+use crate::orchestrator::Fact;
+use crate::values::config;
+use csi_orchestrator::Known;
+use csi_types::{Config, Mode};
+use csi_world::{Event, Outcome, World, audit, simulate};
+use std::alloc::Global;
+use std::process::Abort;
+
+fn world_after(rt: &(impl Abort + AllocGlobal), config: &Config, events: &[Event]) -> World {
+    match simulate(rt.alloc(), config, events) {
+        Ok(world) => world,
+        Err(_) => simulate(rt.alloc(), config, events).expect(rt, "a world"),
+    }
+}
+
+// The audit finds nothing.
+fn is_safe(rt: &(impl Abort + AllocGlobal), world: &World) -> bool {
+    match audit(rt.alloc(), world) {
+        Ok(found) => found.is_none(),
+        Err(_) => matches!(audit(rt.alloc(), world), Ok(None)),
+    }
+}
+
+fn add(rt: &impl Abort, events: &mut Vec<Event>, event: Event) {
+    if let Err(refused) = events.push(event) {
+        assert!(rt; events.push(refused.value).is_ok());
+    }
+}
+
+// Whether this came of the last event, and the world is safe.
+fn came_of_last(
+    rt: &(impl Abort + AllocGlobal),
+    config: &Config,
+    events: &[Event],
+    outcome: Outcome,
+) -> bool {
+    let world = world_after(rt, config, events);
+    let outcomes = world.outcomes();
+    outcomes.len() == events.len()
+        && outcomes.last().copied() == Some(outcome)
+        && is_safe(rt, &world)
+}
+
+// Another event happens, and this comes of it.
+fn happens(
+    rt: &(impl Abort + AllocGlobal),
+    config: &Config,
+    events: &mut Vec<Event>,
+    (does, outcome): (Does, Outcome),
+    index: usize,
+) {
+    add(rt, events, event(rt, does));
+    let came = came_of_last(rt, config, events.as_slice(), outcome);
+    assert!(rt; came, "step {index}: {outcome:?}");
+}
+
+// Frame `call` was sent. It is delivered, and so is its reply, the next frame, of which this comes.
+fn answered(
+    rt: &(impl Abort + AllocGlobal),
+    config: &Config,
+    events: &mut Vec<Event>,
+    (call, then): (u64, Outcome),
+    index: usize,
+) {
+    let reply = call.wrapping_add(1);
+    let delivered = (Does::Deliver(call), Outcome::Answered(reply));
+    happens(rt, config, events, delivered, index);
+    happens(rt, config, events, (Does::Deliver(reply), then), index);
+}
+
+// This is done by three calls, the first of them this frame, each sent when the reply to the one before it was taken.
+fn three_calls(
+    rt: &(impl Abort + AllocGlobal),
+    config: &Config,
+    events: &mut Vec<Event>,
+    (does, first): (Does, u64),
+    index: usize,
+) {
+    let second = first.wrapping_add(2);
+    let third = first.wrapping_add(4);
+    happens(rt, config, events, (does, Outcome::Sent(first)), index);
+    let then = Outcome::Taken(Some(second));
+    answered(rt, config, events, (first, then), index);
+    let then = Outcome::Taken(Some(third));
+    answered(rt, config, events, (second, then), index);
+    answered(rt, config, events, (third, Outcome::Taken(None)), index);
+}
+
+fn makes(
+    rt: &(impl Abort + AllocGlobal),
+    config: &Config,
+    events: &mut Vec<Event>,
+    mode: Mode,
+    index: usize,
+) {
+    let created = (Does::Create(mode), Outcome::Sent(1));
+    happens(rt, config, events, created, index);
+    answered(rt, config, events, (1, Outcome::Taken(None)), index);
+}
+
+// It knows the same of `v`'s use at this node, and of `/a` there.
+fn knows_at(
+    rt: &(impl Abort + AllocGlobal),
+    world: &World,
+    at: &'static str,
+    known: Known,
+    index: usize,
+) {
+    knows(rt, world, Fact::Attached("v", at), known, index);
+    knows(rt, world, Fact::Staged("v", at), known, index);
+    knows(rt, world, Fact::Published("v", at, "/a"), known, index);
+}
+
+// Whether the world's frames are as the step says, where it speaks of frames.
+fn has_frames(world: &World, step: Step) -> bool {
+    match step {
+        Step::Frames(count) => world.frames() == count,
+        Step::NoFrame(number) => world.frame(number).is_none(),
+        Step::Calls(number, kind) => is_call(world.frame(number), kind),
+        Step::Replies(number, status, detail) => is_reply(world.frame(number), status, detail),
+        _ => true,
+    }
+}
+
+// The world shows what the step says.
+fn shows(rt: &(impl Abort + AllocGlobal), world: &World, step: Step, index: usize) {
+    assert!(rt; has_frames(world, step), "step {index}");
+    match step {
+        Step::Has(attached, at, staged, published) => {
+            has(rt, world, at, (attached, staged, published), index)
+        }
+        Step::NoNode(at) => assert!(rt; !has_node(rt, world, at), "step {index}"),
+        Step::Knows(fact, known) => knows(rt, world, fact, known, index),
+        Step::KnowsAt(at, known) => knows_at(rt, world, at, known, index),
+        Step::KnowsOfEach(known) => {
+            knows(rt, world, Fact::Exists("v"), known, index);
+            knows_at(rt, world, "n1", known, index)
+        }
+        Step::IsIn(session) => {
+            assert_eq!(rt; world.orchestrator().session(), session, "step {index}")
+        }
+        _ => {}
+    }
+}
+
+fn play(
+    rt: &(impl Abort + AllocGlobal),
+    config: &Config,
+    events: &mut Vec<Event>,
+    step: Step,
+    index: usize,
+) {
+    match step {
+        Step::On(does, outcome) => happens(rt, config, events, (does, outcome), index),
+        Step::Makes(mode) => makes(rt, config, events, mode, index),
+        Step::Publishes(first, at, mode, readonly) => {
+            let used = Does::Use(at, "/a", mode, readonly);
+            three_calls(rt, config, events, (used, first), index)
+        }
+        Step::Leaves(first, at) => {
+            three_calls(rt, config, events, (Does::Stop(at, "/a"), first), index)
+        }
+        _ => {
+            let world = world_after(rt, config, events.as_slice());
+            shows(rt, &world, step, index)
+        }
+    }
+}
+
+fn play_all(
+    rt: &(impl Abort + AllocGlobal),
+    config: &Config,
+    events: &mut Vec<Event>,
+    steps: &[Step],
+) {
+    for (index, step) in steps.iter().enumerate() {
+        play(rt, config, events, *step, index);
+    }
+}
+
+// These steps are played, table by table, in a new world of these nodes.
+pub(super) fn plays(rt: &(impl Abort + AllocGlobal), nodes: &[(&str, u64)], tables: &[&[Step]]) {
+    let config = config(rt, nodes);
+    let mut events = Vec::new(rt.alloc());
+    assert!(rt; is_safe(rt, &world_after(rt, &config, &[])));
+    for steps in tables {
+        play_all(rt, &config, &mut events, steps);
+    }
+}
