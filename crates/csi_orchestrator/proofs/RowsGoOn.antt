@@ -1,11 +1,9 @@
 -- What goes on for a row, by what the code finds before it changes the row.
 use Rattle.std.proofs.Common.{◌≡◌, ◌++◌, ℕ, List, [], ◌∷◌, Bool, true, false, cond, not, refl, sym, ◌∙◌, ap, subst}
-use Rattle.std.specs.Prelude.{Option, Some, None, find, is_some, option_map, ◌&&◌, ◌||◌, Result, Ok, Err, IfErr, OnErr, IsErrAnd}
+use Rattle.std.specs.Prelude.{Option, Some, None, find, is_some, ◌&&◌, ◌||◌, Result, Ok, Err, IfErr, OnErr, IsErrAnd}
 use Rattle.std.specs.List.{list_any}
 use Rattle.std.proofs.lemmas.List.Folds.{list_any-append}
-use Rattle.csi_types.specs.declared.call.Kind.{Kind}
 use Rattle.csi_types.specs.declared.number.Number.{Number}
-use Rattle.csi_types.specs.Frame.{Frame}
 use Rattle.csi_types.specs.Same.{same_text}
 use Rattle.csi_orchestrator.specs.declared.fault.OrchFault.{OrchFault}
 use Rattle.csi_orchestrator.specs.declared.fault.OrchFault.TheVariants as faults

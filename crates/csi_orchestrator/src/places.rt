@@ -2,7 +2,7 @@
 ghost use Rattle.std.specs.Prelude.{◌≡◌, [], map, filter, find, position, Some, None, IfOk, OnOk, OnErr};
 ghost use Rattle.csi_types.specs.Same.{same_text};
 ghost use Rattle.csi_orchestrator.specs.Shown.{place_shown};
-ghost use Rattle.csi_orchestrator.specs.RowChanges.{attached_as, staged_as, published_as, aimed_as, is_aim_kept, is_place_kept as is_kept_shown, with_kept_aims, tidied, with_aim, entry_for, new_aim as new_aim_shown};
+ghost use Rattle.csi_orchestrator.specs.RowChanges.{attached_as, staged_as, published_as, aimed_as, is_aim_kept as is_kept_aim, is_place_kept as is_kept_shown, with_kept_aims, tidied, with_aim, entry_for, new_aim as new_aim_shown};
 ghost use Rattle.csi_orchestrator.specs.Keyed.{put_by};
 
 use crate::row::{Aim, Place, Usage};
@@ -60,11 +60,18 @@ pub(crate) fn mark_published(places: &mut Vec<Place>, node: &NodeId, target: &Ta
     }
 }
 
+// Whether the volume may be published at the target.
+fn is_aim_kept(aim: &Aim) -> bool
+    ensures { result ≡ is_kept_aim aim.now }
+{
+    !aim.published.is_no()
+}
+
 // Keeps the targets at which the volume may be published.
 fn keep_aims(aims: &mut Vec<Aim>)
-    ensures { aims.new.items ≡ filter is_aim_kept aims.old.items }
+    ensures { aims.new.items ≡ filter is_kept_aim aims.old.items }
 {
-    aims.retain(|aim| !aim.published.is_no());
+    aims.retain(is_aim_kept);
 }
 
 // The same, at every node.
@@ -87,7 +94,7 @@ fn is_place_kept(place: &Place) -> bool
 fn keep_places(places: &mut Vec<Place>)
     ensures { places.new.items ≡ filter (λ place. is_kept_shown (place_shown place)) places.old.items }
 {
-    places.retain(|place| is_place_kept(place));
+    places.retain(is_place_kept);
 }
 
 /// Keeps the entries of which something may be so.

@@ -57,14 +57,14 @@ fn place_of_kind(thing: &Thing) -> u8
     }
 }
 
-// Which of the two things comes first.
-fn compare(a: &Thing, b: &Thing) -> Ordering
-    ensures { result ≡ thing_order a.now b.now }
+// Which of the two comes first, by its thing.
+fn compare(a: &(Thing, Known), b: &(Thing, Known)) -> Ordering
+    ensures { result ≡ thing_order a.now.0 b.now.0 }
 {
-    let names = name_of(a).cmp(name_of(b));
-    let nodes = node_of(a).cmp(&node_of(b));
-    let kinds = place_of_kind(a).cmp(&place_of_kind(b));
-    let targets = target_of(a).cmp(&target_of(b));
+    let names = name_of(&a.0).cmp(name_of(&b.0));
+    let nodes = node_of(&a.0).cmp(&node_of(&b.0));
+    let kinds = place_of_kind(&a.0).cmp(&place_of_kind(&b.0));
+    let targets = target_of(&a.0).cmp(&target_of(&b.0));
     names.then(nodes.then(kinds.then(targets)))
 }
 
@@ -73,5 +73,5 @@ pub(crate) fn put_in_order(things: &mut Vec<(Thing, Known)>)
     ensures moved { IsPermutation things.old.items things.new.items }
     ensures order { IsSortedBy (λ a b. is_lt (thing_order a.0 b.0)) things.new.items }
 {
-    things.sort_unstable_by(|a, b| compare(&a.0, &b.0));
+    things.sort_unstable_by(compare);
 }

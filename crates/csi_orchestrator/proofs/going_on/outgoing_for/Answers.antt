@@ -1,6 +1,6 @@
 -- By the marks of the goal.
-use Rattle.std.proofs.Common.{◌≡◌, Ok, ap, subst}
-use Rattle.std.specs.Prelude.{Option, IfOk, IfErr}
+use Rattle.std.proofs.Common.{◌≡◌, Ok, subst}
+use Rattle.std.specs.Prelude.{IfOk, IfErr}
 use Rattle.csi_orchestrator.specs.declared.marks.Marks.{Marks}
 use Rattle.csi_orchestrator.specs.Commands.{next_number}
 use Rattle.csi_orchestrator.specs.CoreMoves.{outgoing_by}

@@ -1,6 +1,6 @@
 -- Others are there where some are counted.
 use Rattle.std.proofs.Common.{◌≡◌, not, ◌∙◌, ap, rules}
-use Rattle.std.specs.Prelude.{Bool, count_by, nat_lt, ◌&&◌}
+use Rattle.std.specs.Prelude.{count_by, nat_lt, ◌&&◌}
 use Rattle.csi_types.specs.Same.{same_text}
 use Rattle.csi_orchestrator.specs.declared.row.Aim.{Aim}
 use Rattle.csi_orchestrator.specs.Shown.{others_in, place_shown}

@@ -1,6 +1,6 @@
 -- One target more is counted, or isn't.
-use Rattle.std.proofs.Common.{◌≡◌, true, false, not, rules}
-use Rattle.std.specs.Prelude.{Bool, ◌&&◌}
+use Rattle.std.proofs.Common.{not, rules}
+use Rattle.std.specs.Prelude.{◌&&◌}
 use Rattle.csi_types.specs.Same.{same_text}
 use Rattle.csi_orchestrator.specs.declared.row.Aim.{Aim}
 use Rattle.csi_orchestrator.specs.Thing.{is_no}

@@ -1,6 +1,6 @@
 -- The target has an entry where one is found.
 use Rattle.std.proofs.Common.{◌≡◌, Bool, true, false, cond, [], ◌∷◌, ◌++◌, sym, ◌∙◌, ap}
-use Rattle.std.specs.Prelude.{find, position, is_some}
+use Rattle.std.specs.Prelude.{position, is_some}
 use Rattle.csi_types.specs.Same.{same_text}
 use Rattle.csi_orchestrator.specs.declared.row.Aim.{Aim}
 use Rattle.csi_orchestrator.specs.RowChanges.{new_aim}

@@ -1,5 +1,5 @@
 -- Another target is taken where some are counted.
-use Rattle.std.proofs.Common.{◌≡◌, ◌∙◌, ap, sym}
+use Rattle.std.proofs.Common.{◌≡◌, ◌∙◌, ap}
 use Rattle.std.specs.Prelude.{nat_lt}
 use Rattle.csi_orchestrator.specs.Shown.{others_in, place_of, row_shown}
 use Rattle.csi_orchestrator.proofs.Counts.{others-counted}

@@ -1,6 +1,6 @@
 -- What is due after the success is told by the marks.
 use Rattle.std.proofs.Common.{◌≡◌, ℕ, Ok, sym, ◌∙◌, ap, subst}
-use Rattle.std.specs.Prelude.{Option, Some, IfOk, IfErr}
+use Rattle.std.specs.Prelude.{Option, IfOk, IfErr}
 use Rattle.std.specs.Option.{option_or}
 use Rattle.csi_orchestrator.specs.declared.marks.Marks.{Marks}
 use Rattle.csi_orchestrator.specs.Commands.{next_number}
