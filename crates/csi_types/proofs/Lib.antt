@@ -1,4 +1,5 @@
 pub mod Equality
+pub mod Holdings
 pub mod Lists
 pub mod Among
 pub mod Order
