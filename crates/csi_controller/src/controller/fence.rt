@@ -51,11 +51,15 @@ pub fn keep(
     ensures err { OnErr result (row.new ≡ row.old) }
     ensures succeeds { reply.detail ≡ [] → IsOk result }
 {
-    let frame = frame_of(alloc, number, kind, &reply)?;
-    row.last = number;
-    row.kind = kind;
-    row.reply = reply;
-    Ok(frame)
+    match frame_of(alloc, number, kind, &reply) {
+        Ok(frame) => {
+            row.last = number;
+            row.kind = kind;
+            row.reply = reply;
+            Ok(frame)
+        }
+        Err(fault) => Err(fault),
+    }
 }
 
 /// Keeps in a row that a call was carried out, and gives the frame that says so. It takes no memory.

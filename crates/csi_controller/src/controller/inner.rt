@@ -8,6 +8,7 @@ ghost use Rattle.csi_types.specs.declared.call.Kind.TheVariants.{CreateVolume as
 ghost use Rattle.csi_types.specs.declared.call.Call.{Call as OneCall};
 ghost use Rattle.csi_types.specs.declared.call.Party.TheVariants.{Controller};
 ghost use Rattle.csi_types.specs.Call.{kind_of, is_node_kind};
+ghost use Rattle.csi_types.specs.Capacity.{wanted};
 ghost use Rattle.csi_types.specs.Config.{has_node};
 ghost use Rattle.csi_types.specs.Reply.{has_id_by_rule};
 ghost use Rattle.csi_types.specs.Replies.{ok_reply_with, plain_reply, reply_frame};
@@ -48,6 +49,17 @@ pub struct Core {
 struct Refusal {
     status: Status,
     detail: &'static str,
+}
+
+// The capacity that is asked for with this range.
+fn wanted_capacity(required: u64, limit: u64) -> u64
+    ensures { result ≡ wanted required limit }
+{
+    if required == 0 {
+        DEFAULT_CAPACITY.min(limit)
+    } else {
+        required
+    }
 }
 
 impl Core {
@@ -113,11 +125,7 @@ impl Core {
         ensures from { IfOk result (λ made. 0 < made.0) }
         ensures no_id { IfErr result (λ refusal. IsTrue (has_id_by_rule CreateKind (plain_reply refusal.status refusal.detail.now))) }
     {
-        let capacity = if required == 0 {
-            DEFAULT_CAPACITY.min(limit)
-        } else {
-            required
-        };
+        let capacity = wanted_capacity(required, limit);
         if capacity > self.config.greatest() {
             return Err(Refusal {
                 status: Status::OutOfRange,
@@ -433,7 +441,10 @@ impl Core {
         ensures { IfOk result (λ copy. IsCopyOf (find (λ row. row.id == id) self.now.rows.items) copy) }
     {
         match self.place_of_id(id) {
-            Some(place) => Ok(Some(copied_row(&self.rows[place])?)),
+            Some(place) => match copied_row(&self.rows[place]) {
+                Ok(copy) => Ok(Some(copy)),
+                Err(fault) => Err(fault),
+            },
             None => Ok(None),
         }
     }

@@ -4,6 +4,7 @@ ghost use Rattle.std.specs.Prelude.{◌≡◌, ℕ, Bool, true, IsTrue, IsOk, If
 ghost use Rattle.std.specs.List.{find, list_any, list_all};
 ghost use Rattle.std.specs.Option.{option_copied};
 ghost use Rattle.csi_types.specs.declared.call.Kind.TheVariants.{CreateVolume, DeleteVolume, ControllerPublishVolume};
+ghost use Rattle.csi_types.specs.Capacity.{is_bad_range as is_bad, is_empty_range as is_empty};
 ghost use Rattle.csi_types.specs.Holding.{same_holding, is_compatible};
 ghost use Rattle.csi_types.specs.Same.{same_text, same_capability as is_same_capability, same_access as is_same_access, has_capability};
 ghost use Rattle.csi_types.specs.Reply.{has_id_by_rule};
@@ -72,6 +73,20 @@ pub fn is_held_at(row: &ControllerRow, node: &NodeId) -> bool
     row.holdings.iter().any(|held| held.node == *node)
 }
 
+// Whether neither end of the range is given, or one is above the greatest.
+fn is_bad_range(required: u64, limit: u64) -> bool
+    ensures { result ≡ is_bad required limit }
+{
+    (required == 0 && limit == 0) || required > MAX_CAPACITY || limit > MAX_CAPACITY
+}
+
+// Whether a limit is given, and is below what is required.
+fn is_empty_range(required: u64, limit: u64) -> bool
+    ensures { result ≡ is_empty required limit }
+{
+    limit != 0 && limit < required
+}
+
 /// What is wrong with the arguments of a CreateVolume, as the table answers it, if anything is.
 pub fn argument_fault(
     alloc: Global,
@@ -85,10 +100,10 @@ pub fn argument_fault(
     if wished.is_empty() {
         return refused(alloc, Status::InvalidArgument, "capabilities");
     }
-    if (required == 0 && limit == 0) || required > MAX_CAPACITY || limit > MAX_CAPACITY {
+    if is_bad_range(required, limit) {
         return refused(alloc, Status::InvalidArgument, "capacity");
     }
-    if limit != 0 && limit < required {
+    if is_empty_range(required, limit) {
         return refused(alloc, Status::OutOfRange, "range");
     }
     Ok(None)

@@ -6,7 +6,7 @@ ghost use Rattle.csi_controller.specs.Core.{made_volume, held_by, IsSameRow};
 
 use super::answer::done;
 use crate::fault::CoreFault;
-use crate::row::{ControllerRow, NodeHolding};
+use crate::row::{ControllerRow, NodeHolding, copied_capabilities};
 use csi_types::{CapabilityList, Holding, Kind, Name, Number, VolumeId};
 use std::alloc::Global;
 
@@ -23,7 +23,7 @@ pub fn new_row(
     ensures items { IfOk result (λ row. row.holdings.items ≡ []) }
 {
     let name = name.clone()?;
-    let capabilities = capabilities.clone()?;
+    let capabilities = copied_capabilities(capabilities)?;
     Ok(ControllerRow {
         id,
         live: true,

@@ -7,12 +7,12 @@ use Rattle.csi_controller.specs.Views.{IsCopyOf}
 use Rattle.csi_controller.proofs.Calls.{at-place, nowhere}
 use Rattle.csi_controller.proofs.controller.inner.Core.row.Goals as goal
 
-pub returns-in_ok-copied_row-in-Some : goal.returns-in_ok-copied_row-in-Some
-returns-in_ok-copied_row-in-Some c =
+pub returns-in-Ok : goal.returns-in-Ok
+returns-in-Ok c =
     let rows = c.args.self.now.rows.items in
     let first = at-place (λ (r : ControllerRow). r.id == c.args.id) rows c.in-Some.place c.index.result.now c.in-Some.ensures c.index.ensures in
-    subst (λ (o : Option ControllerRow). IsCopyOf o (Some c.in_ok-copied_row-in-Some.field-0)) (sym (FirstAt-find (λ (r : ControllerRow). r.id == c.args.id) rows c.in-Some.place c.index.result.now first))
-    c.in_ok-copied_row-in-Some.ensures
+    subst (λ (o : Option ControllerRow). IsCopyOf o (Some c.in-Ok.copy)) (sym (FirstAt-find (λ (r : ControllerRow). r.id == c.args.id) rows c.in-Some.place c.index.result.now first))
+    c.in-Ok.ensures
 
 pub returns-in-None : goal.returns-in-None
 returns-in-None c = subst (λ (o : Option ControllerRow). IsCopyOf o None) (sym (nowhere (λ (r : ControllerRow). r.id == c.args.id) c.args.self.now.rows.items c.in-None.ensures)) tt
