@@ -1,7 +1,7 @@
 -- What is known to be so is so, and what is known not to be so isn't, by the list of what holds; and what an audit finds then.
-use Rattle.std.proofs.Common.{◌≡◌, ◌≢◌, ◌↔◌, List, [], ◌∷◌, Bool, true, false, not, refl, sym, ◌∙◌, ap, subst}
-use Rattle.std.specs.Prelude.{IsTrue, ◌&&◌, ◌||◌}
-use Rattle.std.specs.List.{list_any, list_all}
+use Rattle.std.proofs.Common.{◌≡◌, ◌≢◌, ◌↔◌, List, Bool, true, refl, sym, ◌∙◌, ap, subst}
+use Rattle.std.specs.Prelude.{IsTrue, ◌&&◌}
+use Rattle.std.specs.List.{list_all}
 use Rattle.std.proofs.lemmas.Bool.{and_parts, and_from, false≢true, false_from_ne_true}
 use Rattle.csi_types.specs.Lists.{IsAmong}
 use Rattle.csi_types.specs.Same.{same_text}
@@ -11,7 +11,7 @@ use Rattle.csi_orchestrator.specs.declared.thing.Thing.TheVariants.{Exists, Atta
 use Rattle.csi_orchestrator.specs.declared.thing.Known.{Known}
 use Rattle.csi_orchestrator.specs.declared.thing.Known.TheVariants.{Yes, No, Maybe}
 use Rattle.csi_orchestrator.specs.Listing.{ListsKnown}
-use Rattle.csi_orchestrator.specs.Thing.{same_thing, is_yes}
+use Rattle.csi_orchestrator.specs.Thing.{same_thing}
 use Rattle.csi_world.specs.World.{World}
 use Rattle.csi_world.specs.Safe.{holds}
 use Rattle.csi_world.specs.Audited.{AreMarkedRight}
@@ -92,9 +92,9 @@ marked-told marks world things noted all lists b g = (λ h. to h, λ right. g �
         record {
           yes = λ is. (all thing).0 (listed-is things thing (all-then (is_affirmed things) noted parts.0 (thing, Yes) ((lists thing Yes).1 (is, yes_not_no))));
           no = λ is. false_from_ne_true (holds world thing) (λ there.
-            let found = noted-is noted thing (all-then (is_noted noted) things parts.1 thing ((all thing).1 there)) in
-            let told = (lists thing found.0).0 found.1 in
-            told.1 (sym told.0 ∙ is));
+              let found = noted-is noted thing (all-then (is_noted noted) things parts.1 thing ((all thing).1 there)) in
+              let told = (lists thing found.0).0 found.1 in
+              told.1 (sym told.0 ∙ is));
         }
 
     back_affirmed : AreMarkedRight marks world → list_all (is_affirmed things) noted ≡ true

@@ -1,5 +1,5 @@
 -- The ids of two lists of nodes, place by place.
-use Rattle.std.proofs.Common.{◌≡◌, ◌<◌, ℕ, zero, suc, List, [], ◌∷◌, length, get_or, map, refl, sym, ◌∙◌, ap, arith}
+use Rattle.std.proofs.Common.{◌≡◌, ◌<◌, ℕ, zero, suc, List, [], ◌∷◌, length, get_or, map, refl, arith}
 use Rattle.csi_types.specs.declared.config.NodeSlots.{NodeSlots}
 use Rattle.csi_node.specs.Record.{NodeParts}
 use Rattle.csi_world.specs.After.{node_id}

@@ -1,5 +1,5 @@
 -- What is listed of the plugins is what holds in the world of which it is the list.
-use Rattle.std.proofs.Common.{◌≡◌, ◌⊎◌, ◌↔◌, ℕ, List, [], ◌∷◌, ◌++◌, map, Bool, true, false, cond, refl, sym, ◌∙◌, ap, subst, inl, inr}
+use Rattle.std.proofs.Common.{◌≡◌, ◌⊎◌, ℕ, List, [], ◌∷◌, map, Bool, true, false, cond, refl, sym, ◌∙◌, ap, subst, inl, inr}
 use Rattle.std.specs.Prelude.{Option, Some, None, option_map, find, filter, is_some, ◌==◌, ◌&&◌}
 use Rattle.std.specs.List.{list_any, flat_map}
 use Rattle.std.proofs.lemmas.Bool.{and_parts, and_from, eqb-true, eq-eqb, false≢true}
@@ -13,7 +13,7 @@ use Rattle.csi_controller.specs.declared.row.ControllerRow.{ControllerRow}
 use Rattle.csi_controller.specs.declared.row.NodeHolding.{NodeHolding}
 use Rattle.csi_controller.specs.Core.{AtMostOne, IsRising}
 use Rattle.csi_controller.specs.Shown.{volume_of_row, holdings_in_row, holdings_in}
-use Rattle.csi_controller.specs.State.{Volume, ControllerState, volume_named, is_held_at, holding_at}
+use Rattle.csi_controller.specs.State.{Volume, volume_named, is_held_at}
 use Rattle.csi_controller.proofs.Sound.{rising-one}
 use Rattle.csi_node.specs.declared.entries.Staged.{Staged as StagedEntry}
 use Rattle.csi_node.specs.declared.entries.Published.{Published as PublishedEntry}

@@ -8,7 +8,7 @@ use Rattle.csi_types.specs.Same.{same_text, same_capability}
 use Rattle.csi_controller.specs.declared.row.ControllerRow.{ControllerRow}
 use Rattle.csi_controller.specs.declared.row.NodeHolding.{NodeHolding}
 use Rattle.csi_controller.specs.Shown.{volume_of_row, holdings_in}
-use Rattle.csi_controller.specs.State.{ControllerState, holdings_of}
+use Rattle.csi_controller.specs.State.{holdings_of}
 use Rattle.csi_node.specs.declared.entries.Staged.{Staged}
 use Rattle.csi_node.specs.declared.entries.Published.{Published}
 use Rattle.csi_node.specs.Record.{NodeParts}

@@ -1,5 +1,5 @@
 -- By where the row is.
-use Rattle.std.proofs.Common.{◌≡◌, sym, ◌∙◌}
+use Rattle.std.proofs.Common.{sym, ◌∙◌}
 use Rattle.std.specs.Prelude.{Bool, ◌==◌}
 use Rattle.csi_controller.specs.declared.row.ControllerRow.{ControllerRow}
 use Rattle.csi_controller.proofs.FirstAt.{FirstAt-position, FirstAt-find}
