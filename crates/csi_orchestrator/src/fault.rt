@@ -6,77 +6,60 @@ mod numbers;
 
 use csi_types::{Frame, NoMemory};
 use std::alloc::{AllocError, AllocFailed};
-use std::error::Error;
-use std::fmt;
+use thiserror::Error;
 
 /// Why a command, a timeout, a reply or a restart is refused. A refusal leaves the orchestrator as it was.
-#[derive(Clone, Copy, Debug, PartialEq, Eq)]
+#[derive(Clone, Copy, Debug, PartialEq, Eq, Error)]
 pub enum OrchFault {
     /// The name has a row with an id or a goal.
+    #[error("the name is used")]
     NameUsed,
     /// The name has no row.
+    #[error("no such volume")]
     NoSuchVolume,
     /// The volume isn't known to be made.
+    #[error("the volume isn't created")]
     NotCreated,
     /// The row has a goal.
+    #[error("the volume is busy")]
     Busy,
     /// The node isn't in the orchestrator's list.
+    #[error("no such node")]
     NoSuchNode,
     /// The capability isn't one that the volume was created with.
+    #[error("the volume hasn't this capability")]
     NotCapable,
     /// The volume may be attached at another node, and one of the two modes is for one node.
+    #[error("the volume is held at another node")]
     HeldElsewhere,
     /// The volume may be attached at another node, both write, and one of the two modes has one writer.
+    #[error("the volume has a writer at another node")]
     WriterElsewhere,
     /// The volume may be attached at this node otherwise.
+    #[error("the volume is held otherwise")]
     HeldOtherwise,
     /// The mode allows one target, and another target of the node may be published.
+    #[error("another target is taken")]
     TargetTaken,
     /// Nothing may be published at the target.
+    #[error("no such target")]
     NoSuchTarget,
     /// The volume may be attached at a node.
+    #[error("the volume is in use")]
     InUse,
     /// The row has no goal.
+    #[error("nothing to wait for")]
     Idle,
     /// The next call or session would have a number above 2^64 - 1.
+    #[error("the numbers are spent")]
     NumbersSpent,
     /// There are 4,096 rows, or 16 other targets of the node.
+    #[error("no room")]
     Full,
     /// An allocation was refused.
+    #[error("out of memory")]
     NoMemory,
 }
-
-impl OrchFault {
-    // What it says of itself.
-    fn text(self) -> &'static str {
-        match self {
-            OrchFault::NameUsed => "the name is used",
-            OrchFault::NoSuchVolume => "no such volume",
-            OrchFault::NotCreated => "the volume isn't created",
-            OrchFault::Busy => "the volume is busy",
-            OrchFault::NoSuchNode => "no such node",
-            OrchFault::NotCapable => "the volume hasn't this capability",
-            OrchFault::HeldElsewhere => "the volume is held at another node",
-            OrchFault::WriterElsewhere => "the volume has a writer at another node",
-            OrchFault::HeldOtherwise => "the volume is held otherwise",
-            OrchFault::TargetTaken => "another target is taken",
-            OrchFault::NoSuchTarget => "no such target",
-            OrchFault::InUse => "the volume is in use",
-            OrchFault::Idle => "nothing to wait for",
-            OrchFault::NumbersSpent => "the numbers are spent",
-            OrchFault::Full => "no room",
-            OrchFault::NoMemory => "out of memory",
-        }
-    }
-}
-
-impl fmt::Display for OrchFault {
-    fn fmt<W: fmt::Write>(&self, f: &mut fmt::Formatter<W>) -> fmt::Result {
-        f.write_str(self.text())
-    }
-}
-
-impl Error for OrchFault {}
 
 impl From<NoMemory> for OrchFault {
     ghost from_gives = { λ _ fault. fault ≡ WantsMemory };
@@ -103,7 +86,7 @@ impl<T: Drop> From<AllocFailed<T>> for OrchFault {
 }
 
 /// What became of a frame that came.
-#[derive(Debug, PartialEq, Eq, Drop)]
+#[derive(Clone, Debug, PartialEq, Eq, Drop)]
 pub enum Heard {
     /// It isn't a reply to an open call. Nothing changed.
     Ignored,

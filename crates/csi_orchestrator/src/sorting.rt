@@ -68,6 +68,17 @@ fn compare(a: &(Thing, Known), b: &(Thing, Known)) -> Ordering
     names.then(nodes.then(kinds.then(targets)))
 }
 
+impl Thing {
+    /// Which of the two things comes first where they are listed, as by `Orchestrator::things`: by name; of one name by
+    /// node, what has none first; of one node by kind (`Attached`, `Staged`, `Published`); of one kind by target; texts by
+    /// their bytes. `Equal` is one thing. This profile's own.
+    pub fn compare(&self, other: &Thing) -> Ordering
+        ensures { result ≡ thing_order self.now other.now }
+    {
+        compare(self, other)
+    }
+}
+
 /// Puts things in order, each before those that come after it by `compare`.
 pub(crate) fn put_in_order(things: &mut Vec<(Thing, Known)>)
     ensures moved { IsPermutation things.old.items things.new.items }

@@ -22,7 +22,8 @@ use Rattle.csi_world.specs.Step.{answered, answered_by, answered_by_node}
 use Rattle.csi_world.specs.After.{Occurred, node_id, next_frame, called}
 use Rattle.csi_world.specs.Simulated.{WorldShown, ShowsWorld}
 use Rattle.csi_world.specs.Simulating.{IsAnswered, ControllerDoes, NodeDoes, IsSameController, IsSameNode, HasOwnNodes, Becomes}
-use Rattle.csi_world.proofs.SystemNodes.{first-at, is_shown_node, IsFound, node-found, same-put, ids-put, any-ids, AreApart, fit-apart, state-put, none-at, some-at, find-nowhere, first-passes}
+use Rattle.csi_world.specs.Listed.{AreDistinct}
+use Rattle.csi_world.proofs.SystemNodes.{first-at, is_shown_node, IsFound, node-found, same-put, ids-put, any-ids, fit-apart, state-put, none-at, some-at, find-nowhere, first-passes}
 
 -- a frame that is sent, if there is one, is appended
 with_frame-is : (reply : Option Frame) (world : World) → with_frame reply world ≡ record world { frames = world.frames ++ option_to_list reply }
@@ -75,7 +76,7 @@ node-becomes shown id place old new posted frame reply outcome world own shows p
     let ids : map (λ (m : NodeParts). m.id) shown.nodes ≡ map node_id (shown.config).nodes = own.ids in
     let there : has_node id (shown.config).nodes ≡ true
     = any-ids id (shown.config).nodes ∙ ap (list_any (same_text id)) (sym ids) ∙ some-at id shown.nodes place old first in
-    let apart : AreApart (map (λ (m : NodeParts). m.id) shown.nodes) = subst AreApart (sym ids) (fit-apart shown.config own.fit) in
+    let apart : AreDistinct (map (λ (m : NodeParts). m.id) shown.nodes) = subst AreDistinct (sym ids) (fit-apart shown.config own.fit) in
     let known : node_state id world ≡ Some found.node.state = ap (option_map (λ (n : NodeAt). n.state)) found.found in
     let world_is : answered shown.config world frame ≡ after = ap (answered_by shown.config world frame) party ∙ ap (answered_by_node id world frame) known ∙ with_frame-is fenced.reply changed in
     let outcome_is : outcomes.Answered (next_frame world) ≡ outcome = ap (λ (fs : List Frame). outcomes.Answered (length fs + 1)) (sym shows.frames) ∙ sym sent.came in

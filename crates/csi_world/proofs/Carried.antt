@@ -1,11 +1,14 @@
 -- Bytes that spell a frame are read as this frame, unless memory is refused.
-use Rattle.std.proofs.Common.{◌≡◌, ℕ, List, length, sym, subst, inl, inr, arith}
-use Rattle.std.specs.Prelude.{Result, Ok, Err}
+use Rattle.std.proofs.Common.{◌≡◌, ℕ, zero, suc, List, length, refl, sym, ap, subst, inl, inr, arith}
+use Rattle.std.specs.Prelude.{Result, Ok, Err, slice_get}
 use Rattle.std.proofs.Math.Seq.{take-length}
 use Rattle.csi_types.specs.Frame.{Frame}
 use Rattle.csi_frames.specs.declared.fault.FrameFault.{FrameFault}
 use Rattle.csi_frames.specs.Decoding.{no_memory, GivesUnlessMemory}
 use Rattle.csi_frames.specs.Spelling.{Spells, BeginsWith}
+use Rattle.csi_world.specs.World.{World}
+use Rattle.csi_world.specs.After.{frame_at}
+use Rattle.csi_world.specs.Simulating.{numbered}
 
 pub begins-whole : (frame : Frame) (bytes : List ℕ) → Spells frame bytes → BeginsWith bytes frame (length bytes)
 begins-whole frame bytes spells = record { within = omega arith; spelled = subst (Spells frame) (sym (take-length bytes)) spells }
@@ -20,3 +23,8 @@ only-memory result value fault (inr e) is = cc
 pub only-value : {X : Type 0} (result : Result X FrameFault) (value read : X) → GivesUnlessMemory result value → result ≡ Ok read → read ≡ value
 only-value result value read (inl e) is = cc
 only-value result value read (inr e) is = absurd (ok_isnt_err read no_memory result is e)
+
+-- the frame of a number is the world's
+pub frame-numbered : (frames : List Frame) (world : World) (number : ℕ) → frames ≡ world.frames → numbered frames number ≡ frame_at world number
+frame-numbered frames world zero same = refl
+frame-numbered frames world (suc place) same = ap (λ (fs : List Frame). slice_get fs place) same

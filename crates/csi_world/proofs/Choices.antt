@@ -4,7 +4,6 @@ use Rattle.std.specs.Prelude.{Option, Some, None}
 use Rattle.std.proofs.lemmas.Bool.Decides.{nat_tests}
 use Rattle.csi_types.specs.declared.capability.Capability.{Capability}
 use Rattle.csi_types.specs.declared.number.Number.{Number}
-use Rattle.csi_types.specs.declared.call.Call.{Call}
 use Rattle.csi_types.specs.declared.call.Call.TheVariants as calls
 use Rattle.csi_types.specs.declared.reply.Reply.{Reply}
 use Rattle.csi_types.specs.declared.status.Status.{Status}
@@ -14,7 +13,7 @@ use Rattle.csi_types.specs.Frame.{Frame}
 use Rattle.csi_types.specs.Lists.{IsAmong}
 use Rattle.csi_types.specs.Number.{is_before, IsBefore}
 use Rattle.csi_types.specs.Same.{same_text, same_number}
-use Rattle.csi_types.proofs.Order.{before-parts, before-from, before-trans}
+use Rattle.csi_types.proofs.Order.{before-trans}
 use Rattle.csi_types.specs.declared.config.NodeSlots.{NodeSlots}
 use Rattle.csi_types.specs.declared.call.Party.{Party}
 use Rattle.csi_types.specs.declared.call.Party.TheVariants.{Controller, Node}
@@ -25,14 +24,14 @@ use Rattle.csi_controller.specs.Fenced as controller
 use Rattle.csi_node.specs.State.{NodeState, empty_node}
 use Rattle.csi_node.specs.Fenced as node
 use Rattle.csi_orchestrator.specs.Thing.{Issued}
-use Rattle.csi_orchestrator.specs.History.{Goal, Item, Started, Sent, Accepted, Closed, Noted, History}
-use Rattle.csi_orchestrator.specs.Readings.{issued_in, unless, open_in, open_call, last_in, last_number}
+use Rattle.csi_orchestrator.specs.History.{Item, Started, Sent, Accepted, Closed, Noted, History}
+use Rattle.csi_orchestrator.specs.Readings.{issued_in, unless, open_in, last_number}
 use Rattle.csi_world.specs.World.{NodeAt, World, new_node, empty_world, node_state, with_node, with_frame}
 use Rattle.csi_world.specs.Step.{Choice, Sends, Closes, Takes, Notes, Starts, Answers, frame_of, MaySend, MayTake, MayChoose, MayChooseAll, answered_by_node, answered_by, answered, chosen, chosen_all}
 use Rattle.csi_world.proofs.WorldView.{party_of, node_view, plugin_view, view_of}
 use Rattle.csi_world.proofs.Issued.{HasName, IsOwn, IsAnsweredOk}
 use Rattle.csi_world.proofs.Named.{Named}
-use Rattle.csi_world.proofs.Heard.{IsHeard, WasSent, sent-more}
+use Rattle.csi_world.proofs.Heard.{WasSent, sent-more}
 use Rattle.csi_world.proofs.Truth.{Truth, unanswered, before_call, truth-sent}
 use Rattle.csi_world.proofs.Standing.{IsStanding, stands-sent, stands-noted}
 use Rattle.csi_world.proofs.Guarded.{IsSoFar, own-guarded, leaves-guarded, stages-guarded}

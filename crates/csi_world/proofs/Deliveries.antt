@@ -1,6 +1,6 @@
 -- A world after a plugin got a frame that was sent.
 use Rattle.std.proofs.Common.{◌≡◌, ◌⊎◌, ℕ, List, [], ◌∷◌, ◌++◌, Bool, true, false, refl, sym, ◌∙◌, ap, subst, inl, inr}
-use Rattle.std.specs.Prelude.{Option, Some, None, option_map, IsTrue}
+use Rattle.std.specs.Prelude.{Option, Some, None, option_map}
 use Rattle.std.proofs.lemmas.Bool.{false≢true}
 use Rattle.csi_types.specs.declared.number.Number.{Number}
 use Rattle.csi_types.specs.declared.capability.Capability.{Capability}
@@ -13,21 +13,20 @@ use Rattle.csi_types.specs.declared.frame.Body.{Body}
 use Rattle.csi_types.specs.declared.frame.Body.TheVariants as bodies
 use Rattle.csi_types.specs.declared.reply.Reply.{Reply}
 use Rattle.csi_types.specs.declared.status.Status.TheVariants.{Ok}
-use Rattle.csi_types.specs.Call.{kind_of, is_party_of}
 use Rattle.csi_types.specs.Config.{Config}
-use Rattle.csi_types.specs.Delivery.{View, Acts, Rests, Becomes, IsDelivered, IsClosed, kept_of}
+use Rattle.csi_types.specs.Delivery.{View, Acts, Rests, Becomes, IsClosed, kept_of}
 use Rattle.csi_types.specs.Fence.{Kept}
 use Rattle.csi_types.specs.Frame.{Frame}
-use Rattle.csi_types.specs.Key.{Key, Exists, Form, HasId, asked}
+use Rattle.csi_types.specs.Key.{Key, Exists, HasId, asked}
 use Rattle.csi_types.specs.Lists.{IsAmong}
 use Rattle.csi_types.specs.Replies.{call_frame, reply_frame}
-use Rattle.csi_types.specs.Same.{same_party, same_text}
-use Rattle.csi_types.proofs.Among.{among-append, among-last}
+use Rattle.csi_types.specs.Same.{same_party}
+use Rattle.csi_types.proofs.Among.{among-last}
 use Rattle.csi_types.proofs.Equality.{same_party-tells, same_key-tells}
-use Rattle.csi_controller.specs.State.{Volume, ControllerState, empty_controller, volume_named}
+use Rattle.csi_controller.specs.State.{Volume, ControllerState}
 use Rattle.csi_controller.specs.Fenced as controller
 use Rattle.csi_controller.specs.View as controllers
-use Rattle.csi_node.specs.State.{NodeState, empty_node}
+use Rattle.csi_node.specs.State.{NodeState}
 use Rattle.csi_node.specs.Fenced as node
 use Rattle.csi_node.specs.View as nodes
 use Rattle.csi_orchestrator.specs.Thing.{Issued}
@@ -35,10 +34,10 @@ use Rattle.csi_orchestrator.specs.Readings.{issued_in}
 use Rattle.csi_world.specs.World.{World, node_state, with_node, with_frame}
 use Rattle.csi_world.specs.Step.{frame_of, answered_by_node, answered_by, answered}
 use Rattle.csi_world.proofs.WorldView.{party_of, node_view, plugin_view, view_of, ChangesOnly, acts-all, rests-all, closed-all}
-use Rattle.csi_world.proofs.Issued.{HasName, IsAnsweredOk, IsKeyed, key_at, key_seen, is_key, is_of, keyed}
-use Rattle.csi_world.proofs.Named.{Named, KeepsIds, own-kept}
+use Rattle.csi_world.proofs.Issued.{HasName, IsAnsweredOk, key_at, is_key, is_of, keyed}
+use Rattle.csi_world.proofs.Named.{KeepsIds, own-kept}
 use Rattle.csi_world.proofs.Heard.{sent-more}
-use Rattle.csi_world.proofs.Truth.{Truth, IsFrameOf, answer_to, delivery_of, ok-either, ok-before, truth-acts, truth-rests}
+use Rattle.csi_world.proofs.Truth.{answer_to, delivery_of, ok-either, ok-before, truth-acts, truth-rests}
 use Rattle.csi_world.proofs.Standing.{stands-acts, stands-rests}
 use Rattle.csi_world.proofs.Guarded.{IsSoFar}
 use Rattle.csi_world.proofs.Recorded.{IsWell}

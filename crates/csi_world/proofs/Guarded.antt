@@ -1,7 +1,7 @@
 -- Why a call that keeps the guards leaves what stands: it is for its own volume, it is of no attachment below which
 -- something stands, and it stages only what is attached so.
-use Rattle.std.proofs.Common.{◌≡◌, ◌≢◌, ◌⊎◌, ℕ, List, [], ◌∷◌, ◌++◌, Bool, true, false, cond, not, refl, sym, ◌∙◌, ap, subst, inl, inr}
-use Rattle.std.specs.Prelude.{Option, Some, None, find, filter, filter_map, ◌==◌, ◌&&◌, IsTrue}
+use Rattle.std.proofs.Common.{◌≡◌, ◌⊎◌, ℕ, List, [], ◌∷◌, Bool, true, false, cond, refl, sym, ◌∙◌, ap, subst, inl, inr}
+use Rattle.std.specs.Prelude.{Some, None, find, filter, filter_map, ◌==◌, ◌&&◌, IsTrue}
 use Rattle.std.proofs.lemmas.Bool.{and_parts, and_from, eqb-true, eq-eqb, false≢true}
 use Rattle.csi_types.specs.declared.capability.Capability.{Capability}
 use Rattle.csi_types.specs.declared.call.Call.{Call}
@@ -11,7 +11,7 @@ use Rattle.csi_types.specs.declared.call.Party.TheVariants.{Controller, Node}
 use Rattle.csi_types.specs.declared.reply.Reply.{Reply}
 use Rattle.csi_types.specs.Delivery.{View, IsClosed}
 use Rattle.csi_types.specs.Frame.{Frame}
-use Rattle.csi_types.specs.Key.{Key, Attached, Staged, Form, StagedAs, same_key, asked}
+use Rattle.csi_types.specs.Key.{Attached, Staged, StagedAs, asked}
 use Rattle.csi_types.specs.Lists.{IsAmong}
 use Rattle.csi_types.specs.Number.{IsBefore}
 use Rattle.csi_types.specs.Same.{same_text}
@@ -20,11 +20,10 @@ use Rattle.csi_types.proofs.Equality.{same_text-tells}
 use Rattle.csi_types.proofs.Lists.{find-passes}
 use Rattle.csi_controller.specs.State.{ControllerState}
 use Rattle.csi_controller.specs.View as controllers
-use Rattle.csi_orchestrator.specs.declared.thing.Thing.{Thing}
 use Rattle.csi_orchestrator.specs.declared.thing.Thing.TheVariants as things
 use Rattle.csi_orchestrator.specs.declared.thing.Known.TheVariants.{Yes, No}
 use Rattle.csi_orchestrator.specs.Thing.{Issued, touches, is_thing, thing_at, is_doing}
-use Rattle.csi_orchestrator.specs.History.{Held, Item, History}
+use Rattle.csi_orchestrator.specs.History.{Held, History}
 use Rattle.csi_orchestrator.specs.Readings.{newest, issued_in, has_success, known, held_by, held}
 use Rattle.csi_orchestrator.specs.Guards.{IsGuarded, HasId}
 use Rattle.csi_world.proofs.Issued.{HasName, IsOwn, IsAnsweredOk, key_at, is_key, is_of, latest-last}

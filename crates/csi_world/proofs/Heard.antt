@@ -1,5 +1,5 @@
 -- What the orchestrator's history tells of the replies that were sent.
-use Rattle.std.proofs.Common.{◌≡◌, ◌≢◌, ◌⊎◌, ℕ, List, [], ◌∷◌, ◌++◌, Bool, true, false, cond, not, refl, sym, ◌∙◌, ap, subst, inl, inr}
+use Rattle.std.proofs.Common.{◌≡◌, ◌⊎◌, ℕ, List, [], ◌∷◌, ◌++◌, Bool, true, false, cond, not, refl, ◌∙◌, ap, subst, inl, inr}
 use Rattle.std.specs.Prelude.{Option, Some, None, find, filter, filter_map, ◌&&◌, ◌||◌}
 use Rattle.std.specs.List.{list_any}
 use Rattle.std.proofs.lemmas.Bool.{and_parts, false≢true}
@@ -21,12 +21,10 @@ use Rattle.csi_types.proofs.Equality.{same_number-tells, same_text-tells}
 use Rattle.csi_types.proofs.Lists.{find-passes}
 use Rattle.csi_controller.specs.State.{ControllerState}
 use Rattle.csi_orchestrator.specs.declared.thing.Thing.{Thing}
-use Rattle.csi_orchestrator.specs.declared.thing.Thing.TheVariants as things
-use Rattle.csi_orchestrator.specs.declared.thing.Known.{Known}
 use Rattle.csi_orchestrator.specs.declared.thing.Known.TheVariants.{Yes, No, Maybe}
-use Rattle.csi_orchestrator.specs.Thing.{Issued, touches, does, is_doing}
+use Rattle.csi_orchestrator.specs.Thing.{Issued, touches, is_doing}
 use Rattle.csi_orchestrator.specs.History.{Item, Started, Sent, Accepted, Closed, Noted, History}
-use Rattle.csi_orchestrator.specs.Readings.{newest, issued_by, issued_in, issued_of, is_success_of, has_success, known_by, known, id_in, id_by, id_of}
+use Rattle.csi_orchestrator.specs.Readings.{newest, issued_in, issued_of, is_success_of, has_success, known_by, known, id_in, id_by, id_of}
 use Rattle.csi_world.proofs.Issued.{HasName, IsAnsweredOk, ComesAfter, one-number}
 use Rattle.csi_world.proofs.Named.{Named}
 

@@ -1,5 +1,5 @@
 -- What the plugins' readers give makes a world that is like each world which the plugins show.
-use Rattle.std.proofs.Common.{List, [], ◌∷◌, ◌++◌}
+use Rattle.std.proofs.Common.{◌≡◌, List, [], ◌∷◌, ◌++◌, map, refl}
 use Rattle.std.specs.List.{AllByRecursion}
 use Rattle.csi_node.specs.Record.{NodeParts}
 use Rattle.csi_world.specs.World.{NodeAt}
@@ -24,3 +24,10 @@ lists-alike [] (l ∷ ls) shown are is = absurd are
 lists-alike (n ∷ ns) [] shown are is = absurd are
 lists-alike (n ∷ ns) (l ∷ ls) [] are is = absurd is
 lists-alike (n ∷ ns) (l ∷ ls) (s ∷ ss) are is = (are.0.shows s is.1 is.0, lists-alike ns ls ss are.1 is.2)
+
+-- the ids of a world's nodes are those that are shown
+pub shown-ids : (nodes : List NodeParts) (shown : List NodeAt) → AreNodesShown nodes shown → map (λ (n : NodeParts). n.id) nodes ≡ map (λ (n : NodeAt). n.id) shown
+shown-ids [] [] is = refl
+shown-ids [] (s ∷ ss) is = absurd is
+shown-ids (n ∷ ns) [] is = absurd is
+shown-ids (n ∷ ns) (s ∷ ss) is = let first = is.0 in let rest = shown-ids ns ss is.2 in λ i. first i ∷ rest i

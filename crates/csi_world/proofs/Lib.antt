@@ -2,6 +2,10 @@ pub mod MarksTold
 pub mod PartsSafe
 pub mod Laid
 pub mod Likeness
+pub mod Halved
+pub mod ThingsHeld
+pub mod ThingsFound
+pub mod OwnNodes
 pub mod Sought
 pub mod PluginSafety
 pub mod WorldView

@@ -1,71 +1,109 @@
--- What is known to be so is so, and what is known not to be so isn't, by what is listed; and what an audit finds then.
-use Rattle.std.proofs.Common.{◌≡◌, ◌≢◌, ◌↔◌, List, Bool, true, false, not, refl, sym, ◌∙◌, ap}
+-- What is known to be so is so, and what is known not to be so isn't, by the list of what holds; and what an audit finds then.
+use Rattle.std.proofs.Common.{◌≡◌, ◌≢◌, ◌↔◌, List, Bool, true, refl, sym, ◌∙◌, ap, subst}
 use Rattle.std.specs.Prelude.{IsTrue, ◌&&◌}
-use Rattle.std.specs.List.{list_any, list_all}
-use Rattle.std.proofs.lemmas.Bool.{and_parts, and_from, false≢true, false_from_ne_true, not_from_true, not_from_false}
+use Rattle.std.specs.List.{list_all}
+use Rattle.std.proofs.lemmas.Bool.{and_parts, and_from, false≢true, false_from_ne_true}
 use Rattle.csi_types.specs.Lists.{IsAmong}
+use Rattle.csi_types.specs.Same.{same_text}
+use Rattle.csi_types.proofs.Equality.{same_text-tells}
 use Rattle.csi_orchestrator.specs.declared.thing.Thing.{Thing}
+use Rattle.csi_orchestrator.specs.declared.thing.Thing.TheVariants.{Exists, Attached, Staged, Published}
 use Rattle.csi_orchestrator.specs.declared.thing.Known.{Known}
 use Rattle.csi_orchestrator.specs.declared.thing.Known.TheVariants.{Yes, No, Maybe}
 use Rattle.csi_orchestrator.specs.Listing.{ListsKnown}
-use Rattle.csi_orchestrator.specs.Thing.{is_no}
-use Rattle.csi_world.specs.declared.auditing.lists.Lists.{Lists}
+use Rattle.csi_orchestrator.specs.Thing.{same_thing}
 use Rattle.csi_world.specs.World.{World}
 use Rattle.csi_world.specs.Safe.{holds}
 use Rattle.csi_world.specs.Audited.{AreMarkedRight}
-use Rattle.csi_world.specs.Listed.{world_listed, IsAlike, holds_listed, things_listed, is_affirmed, is_denied}
+use Rattle.csi_world.specs.Listed.{is_listed, is_noted, is_affirmed}
 use Rattle.csi_world.proofs.Sought.{all-then, then-all, any-then, then-any}
-use Rattle.csi_world.proofs.Likeness.{listed-holds, holds-listed}
 
 yes_not_no : Yes ≢ No
 yes_not_no e = cc
 
-no-then : (known : Known) → is_no known ≡ true → known ≡ No
-no-then Yes h = absurd (false≢true h)
-no-then No h = refl
-no-then Maybe h = absurd (false≢true h)
+-- ---- the same thing
 
-each_affirmed : (marks : Thing → Known) (lists : Lists) (things : List (Thing × Known)) → ListsKnown marks things → ((thing : Thing) → marks thing ≡ Yes → holds_listed lists thing ≡ true)
-    → (entry : Thing × Known) → IsAmong entry things → is_affirmed lists entry ≡ true
-each_affirmed marks lists things known f (thing, Yes) among = f thing ((known thing Yes).0 among).0
-each_affirmed marks lists things known f (thing, No) among = refl
-each_affirmed marks lists things known f (thing, Maybe) among = refl
+pub same-itself : (thing : Thing) → same_thing thing thing ≡ true
+same-itself (Exists name) = (same_text-tells name name).1 refl
+same-itself (Attached name node) = and_from _ _ ((same_text-tells name name).1 refl) ((same_text-tells node node).1 refl)
+same-itself (Staged name node) = and_from _ _ ((same_text-tells name name).1 refl) ((same_text-tells node node).1 refl)
+same-itself (Published name node target) =
+    and_from _ _ (and_from _ _ ((same_text-tells name name).1 refl) ((same_text-tells node node).1 refl)) ((same_text-tells target target).1 refl)
 
-pub affirmed-told : (marks : Thing → Known) (lists : Lists) (things : List (Thing × Known)) (b : Bool) → ListsKnown marks things → b ≡ list_all (is_affirmed lists) things
-    → IsTrue b ↔ ((thing : Thing) → marks thing ≡ Yes → holds_listed lists thing ≡ true)
-affirmed-told marks lists things b known e = (
-  λ h thing is. all-then (is_affirmed lists) things (sym e ∙ h) (thing, Yes) ((known thing Yes).1 (is, yes_not_no)),
-  λ f. e ∙ then-all (is_affirmed lists) things (each_affirmed marks lists things known f),
-)
+pub same-tells : (a b : Thing) → same_thing a b ≡ true → a ≡ b
+same-tells (Exists name) (Exists other) e = ap Exists ((same_text-tells name other).0 e)
+same-tells (Attached name node) (Attached other there) e =
+    let parts = and_parts (same_text name other) (same_text node there) e in
+    let n = (same_text-tells name other).0 parts.0 in
+    let p = (same_text-tells node there).0 parts.1 in
+    λ i. Attached (n i) (p i)
+same-tells (Staged name node) (Staged other there) e =
+    let parts = and_parts (same_text name other) (same_text node there) e in
+    let n = (same_text-tells name other).0 parts.0 in
+    let p = (same_text-tells node there).0 parts.1 in
+    λ i. Staged (n i) (p i)
+same-tells (Published name node target) (Published other there aim) e =
+    let parts = and_parts (same_text name other && same_text node there) (same_text target aim) e in
+    let first = and_parts (same_text name other) (same_text node there) parts.0 in
+    let n = (same_text-tells name other).0 first.0 in
+    let p = (same_text-tells node there).0 first.1 in
+    let t = (same_text-tells target aim).0 parts.1 in
+    λ i. Published (n i) (p i) (t i)
+same-tells a b e = absurd (false≢true e)
 
-pub marked-told : (marks : Thing → Known) (lists : Lists) (world : World) → IsAlike (world_listed lists) world → (affirmed denied b : Bool)
-    → (IsTrue affirmed ↔ ((thing : Thing) → marks thing ≡ Yes → holds_listed lists thing ≡ true)) → denied ≡ list_any (is_denied marks lists) (things_listed lists)
-    → b ≡ (affirmed && not denied) → IsTrue b ↔ AreMarkedRight marks world
-marked-told marks lists world alike affirmed denied b yes_told no_told e = (λ h. to h, λ right. e ∙ back right)
+-- ---- what holds, and what is noted
+
+is-noted : (noted : List (Thing × Known)) (thing : Thing) (mark : Known) → IsAmong (thing, mark) noted → is_noted noted thing ≡ true
+is-noted noted thing mark among = then-any (λ (entry : Thing × Known). same_thing thing entry.0) noted (thing, mark) among (same-itself thing)
+
+noted-is : (noted : List (Thing × Known)) (thing : Thing) → is_noted noted thing ≡ true → (mark : Known) × IsAmong (thing, mark) noted
+noted-is noted thing h =
+    let found = any-then (λ (entry : Thing × Known). same_thing thing entry.0) noted h in
+    let entry : Thing × Known = found.0 in
+    let same : thing ≡ entry.0 = same-tells thing entry.0 found.2 in
+    (entry.1, subst (λ (t : Thing). IsAmong {X = Thing × Known} (t, entry.1) noted) (sym same) found.1)
+
+listed-is : (things : List Thing) (thing : Thing) → is_listed things thing ≡ true → IsAmong thing things
+listed-is things thing h =
+    let found = any-then (same_thing thing) things h in
+    subst (λ (t : Thing). IsAmong t things) (sym (same-tells thing found.0 found.2)) found.1
+
+is-listed : (things : List Thing) (thing : Thing) → IsAmong thing things → is_listed things thing ≡ true
+is-listed things thing among = then-any (same_thing thing) things thing among (same-itself thing)
+
+each-affirmed : (things : List Thing) (entry : Thing × Known) → (entry.1 ≡ Yes → IsAmong entry.0 things) → is_affirmed things entry ≡ true
+each-affirmed things (thing, Yes) f = is-listed things thing (f refl)
+each-affirmed things (thing, No) f = refl
+each-affirmed things (thing, Maybe) f = refl
+
+pub marked-told : (marks : Thing → Known) (world : World) (things : List Thing) (noted : List (Thing × Known)) → ((thing : Thing) → IsAmong thing things ↔ (holds world thing ≡ true)) → ListsKnown marks noted
+    → (b : Bool) → b ≡ (list_all (is_affirmed things) noted && list_all (is_noted noted) things) → IsTrue b ↔ AreMarkedRight marks world
+marked-told marks world things noted all lists b g = (λ h. to h, λ right. g ∙ and_from affirmed known (back_affirmed right) (back_noted right))
   where
-    same : (thing : Thing) → holds_listed lists thing ≡ holds world thing
-    same thing = listed-holds lists world alike thing
+    affirmed : Bool
+    affirmed = list_all (is_affirmed things) noted
 
-    is_found : (thing : Thing) → marks thing ≡ No → holds world thing ≡ true → denied ≡ true
-    is_found thing is there =
-        let here : holds_listed lists thing ≡ true = same thing ∙ there in
-        no_told ∙ then-any (is_denied marks lists) (things_listed lists) thing (holds-listed lists thing here) (and_from (is_no (marks thing)) (holds_listed lists thing) (ap is_no is) here)
+    known : Bool
+    known = list_all (is_noted noted) things
 
     to : IsTrue b → AreMarkedRight marks world
     to h thing =
-        let parts = and_parts affirmed (not denied) (sym e ∙ h) in
+        let parts = and_parts affirmed known (sym g ∙ h) in
         record {
-          yes = λ is. sym (same thing) ∙ yes_told.0 parts.0 thing is;
-          no = λ is. false_from_ne_true (holds world thing) (λ there. false≢true (sym (not_from_true denied (is_found thing is there)) ∙ parts.1));
+          yes = λ is. (all thing).0 (listed-is things thing (all-then (is_affirmed things) noted parts.0 (thing, Yes) ((lists thing Yes).1 (is, yes_not_no))));
+          no = λ is. false_from_ne_true (holds world thing) (λ there.
+              let found = noted-is noted thing (all-then (is_noted noted) things parts.1 thing ((all thing).1 there)) in
+              let told = (lists thing found.0).0 found.1 in
+              told.1 (sym told.0 ∙ is));
         }
 
-    nothing : AreMarkedRight marks world → denied ≡ true → ⊥
-    nothing right d =
-        let found = any-then (is_denied marks lists) (things_listed lists) (sym no_told ∙ d) in
-        let thing : Thing = found.0 in
-        let parts = and_parts (is_no (marks thing)) (holds_listed lists thing) found.2 in
-        false≢true (sym ((right thing).no (no-then (marks thing) parts.0)) ∙ sym (same thing) ∙ parts.1)
+    back_affirmed : AreMarkedRight marks world → list_all (is_affirmed things) noted ≡ true
+    back_affirmed right =
+        then-all (is_affirmed things) noted (λ entry among.
+        each-affirmed things entry (λ is. (all entry.0).1 ((right entry.0).yes (((lists entry.0 entry.1).0 among).0 ∙ is))))
 
-    back : AreMarkedRight marks world → (affirmed && not denied) ≡ true
-    back right =
-        and_from affirmed (not denied) (yes_told.1 (λ thing is. same thing ∙ (right thing).yes is)) (not_from_false denied (false_from_ne_true denied (nothing right)))
+    back_noted : AreMarkedRight marks world → list_all (is_noted noted) things ≡ true
+    back_noted right =
+        then-all (is_noted noted) things (λ thing among.
+        let clash : marks thing ≡ No → ⊥ = λ is. false≢true (sym ((right thing).no is) ∙ (all thing).0 among) in
+        is-noted noted thing (marks thing) ((lists thing (marks thing)).1 (refl, clash)))

@@ -1,6 +1,6 @@
 -- Names and ids in a world: each sent call is for the volume of its name, and a name has one id.
-use Rattle.std.proofs.Common.{◌≡◌, ◌⊎◌, ℕ, List, [], ◌∷◌, ◌++◌, Bool, true, false, cond, refl, sym, ◌∙◌, ap, subst, inl, inr}
-use Rattle.std.specs.Prelude.{Option, Some, None, option_map, find, ◌==◌, ◌&&◌}
+use Rattle.std.proofs.Common.{◌≡◌, ℕ, List, [], ◌∷◌, Bool, true, false, cond, refl, sym, ◌∙◌, ap, inl, inr}
+use Rattle.std.specs.Prelude.{Some, find, ◌==◌, ◌&&◌}
 use Rattle.std.proofs.lemmas.Bool.{eqb-true, eq-eqb, false≢true}
 use Rattle.csi_types.specs.declared.capability.Capability.{Capability}
 use Rattle.csi_types.specs.declared.call.Call.{Call}
@@ -9,16 +9,15 @@ use Rattle.csi_types.specs.declared.call.Party.{Party}
 use Rattle.csi_types.specs.declared.call.Party.TheVariants.{Controller, Node}
 use Rattle.csi_types.specs.declared.reply.Reply.{Reply}
 use Rattle.csi_types.specs.Frame.{Frame}
-use Rattle.csi_types.specs.Key.{Key, Exists, Attached, Staged, Published, same_key}
+use Rattle.csi_types.specs.Key.{Exists, Attached, Staged, Published}
 use Rattle.csi_types.specs.Lists.{IsAmong}
 use Rattle.csi_types.specs.Same.{same_text}
 use Rattle.csi_types.proofs.Equality.{same_text-tells}
-use Rattle.csi_controller.specs.State.{Volume, ControllerState, volume_named, volume_with_id}
+use Rattle.csi_controller.specs.State.{Volume, ControllerState, volume_with_id}
 use Rattle.csi_controller.specs.View as controllers
-use Rattle.csi_orchestrator.specs.declared.thing.Thing.{Thing}
 use Rattle.csi_orchestrator.specs.declared.thing.Thing.TheVariants as things
-use Rattle.csi_orchestrator.specs.Thing.{Issued, same_thing, thing_at, is_thing, touches}
-use Rattle.csi_world.proofs.Issued.{HasName, IsOwn, IsAnsweredOk, key_at, is_key, is_of, id-found, named-found}
+use Rattle.csi_orchestrator.specs.Thing.{Issued, thing_at, is_thing, touches}
+use Rattle.csi_world.proofs.Issued.{HasName, IsOwn, IsAnsweredOk, key_at, is_key, is_of, id-found}
 
 pub record Named (issued : List Issued) (frames : List Frame) (controller : ControllerState) : Type 0 where
   pub own : (call : Issued) → IsAmong call issued → IsOwn controller call.name call.party call.call

@@ -1,16 +1,17 @@
 -- What the plugins' own contracts keep, in every world that their parts show; and what is staged there is attached, where it is
 -- so of what is listed.
 use Rattle.std.proofs.Common.{◌≡◌, ◌↔◌, ℕ, List, [], ◌∷◌, map, Bool, true, false, refl, sym, ◌∙◌, ap, subst, inl, inr}
-use Rattle.std.specs.Prelude.{Option, Some, None, IsSome, is_some, IsTrue, option_map, find, ◌==◌, ◌&&◌}
-use Rattle.std.specs.List.{AllByRecursion, list_any, list_all}
-use Rattle.std.proofs.lemmas.Bool.{and_parts, and_from, eqb-true, eq-eqb}
+use Rattle.std.specs.Prelude.{Option, Some, None, IsSome, is_some, IsTrue, option_map, find, filter, ◌==◌, ◌&&◌}
+use Rattle.std.specs.List.{AllByRecursion, list_all}
+use Rattle.std.proofs.lemmas.Bool.{and_parts, and_from, eqb-true, eq-eqb, false≢true}
+use Rattle.csi_types.specs.declared.capability.Capability.{Capability}
 use Rattle.csi_types.specs.declared.holding.Holding.{Holding}
 use Rattle.csi_types.specs.Holding.{AreApart}
 use Rattle.csi_types.specs.Lists.{IsAmong, EachTwo}
 use Rattle.csi_types.specs.Same.{same_text, same_capability}
-use Rattle.csi_types.proofs.Among.{each_of, among-find, in_filter}
+use Rattle.csi_types.proofs.Among.{each_of, among-find, among-filter, in_filter}
 use Rattle.csi_types.proofs.Equality.{same_text-tells, same_capability-tells}
-use Rattle.csi_types.proofs.Lists.{find-and}
+use Rattle.csi_types.proofs.Lists.{find-and, find-passes}
 use Rattle.csi_controller.specs.declared.row.ControllerRow.{ControllerRow}
 use Rattle.csi_controller.specs.declared.row.NodeHolding.{NodeHolding}
 use Rattle.csi_controller.specs.Core.{IsShown}
@@ -29,7 +30,7 @@ use Rattle.csi_world.specs.World.{NodeAt, World}
 use Rattle.csi_world.specs.Safe.{IsExclusive, IsAttachedAs, IsStagedWhereAttached, IsAttachedWhileLive}
 use Rattle.csi_world.specs.Simulated.{AreNodesShown}
 use Rattle.csi_world.specs.Audited.{ArePlugins}
-use Rattle.csi_world.specs.Listed.{node_listed, world_listed, IsNodeAlike, IsAlike, IsPublishing, ArePluginsSafe, is_held_as, is_node_attached}
+use Rattle.csi_world.specs.Listed.{node_listed, IsNodeAlike, IsListed, IsPublishing, ArePluginsSafe, is_held_as, is_row_held, row_with_id, is_staged_right, is_node_attached}
 use Rattle.csi_world.proofs.PluginSafety.{staged_there}
 use Rattle.csi_world.proofs.Likeness.{listed-of, node-of}
 use Rattle.csi_world.proofs.Sought.{all-then, then-all, any-then, then-any, among-mapped, in-mapped, same-among, find-mapped, two-by_key}
@@ -101,58 +102,88 @@ plugins-safe parts nodes world rows publishing are =
 
 -- ---- what is staged is attached
 
-held_parts : (node : List ℕ) (staged : StagedVolume) (h : Holding) → is_held_as node staged h ≡ true → (h.volume ≡ staged.volume) × (h.node ≡ node) × (h.capability ≡ staged.capability)
-held_parts node staged h e =
-    let last = and_parts ((h.volume == staged.volume) && same_text h.node node) (same_capability h.capability staged.capability) e in
-    let first = and_parts (h.volume == staged.volume) (same_text h.node node) last.0 in
-    (eqb-true h.volume staged.volume first.0, (same_text-tells h.node node).0 first.1, (same_capability-tells h.capability staged.capability).0 last.1)
+held_parts : (node : List ℕ) (capability : Capability) (held : NodeHolding) → is_held_as node capability held ≡ true → (held.node ≡ node) × (held.capability ≡ capability)
+held_parts node capability held e =
+    let parts = and_parts (same_text held.node node) (same_capability held.capability capability) e in
+    ((same_text-tells held.node node).0 parts.0, (same_capability-tells held.capability capability).0 parts.1)
 
-held_from : (node : List ℕ) (staged : StagedVolume) (h : Holding) → h.volume ≡ staged.volume → h.node ≡ node → h.capability ≡ staged.capability → is_held_as node staged h ≡ true
-held_from node staged h volume at capability =
-    and_from _ _ (and_from _ _ (eq-eqb h.volume staged.volume volume) ((same_text-tells h.node node).1 at)) ((same_capability-tells h.capability staged.capability).1 capability)
+-- the holding of a row, as the volume's
+abbrev held_of : ControllerRow → NodeHolding → Holding
+held_of row held = record { volume = row.id; node = held.node; capability = held.capability; readonly = held.readonly }
 
--- the holding of a staged volume, as the world has them
-held_so : (world : World) (node listed : List ℕ) (shown staged : StagedVolume) (h : Holding) → (h.volume ≡ shown.volume) × (h.node ≡ listed) × (h.capability ≡ shown.capability)
-    → shown ≡ staged → listed ≡ node → IsAmong h world.controller.holdings → IsAttachedAs world staged.volume node staged.capability
-held_so world node listed shown staged h parts same at is_held =
-    record {
-      holding = h;
-      is_held = is_held;
-      of_volume = parts.0 ∙ ap (λ (x : StagedVolume). x.volume) same;
-      at_node = parts.1 ∙ at;
-      same_capability = parts.2 ∙ ap (λ (x : StagedVolume). x.capability) same;
-    }
+-- a row's volume that is held so is attached so, and the other way round
+row_attached : (lists : Lists) (world : World) → IsListed lists world → (id : ℕ) (node : List ℕ) (capability : Capability) → is_row_held node capability (row_with_id id (lists.kept).rows) ≡ true → IsAttachedAs world id node capability
+row_attached lists world is id node capability = by (row_with_id id (lists.kept).rows) refl
+  where
+    by : (o : Option ControllerRow) → row_with_id id (lists.kept).rows ≡ o → is_row_held node capability o ≡ true → IsAttachedAs world id node capability
+    by None e h = absurd (false≢true h)
+    by (Some row) e h =
+        let found = any-then (is_held_as node capability) row.holdings.items h in
+        let parts = held_parts node capability found.0 found.2 in
+        let holding : Holding = held_of row found.0 in
+        let own : IsAmong holding (holdings_in (Some row)) = in-mapped (held_of row) row.holdings.items found.0 found.1 in
+        let there : IsAmong holding (filter (λ (x : Holding). x.volume == id) world.controller.holdings) = subst (IsAmong holding) (ap holdings_in (sym e) ∙ is.holdings id) own in
+        record {
+          holding = holding;
+          is_held = among-filter (λ (x : Holding). x.volume == id) world.controller.holdings holding there;
+          of_volume = eqb-true row.id id (find-passes (λ (r : ControllerRow). r.id == id) (lists.kept).rows row e);
+          at_node = parts.0;
+          same_capability = parts.1;
+        }
 
-to_attached : (lists : Lists) (world : World) → IsAlike (world_listed lists) world → list_all (is_node_attached lists.attached.items) lists.nodes.items ≡ true → IsStagedWhereAttached world
-to_attached lists world alike h n s at staged =
-    let found = listed-of (map node_listed lists.nodes.items) world.nodes alike.nodes n at in
+attached_row : (lists : Lists) (world : World) → IsListed lists world → (id : ℕ) (node : List ℕ) (capability : Capability) → IsAttachedAs world id node capability → is_row_held node capability (row_with_id id (lists.kept).rows) ≡ true
+attached_row lists world is id node capability at =
+    by (row_with_id id (lists.kept).rows)
+    (subst (IsAmong at.holding) (sym (is.holdings id))
+    (in_filter (λ (x : Holding). x.volume == id) world.controller.holdings at.holding at.is_held (eq-eqb (at.holding).volume id at.of_volume)))
+  where
+    by : (o : Option ControllerRow) → IsAmong at.holding (holdings_in o) → is_row_held node capability o ≡ true
+    by None there = absurd there
+    by (Some row) there =
+        let entry = among-mapped (held_of row) row.holdings.items at.holding there in
+        let place : (entry.0).node ≡ node = sym (ap (λ (x : Holding). x.node) entry.2) ∙ at.at_node in
+        let same : (entry.0).capability ≡ capability = sym (ap (λ (x : Holding). x.capability) entry.2) ∙ at.same_capability in
+        then-any (is_held_as node capability) row.holdings.items entry.0 entry.1
+        (and_from _ _ ((same_text-tells (entry.0).node node).1 place) ((same_capability-tells (entry.0).capability capability).1 same))
+
+to_attached : (lists : Lists) (world : World) → IsListed lists world → list_all (is_node_attached (lists.kept).rows) lists.nodes.items ≡ true → IsStagedWhereAttached world
+to_attached lists world is h n s at staged =
+    let found = listed-of (map node_listed lists.nodes.items) world.nodes is.nodes n at in
     let same : IsNodeAlike found.0 n = found.2 in
     let entry = among-mapped node_listed lists.nodes.items found.0 found.1 in
     let k : NodeLists = entry.0 in
     let alike_k : IsNodeAlike (node_listed k) n = subst (λ (l : NodeAt). IsNodeAlike l n) entry.2 same in
     let own = same-among (λ (x : StagedVolume). x.volume) (n.state).staged (map staged_shown k.staged.items) (λ id. sym (alike_k.staged id)) s staged in
     let kept = among-mapped staged_shown k.staged.items s own in
-    let test = all-then (λ (x : StagedEntry). list_any (is_held_as k.id (staged_shown x)) lists.attached.items) k.staged.items (all-then (is_node_attached lists.attached.items) lists.nodes.items h k entry.1) kept.0 kept.1 in
-    let holding = any-then (is_held_as k.id (staged_shown kept.0)) lists.attached.items test in
-    held_so world n.id k.id (staged_shown kept.0) s holding.0 (held_parts k.id (staged_shown kept.0) holding.0 holding.2) (sym kept.2) alike_k.id
-    (same-among (λ (x : Holding). x.volume) lists.attached.items world.controller.holdings alike.holdings holding.0 holding.1)
-
-from_attached : (lists : Lists) (world : World) → IsAlike (world_listed lists) world → IsStagedWhereAttached world → list_all (is_node_attached lists.attached.items) lists.nodes.items ≡ true
-from_attached lists world alike is =
-    then-all (is_node_attached lists.attached.items) lists.nodes.items (λ k at.
-    then-all (λ (x : StagedEntry). list_any (is_held_as k.id (staged_shown x)) lists.attached.items) k.staged.items (λ x staged. here k at x staged))
+    let x : StagedEntry = kept.0 in
+    let test = all-then (is_staged_right (lists.kept).rows k.id) k.staged.items (all-then (is_node_attached (lists.kept).rows) lists.nodes.items h k entry.1) x kept.1 in
+    let attached : IsAttachedAs world x.id k.id x.capability = row_attached lists world is x.id k.id x.capability test in
+    let place : k.id ≡ n.id = alike_k.id in
+    let shown : staged_shown x ≡ s = sym kept.2 in
+    moved shown place attached
   where
-    here : (k : NodeLists) → IsAmong k lists.nodes.items → (x : StagedEntry) → IsAmong x k.staged.items → list_any (is_held_as k.id (staged_shown x)) lists.attached.items ≡ true
+    moved : {x : StagedEntry} {id : List ℕ} → staged_shown x ≡ s → id ≡ n.id → IsAttachedAs world x.id id x.capability → IsAttachedAs world s.volume n.id s.capability
+    moved shown place attached =
+        record {
+          holding = attached.holding;
+          is_held = attached.is_held;
+          of_volume = attached.of_volume ∙ ap (λ (y : StagedVolume). y.volume) shown;
+          at_node = attached.at_node ∙ place;
+          same_capability = attached.same_capability ∙ ap (λ (y : StagedVolume). y.capability) shown;
+        }
+
+from_attached : (lists : Lists) (world : World) → IsListed lists world → IsStagedWhereAttached world → list_all (is_node_attached (lists.kept).rows) lists.nodes.items ≡ true
+from_attached lists world listed is =
+    then-all (is_node_attached (lists.kept).rows) lists.nodes.items (λ k at. then-all (is_staged_right (lists.kept).rows k.id) k.staged.items (λ x staged. here k at x staged))
+  where
+    here : (k : NodeLists) → IsAmong k lists.nodes.items → (x : StagedEntry) → IsAmong x k.staged.items → is_staged_right (lists.kept).rows k.id x ≡ true
     here k at x staged =
-        let found = node-of (map node_listed lists.nodes.items) world.nodes alike.nodes (node_listed k) (in-mapped node_listed lists.nodes.items k at) in
+        let found = node-of (map node_listed lists.nodes.items) world.nodes listed.nodes (node_listed k) (in-mapped node_listed lists.nodes.items k at) in
         let n : NodeAt = found.0 in
         let same : IsNodeAlike (node_listed k) n = found.2 in
         let there = same-among (λ (y : StagedVolume). y.volume) (map staged_shown k.staged.items) (n.state).staged same.staged (staged_shown x) (in-mapped staged_shown k.staged.items x staged) in
         let held : IsAttachedAs world x.id n.id x.capability = is n (staged_shown x) found.1 there in
-        then-any (is_held_as k.id (staged_shown x)) lists.attached.items held.holding
-        (same-among (λ (y : Holding). y.volume) world.controller.holdings lists.attached.items (λ id. sym (alike.holdings id)) held.holding held.is_held)
-        (held_from k.id (staged_shown x) held.holding held.of_volume (held.at_node ∙ sym same.id) held.same_capability)
+        attached_row lists world listed x.id k.id x.capability (subst (λ (id : List ℕ). IsAttachedAs world x.id id x.capability) (sym same.id) held)
 
-pub staged-told : (lists : Lists) (world : World) → IsAlike (world_listed lists) world → (b : Bool) → b ≡ list_all (is_node_attached lists.attached.items) lists.nodes.items
-    → IsTrue b ↔ IsStagedWhereAttached world
-staged-told lists world alike b e = (λ h. to_attached lists world alike (sym e ∙ h), λ is. e ∙ from_attached lists world alike is)
+pub staged-told : (lists : Lists) (world : World) → IsListed lists world → (b : Bool) → b ≡ list_all (is_node_attached (lists.kept).rows) lists.nodes.items → IsTrue b ↔ IsStagedWhereAttached world
+staged-told lists world is b e = (λ h. to_attached lists world is (sym e ∙ h), λ staged. e ∙ from_attached lists world is staged)

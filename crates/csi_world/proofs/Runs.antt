@@ -1,15 +1,13 @@
 -- Why the run of any list of events is made of steps.
 use Rattle.std.proofs.Common.{◌≡◌, ◌+◌, ◌*◌, ◌≤◌, ℕ, List, [], ◌∷◌, ◌++◌, length, map, Bool, true, false, cond, refl, sym, ◌∙◌, ap, subst, inl, inr, arith}
-use Rattle.std.specs.Prelude.{zero, suc, Option, Some, None, option_map, slice_get, Result, Ok, Err}
+use Rattle.std.specs.Prelude.{zero, suc, Option, Some, None, slice_get, Result, Ok, Err}
 use Rattle.csi_types.specs.declared.call.Party.{Party}
 use Rattle.csi_types.specs.declared.call.Party.TheVariants.{Controller, Node}
 use Rattle.csi_types.specs.declared.frame.Body.{Body}
 use Rattle.csi_types.specs.declared.frame.Body.TheVariants as bodies
-use Rattle.csi_types.specs.Call.{kind_of}
 use Rattle.csi_types.specs.Config.{Config, has_node}
 use Rattle.csi_types.specs.Frame.{Frame}
 use Rattle.csi_types.specs.Lists.{IsAmong}
-use Rattle.csi_types.specs.Replies.{reply_frame}
 use Rattle.csi_types.proofs.Among.{among-append}
 use Rattle.csi_controller.specs.Fenced as controller
 use Rattle.csi_node.specs.State.{NodeState}
@@ -25,8 +23,8 @@ use Rattle.csi_world.specs.declared.event.Event.TheVariants as events
 use Rattle.csi_world.specs.declared.event.Outcome.TheVariants as outcomes
 use Rattle.csi_world.specs.World.{World, empty_world, node_state, with_node, with_frame, with_history}
 use Rattle.csi_world.specs.Step.{Choice, Sends, Closes, Takes, Notes, Starts, Answers, MayChoose, frame_of, answered, answered_by, answered_by_node, chosen, MayChooseAll, chosen_all}
-use Rattle.csi_world.specs.After.{Occurred, by_answer, by_result, node_id, orchestrated, called, delivered_body, delivered, next_frame, frame_at, occurs, Run, after_from, after}
-use Rattle.csi_world.specs.Laws.{IsMadeOfSteps, RunsAreSteps}
+use Rattle.csi_world.specs.After.{Occurred, by_answer, by_result, node_id, orchestrated, called, delivered_body, delivered, next_frame, frame_at, occurs, after_from}
+use Rattle.csi_world.specs.Laws.{RunsAreSteps}
 
 -- choices one after another
 all-append : (config : Config) (world : World) (xs ys : List Choice) → MayChooseAll config world xs → MayChooseAll config (chosen_all config world xs) ys → MayChooseAll config world (xs ++ ys)

@@ -1,19 +1,18 @@
 -- Every world to which guarded choices lead is safe.
-use Rattle.std.proofs.Common.{◌≡◌, ℕ, List, Bool, true, false, cond, refl, sym, ◌∙◌, ap, subst, inl}
-use Rattle.std.specs.Prelude.{Option, Some, None, option_map, find, ◌==◌, ◌&&◌}
+use Rattle.std.proofs.Common.{◌≡◌, ℕ, List, Bool, cond, refl, sym, ◌∙◌, ap, subst, inl}
+use Rattle.std.specs.Prelude.{Option, Some, None, option_map, ◌==◌}
 use Rattle.std.proofs.lemmas.Bool.{and_parts, eqb-true}
 use Rattle.csi_types.specs.declared.capability.Capability.{Capability}
 use Rattle.csi_types.specs.declared.holding.Holding.{Holding}
 use Rattle.csi_types.specs.Config.{Config}
-use Rattle.csi_types.specs.Key.{Form, AttachedAs, StagedAs, Attached, Staged, asked}
+use Rattle.csi_types.specs.Key.{AttachedAs, StagedAs, Attached, Staged, asked}
 use Rattle.csi_types.specs.Lists.{IsAmong}
 use Rattle.csi_types.specs.Same.{same_text}
 use Rattle.csi_types.proofs.Among.{each_of, among-find}
 use Rattle.csi_types.proofs.Equality.{same_text-tells}
 use Rattle.csi_types.proofs.Lists.{find-passes}
-use Rattle.csi_controller.specs.State.{ControllerState, is_held_at, holding_at}
-use Rattle.csi_node.specs.State.{NodeState, StagedVolume, empty_node, staged_of}
-use Rattle.csi_node.specs.Fenced as node
+use Rattle.csi_controller.specs.State.{is_held_at, holding_at}
+use Rattle.csi_node.specs.State.{NodeState, StagedVolume, staged_of}
 use Rattle.csi_orchestrator.specs.Readings.{issued_in}
 use Rattle.csi_world.specs.World.{NodeAt, World, empty_world}
 use Rattle.csi_world.specs.Step.{Choice, MayChooseAll, chosen_all}

@@ -1,9 +1,8 @@
 -- What stands staged at a node, or may still come to: while anything does, the volume is known to be attached there, in
 -- that capability.
-use Rattle.std.proofs.Common.{◌≡◌, ◌≢◌, ◌⊎◌, ℕ, List, [], ◌∷◌, ◌++◌, Bool, true, false, cond, not, refl, sym, ◌∙◌, ap, subst, inl, inr}
-use Rattle.std.specs.Prelude.{Option, Some, None, find, filter, filter_map, ◌==◌, ◌&&◌, ◌||◌, IsTrue}
-use Rattle.std.proofs.lemmas.Bool.{and_parts, and_from, eqb-true, eq-eqb, false≢true}
-use Rattle.csi_types.specs.declared.number.Number.{Number}
+use Rattle.std.proofs.Common.{◌≡◌, ◌≢◌, ◌⊎◌, ℕ, List, ◌∷◌, Bool, true, false, cond, refl, sym, ◌∙◌, ap, subst, inl, inr}
+use Rattle.std.specs.Prelude.{Some, None, find, ◌==◌, ◌||◌}
+use Rattle.std.proofs.lemmas.Bool.{and_parts, eqb-true, false≢true}
 use Rattle.csi_types.specs.declared.capability.Capability.{Capability}
 use Rattle.csi_types.specs.declared.call.Call.{Call}
 use Rattle.csi_types.specs.declared.call.Call.TheVariants as calls
@@ -12,28 +11,18 @@ use Rattle.csi_types.specs.declared.call.Party.{Party}
 use Rattle.csi_types.specs.declared.call.Party.TheVariants.{Controller, Node}
 use Rattle.csi_types.specs.declared.reply.Reply.{Reply}
 use Rattle.csi_types.specs.declared.status.Status.TheVariants.{Ok}
-use Rattle.csi_types.specs.Delivery.{View, Acts, Rests, IsClosed}
-use Rattle.csi_types.specs.Frame.{Frame}
-use Rattle.csi_types.specs.Key.{Key, Exists, Attached, Staged, Published, Form, StagedAs, same_key, asked}
+use Rattle.csi_types.specs.Delivery.{View, Acts, Rests}
+use Rattle.csi_types.specs.Key.{Key, Attached, Staged, StagedAs, same_key, asked}
 use Rattle.csi_types.specs.Lists.{IsAmong}
-use Rattle.csi_types.specs.Number.{IsBefore}
 use Rattle.csi_types.specs.Reply.{is_ok_status}
 use Rattle.csi_types.specs.Same.{same_text}
-use Rattle.csi_types.proofs.Among.{among-find, none_passes}
 use Rattle.csi_types.proofs.Equality.{same_text-tells, same_key-tells}
-use Rattle.csi_types.proofs.Lists.{find-passes}
-use Rattle.csi_controller.specs.State.{ControllerState}
-use Rattle.csi_controller.specs.View as controllers
-use Rattle.csi_orchestrator.specs.declared.thing.Thing.TheVariants as things
-use Rattle.csi_orchestrator.specs.declared.thing.Known.TheVariants.{Yes, No}
-use Rattle.csi_orchestrator.specs.Thing.{Issued, touches, is_doing}
-use Rattle.csi_orchestrator.specs.History.{Held, Item, Sent, History}
-use Rattle.csi_orchestrator.specs.Readings.{newest, issued_in, is_success_of, has_success, known, held_by, held}
-use Rattle.csi_orchestrator.specs.Guards.{IsGuarded}
-use Rattle.csi_world.proofs.Issued.{HasName, IsAnsweredOk, key_at, is_key, is_of, latest-last}
-use Rattle.csi_world.proofs.Named.{Named, touches-attached, touches-staged, find-same}
-use Rattle.csi_world.proofs.Heard.{IsHeard, IsLatest, is_ok-then, success-ok, id-given, known-yes, known-no, latest-known}
-use Rattle.csi_world.proofs.Truth.{Truth, delivery_of}
+use Rattle.csi_orchestrator.specs.Thing.{Issued}
+use Rattle.csi_orchestrator.specs.History.{Item, Sent}
+use Rattle.csi_orchestrator.specs.Readings.{issued_in, is_success_of, has_success, held}
+use Rattle.csi_world.proofs.Issued.{key_at, is_key, is_of}
+use Rattle.csi_world.proofs.Heard.{is_ok-then}
+use Rattle.csi_world.proofs.Truth.{delivery_of}
 
 -- a NodeStageVolume that may still be carried out
 pub record MayStage (issued : List Issued) (view : View) (id : ℕ) (node : List ℕ) (capability : Capability) : Type 0 where

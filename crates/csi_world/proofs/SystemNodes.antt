@@ -16,6 +16,7 @@ use Rattle.csi_world.specs.World.{NodeAt, new_node, with_state}
 use Rattle.csi_world.specs.After.{node_id}
 use Rattle.csi_world.specs.Simulated.{AreNodesShown}
 use Rattle.csi_world.specs.Simulating.{IsSameNode, ShowsNode, new_node_parts}
+use Rattle.csi_world.specs.Listed.{AreDistinct}
 
 -- x is the first that passes, and stands there
 abbrev pub FirstAt : {X : Type 0} → (X → Bool) → List X → ℕ → X → Type 0
@@ -117,10 +118,6 @@ ids-put p (x ∷ xs) zero old new first same = ap (λ (t : List ℕ). t ∷ map 
 ids-put p (x ∷ xs) (suc i) old new first same = ap (λ (ts : List (List ℕ)). x.id ∷ ts) (ids-put p xs i old new (first.1) same)
 
 -- ---- ids that differ
-abbrev pub AreApart : List (List ℕ) → Type 0
-AreApart [] = Unit {0}
-AreApart (x ∷ xs) = (list_any (same_text x) xs ≡ false) × AreApart xs
-
 pub any-ids : (id : List ℕ) (nodes : List NodeSlots) → has_node id nodes ≡ list_any (same_text id) (map node_id nodes)
 any-ids id [] = refl
 any-ids id (n ∷ ns) = ap (λ b. same_text id n.id || b) (any-ids id ns)
@@ -129,7 +126,7 @@ or-false : (a b : Bool) → (a || b) ≡ false → (a ≡ false) × (b ≡ false
 or-false true b h = absurd (let clash : true ≡ false → ⊥ = (λ e. cc) in clash h)
 or-false false b h = (refl, h)
 
-apart-from : (nodes : List NodeSlots) → has_same_node nodes ≡ false → AreApart (map node_id nodes)
+apart-from : (nodes : List NodeSlots) → has_same_node nodes ≡ false → AreDistinct (map node_id nodes)
 apart-from [] h = tt
 apart-from (n ∷ ns) h =
     let both = or-false (has_node n.id ns) (has_same_node ns) h in
@@ -141,7 +138,7 @@ fault-none false true c d h = absurd (some_isnt_none TooManyNodes h)
 fault-none false false true d h = absurd (some_isnt_none SameNode h)
 fault-none false false false d h = refl
 
-pub fit-apart : (config : Config) → config_fault config.greatest config.nodes ≡ None → AreApart (map node_id config.nodes)
+pub fit-apart : (config : Config) → config_fault config.greatest config.nodes ≡ None → AreDistinct (map node_id config.nodes)
 fit-apart config h =
     apart-from config.nodes (fault-none (is_bad_greatest config.greatest) (nat_lt 64 (length config.nodes)) (has_same_node config.nodes) (has_bad_slots config.nodes) h)
 
@@ -167,7 +164,7 @@ none-changed id state (x ∷ xs) (n ∷ ns) are none =
     λ i. here i ∷ none-changed id state xs ns (are.2) (both.1) i
 
 -- where a node is put that shows this state
-pub state-put : (id : List ℕ) (state : NodeState) (shown : List NodeParts) (nodes : List NodeAt) (i : ℕ) (old new : NodeParts) → AreNodesShown shown nodes → AreApart (map (λ (m : NodeParts). m.id) shown)
+pub state-put : (id : List ℕ) (state : NodeState) (shown : List NodeParts) (nodes : List NodeAt) (i : ℕ) (old new : NodeParts) → AreNodesShown shown nodes → AreDistinct (map (λ (m : NodeParts). m.id) shown)
     → FirstAt (is_shown_node id) shown i old → new.id ≡ old.id → Shows new.rows state → AreNodesShown (set shown i new) (map (with_state id state) nodes)
 state-put id state [] nodes i old new are apart first same shows = absurd first
 state-put id state (x ∷ xs) [] i old new are apart first same shows = absurd are

@@ -1,12 +1,12 @@
 -- A world seen thing by thing, each thing as the plugin has it to which it belongs; and what a call that one plugin
 -- got does to the whole.
-use Rattle.std.proofs.Common.{◌≡◌, ◌⊎◌, ℕ, List, Bool, true, false, refl, sym, ◌∙◌, ap, subst, inl, inr}
+use Rattle.std.proofs.Common.{◌≡◌, ◌⊎◌, ℕ, List, Bool, true, false, refl, sym, subst, inl}
 use Rattle.std.specs.Prelude.{Option, Some, None, IsTrue}
 use Rattle.csi_types.specs.declared.number.Number.{Number}
 use Rattle.csi_types.specs.declared.call.Party.{Party}
 use Rattle.csi_types.specs.declared.call.Party.TheVariants.{Controller, Node}
 use Rattle.csi_types.specs.Delivery.{View, Delivery, Acts, Rests, IsSameView, IsClosed, kept_of}
-use Rattle.csi_types.specs.Key.{Key, Exists, Attached, Staged, Published, same_key}
+use Rattle.csi_types.specs.Key.{Key, Exists, Attached, Staged, Published}
 use Rattle.csi_types.specs.Number.{IsBefore}
 use Rattle.csi_types.specs.Same.{same_party}
 use Rattle.csi_types.proofs.Equality.{same_party-tells}

@@ -3,6 +3,7 @@ pub mod Step
 pub mod Safe
 pub mod After
 pub mod Simulated
+pub mod Assembled
 pub mod Audited
 pub mod Simulating
 pub mod System

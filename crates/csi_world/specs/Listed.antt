@@ -1,23 +1,26 @@
 -- What an audit lists of the plugins, as a world of its own, and which worlds are like it. This profile's own.
 use Rattle.std.specs.Prelude.{◌≡◌, ℕ, ◌==◌, List, [], ◌∷◌, ◌++◌, map, filter, find, Bool, false, not, ◌&&◌, ◌||◌, Option, Some, None, if◌then◌else◌}
 use Rattle.std.specs.List.{list_any, list_all, flat_map}
-use Rattle.csi_types.specs.declared.holding.Holding.{Holding}
+use Rattle.std.specs.List.Sorted.{IsSortedBy}
+use Rattle.std.specs.Ordering.{is_lt}
+use Rattle.csi_types.specs.declared.capability.Capability.{Capability}
 use Rattle.csi_types.specs.Same.{same_text, same_capability}
 use Rattle.csi_controller.specs.declared.row.ControllerRow.{ControllerRow}
-use Rattle.csi_controller.specs.Shown.{volume_of_row}
-use Rattle.csi_controller.specs.State.{ControllerState, holdings_of, is_held_at}
+use Rattle.csi_controller.specs.declared.row.NodeHolding.{NodeHolding}
+use Rattle.csi_controller.specs.Shown.{volume_of_row, holdings_in}
+use Rattle.csi_controller.specs.State.{holdings_of}
 use Rattle.csi_node.specs.declared.entries.Staged.{Staged}
 use Rattle.csi_node.specs.declared.entries.Published.{Published}
 use Rattle.csi_node.specs.Record.{NodeParts}
 use Rattle.csi_node.specs.Safe.{IsPublishedRight}
 use Rattle.csi_node.specs.Shown.{Shows as NodeShows}
-use Rattle.csi_node.specs.State.{NodeState, StagedVolume, published_of}
+use Rattle.csi_node.specs.State.{NodeState, published_of}
 use Rattle.csi_node.specs.Views.{staged_shown, published_shown}
-use Rattle.csi_orchestrator.specs.History.{new_history}
+use Rattle.csi_orchestrator.specs.Listing.{thing_order}
 use Rattle.csi_orchestrator.specs.declared.thing.Thing.{Thing}
 use Rattle.csi_orchestrator.specs.declared.thing.Thing.TheVariants.{Exists, Attached, Staged as StagedAt, Published as PublishedAt}
 use Rattle.csi_orchestrator.specs.declared.thing.Known.{Known}
-use Rattle.csi_orchestrator.specs.Thing.{is_yes, is_no}
+use Rattle.csi_orchestrator.specs.Thing.{is_yes, same_thing}
 use Rattle.csi_world.specs.declared.auditing.lists.NodeLists.{NodeLists}
 use Rattle.csi_world.specs.declared.auditing.lists.Lists.{Lists}
 use Rattle.csi_world.specs.World.{NodeAt, World}
@@ -30,15 +33,6 @@ node_listed node =
       id = node.id;
       state = record { rows = []; staged = map staged_shown node.staged.items; published = map published_shown node.published.items };
     }
-
--- a controller as it is listed
-abbrev pub controller_listed : Lists → ControllerState
-controller_listed lists = record { volumes = map volume_of_row (lists.kept).rows; next_id = 1; holdings = lists.attached.items }
-
--- the world of what is listed, where no frame was sent and the orchestrator did nothing
-abbrev pub world_listed : Lists → World
-world_listed lists =
-    record { frames = []; controller = controller_listed lists; nodes = map node_listed lists.nodes.items; history = new_history }
 
 -- the same node, with the same staged and published of each volume; how those of different volumes are mixed may differ
 pub record IsNodeAlike (listed node : NodeAt) : Type 0 where
@@ -53,11 +47,17 @@ AreNodesAlike [] (node ∷ nodes) = ⊥
 AreNodesAlike (listed ∷ others) [] = ⊥
 AreNodesAlike (listed ∷ others) (node ∷ nodes) = IsNodeAlike listed node × AreNodesAlike others nodes
 
--- the same volumes, each held at the same nodes, and the same nodes
-pub record IsAlike (listed world : World) : Type 0 where
-  pub volumes : listed.controller.volumes ≡ world.controller.volumes
-  pub holdings : (id : ℕ) → holdings_of id listed.controller ≡ holdings_of id world.controller
-  pub nodes : AreNodesAlike listed.nodes world.nodes
+-- no text comes twice
+abbrev pub AreDistinct : List (List ℕ) → Type 0
+AreDistinct [] = Unit {0}
+AreDistinct (x ∷ xs) = (list_any (same_text x) xs ≡ false) × AreDistinct xs
+
+-- it is the list of this world: the same volumes, each with its holdings, and the same nodes, whose ids differ
+pub record IsListed (lists : Lists) (world : World) : Type 0 where
+  pub volumes : map volume_of_row (lists.kept).rows ≡ world.controller.volumes
+  pub holdings : (id : ℕ) → holdings_in (find (λ row. row.id == id) (lists.kept).rows) ≡ holdings_of id world.controller
+  pub nodes : AreNodesAlike (map node_listed lists.nodes.items) world.nodes
+  pub apart : AreDistinct (map (λ node. node.id) world.nodes)
 
 -- the list is of this node
 pub record IsListOf (parts : NodeParts) (listed : NodeAt) : Type 0 where
@@ -81,74 +81,70 @@ pub record ArePluginsSafe (world : World) : Type 0 where
   pub published_where_staged : IsPublishedWhereStaged world
   pub attached_while_live : IsAttachedWhileLive world
 
--- the holding is of the staged volume, at this node, with its capability
-abbrev pub is_held_as : List ℕ → StagedVolume → Holding → Bool
-is_held_as node staged holding =
-    (holding.volume == staged.volume) && same_text holding.node node && same_capability holding.capability staged.capability
+-- the holding is at this node, with this capability
+abbrev pub is_held_as : List ℕ → Capability → NodeHolding → Bool
+is_held_as node capability held = same_text held.node node && same_capability held.capability capability
+
+-- the row's volume is held so, if there is a row
+abbrev pub is_row_held : List ℕ → Capability → Option ControllerRow → Bool
+is_row_held node capability None = false
+is_row_held node capability (Some row) = list_any (is_held_as node capability) row.holdings.items
+
+-- the row of an id
+abbrev pub row_with_id : ℕ → List ControllerRow → Option ControllerRow
+row_with_id id rows = find (λ row. row.id == id) rows
 
 -- each thing that is staged at a listed node is attached so
-abbrev pub is_node_attached : List Holding → NodeLists → Bool
-is_node_attached holdings node = list_all (λ staged. list_any (is_held_as node.id (staged_shown staged)) holdings) node.staged.items
+abbrev pub is_staged_right : List ControllerRow → List ℕ → Staged → Bool
+is_staged_right rows node staged = is_row_held node staged.capability (row_with_id staged.id rows)
 
--- the row of a name, and the node of an id
-abbrev pub row_named : List ℕ → Lists → Option ControllerRow
-row_named name lists = find (λ row. same_text row.name name) (lists.kept).rows
+abbrev pub is_node_attached : List ControllerRow → NodeLists → Bool
+is_node_attached rows node = list_all (is_staged_right rows node.id) node.staged.items
 
-abbrev pub node_named : List ℕ → Lists → Option NodeLists
-node_named id lists = find (λ node. same_text node.id id) lists.nodes.items
+-- what holds of a volume at the controller
+abbrev pub exists_thing : ControllerRow → List Thing
+exists_thing row = if row.live then Exists row.name ∷ [] else []
 
--- whether a row's volume is attached at a node, staged there, and published at a target there
-abbrev pub is_row_attached : List Holding → List ℕ → Option ControllerRow → Bool
-is_row_attached attached node None = false
-is_row_attached attached node (Some row) = list_any (is_held_at row.id node) attached
+abbrev pub attached_thing : List ℕ → NodeHolding → Thing
+attached_thing name held = Attached name held.node
 
-abbrev pub has_staged : ℕ → Option NodeLists → Bool
-has_staged id None = false
-has_staged id (Some found) = list_any (λ staged. staged.id == id) found.staged.items
+abbrev pub things_of : ControllerRow → List Thing
+things_of row = exists_thing row ++ map (attached_thing row.name) row.holdings.items
 
-abbrev pub is_row_staged : Option NodeLists → Option ControllerRow → Bool
-is_row_staged place None = false
-is_row_staged place (Some row) = has_staged row.id place
+-- what holds at a node of the volumes that the controller has
+abbrev pub staged_by : List ℕ → Option ControllerRow → List Thing
+staged_by node None = []
+staged_by node (Some row) = StagedAt row.name node ∷ []
 
-abbrev pub has_published : ℕ → List ℕ → Option NodeLists → Bool
-has_published id target None = false
-has_published id target (Some found) = list_any (λ published. (published.id == id) && same_text published.target target) found.published.items
+abbrev pub staged_thing : List ControllerRow → List ℕ → Staged → List Thing
+staged_thing rows node staged = staged_by node (row_with_id staged.id rows)
 
-abbrev pub is_row_published : List ℕ → Option NodeLists → Option ControllerRow → Bool
-is_row_published target place None = false
-is_row_published target place (Some row) = has_published row.id target place
+abbrev pub published_by : List ℕ → List ℕ → Option ControllerRow → List Thing
+published_by node target None = []
+published_by node target (Some row) = PublishedAt row.name node target ∷ []
 
--- whether a thing holds, by what is listed
-abbrev pub holds_listed : Lists → Thing → Bool
-holds_listed lists (Exists name) = list_any (λ row. same_text row.name name && row.live) (lists.kept).rows
-holds_listed lists (Attached name node) = is_row_attached lists.attached.items node (row_named name lists)
-holds_listed lists (StagedAt name node) = is_row_staged (node_named node lists) (row_named name lists)
-holds_listed lists (PublishedAt name node target) = is_row_published target (node_named node lists) (row_named name lists)
+abbrev pub published_thing : List ControllerRow → List ℕ → Published → List Thing
+published_thing rows node published = published_by node published.target (row_with_id published.id rows)
 
--- what may hold of a volume, by what is attached and by what the nodes have
-abbrev pub attached_thing : ControllerRow → Holding → List Thing
-attached_thing row holding = if holding.volume == row.id then Attached row.name holding.node ∷ [] else []
+abbrev pub things_at : List ControllerRow → NodeLists → List Thing
+things_at rows node = flat_map (staged_thing rows node.id) node.staged.items ++ flat_map (published_thing rows node.id) node.published.items
 
-abbrev pub staged_thing : ControllerRow → List ℕ → Staged → List Thing
-staged_thing row node staged = if staged.id == row.id then StagedAt row.name node ∷ [] else []
+-- everything that holds, by what is listed
+abbrev pub things_listed : List ControllerRow → List NodeLists → List Thing
+things_listed rows nodes = flat_map things_of rows ++ flat_map (things_at rows) nodes
 
-abbrev pub published_thing : ControllerRow → List ℕ → Published → List Thing
-published_thing row node published = if published.id == row.id then PublishedAt row.name node published.target ∷ [] else []
+-- none comes before the one that stands before it
+abbrev pub AreSorted : List Thing → Type 0
+AreSorted things = IsSortedBy (λ a b. is_lt (thing_order a b)) things
 
-abbrev pub things_at : ControllerRow → NodeLists → List Thing
-things_at row node = flat_map (staged_thing row node.id) node.staged.items ++ flat_map (published_thing row node.id) node.published.items
+-- the thing is in the list
+abbrev pub is_listed : List Thing → Thing → Bool
+is_listed things thing = list_any (same_thing thing) things
 
-abbrev pub things_of : Lists → ControllerRow → List Thing
-things_of lists row = Exists row.name ∷ [] ++ flat_map (attached_thing row) lists.attached.items ++ flat_map (things_at row) lists.nodes.items
+-- something is noted of the thing
+abbrev pub is_noted : List (Thing × Known) → Thing → Bool
+is_noted noted thing = list_any (λ entry. same_thing thing entry.0) noted
 
--- everything that may hold, volume by volume
-abbrev pub things_listed : Lists → List Thing
-things_listed lists = flat_map (things_of lists) (lists.kept).rows
-
--- where it is known that the thing is so, it holds
-abbrev pub is_affirmed : Lists → Thing × Known → Bool
-is_affirmed lists entry = not (is_yes entry.1) || holds_listed lists entry.0
-
--- the thing holds, and it is known that it isn't so
-abbrev pub is_denied : (Thing → Known) → Lists → Thing → Bool
-is_denied marks lists thing = is_no (marks thing) && holds_listed lists thing
+-- where it is known that the thing is so, it is in the list
+abbrev pub is_affirmed : List Thing → Thing × Known → Bool
+is_affirmed things entry = not (is_yes entry.1) || is_listed things entry.0

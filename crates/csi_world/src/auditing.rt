@@ -1,17 +1,17 @@
 //! The audit of a system's parts.
-ghost use Rattle.std.specs.Prelude.{IfOk};
+ghost use Rattle.std.specs.Prelude.{map, IfOk};
 ghost use Rattle.csi_orchestrator.specs.Shown.{view_of};
 ghost use Rattle.csi_world.specs.World.{World as Shown};
 ghost use Rattle.csi_world.specs.Audited.{ArePlugins, Finds};
-ghost use Rattle.csi_world.specs.Listed.{world_listed, IsAlike, ArePluginsSafe};
+ghost use Rattle.csi_world.specs.Listed.{AreDistinct, IsListed, ArePluginsSafe};
 
-mod candidates;
 mod gathering;
+mod halving;
 mod lists;
 mod marks;
-mod present;
 mod safety;
 mod staging;
+mod things;
 
 use crate::violation::Violation;
 use crate::world::World;
@@ -32,7 +32,7 @@ fn audit_lists(
     lists: &Lists,
     orchestrator: &Orchestrator,
 ) -> Result<Option<Violation>, NoMemory>
-    ensures { (world : Shown) → IsAlike (world_listed lists.now) world → ArePluginsSafe world → IfOk result (Finds (view_of orchestrator.now).marks world) }
+    ensures { (world : Shown) → IsListed lists.now world → ArePluginsSafe world → IfOk result (Finds (view_of orchestrator.now).marks world) }
 {
     if !is_staged_where_attached(lists) {
         return Ok(Some(Violation::StagedUnattached));
@@ -53,6 +53,7 @@ pub(crate) fn audit_parts(
     nodes: &[Node],
     orchestrator: &Orchestrator,
 ) -> Result<Option<Violation>, NoMemory>
+    requires { AreDistinct (map (λ node. node.id) nodes.now) }
     ensures { (world : Shown) → ArePlugins controller.now nodes.now world → IfOk result (Finds (view_of orchestrator.now).marks world) }
 {
     plugins_are_safe(controller, nodes);
@@ -67,6 +68,7 @@ pub(crate) fn audit_parts(
 pub fn audit(alloc: Global, world: &World) -> Result<Option<Violation>, NoMemory>
     ensures { (shown : Shown) → ArePlugins (world.now).controller (world.now).nodes shown → IfOk result (Finds (view_of (world.now).orchestrator).marks shown) }
 {
+    world.nodes_law();
     audit_parts(
         alloc,
         world.controller(),

@@ -1,5 +1,6 @@
 //! How a frame is carried: written as bytes, and read from them.
 ghost use Rattle.std.specs.Prelude.{◌≡◌, IfOk};
+ghost use Rattle.std.specs.Option.{option_copied};
 ghost use Rattle.csi_frames.specs.Decoding.{no_memory};
 ghost use Rattle.csi_frames.specs.Spelling.{Spells};
 
@@ -32,4 +33,17 @@ pub(crate) fn carried(alloc: Global, frame: &Frame) -> Result<Frame, NoMemory>
     let mut bytes = Vec::new(alloc);
     encode(frame, &mut bytes)?;
     read(alloc, bytes.as_slice(), frame)
+}
+
+/// The same, of the frame that is there, if one is.
+pub(crate) fn carried_option(
+    alloc: Global,
+    frame: Option<&Frame>,
+) -> Result<Option<Frame>, NoMemory>
+    ensures { IfOk result (λ copy. copy ≡ option_copied frame.entry) }
+{
+    match frame {
+        Some(frame) => Ok(Some(carried(alloc, frame)?)),
+        None => Ok(None),
+    }
 }

@@ -2,6 +2,7 @@
 //! controller and its nodes, and a network that loses, repeats and reorders frames.
 #![tactic(auto)]
 
+mod assembling;
 mod auditing;
 mod carrying;
 mod commands;
@@ -16,6 +17,7 @@ mod system;
 mod violation;
 mod world;
 
+pub use assembling::AssembleFault;
 pub use auditing::audit;
 pub use event::{Event, Outcome};
 pub use laws::{audit_law, runs_law, safety_law, table_law};

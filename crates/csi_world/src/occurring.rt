@@ -9,7 +9,7 @@ ghost use Rattle.csi_world.specs.Simulating.{HasOwnNodes, Becomes, IsLogged};
 ghost use Rattle.csi_world.specs.System.{shown_of};
 ghost use Rattle.csi_world.specs.declared.event.Outcome.TheVariants as outcomes;
 
-use crate::carrying::carried;
+use crate::carrying::carried_option;
 use crate::commands::{create, delete, hear, restart, stop, time_out, use_at};
 use crate::event::{Event, Outcome};
 use crate::plugins::{place_of, restarted_controller, restarted_node, step_controller, step_node};
@@ -74,10 +74,7 @@ impl System {
     fn carried_frame(&self, number: u64) -> Result<Option<Frame>, NoMemory>
         ensures { (world : World) → ShowsWorld (shown_of self.now) world → IfOk result (λ frame. frame ≡ frame_at world number) }
     {
-        match frame_of(&self.frames, number) {
-            Some(frame) => Ok(Some(carried(self.alloc, frame)?)),
-            None => Ok(None),
-        }
+        carried_option(self.alloc, frame_of(&self.frames, number))
     }
 
     // The frame of this number is delivered, if it is there.

@@ -4,7 +4,7 @@ ghost use Rattle.std.specs.Option.{option_copied};
 ghost use Rattle.csi_types.specs.Same.{same_text};
 ghost use Rattle.csi_world.specs.After.{frame_at};
 ghost use Rattle.csi_world.specs.Simulated.{ShowsWorld};
-ghost use Rattle.csi_world.specs.Simulating.{numbered, ShowsNode};
+ghost use Rattle.csi_world.specs.Simulating.{numbered, HasOwnNodes, ShowsNode};
 ghost use Rattle.csi_world.specs.System.{shown_of};
 
 use crate::event::Outcome;
@@ -26,11 +26,14 @@ pub struct World {
 
 impl Model for World {
     ghost use Rattle.csi_world.specs.Simulated.{WorldShown};
+    ghost use Rattle.csi_world.specs.Simulating.{HasOwnNodes};
     ghost use Rattle.csi_world.specs.System.{shown_of};
 
     ghost Value = { WorldShown };
 
     ghost view = { λ world. shown_of world.system };
+
+    ghost invariant = { λ world. HasOwnNodes (shown_of world.system) };
 }
 
 impl World {
@@ -38,6 +41,7 @@ impl World {
 
     // The world of a system.
     pub(crate) fn of(system: System) -> World
+        requires { HasOwnNodes (shown_of system) }
         ensures { result ≡ shown_of system }
     {
         World { system }
@@ -73,11 +77,19 @@ impl World {
         &self.system.controller
     }
 
-    /// The nodes, in the order of the configuration. It takes no memory.
+    /// The nodes of the configuration, in its order. It takes no memory.
     pub fn nodes(&self) -> &[Node]
         ensures { result.now ≡ self.now.nodes }
     {
         self.system.nodes.as_slice()
+    }
+
+    /// A law, and nothing that runs: the nodes are those of the configuration, in its order, and the configuration has no
+    /// fault, so that no id comes twice.
+    pub fn nodes_law(&self)
+        ensures { HasOwnNodes self.now }
+    {
+        let _system = &self.system;
     }
 
     /// The node of this id, if it is configured. It takes no memory.

@@ -1,19 +1,18 @@
 //! How an audit reads the plugins.
 ghost use Rattle.std.specs.Prelude.{◌≡◌, map, IfOk};
 ghost use Rattle.csi_controller.specs.Core.{IsShown};
-ghost use Rattle.csi_controller.specs.Views.{HasHoldingsOf};
 ghost use Rattle.csi_controller.specs.State.{ControllerState};
 ghost use Rattle.csi_node.specs.Shown.{Shows};
 ghost use Rattle.csi_node.specs.State.{NodeState};
 ghost use Rattle.csi_node.specs.Views.{staged_shown, published_shown, ListsStaged, ListsPublished};
 ghost use Rattle.csi_world.specs.World.{World};
 ghost use Rattle.csi_world.specs.Audited.{ArePlugins};
-ghost use Rattle.csi_world.specs.Listed.{node_listed, world_listed, IsAlike, IsListOf, AreListsOf};
+ghost use Rattle.csi_world.specs.Listed.{node_listed, AreDistinct, IsListed, IsListOf, AreListsOf};
 
 use super::lists::{Lists, NodeLists};
 use csi_controller::{Controller, ControllerRecord};
 use csi_node::{Node, Published, Staged};
-use csi_types::{Holding, NoMemory, NodeId};
+use csi_types::{NoMemory, NodeId};
 use std::alloc::Global;
 
 // A node's id.
@@ -80,30 +79,16 @@ fn record_of(alloc: Global, controller: &Controller) -> Result<ControllerRecord,
     }
 }
 
-// Where each volume is held.
-fn attached_by(alloc: Global, controller: &Controller) -> Result<Vec<Holding>, NoMemory>
-    ensures { (state : ControllerState) → IsShown controller.now state → IfOk result (λ all. HasHoldingsOf state all.items) }
-{
-    match controller.attachments(alloc) {
-        Ok(all) => Ok(all),
-        Err(_) => Err(NoMemory),
-    }
-}
-
-/// What the plugins' readers give. Every world that the plugins show is like the listed one.
+/// What the plugins' readers give. It is the list of every world that the plugins show.
 pub(crate) fn list_plugins(
     alloc: Global,
     controller: &Controller,
     nodes: &[Node],
 ) -> Result<Lists, NoMemory>
-    ensures { (world : World) → ArePlugins controller.now nodes.now world → IfOk result (λ lists. IsAlike (world_listed lists) world) }
+    requires { AreDistinct (map (λ node. node.id) nodes.now) }
+    ensures { (world : World) → ArePlugins controller.now nodes.now world → IfOk result (λ lists. IsListed lists world) }
 {
     let kept = record_of(alloc, controller)?;
-    let attached = attached_by(alloc, controller)?;
     let nodes = list_nodes(alloc, nodes)?;
-    Ok(Lists {
-        kept,
-        attached,
-        nodes,
-    })
+    Ok(Lists { kept, nodes })
 }

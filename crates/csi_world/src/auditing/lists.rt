@@ -1,7 +1,7 @@
 //! What an audit reads of the plugins.
 use csi_controller::ControllerRecord;
 use csi_node::{Published, Staged};
-use csi_types::{Holding, NodeId};
+use csi_types::NodeId;
 
 /// What a node has staged and published.
 #[derive(Drop)]
@@ -11,10 +11,9 @@ pub(crate) struct NodeLists {
     pub published: Vec<Published>,
 }
 
-/// What a controller has recorded, where volumes are attached, and what each node has.
+/// What a controller has recorded, and what each node has.
 #[derive(Drop)]
 pub(crate) struct Lists {
     pub kept: ControllerRecord,
-    pub attached: Vec<Holding>,
     pub nodes: Vec<NodeLists>,
 }

@@ -1,16 +1,16 @@
 //! Whether what the orchestrator knows is so.
-ghost use Rattle.std.specs.Prelude.{◌≡◌, ◌↔◌, true, not, ◌&&◌, IfOk, IsTrue};
-ghost use Rattle.std.specs.List.{list_any, list_all};
-ghost use Rattle.csi_orchestrator.specs.Listing.{ListsKnown};
+ghost use Rattle.std.specs.Prelude.{◌≡◌, ◌↔◌, ◌&&◌, IfOk, IsTrue};
+ghost use Rattle.std.specs.List.{list_all};
+ghost use Rattle.csi_orchestrator.specs.Listing.{ListsKnown, IsInOrder};
 ghost use Rattle.csi_orchestrator.specs.Shown.{view_of};
-ghost use Rattle.csi_orchestrator.specs.Thing.{is_yes as is_known_yes, is_no as is_known_no};
+ghost use Rattle.csi_orchestrator.specs.Thing.{is_yes as is_known_yes};
 ghost use Rattle.csi_world.specs.World.{World};
 ghost use Rattle.csi_world.specs.Audited.{AreMarkedRight};
-ghost use Rattle.csi_world.specs.Listed.{world_listed, IsAlike, is_affirmed as is_affirmed_so, is_denied as is_denied_so, things_listed, holds_listed};
+ghost use Rattle.csi_world.specs.Listed.{AreSorted, IsListed, is_affirmed as is_affirmed_so, is_noted as is_noted_so};
 
-use super::candidates::list_things;
+use super::halving::{has_thing, is_noted};
 use super::lists::Lists;
-use super::present::is_present;
+use super::things::list_things;
 use csi_orchestrator::{Known, Orchestrator, Thing};
 use csi_types::NoMemory;
 use std::alloc::Global;
@@ -22,82 +22,59 @@ fn is_yes(known: Known) -> bool
     matches!(known, Known::Yes)
 }
 
-// Whether it is known not to be so.
-fn is_no(known: Known) -> bool
-    ensures { result ≡ is_known_no known }
+// Whether the thing is among these, where it is known to be so.
+fn is_affirmed(things: &[Thing], entry: &(Thing, Known)) -> bool
+    requires { AreSorted things.now }
+    ensures { result ≡ is_affirmed_so things.now entry.now }
 {
-    matches!(known, Known::No)
+    !is_yes(entry.1) || has_thing(things, &entry.0)
 }
 
-// Whether the thing holds, where it is known to be so.
-fn is_affirmed(lists: &Lists, entry: &(Thing, Known)) -> bool
-    ensures { result ≡ is_affirmed_so lists.now entry.now }
+// The same for all that is noted.
+fn are_affirmed(things: &[Thing], noted: &[(Thing, Known)]) -> bool
+    requires { AreSorted things.now }
+    ensures { result ≡ list_all (is_affirmed_so things.now) noted.now }
 {
-    !is_yes(entry.1) || is_present(lists, &entry.0)
+    noted.iter().all(|entry| is_affirmed(things, entry))
 }
 
-// The same for each of these things.
-fn are_affirmed(lists: &Lists, things: &[(Thing, Known)]) -> bool
-    ensures { result ≡ list_all (is_affirmed_so lists.now) things.now }
+// Whether something is noted of each of these things.
+fn are_noted(noted: &[(Thing, Known)], things: &[Thing]) -> bool
+    requires { IsInOrder noted.now }
+    ensures { result ≡ list_all (is_noted_so noted.now) things.now }
 {
-    things.iter().all(|entry| is_affirmed(lists, entry))
+    things.iter().all(|thing| is_noted(noted, thing))
 }
 
-// Whether the thing holds, where it is known not to be so.
-fn is_denied(orchestrator: &Orchestrator, lists: &Lists, thing: &Thing) -> bool
-    ensures { result ≡ is_denied_so (view_of orchestrator.now).marks lists.now thing.now }
+// Both.
+fn are_right(things: &[Thing], noted: &[(Thing, Known)]) -> bool
+    requires sorted { AreSorted things.now }
+    requires ordered { IsInOrder noted.now }
+    ensures { result ≡ (list_all (is_affirmed_so things.now) noted.now && list_all (is_noted_so noted.now) things.now) }
 {
-    is_no(orchestrator.known(thing)) && is_present(lists, thing)
-}
-
-// Whether this is so of one of these things.
-fn has_denied(orchestrator: &Orchestrator, lists: &Lists, things: &[Thing]) -> bool
-    ensures { result ≡ list_any (is_denied_so (view_of orchestrator.now).marks lists.now) things.now }
-{
-    things
-        .iter()
-        .any(|thing| is_denied(orchestrator, lists, thing))
+    are_affirmed(things, noted) && are_noted(noted, things)
 }
 
 // What the orchestrator knows.
 fn known_by(orchestrator: &Orchestrator) -> Result<Vec<(Thing, Known)>, NoMemory>
-    ensures { IfOk result (λ things. ListsKnown (view_of orchestrator.now).marks things.items) }
+    ensures known { IfOk result (λ noted. ListsKnown (view_of orchestrator.now).marks noted.items) }
+    ensures order { IfOk result (λ noted. IsInOrder noted.items) }
 {
     match orchestrator.things() {
-        Ok(things) => Ok(things),
+        Ok(noted) => Ok(noted),
         Err(_) => Err(NoMemory),
     }
 }
 
-// Whether all that is known to be so holds.
-fn is_all_affirmed(orchestrator: &Orchestrator, lists: &Lists) -> Result<bool, NoMemory>
-    ensures { IfOk result (λ right. IsTrue right ↔ ((thing : Thing) → (view_of orchestrator.now).marks thing ≡ Known.Yes → holds_listed lists.now thing ≡ true)) }
-{
-    let things = known_by(orchestrator)?;
-    Ok(are_affirmed(lists, &things))
-}
-
-// Whether something holds that is known not to be so.
-fn is_some_denied(
-    alloc: Global,
-    orchestrator: &Orchestrator,
-    lists: &Lists,
-) -> Result<bool, NoMemory>
-    ensures { IfOk result (λ denied. denied ≡ list_any (is_denied_so (view_of orchestrator.now).marks lists.now) (things_listed lists.now)) }
-{
-    let things = list_things(alloc, lists)?;
-    Ok(has_denied(orchestrator, lists, &things))
-}
-
-/// Whether what is known to be so is so and what is known not to be so isn't, in every world that is like what is listed.
+/// Whether what is known to be so is so and what is known not to be so isn't, in every world of which this is the list.
 pub(crate) fn is_marked_right(
     alloc: Global,
     orchestrator: &Orchestrator,
     lists: &Lists,
 ) -> Result<bool, NoMemory>
-    ensures { (world : World) → IsAlike (world_listed lists.now) world → IfOk result (λ right. IsTrue right ↔ AreMarkedRight (view_of orchestrator.now).marks world) }
+    ensures { (world : World) → IsListed lists.now world → IfOk result (λ right. IsTrue right ↔ AreMarkedRight (view_of orchestrator.now).marks world) }
 {
-    let affirmed = is_all_affirmed(orchestrator, lists)?;
-    let denied = is_some_denied(alloc, orchestrator, lists)?;
-    Ok(affirmed && !denied)
+    let noted = known_by(orchestrator)?;
+    let things = list_things(alloc, lists)?;
+    Ok(are_right(&things, &noted))
 }

@@ -1,15 +1,17 @@
 //! Whether what is staged is attached.
-ghost use Rattle.std.specs.Prelude.{◌≡◌, ◌↔◌, IsTrue};
+ghost use Rattle.std.specs.Prelude.{◌≡◌, ◌==◌, ◌↔◌, find, IsTrue};
 ghost use Rattle.std.specs.List.{list_any, list_all};
 ghost use Rattle.csi_types.specs.Same.{same_capability as is_same_capability};
-ghost use Rattle.csi_node.specs.Views.{staged_shown};
+ghost use Rattle.csi_controller.specs.Core.{IsRising};
 ghost use Rattle.csi_world.specs.World.{World};
 ghost use Rattle.csi_world.specs.Safe.{IsStagedWhereAttached};
-ghost use Rattle.csi_world.specs.Listed.{world_listed, IsAlike, is_held_as as is_held_so, is_node_attached};
+ghost use Rattle.csi_world.specs.Listed.{IsListed, is_held_as as is_held_so, is_row_held, is_staged_right, is_node_attached};
 
+use super::halving::find_row;
 use super::lists::{Lists, NodeLists};
+use csi_controller::{ControllerRow, NodeHolding};
 use csi_node::Staged;
-use csi_types::{Capability, Holding, NodeId};
+use csi_types::{Capability, NodeId};
 
 // Whether the two are the same.
 fn same_capability(a: &Capability, b: &Capability) -> bool
@@ -18,47 +20,53 @@ fn same_capability(a: &Capability, b: &Capability) -> bool
     a == b
 }
 
-// Whether the holding is of the staged volume, at this node, with its capability.
-fn is_held_as(node: &NodeId, staged: &Staged, holding: &Holding) -> bool
-    ensures { result ≡ is_held_so node.now (staged_shown staged.now) holding.now }
+// Whether the holding is at this node, with this capability.
+fn is_held_as(node: &NodeId, capability: &Capability, held: &NodeHolding) -> bool
+    ensures { result ≡ is_held_so node.now capability.now held.now }
 {
-    holding.volume == staged.id
-        && holding.node == *node
-        && same_capability(&holding.capability, &staged.capability)
+    held.node == *node && same_capability(&held.capability, capability)
 }
 
-// Whether the staged volume is attached so.
-fn is_attached_as(node: &NodeId, staged: &Staged, attached: &[Holding]) -> bool
-    ensures { result ≡ list_any (is_held_so node.now (staged_shown staged.now)) attached.now }
+// Whether the row's volume is held so.
+fn is_held_in(node: &NodeId, capability: &Capability, held: &[NodeHolding]) -> bool
+    ensures { result ≡ list_any (is_held_so node.now capability.now) held.now }
 {
-    attached
-        .iter()
-        .any(|holding| is_held_as(node, staged, holding))
+    held.iter().any(|one| is_held_as(node, capability, one))
+}
+
+// Whether the staged volume is attached at the node, with its capability.
+fn is_attached_as(node: &NodeId, staged: &Staged, rows: &[ControllerRow]) -> bool
+    requires { IsRising rows.now }
+    ensures { result ≡ is_staged_right rows.now node.now staged.now }
+{
+    match find_row(rows, staged.id) {
+        Some(row) => is_held_in(node, &staged.capability, &row.holdings),
+        None => false,
+    }
 }
 
 // Whether all that is staged at the node is attached so.
-fn is_attached_at(node: &NodeLists, attached: &[Holding]) -> bool
-    ensures { result ≡ is_node_attached attached.now node.now }
+fn is_attached_at(node: &NodeLists, rows: &[ControllerRow]) -> bool
+    requires { IsRising rows.now }
+    ensures { result ≡ is_node_attached rows.now node.now }
 {
     node.staged
         .iter()
-        .all(|staged| is_attached_as(&node.id, staged, attached))
+        .all(|staged| is_attached_as(&node.id, staged, rows))
 }
 
 // The same at each node.
-fn are_attached(lists: &Lists) -> bool
-    ensures { result ≡ list_all (is_node_attached lists.now.attached.items) lists.now.nodes.items }
+fn are_attached(nodes: &[NodeLists], rows: &[ControllerRow]) -> bool
+    requires { IsRising rows.now }
+    ensures { result ≡ list_all (is_node_attached rows.now) nodes.now }
 {
-    lists
-        .nodes
-        .iter()
-        .all(|node| is_attached_at(node, &lists.attached))
+    nodes.iter().all(|node| is_attached_at(node, rows))
 }
 
-/// Whether what is staged at a node is attached there, with the same capability, in every world that is like what is
-/// listed. It takes no memory.
+/// Whether what is staged at a node is attached there, with the same capability, in every world of which this is the list.
+/// It takes no memory.
 pub(crate) fn is_staged_where_attached(lists: &Lists) -> bool
-    ensures { (world : World) → IsAlike (world_listed lists.now) world → IsTrue result ↔ IsStagedWhereAttached world }
+    ensures { (world : World) → IsListed lists.now world → IsTrue result ↔ IsStagedWhereAttached world }
 {
-    are_attached(lists)
+    are_attached(&lists.nodes, lists.kept.rows())
 }

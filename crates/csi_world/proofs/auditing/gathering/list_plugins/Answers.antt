@@ -1,13 +1,15 @@
 -- By what each reader says.
-use Rattle.std.proofs.Common.{map}
-use Rattle.csi_world.specs.Listed.{node_listed}
-use Rattle.csi_world.proofs.Laid.{lists-alike}
+use Rattle.std.proofs.Common.{map, subst}
+use Rattle.csi_world.specs.Listed.{AreDistinct, node_listed}
+use Rattle.csi_world.proofs.Laid.{lists-alike, shown-ids}
 use Rattle.csi_world.proofs.auditing.gathering.list_plugins.Goals as goal
 
 pub returns : goal.returns
 returns c world plugins =
+    let shows = (c.in_ok-kept.ensures world.controller plugins.controller).shows in
     record {
-      volumes = (c.in_ok-kept.ensures world.controller plugins.controller).shows.volumes;
-      holdings = c.in_ok-attached.ensures world.controller plugins.controller;
+      volumes = shows.volumes;
+      holdings = shows.holdings;
       nodes = lists-alike c.args.nodes.now (map node_listed c.in_ok-nodes.nodes.items) world.nodes c.in_ok-nodes.ensures plugins.nodes;
+      apart = subst AreDistinct (shown-ids c.args.nodes.now world.nodes plugins.nodes) c.requires;
     }

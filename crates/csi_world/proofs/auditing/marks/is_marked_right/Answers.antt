@@ -1,19 +1,15 @@
--- By both sides.
-use Rattle.std.proofs.Common.{Bool, not, ◌∙◌, ap, sym}
+-- By both lists.
+use Rattle.std.proofs.Common.{◌∙◌}
 use Rattle.std.specs.Prelude.{◌&&◌}
+use Rattle.std.specs.List.{list_all}
 use Rattle.csi_orchestrator.specs.Shown.{view_of}
+use Rattle.csi_world.specs.Listed.{is_affirmed, is_noted}
 use Rattle.csi_world.proofs.MarksTold.{marked-told}
 use Rattle.csi_world.proofs.auditing.marks.is_marked_right.Goals as goal
 
-pub returns-then-affirmed : goal.returns-then-affirmed
-returns-then-affirmed c world alike =
-    let denied : Bool = c.in_ok-denied.denied in
-    marked-told (view_of c.args.orchestrator.now).marks c.args.lists.now world alike c.in_ok-affirmed.affirmed denied (not denied) c.in_ok-affirmed.ensures c.in_ok-denied.ensures
-    (ap (λ (b : Bool). b && not denied) (sym c.if-affirmed.true))
-
-pub returns-else-affirmed : goal.returns-else-affirmed
-returns-else-affirmed c world alike =
-    let denied : Bool = c.in_ok-denied.denied in
-    let affirmed : Bool = c.in_ok-affirmed.affirmed in
-    marked-told (view_of c.args.orchestrator.now).marks c.args.lists.now world alike affirmed denied affirmed c.in_ok-affirmed.ensures c.in_ok-denied.ensures
-    (c.if-affirmed.false ∙ ap (λ (b : Bool). b && not denied) (sym c.if-affirmed.false))
+pub returns : goal.returns
+returns c world is =
+    let things = c.deref.ensures.value in
+    let noted = c.deref-2.ensures.value in
+    marked-told (view_of c.args.orchestrator.now).marks world c.in_ok-things.things.items c.in_ok-noted.noted.items (c.in_ok-things.ensures.all world is) c.in_ok-noted.ensures.known c.are_right.result
+    (c.are_right.ensures ∙ (λ i. list_all (is_affirmed (things i)) (noted i) && list_all (is_noted (noted i)) (things i)))

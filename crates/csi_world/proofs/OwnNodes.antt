@@ -1,0 +1,39 @@
+-- The ids of two lists of nodes, place by place.
+use Rattle.std.proofs.Common.{◌≡◌, ◌<◌, ℕ, zero, suc, List, [], ◌∷◌, length, get_or, map, refl, arith}
+use Rattle.csi_types.specs.declared.config.NodeSlots.{NodeSlots}
+use Rattle.csi_node.specs.Record.{NodeParts}
+use Rattle.csi_world.specs.After.{node_id}
+use Rattle.csi_world.specs.Assembled.{AreOfNodes}
+
+-- the ids are the same up to a place
+abbrev pub AreSameBelow : List NodeParts → List NodeSlots → ℕ → Type 0
+AreSameBelow kept nodes place = (k : ℕ) (d : NodeParts) (e : NodeSlots) → k < place → (get_or kept k d).id ≡ (get_or nodes k e).id
+
+pub same-at : (kept : List NodeParts) (nodes : List NodeSlots) → AreOfNodes kept nodes → (k : ℕ) (d : NodeParts) (e : NodeSlots) → k < length nodes → (get_or kept k d).id ≡ (get_or nodes k e).id
+same-at [] [] same k d e within = absurd (omega arith)
+same-at [] (n ∷ ns) same k d e within = let clash : [] ≡ n.id ∷ map node_id ns → ⊥ = (λ h. cc) in absurd (clash same)
+same-at (m ∷ ms) [] same k d e within = absurd (omega arith)
+same-at (m ∷ ms) (n ∷ ns) same zero d e within = let here : m.id ∷ map (λ (one : NodeParts). one.id) ms ≡ n.id ∷ map node_id ns = same in cc
+same-at (m ∷ ms) (n ∷ ns) same (suc k) d e within =
+    let here : m.id ∷ map (λ (one : NodeParts). one.id) ms ≡ n.id ∷ map node_id ns = same in
+    let rest : map (λ (one : NodeParts). one.id) ms ≡ map node_id ns = cc in
+    same-at ms ns rest k d e (omega arith)
+
+pub same-from : (kept : List NodeParts) (nodes : List NodeSlots) → length kept ≡ length nodes → AreSameBelow kept nodes (length nodes) → AreOfNodes kept nodes
+same-from [] [] long same = refl
+same-from [] (n ∷ ns) long same = absurd (omega (arith, long))
+same-from (m ∷ ms) [] long same = absurd (omega (arith, long))
+same-from (m ∷ ms) (n ∷ ns) long same =
+    let first : m.id ≡ n.id = same 0 m n (omega arith) in
+    let rest = same-from ms ns (omega (arith, long)) (λ k d e below. same (suc k) d e (omega arith)) in
+    λ i. first i ∷ rest i
+
+pub same-long : (kept : List NodeParts) (nodes : List NodeSlots) → AreOfNodes kept nodes → length kept ≡ length nodes
+same-long [] [] same = refl
+same-long [] (n ∷ ns) same = let clash : [] ≡ n.id ∷ map node_id ns → ⊥ = (λ h. cc) in absurd (clash same)
+same-long (m ∷ ms) [] same = let clash : m.id ∷ map (λ (one : NodeParts). one.id) ms ≡ [] → ⊥ = (λ h. cc) in absurd (clash same)
+same-long (m ∷ ms) (n ∷ ns) same =
+    let here : m.id ∷ map (λ (one : NodeParts). one.id) ms ≡ n.id ∷ map node_id ns = same in
+    let rest : map (λ (one : NodeParts). one.id) ms ≡ map node_id ns = cc in
+    let long = same-long ms ns rest in
+    omega (arith, long)

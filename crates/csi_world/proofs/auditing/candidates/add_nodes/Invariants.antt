@@ -1,8 +1,0 @@
--- Those of the first nodes were added.
-use Rattle.std.proofs.Common.{◌≡◌, ◌++◌, take}
-use Rattle.std.specs.List.{flat_map}
-use Rattle.csi_world.specs.Listed.{things_at}
-use Rattle.csi_world.proofs.auditing.candidates.add_nodes.Given as goal
-
-abbrev pub invariant-loop-node : goal.invariant-loop-node
-invariant-loop-node l = l.things.items ≡ l.fn.things.items ++ flat_map (things_at l.row) (take l.node-index l.nodes)

@@ -1,0 +1,17 @@
+-- By where the row is.
+use Rattle.std.proofs.Common.{sym, ◌∙◌}
+use Rattle.std.specs.Prelude.{Bool, ◌==◌}
+use Rattle.csi_controller.specs.declared.row.ControllerRow.{ControllerRow}
+use Rattle.csi_controller.proofs.FirstAt.{FirstAt-position, FirstAt-find}
+use Rattle.csi_world.proofs.SystemNodes.{find-nowhere}
+use Rattle.csi_world.proofs.auditing.halving.find_row.Goals as goal
+
+pub returns-in-Some : goal.returns-in-Some
+returns-in-Some c =
+    let p : ControllerRow → Bool = λ row. row.id == c.args.id in
+    let row : ControllerRow = c.index-rows-place.result in
+    let place = c.in-Some.place in
+    sym (FirstAt-find p c.args.rows.now place row (FirstAt-position p c.args.rows.now place row (sym c.place_of_row.ensures ∙ c.in-Some.is) c.index-rows-place.is))
+
+pub returns-in-None : goal.returns-in-None
+returns-in-None c = sym (find-nowhere (λ (row : ControllerRow). row.id == c.args.id) c.args.rows.now (sym c.place_of_row.ensures ∙ c.in-None.is))

@@ -1,0 +1,8 @@
+-- Those of the first ones were added.
+use Rattle.std.proofs.Common.{◌≡◌, ◌++◌, take}
+use Rattle.std.specs.List.{flat_map}
+use Rattle.csi_world.specs.Listed.{staged_thing}
+use Rattle.csi_world.proofs.auditing.things.add_all_staged.Given as goal
+
+abbrev pub invariant-loop-entry : goal.invariant-loop-entry
+invariant-loop-entry l = l.things.items ≡ l.fn.things.items ++ flat_map (staged_thing l.rows l.node) (take l.entry-index l.list)

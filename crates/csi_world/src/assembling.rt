@@ -1,0 +1,117 @@
+//! Worlds that are made of their parts.
+ghost use Rattle.std.specs.Prelude.{◌≡◌, ◌↔◌, IfOk, IsTrue, Err};
+ghost use Rattle.csi_world.specs.Assembled.{AreOfNodes, assembled};
+ghost use Rattle.csi_world.specs.System.{shown_of};
+
+use crate::plugins::copied_config;
+use crate::system::System;
+use crate::world::World;
+use csi_controller::{Controller, ControllerRecord};
+use csi_node::{Node, NodeRecord};
+use csi_orchestrator::Orchestrator;
+use csi_types::{Config, NoMemory, NodeId, NodeSlots};
+use std::alloc::Global;
+use thiserror::Error;
+
+/// Why a world can't be made of its parts (this profile's own).
+#[derive(Clone, Copy, Debug, PartialEq, Eq, Error)]
+pub enum AssembleFault {
+    /// The node records aren't those of the configuration's nodes, in its order.
+    #[error("the node records are of other nodes")]
+    OtherNodes = 1,
+    /// An allocation was refused.
+    #[error("out of memory")]
+    NoMemory = 2,
+}
+
+// Whether the two are the same.
+fn is_same(a: &NodeId, b: &NodeId) -> bool
+    ensures { IsTrue result ↔ (a.now ≡ b.now) }
+{
+    a == b
+}
+
+// Whether the records are those of these nodes, in their order.
+fn are_of_nodes(kept: &[NodeRecord], nodes: &[NodeSlots]) -> bool
+    ensures { IsTrue result ↔ AreOfNodes kept.now nodes.now }
+{
+    if kept.len() != nodes.len() {
+        return false;
+    }
+    for (place, slots) in nodes.iter().enumerate() {
+        if !is_same(kept[place].id(), &slots.id) {
+            return false;
+        }
+    }
+    true
+}
+
+// The node of a record.
+fn node_of_record(alloc: Global, kept: NodeRecord) -> Result<Node, NoMemory>
+    ensures { IfOk result (λ node. node ≡ kept) }
+{
+    Node::from_record(alloc, kept).map_err(|_| NoMemory)
+}
+
+// The nodes of these records, in order.
+fn nodes_of_records(alloc: Global, kept: Vec<NodeRecord>) -> Result<Vec<Node>, NoMemory>
+    ensures { IfOk result (λ nodes. nodes.items ≡ kept.items) }
+{
+    let mut nodes = Vec::new(alloc);
+    for one in kept {
+        nodes.push(node_of_record(alloc, one)?)?;
+    }
+    Ok(nodes)
+}
+
+// The parts of the world, in which nothing happened.
+fn assembled_system(
+    alloc: Global,
+    config: Config,
+    controller: ControllerRecord,
+    nodes: Vec<NodeRecord>,
+    orchestrator: Orchestrator,
+) -> Result<System, NoMemory>
+    ensures { IfOk result (λ system. shown_of system ≡ assembled config controller nodes.items orchestrator) }
+{
+    let own = copied_config(&config)?;
+    let controller = Controller::from_record(alloc, own, controller).map_err(|_| NoMemory)?;
+    let nodes = nodes_of_records(alloc, nodes)?;
+    Ok(System {
+        alloc,
+        config,
+        frames: Vec::new(alloc),
+        outcomes: Vec::new(alloc),
+        controller,
+        nodes,
+        orchestrator,
+    })
+}
+
+impl World {
+    ghost use Rattle.csi_world.specs.declared.assembling.AssembleFault.TheVariants.{OtherNodes};
+
+    /// The world of these parts, in which no frame was sent and no event came: the controller and the nodes are those of the
+    /// records, and the orchestrator is the one that is given. It may be any orchestrator, so that the world need not be one
+    /// to which events lead, nor a safe one: `audit` tells. It is refused with `OtherNodes` exactly where the node records
+    /// aren't those of the configuration's nodes, in its order, and else with `NoMemory` where an allocation was refused.
+    /// This profile's own.
+    pub fn assemble(
+        alloc: Global,
+        config: Config,
+        controller: ControllerRecord,
+        nodes: Vec<NodeRecord>,
+        orchestrator: Orchestrator,
+    ) -> Result<World, AssembleFault>
+        ensures ok { IfOk result (λ world. world ≡ assembled config controller nodes.items orchestrator) }
+        ensures other { (result ≡ Err OtherNodes) ↔ (AreOfNodes nodes.items config.nodes → ⊥) }
+    {
+        if !are_of_nodes(&nodes, config.nodes()) {
+            return Err(AssembleFault::OtherNodes);
+        }
+        match assembled_system(alloc, config, controller, nodes, orchestrator) {
+            Ok(system) => Ok(World::of(system)),
+            Err(NoMemory) => Err(AssembleFault::NoMemory),
+        }
+    }
+}

@@ -1,0 +1,50 @@
+//! Searches of lists that are in order, by halving.
+ghost use Rattle.std.specs.Prelude.{◌≡◌, ◌==◌, find, position};
+ghost use Rattle.std.specs.Option.{option_copied};
+ghost use Rattle.csi_controller.specs.Core.{IsRising};
+ghost use Rattle.csi_orchestrator.specs.Listing.{IsInOrder};
+ghost use Rattle.csi_world.specs.Listed.{AreSorted, is_listed, is_noted as is_noted_so};
+
+use csi_controller::ControllerRow;
+use csi_orchestrator::{Known, Thing};
+use csi_types::VolumeId;
+
+// Where the row of this id is.
+fn place_of_row(rows: &[ControllerRow], id: VolumeId) -> Option<usize>
+    requires { IsRising rows.now }
+    ensures { result ≡ position (λ row. row.id == id) rows.now }
+{
+    rows.binary_search_by_key(&id.number(), |row| row.id.number())
+        .ok()
+}
+
+/// The row of this id, of rows by rising id.
+pub(crate) fn find_row(rows: &[ControllerRow], id: VolumeId) -> Option<&ControllerRow>
+    requires { IsRising rows.now }
+    ensures { option_copied result ≡ find (λ row. row.id == id) rows.now }
+{
+    match place_of_row(rows, id) {
+        Some(place) => Some(&rows[place]),
+        None => None,
+    }
+}
+
+/// Whether the thing is among these, which are in order.
+pub(crate) fn has_thing(things: &[Thing], thing: &Thing) -> bool
+    requires { AreSorted things.now }
+    ensures { result ≡ is_listed things.now thing.now }
+{
+    things
+        .binary_search_by(|other| other.compare(thing))
+        .is_ok()
+}
+
+/// Whether something is noted of the thing in this list, which is in order.
+pub(crate) fn is_noted(noted: &[(Thing, Known)], thing: &Thing) -> bool
+    requires { IsInOrder noted.now }
+    ensures { result ≡ is_noted_so noted.now thing.now }
+{
+    noted
+        .binary_search_by(|entry| entry.0.compare(thing))
+        .is_ok()
+}

@@ -1,0 +1,221 @@
+//! Everything that holds, by what is listed.
+ghost use Rattle.std.specs.Prelude.{◌≡◌, ◌++◌, ◌↔◌, map, true, IfOk, OnOk};
+ghost use Rattle.std.specs.List.{flat_map};
+ghost use Rattle.std.specs.List.Sorted.{IsPermutation};
+ghost use Rattle.csi_types.specs.Lists.{IsAmong};
+ghost use Rattle.csi_controller.specs.Core.{IsRising};
+ghost use Rattle.csi_orchestrator.specs.declared.thing.Thing.{Thing as ThingParts};
+ghost use Rattle.csi_world.specs.World.{World};
+ghost use Rattle.csi_world.specs.Safe.{holds};
+ghost use Rattle.csi_world.specs.Listed.{AreSorted, IsListed, exists_thing, attached_thing, things_of, staged_thing, published_thing, things_at, things_listed};
+
+use super::halving::find_row;
+use super::lists::{Lists, NodeLists};
+use csi_controller::{ControllerRow, NodeHolding};
+use csi_node::{Published, Staged};
+use csi_orchestrator::Thing;
+use csi_types::{Name, NoMemory, NodeId, Target};
+use std::alloc::Global;
+
+// That the volume of this name exists.
+fn exists(name: &Name) -> Result<Thing, NoMemory>
+    ensures { IfOk result (λ thing. thing ≡ ThingParts.Exists name.now) }
+{
+    let name = name.clone()?;
+    Ok(Thing::Exists { name })
+}
+
+// That it is attached at the node.
+fn attached(name: &Name, node: &NodeId) -> Result<Thing, NoMemory>
+    ensures { IfOk result (λ thing. thing ≡ ThingParts.Attached name.now node.now) }
+{
+    let name = name.clone()?;
+    let node = node.clone()?;
+    Ok(Thing::Attached { name, node })
+}
+
+// That it is staged at the node.
+fn staged(name: &Name, node: &NodeId) -> Result<Thing, NoMemory>
+    ensures { IfOk result (λ thing. thing ≡ ThingParts.Staged name.now node.now) }
+{
+    let name = name.clone()?;
+    let node = node.clone()?;
+    Ok(Thing::Staged { name, node })
+}
+
+// That it is published at the target of the node.
+fn published(name: &Name, node: &NodeId, target: &Target) -> Result<Thing, NoMemory>
+    ensures { IfOk result (λ thing. thing ≡ ThingParts.Published name.now node.now target.now) }
+{
+    let name = name.clone()?;
+    let node = node.clone()?;
+    let target = target.clone()?;
+    Ok(Thing::Published { name, node, target })
+}
+
+// Adds that the row's volume exists, where it does.
+fn add_exists(things: &mut Vec<Thing>, row: &ControllerRow) -> Result<(), NoMemory>
+    ensures { OnOk result (things.new.items ≡ things.old.items ++ exists_thing row.now) }
+{
+    if row.live {
+        things.push(exists(&row.name)?)?;
+    }
+    Ok(())
+}
+
+// Adds where the volume of this name is attached.
+fn add_holdings(
+    things: &mut Vec<Thing>,
+    name: &Name,
+    holdings: &[NodeHolding],
+) -> Result<(), NoMemory>
+    ensures { OnOk result (things.new.items ≡ things.old.items ++ map (attached_thing name.now) holdings.now) }
+{
+    for held in holdings {
+        things.push(attached(name, &held.node)?)?;
+    }
+    Ok(())
+}
+
+// Adds what holds of the row's volume at the controller.
+fn add_row(things: &mut Vec<Thing>, row: &ControllerRow) -> Result<(), NoMemory>
+    ensures { OnOk result (things.new.items ≡ things.old.items ++ things_of row.now) }
+{
+    add_exists(things, row)?;
+    add_holdings(things, &row.name, &row.holdings)
+}
+
+// The same for each of these rows.
+fn add_rows(things: &mut Vec<Thing>, rows: &[ControllerRow]) -> Result<(), NoMemory>
+    ensures { OnOk result (things.new.items ≡ things.old.items ++ flat_map things_of rows.now) }
+{
+    for row in rows {
+        add_row(things, row)?;
+    }
+    Ok(())
+}
+
+// Adds that the volume is staged at the node, where the controller has it.
+fn add_staged(
+    things: &mut Vec<Thing>,
+    rows: &[ControllerRow],
+    node: &NodeId,
+    entry: &Staged,
+) -> Result<(), NoMemory>
+    requires { IsRising rows.now }
+    ensures { OnOk result (things.new.items ≡ things.old.items ++ staged_thing rows.now node.now entry.now) }
+{
+    if let Some(row) = find_row(rows, entry.id) {
+        things.push(staged(&row.name, node)?)?;
+    }
+    Ok(())
+}
+
+// The same for each that is staged.
+fn add_all_staged(
+    things: &mut Vec<Thing>,
+    rows: &[ControllerRow],
+    node: &NodeId,
+    list: &[Staged],
+) -> Result<(), NoMemory>
+    requires { IsRising rows.now }
+    ensures { OnOk result (things.new.items ≡ things.old.items ++ flat_map (staged_thing rows.now node.now) list.now) }
+{
+    for entry in list {
+        add_staged(things, rows, node, entry)?;
+    }
+    Ok(())
+}
+
+// Adds that the volume is published at the node, where the controller has it.
+fn add_published(
+    things: &mut Vec<Thing>,
+    rows: &[ControllerRow],
+    node: &NodeId,
+    entry: &Published,
+) -> Result<(), NoMemory>
+    requires { IsRising rows.now }
+    ensures { OnOk result (things.new.items ≡ things.old.items ++ published_thing rows.now node.now entry.now) }
+{
+    if let Some(row) = find_row(rows, entry.id) {
+        things.push(published(&row.name, node, &entry.target)?)?;
+    }
+    Ok(())
+}
+
+// The same for each that is published.
+fn add_all_published(
+    things: &mut Vec<Thing>,
+    rows: &[ControllerRow],
+    node: &NodeId,
+    list: &[Published],
+) -> Result<(), NoMemory>
+    requires { IsRising rows.now }
+    ensures { OnOk result (things.new.items ≡ things.old.items ++ flat_map (published_thing rows.now node.now) list.now) }
+{
+    for entry in list {
+        add_published(things, rows, node, entry)?;
+    }
+    Ok(())
+}
+
+// Adds what the node has.
+fn add_node(
+    things: &mut Vec<Thing>,
+    rows: &[ControllerRow],
+    node: &NodeLists,
+) -> Result<(), NoMemory>
+    requires { IsRising rows.now }
+    ensures { OnOk result (things.new.items ≡ things.old.items ++ things_at rows.now node.now) }
+{
+    add_all_staged(things, rows, &node.id, &node.staged)?;
+    add_all_published(things, rows, &node.id, &node.published)
+}
+
+// The same for each of these nodes.
+fn add_nodes(
+    things: &mut Vec<Thing>,
+    rows: &[ControllerRow],
+    nodes: &[NodeLists],
+) -> Result<(), NoMemory>
+    requires { IsRising rows.now }
+    ensures { OnOk result (things.new.items ≡ things.old.items ++ flat_map (things_at rows.now) nodes.now) }
+{
+    for node in nodes {
+        add_node(things, rows, node)?;
+    }
+    Ok(())
+}
+
+// Everything that holds, in no order.
+fn gathered(
+    alloc: Global,
+    rows: &[ControllerRow],
+    nodes: &[NodeLists],
+) -> Result<Vec<Thing>, NoMemory>
+    requires { IsRising rows.now }
+    ensures { IfOk result (λ things. things.items ≡ things_listed rows.now nodes.now) }
+{
+    let mut things = Vec::new(alloc);
+    add_rows(&mut things, rows)?;
+    add_nodes(&mut things, rows, nodes)?;
+    Ok(things)
+}
+
+// Puts things in order.
+fn put_in_order(things: &mut Vec<Thing>)
+    ensures moved { IsPermutation things.old.items things.new.items }
+    ensures order { AreSorted things.new.items }
+{
+    things.sort_unstable_by(|a, b| a.compare(b));
+}
+
+/// Everything that holds in the worlds of which this is the list, in order.
+pub(crate) fn list_things(alloc: Global, lists: &Lists) -> Result<Vec<Thing>, NoMemory>
+    ensures all { (world : World) → IsListed lists.now world → IfOk result (λ things. (thing : ThingParts) → IsAmong thing things.items ↔ (holds world thing ≡ true)) }
+    ensures order { IfOk result (λ things. AreSorted things.items) }
+{
+    let mut things = gathered(alloc, lists.kept.rows(), &lists.nodes)?;
+    put_in_order(&mut things);
+    Ok(things)
+}
