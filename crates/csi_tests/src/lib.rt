@@ -3,6 +3,12 @@
 #![tactic(auto)]
 
 #[cfg(test)]
+mod controller;
+#[cfg(test)]
+mod node;
+#[cfg(test)]
+mod replies;
+#[cfg(test)]
 mod types;
 #[cfg(test)]
 mod values;
