@@ -5,6 +5,8 @@
 #[cfg(test)]
 mod controller;
 #[cfg(test)]
+mod frames;
+#[cfg(test)]
 mod node;
 #[cfg(test)]
 mod replies;
