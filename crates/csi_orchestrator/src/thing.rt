@@ -6,7 +6,7 @@ use csi_types::{Name, NodeId, Target};
 
 /// A state of a volume that a call brings about and another call ends (CSI's spec.md, "Volume
 /// Lifecycle"), by the name that the orchestrator gave the volume.
-#[derive(Debug, PartialEq, Eq, Drop)]
+#[derive(Clone, Debug, PartialEq, Eq, Drop)]
 pub enum Thing {
     /// The volume is made: CREATED.
     Exists {
