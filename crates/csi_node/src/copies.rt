@@ -14,17 +14,7 @@ use std::alloc::Global;
 pub(crate) fn copy_of(row: &NodeRow) -> Result<NodeRow, CoreFault>
     ensures { IfOk result (λ copy. shown copy ≡ shown row.now) }
 {
-    let staged = row.staged.clone()?;
-    let targets = row.targets.clone()?;
-    let reply = row.reply.clone()?;
-    Ok(NodeRow {
-        id: row.id,
-        staged,
-        targets,
-        last: row.last,
-        kind: row.kind,
-        reply,
-    })
+    Ok(row.clone()?)
 }
 
 // Puts a copy of a row at the end.
