@@ -6,6 +6,7 @@ pub mod Rows
 pub mod Laws
 pub mod Core
 pub mod Wanted
+pub mod Line
 pub mod CoreParts
 pub mod Views
 pub mod Exclusive

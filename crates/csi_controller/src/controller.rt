@@ -5,6 +5,7 @@ ghost use Rattle.csi_types.specs.declared.call.Call.{Call as OneCall};
 mod answer;
 mod fence;
 mod inner;
+mod line;
 mod lines;
 mod listing;
 mod new_row;

@@ -1,35 +1,28 @@
 //! Replies, and the frames that carry them.
-ghost use Rattle.std.specs.Prelude.{◌≡◌, [], Some, IsTrue, IsOk, IfOk};
+ghost use Rattle.std.specs.Prelude.{◌≡◌, [], IsTrue, IsOk, IfOk};
 ghost use Rattle.csi_types.specs.declared.call.Party.TheVariants.{Controller};
 ghost use Rattle.csi_types.specs.Call.{is_party_of};
 ghost use Rattle.csi_types.specs.Reply.{has_id_by_rule};
-ghost use Rattle.csi_types.specs.Replies.{plain_reply, reply_frame};
+ghost use Rattle.csi_types.specs.Replies.{reply_frame};
+ghost use Rattle.csi_controller.specs.Line.{line_told};
 
+use super::line::Line;
 use crate::fault::CoreFault;
 use csi_types::{Detail, Frame, Kind, Number, Party, Reply, Status, VolumeId};
 use std::alloc::Global;
 
-/// A status without an id, and a detail of at most 255 bytes.
-pub fn plain(alloc: Global, status: Status, detail: &str) -> Result<Reply, CoreFault>
-    ensures ok { IfOk result (λ reply. reply ≡ plain_reply status detail.now) }
+/// The reply of a line. Without a detail it takes no memory.
+pub fn said(alloc: Global, line: &Line) -> Result<Reply, CoreFault>
+    ensures ok { IfOk result (λ reply. reply ≡ line_told line.now) }
+    ensures succeeds { (line_told line.now).detail ≡ [] → IsOk result }
 {
-    match Detail::try_new(alloc, detail) {
+    match Detail::try_new(alloc, line.detail) {
         Ok(detail) => Ok(Reply {
-            status,
-            id: None,
+            status: line.status,
+            id: line.id,
             detail,
         }),
         Err(_) => Err(CoreFault::NoMemory),
-    }
-}
-
-/// The same, as a line of the table answers it.
-pub fn refused(alloc: Global, status: Status, detail: &str) -> Result<Option<Reply>, CoreFault>
-    ensures ok { IfOk result (λ line. line ≡ Some (plain_reply status detail.now)) }
-{
-    match plain(alloc, status, detail) {
-        Ok(reply) => Ok(Some(reply)),
-        Err(fault) => Err(fault),
     }
 }
 
@@ -69,19 +62,13 @@ pub fn carried(number: Number, kind: Kind, reply: Reply) -> Frame
     Frame::reply(number, Party::Controller, kind, reply).unwrap()
 }
 
-/// The frame of a refusal that is kept nowhere.
-pub fn refusal(
-    alloc: Global,
-    number: Number,
-    kind: Kind,
-    status: Status,
-    detail: &str,
-) -> Result<Frame, CoreFault>
+/// The frame of a line that is kept nowhere.
+pub fn unkept(alloc: Global, number: Number, kind: Kind, line: &Line) -> Result<Frame, CoreFault>
     requires party { IsTrue (is_party_of kind Controller) }
-    requires id { IsTrue (has_id_by_rule kind (plain_reply status detail.now)) }
-    ensures ok { IfOk result (λ frame. frame ≡ reply_frame number Controller kind (plain_reply status detail.now)) }
+    requires id { IsTrue (has_id_by_rule kind (line_told line.now)) }
+    ensures ok { IfOk result (λ frame. frame ≡ reply_frame number Controller kind (line_told line.now)) }
 {
-    match plain(alloc, status, detail) {
+    match said(alloc, line) {
         Ok(reply) => Ok(carried(number, kind, reply)),
         Err(fault) => Err(fault),
     }

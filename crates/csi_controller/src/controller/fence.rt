@@ -8,7 +8,8 @@ ghost use Rattle.csi_types.specs.Reply.{has_id_by_rule};
 ghost use Rattle.csi_types.specs.Replies.{ok_reply, reply_frame};
 ghost use Rattle.csi_controller.specs.Core.{RowGives, RowOutcome, row_after};
 
-use super::answer::{carried, done, frame_of, refusal};
+use super::answer::{carried, done, frame_of, unkept};
+use super::line::refused;
 use crate::fault::CoreFault;
 use crate::row::ControllerRow;
 use csi_types::{Frame, Kind, Number, Reply, Status, Verdict, verdict_of};
@@ -30,7 +31,7 @@ pub fn fence(
     ensures fresh { verdict_by (Some row.now.last) number ≡ Fresh → IsNone result }
 {
     match verdict_of(Some(row.last), number) {
-        Verdict::Stale => Some(refusal(alloc, number, kind, Status::Aborted, "stale")),
+        Verdict::Stale => Some(unkept(alloc, number, kind, &refused(Status::Aborted, "stale"))),
         Verdict::Repeated => Some(frame_of(alloc, number, row.kind, &row.reply)),
         Verdict::Fresh => None,
     }

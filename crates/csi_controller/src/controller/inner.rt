@@ -11,14 +11,16 @@ ghost use Rattle.csi_types.specs.Call.{kind_of, is_node_kind};
 ghost use Rattle.csi_types.specs.Capacity.{wanted};
 ghost use Rattle.csi_types.specs.Config.{has_node};
 ghost use Rattle.csi_types.specs.Reply.{has_id_by_rule};
-ghost use Rattle.csi_types.specs.Replies.{ok_reply_with, plain_reply, reply_frame};
+ghost use Rattle.csi_types.specs.Replies.{ok_reply_with, reply_frame};
 ghost use Rattle.csi_types.specs.Same.{same_text};
 ghost use Rattle.csi_controller.specs.Shown.{volume_of_row};
+ghost use Rattle.csi_controller.specs.Line.{line_told};
 ghost use Rattle.csi_controller.specs.Wanted.{wanted_shown};
 ghost use Rattle.csi_controller.specs.Core.{made_volume, IsSameRow};
 
-use super::answer::{carried, done, refusal, refused};
+use super::answer::{carried, done, said, unkept};
 use super::fence::fence;
+use super::line::{Line, refused};
 use super::lines::{argument_fault, is_held_at, publish_by_row};
 use super::new_row::{copied_row, new_row};
 use super::row_calls::{create_again, delete, publish, unpublish};
@@ -44,13 +46,6 @@ pub struct Core {
     pub rows: Vec<ControllerRow>,
 }
 
-/// A status with its detail, as the table answers it.
-#[derive(Clone, Copy)]
-struct Refusal {
-    status: Status,
-    detail: &'static str,
-}
-
 // The capacity that is asked for with this range.
 fn wanted_capacity(required: u64, limit: u64) -> u64
     ensures { result ≡ wanted required limit }
@@ -64,7 +59,7 @@ fn wanted_capacity(required: u64, limit: u64) -> u64
 
 impl Core {
     ghost use Rattle.csi_controller.specs.State.{ControllerState};
-    ghost use Rattle.csi_controller.specs.Table.{Makes, refused};
+    ghost use Rattle.csi_controller.specs.Table.{Makes, Stays};
     ghost use Rattle.csi_controller.specs.Fenced.{fenced, fenced_call, kept_for};
     ghost use Rattle.csi_controller.specs.Core.{IsShown, IsSound, Answers, IsAnsweredOk, IsUndoing, new_line, next_shown};
     ghost use Rattle.csi_controller.specs.Core.{by_line, publish_line as publish_told};
@@ -115,35 +110,26 @@ impl Core {
     }
 
     // The id and the capacity of the volume that is made for a new name, or the table's refusal.
-    fn room_for(&self, required: u64, limit: u64) -> Result<(VolumeId, u64), Refusal>
+    fn room_for(&self, required: u64, limit: u64) -> Result<(VolumeId, u64), Line<'static>>
         ensures line { (name : List ℕ) (wished : List OneCapability) → MatchResult result
             (λ made. new_line self.now.config.greatest (length self.now.rows.items) (next_shown self.now.next_id) name required limit wished
             ≡ record { reply = ok_reply_with made.0; change = Makes name made.1 wished })
-            (λ refusal. new_line self.now.config.greatest (length self.now.rows.items) (next_shown self.now.next_id) name required limit wished
-            ≡ refused refusal.status refusal.detail.now) }
+            (λ line. new_line self.now.config.greatest (length self.now.rows.items) (next_shown self.now.next_id) name required limit wished
+            ≡ record { reply = line_told line; change = Stays }) }
         ensures id { IfOk result (λ made. made.0 ≡ self.now.next_id) }
         ensures from { IfOk result (λ made. 0 < made.0) }
-        ensures no_id { IfErr result (λ refusal. IsTrue (has_id_by_rule CreateKind (plain_reply refusal.status refusal.detail.now))) }
+        ensures no_id { IfErr result (λ line. IsTrue (has_id_by_rule CreateKind (line_told line))) }
     {
         let capacity = wanted_capacity(required, limit);
         if capacity > self.config.greatest() {
-            return Err(Refusal {
-                status: Status::OutOfRange,
-                detail: "range",
-            });
+            return Err(refused(Status::OutOfRange, "range"));
         }
         if self.rows.len() >= MAX_ROWS {
-            return Err(Refusal {
-                status: Status::ResourceExhausted,
-                detail: "volumes",
-            });
+            return Err(refused(Status::ResourceExhausted, "volumes"));
         }
         match VolumeId::try_new(self.next_id) {
             Some(id) => Ok((id, capacity)),
-            None => Err(Refusal {
-                status: Status::ResourceExhausted,
-                detail: "volumes",
-            }),
+            None => Err(refused(Status::ResourceExhausted, "volumes")),
         }
     }
 
@@ -186,22 +172,12 @@ impl Core {
     {
         let alloc = self.alloc;
         let wished = capabilities.as_slice();
-        match argument_fault(alloc, required, limit, wished) {
-            Ok(Some(reply)) => return Ok(carried(number, Kind::CreateVolume, reply)),
-            Ok(None) => {}
-            Err(fault) => return Err(fault),
+        if let Some(line) = argument_fault(required, limit, wished) {
+            return unkept(alloc, number, Kind::CreateVolume, &line);
         }
         match self.room_for(required, limit) {
             Ok(made) => self.make(number, made.0, made.1, name, capabilities),
-            Err(refused) => {
-                refusal(
-                    alloc,
-                    number,
-                    Kind::CreateVolume,
-                    refused.status,
-                    refused.detail,
-                )
-            }
+            Err(line) => unkept(alloc, number, Kind::CreateVolume, &line),
         }
     }
 
@@ -265,15 +241,18 @@ impl Core {
         ensures id { IfOk result (λ line. IfSome line (λ reply. IsTrue (has_id_by_rule PublishKind reply))) }
     {
         let alloc = self.alloc;
-        match publish_by_row(row, alloc, wanted, self.has_node(wanted.node)) {
-            Ok(None) => {
-                if row.holdings.len() >= 64 || self.is_full(wanted.node) {
-                    refused(alloc, Status::ResourceExhausted, "slots")
-                } else {
-                    Ok(None)
+        let line = match publish_by_row(row, wanted, self.has_node(wanted.node)) {
+            Some(line) => line,
+            None => {
+                if row.holdings.len() < 64 && !self.is_full(wanted.node) {
+                    return Ok(None);
                 }
+                refused(Status::ResourceExhausted, "slots")
             }
-            line => line,
+        };
+        match said(alloc, &line) {
+            Ok(reply) => Ok(Some(reply)),
+            Err(fault) => Err(fault),
         }
     }
 
@@ -310,13 +289,10 @@ impl Core {
                     Err(fault) => Err(fault),
                 }
             }
-            None => refusal(
-                alloc,
-                number,
-                Kind::ControllerPublishVolume,
-                Status::NotFound,
-                "volume",
-            ),
+            None => {
+                let line = refused(Status::NotFound, "volume");
+                unkept(alloc, number, Kind::ControllerPublishVolume, &line)
+            }
         }
     }
 

@@ -1,6 +1,6 @@
 //! What the lines of the table for a volume's row answer: a reply that changes nothing, or `None` where the
 //! call is carried out.
-ghost use Rattle.std.specs.Prelude.{◌≡◌, ℕ, Bool, true, IsTrue, IsOk, IfOk, not, None, IfSome, []};
+ghost use Rattle.std.specs.Prelude.{◌≡◌, ℕ, Bool, true, IsTrue, not, None, IfSome, [], option_map};
 ghost use Rattle.std.specs.List.{find, list_any, list_all};
 ghost use Rattle.std.specs.Option.{option_copied};
 ghost use Rattle.csi_types.specs.declared.call.Kind.TheVariants.{CreateVolume, DeleteVolume, ControllerPublishVolume};
@@ -10,18 +10,15 @@ ghost use Rattle.csi_types.specs.Same.{same_text, same_capability as is_same_cap
 ghost use Rattle.csi_types.specs.Reply.{has_id_by_rule};
 ghost use Rattle.csi_controller.specs.Table.{serves as is_served};
 ghost use Rattle.csi_controller.specs.Shown.{volume_of_row};
+ghost use Rattle.csi_controller.specs.Line.{line_told};
 ghost use Rattle.csi_controller.specs.Wanted.{wanted_shown};
 ghost use Rattle.csi_controller.specs.Core.{held_by, by_line, delete_line as delete_told, again_line as again_told, create_line as create_told, argument_fault as fault_told, unpublish_line as unpublish_told, publish_line as publish_told, by_slots};
 ghost use Rattle.csi_controller.specs.Core.RowChange.{RowStays, RowEnds};
 
-use super::answer::{done, plain, refused};
+use super::line::{Line, met, refused};
 use super::wanted::Wanted;
-use crate::fault::CoreFault;
 use crate::row::{ControllerRow, NodeHolding};
-use csi_types::{
-    Access, Capability, MAX_CAPACITY, Mode, NodeId, Reply, Status, single_node, writes,
-};
-use std::alloc::Global;
+use csi_types::{Access, Capability, MAX_CAPACITY, Mode, NodeId, Status, single_node, writes};
 
 // Whether both are block, or both mount the same type.
 fn same_access(a: &Access, b: &Access) -> bool
@@ -88,74 +85,66 @@ fn is_empty_range(required: u64, limit: u64) -> bool
 }
 
 /// What is wrong with the arguments of a CreateVolume, as the table answers it, if anything is.
-pub fn argument_fault(
-    alloc: Global,
-    required: u64,
-    limit: u64,
-    wished: &[Capability],
-) -> Result<Option<Reply>, CoreFault>
-    ensures ok { IfOk result (λ fault. fault ≡ fault_told required limit wished.now) }
-    ensures id { IfOk result (λ fault. IfSome fault (λ reply. IsTrue (has_id_by_rule CreateVolume reply))) }
+pub fn argument_fault(required: u64, limit: u64, wished: &[Capability]) -> Option<Line<'static>>
+    ensures ok { option_map line_told result ≡ fault_told required limit wished.now }
+    ensures id { IfSome result (λ line. IsTrue (has_id_by_rule CreateVolume (line_told line))) }
 {
     if wished.is_empty() {
-        return refused(alloc, Status::InvalidArgument, "capabilities");
+        return Some(refused(Status::InvalidArgument, "capabilities"));
     }
     if is_bad_range(required, limit) {
-        return refused(alloc, Status::InvalidArgument, "capacity");
+        return Some(refused(Status::InvalidArgument, "capacity"));
     }
     if is_empty_range(required, limit) {
-        return refused(alloc, Status::OutOfRange, "range");
+        return Some(refused(Status::OutOfRange, "range"));
     }
-    Ok(None)
+    None
 }
 
 // CreateVolume with good arguments, of a name that has this row.
 fn again_line(
     row: &ControllerRow,
-    alloc: Global,
     required: u64,
     limit: u64,
     wished: &[Capability],
-) -> Result<Reply, CoreFault>
-    ensures ok { IfOk result (λ reply. again_told row.now required limit wished.now ≡ record { reply = reply; change = RowStays }) }
-    ensures id { IfOk result (λ reply. IsTrue (has_id_by_rule CreateVolume reply)) }
+) -> Line<'static>
+    ensures ok { again_told row.now required limit wished.now ≡ record { reply = line_told result; change = RowStays } }
+    ensures id { IsTrue (has_id_by_rule CreateVolume (line_told result)) }
 {
     if row.live && serves(row, required, limit, wished) {
-        return Ok(done(alloc, Some(row.id)));
+        return met(Some(row.id));
     }
-    plain(alloc, Status::AlreadyExists, "name")
+    refused(Status::AlreadyExists, "name")
 }
 
 /// CreateVolume of a name that has this row.
 pub fn create_line(
     row: &ControllerRow,
-    alloc: Global,
     required: u64,
     limit: u64,
     wished: &[Capability],
-) -> Result<Reply, CoreFault>
-    ensures ok { IfOk result (λ reply. create_told row.now required limit wished.now ≡ record { reply = reply; change = RowStays }) }
-    ensures id { IfOk result (λ reply. IsTrue (has_id_by_rule CreateVolume reply)) }
+) -> Line<'static>
+    ensures ok { create_told row.now required limit wished.now ≡ record { reply = line_told result; change = RowStays } }
+    ensures id { IsTrue (has_id_by_rule CreateVolume (line_told result)) }
 {
-    match argument_fault(alloc, required, limit, wished) {
-        Ok(Some(reply)) => Ok(reply),
-        Ok(None) => again_line(row, alloc, required, limit, wished),
-        Err(fault) => Err(fault),
+    match argument_fault(required, limit, wished) {
+        Some(line) => line,
+        None => again_line(row, required, limit, wished),
     }
 }
 
-/// DeleteVolume of this row's volume. What is answered 0 takes no memory.
-pub fn delete_line(row: &ControllerRow, alloc: Global) -> Result<Option<Reply>, CoreFault>
-    ensures ok { IfOk result (λ line. delete_told row.now ≡ by_line RowEnds line) }
-    ensures id { IfOk result (λ line. IfSome line (λ reply. IsTrue (has_id_by_rule DeleteVolume reply))) }
-    ensures succeeds { (delete_told row.now).reply.status ≡ Status.Ok → IfOk result (λ line. IfSome line (λ reply. reply.detail ≡ [])) × IsOk result }
+/// DeleteVolume of this row's volume.
+pub fn delete_line(row: &ControllerRow) -> Option<Line<'_>>
+    ensures ok { delete_told row.now ≡ by_line RowEnds (option_map line_told result) }
+    ensures id { IfSome result (λ line. IsTrue (has_id_by_rule DeleteVolume (line_told line))) }
+    ensures succeeds { (delete_told row.now).reply.status ≡ Status.Ok → IfSome result (λ line. (line_told line).detail ≡ []) }
 {
     if !row.live {
-        return Ok(Some(done(alloc, None)));
+        return Some(met(None));
     }
     match row.holdings.first() {
-        Some(held) => refused(alloc, Status::FailedPrecondition, held.node.as_str()),
-        None => Ok(None),
+        Some(held) => Some(refused(Status::FailedPrecondition, held.node.as_str())),
+        None => None,
     }
 }
 
@@ -205,32 +194,31 @@ fn excluding<'a>(row: &'a ControllerRow, wanted: Wanted) -> Option<&'a NodeHoldi
 
 /// What this row alone answers to ControllerPublishVolume, by whether the node is configured. `None` where the
 /// volume is to be attached, if there are slots for it.
-pub fn publish_by_row(
-    row: &ControllerRow,
-    alloc: Global,
+pub fn publish_by_row<'a>(
+    row: &'a ControllerRow,
     wanted: Wanted,
     is_configured: bool,
-) -> Result<Option<Reply>, CoreFault>
-    ensures ok { IfOk result (λ line. (is_full : Bool) → publish_told row.now (wanted_shown wanted.entry) is_configured is_full ≡ by_slots (wanted_shown wanted.entry) is_full line) }
-    ensures id { IfOk result (λ line. IfSome line (λ reply. IsTrue (has_id_by_rule ControllerPublishVolume reply))) }
+) -> Option<Line<'a>>
+    ensures ok { (is_full : Bool) → publish_told row.now (wanted_shown wanted.entry) is_configured is_full ≡ by_slots (wanted_shown wanted.entry) is_full (option_map line_told result) }
+    ensures id { IfSome result (λ line. IsTrue (has_id_by_rule ControllerPublishVolume (line_told line))) }
 {
     if !row.live {
-        return refused(alloc, Status::NotFound, "volume");
+        return Some(refused(Status::NotFound, "volume"));
     }
     if !is_configured {
-        return refused(alloc, Status::NotFound, "node");
+        return Some(refused(Status::NotFound, "node"));
     }
     if !has(row.capabilities.as_slice(), wanted.capability) {
-        return refused(alloc, Status::InvalidArgument, "capability");
+        return Some(refused(Status::InvalidArgument, "capability"));
     }
     if let Some(held) = held_at(row, wanted.node) {
         if is_held_so(held, wanted) {
-            return Ok(Some(done(alloc, None)));
+            return Some(met(None));
         }
-        return refused(alloc, Status::AlreadyExists, "held otherwise");
+        return Some(refused(Status::AlreadyExists, "held otherwise"));
     }
     if let Some(other) = excluding(row, wanted) {
-        return refused(alloc, Status::FailedPrecondition, other.node.as_str());
+        return Some(refused(Status::FailedPrecondition, other.node.as_str()));
     }
-    Ok(None)
+    None
 }

@@ -10,6 +10,7 @@ ghost use Rattle.csi_controller.specs.Wanted.{wanted_shown};
 ghost use Rattle.csi_controller.specs.Core.{IsSoundRow, IsSameRow, RowGives, row_after, create_line as create_told, delete_line as delete_told, unpublish_line as unpublish_told, by_line};
 ghost use Rattle.csi_controller.specs.Core.RowChange.{RowAttaches};
 
+use super::answer::said;
 use super::fence::{fence, keep, keep_done};
 use super::lines::{create_line, delete_line, is_held_at};
 use super::wanted::Wanted;
@@ -34,7 +35,7 @@ pub fn create_again(
     if let Some(answer) = fence(row, alloc, number, Kind::CreateVolume) {
         return answer;
     }
-    match create_line(row, alloc, required, limit, wished) {
+    match said(alloc, &create_line(row, required, limit, wished)) {
         Ok(reply) => keep(row, alloc, number, Kind::CreateVolume, reply),
         Err(fault) => Err(fault),
     }
@@ -50,13 +51,15 @@ pub fn delete(row: &mut ControllerRow, alloc: Global, number: Number) -> Result<
     if let Some(answer) = fence(row, alloc, number, Kind::DeleteVolume) {
         return answer;
     }
-    match delete_line(row, alloc) {
-        Ok(Some(reply)) => keep(row, alloc, number, Kind::DeleteVolume, reply),
-        Ok(None) => {
+    match delete_line(row) {
+        Some(line) => match said(alloc, &line) {
+            Ok(reply) => keep(row, alloc, number, Kind::DeleteVolume, reply),
+            Err(fault) => Err(fault),
+        },
+        None => {
             row.live = false;
             Ok(keep_done(row, alloc, number, Kind::DeleteVolume))
         }
-        Err(fault) => Err(fault),
     }
 }
 

@@ -8,20 +8,25 @@ use Rattle.csi_controller.specs.Core.{Parts, Answers, IsSound, argument_fault, n
 use Rattle.csi_controller.specs.CoreParts.{parts_of}
 use Rattle.csi_controller.proofs.Calls.{either_way}
 use Rattle.csi_controller.proofs.Made.{fault-answers, refused-answers, made-answers, made-sound, made-well, ok-both, parts-made}
+use Rattle.std.specs.Prelude.{option_map}
+use Rattle.csi_controller.specs.Line.{line_told}
+use Rattle.csi_lists.proofs.Options.{none-where}
 use Rattle.csi_controller.proofs.controller.inner.Core.create_new.Goals as goal
 
-pub returns-in-Ok-Some-clause-ok : goal.returns-in-Ok-Some-clause-ok
-returns-in-Ok-Some-clause-ok c = λ state shown.
+pub returns-in-Some-clause-ok : goal.returns-in-Some-clause-ok
+returns-in-Some-clause-ok c = λ state shown.
     let core = c.args.self.now in
-    let fault : argument_fault c.args.required c.args.limit c.args.capabilities.now ≡ Some c.in-Ok-Some.reply
-    = ap (argument_fault c.args.required c.args.limit) (sym c.as_slice-wished.ensures.value) ∙ sym (rw c.in-Ok-Some.field-0-is at c.in-Ok-Some.ensures.ok) in
-    fault-answers core.config core.next_id core.rows.items state c.args.number c.args.name.now c.args.required c.args.limit c.args.capabilities.now c.carried.result c.in-Ok-Some.reply shown c.requires.new fault c.carried.ensures
+    let fault : argument_fault c.args.required c.args.limit c.args.capabilities.now ≡ Some (line_told c.in-Some.line)
+    = ap (argument_fault c.args.required c.args.limit) (sym c.as_slice-wished.ensures.value) ∙ sym c.argument_fault.ensures.ok ∙ ap (option_map line_told) c.in-Some.is in
+    IfOk-weaker c.unkept.result _ _
+    (λ frame is. fault-answers core.config core.next_id core.rows.items state c.args.number c.args.name.now c.args.required c.args.limit c.args.capabilities.now frame (line_told c.in-Some.line) shown c.requires.new fault is)
+    c.unkept.ensures.ok
 
 pub returns-in-Ok-clause-ok : goal.returns-in-Ok-clause-ok
 returns-in-Ok-clause-ok c = λ state shown.
     let core = c.args.self.now in
     let good : argument_fault c.args.required c.args.limit c.args.capabilities.now ≡ None
-    = ap (argument_fault c.args.required c.args.limit) (sym c.as_slice-wished.ensures.value) ∙ sym (rw c.in-Ok-None.field-0-is at c.in-Ok-None.ensures.ok) in
+    = ap (argument_fault c.args.required c.args.limit) (sym c.as_slice-wished.ensures.value) ∙ sym c.argument_fault.ensures.ok ∙ ap (option_map line_told) (none-where _ c.in_default.not-Some) in
     ok-both c.make.result _ _ _
     (λ frame is made. subst (λ (k : Parts). Answers k frame (fenced_call core.config state c.args.number (CreateVolume c.args.name.now c.args.required c.args.limit c.args.capabilities.now) (kept_for (CreateVolume c.args.name.now c.args.required c.args.limit c.args.capabilities.now) state)))
     (parts-made core c.make.new.self c.args.number c.in-Ok.made.0 c.args.name.now c.in-Ok.made.1 c.args.capabilities.now made)
@@ -33,7 +38,7 @@ pub returns-in-Ok-clause-sound : goal.returns-in-Ok-clause-sound
 returns-in-Ok-clause-sound c =
     let core = c.args.self.now in
     let good : argument_fault c.args.required c.args.limit c.args.capabilities.now ≡ None
-    = ap (argument_fault c.args.required c.args.limit) (sym c.as_slice-wished.ensures.value) ∙ sym (rw c.in-Ok-None.field-0-is at c.in-Ok-None.ensures.ok) in
+    = ap (argument_fault c.args.required c.args.limit) (sym c.as_slice-wished.ensures.value) ∙ sym c.argument_fault.ensures.ok ∙ ap (option_map line_told) (none-where _ c.in_default.not-Some) in
     let well = made-well core.config.greatest (length core.rows.items) (next_shown core.next_id) c.args.name.now c.args.required c.args.limit c.in-Ok.made.1 c.in-Ok.made.0 c.args.capabilities.now good
     (c.in-Ok.ensures.line c.args.name.now c.args.capabilities.now) in
     either_way c.make.result _ _ _
@@ -43,13 +48,12 @@ returns-in-Ok-clause-sound c =
     (λ (same : parts_of c.make.new.self ≡ parts_of core). subst (λ (k : Parts). IsSound k.next_id k.rows) (sym same) c.requires.sound)
     c.make.ensures.made c.make.ensures.err
 
-pub returns-in-Err-room_for-clause-ok : goal.returns-in-Err-room_for-clause-ok
-returns-in-Err-room_for-clause-ok c = λ state shown.
+pub returns-in-Err-clause-ok : goal.returns-in-Err-clause-ok
+returns-in-Err-clause-ok c = λ state shown.
     let core = c.args.self.now in
     let good : argument_fault c.args.required c.args.limit c.args.capabilities.now ≡ None
-    = ap (argument_fault c.args.required c.args.limit) (sym c.as_slice-wished.ensures.value) ∙ sym (rw c.in-Ok-None.field-0-is at c.in-Ok-None.ensures.ok) in
-    let refused = c.in-Err-room_for.refused in
-    IfOk-weaker c.refusal.result _ _
-    (λ frame is. refused-answers core.config core.next_id core.rows.items state c.args.number c.args.name.now c.args.required c.args.limit c.args.capabilities.now frame (plain_reply refused.status refused.detail.now) shown c.requires.new good
-    (c.in-Err-room_for.ensures.line c.args.name.now c.args.capabilities.now) is)
-    c.refusal.ensures.ok
+    = ap (argument_fault c.args.required c.args.limit) (sym c.as_slice-wished.ensures.value) ∙ sym c.argument_fault.ensures.ok ∙ ap (option_map line_told) (none-where _ c.in_default.not-Some) in
+    IfOk-weaker c.unkept-in-Err.result _ _
+    (λ frame is. refused-answers core.config core.next_id core.rows.items state c.args.number c.args.name.now c.args.required c.args.limit c.args.capabilities.now frame (line_told c.in-Err.line) shown c.requires.new good
+    (c.in-Err.ensures.line c.args.name.now c.args.capabilities.now) is)
+    c.unkept-in-Err.ensures.ok

@@ -1,8 +1,11 @@
 -- ControllerPublishVolume at its row, or with none.
-use Rattle.std.proofs.Common.{◌≡◌, refl, Some}
+use Rattle.std.proofs.Common.{◌≡◌, ◌∙◌, ap, refl, Some}
 use Rattle.std.specs.Prelude.{◌==◌}
 use Rattle.std.proofs.lemmas.Result.{IfOk-weaker, on_err_weaker}
 use Rattle.csi_types.specs.declared.call.Kind.TheVariants.{ControllerPublishVolume}
+use Rattle.csi_types.specs.declared.call.Party.TheVariants.{Controller}
+use Rattle.csi_types.specs.declared.reply.Reply.{Reply}
+use Rattle.csi_types.specs.Replies.{reply_frame}
 use Rattle.csi_types.specs.declared.fence.Verdict.TheVariants.{Fresh}
 use Rattle.csi_types.specs.Fence.{verdict_of}
 use Rattle.csi_controller.specs.declared.row.NodeHolding.{NodeHolding}
@@ -52,6 +55,7 @@ returns-in-Ok-clause-sound c =
 pub returns-in-None-clause-ok : goal.returns-in-None-clause-ok
 returns-in-None-clause-ok c = λ state shown.
     let core = c.args.self.now in
-    IfOk-weaker c.refusal.result _ _
-    (λ frame is. publish-nowhere core.config core.next_id core.rows.items state c.args.number c.args.id (let w : NodeHolding = record { node = c.args.node.now; capability = c.args.capability.now; readonly = c.args.readonly } in w) frame shown c.in-None.ensures is)
-    c.refusal.ensures.ok
+    IfOk-weaker c.unkept.result _ _
+    (λ frame is. publish-nowhere core.config core.next_id core.rows.items state c.args.number c.args.id (let w : NodeHolding = record { node = c.args.node.now; capability = c.args.capability.now; readonly = c.args.readonly } in w) frame shown c.in-None.ensures
+    (is ∙ ap (λ (reply : Reply). reply_frame c.args.number Controller ControllerPublishVolume reply) c.refused-line.ensures))
+    c.unkept.ensures.ok

@@ -1,0 +1,36 @@
+//! What a line of the table answers, before memory is asked for it.
+ghost use Rattle.std.specs.Prelude.{◌≡◌, []};
+ghost use Rattle.csi_types.specs.Replies.{plain_reply};
+ghost use Rattle.csi_controller.specs.Line.{line_told};
+
+use csi_types::{Status, VolumeId};
+
+/// A reply, by what it says.
+#[derive(Clone, Copy)]
+pub struct Line<'a> {
+    pub status: Status,
+    pub id: Option<VolumeId>,
+    pub detail: &'a str,
+}
+
+/// A status without an id, and a detail of at most 255 bytes.
+pub fn refused(status: Status, detail: &str) -> Line<'_>
+    ensures { line_told result ≡ plain_reply status detail.now }
+{
+    Line {
+        status,
+        id: None,
+        detail,
+    }
+}
+
+/// Done, with this id.
+pub fn met(id: Option<VolumeId>) -> Line<'static>
+    ensures { line_told result ≡ record { status = Status.Ok; id = id; detail = [] } }
+{
+    Line {
+        status: Status::Ok,
+        id,
+        detail: "",
+    }
+}
