@@ -61,17 +61,17 @@ fn publish(rt: &(impl Abort + AllocGlobal)) -> Frame {
 }
 
 // The bytes are read as this frame.
-fn spell(rt: &(impl Abort + AllocGlobal), bytes: &[u8], frame: &Frame) {
+fn spell(rt: &(impl Abort + AllocGlobal), bytes: &[u8], frame: Frame) {
     let found = read(rt, bytes);
-    assert!(rt; found == *frame);
+    assert!(rt; found == frame);
 }
 
 #[test]
 fn values_are_those_that_the_bytes_spell(rt: HostRuntime) {
-    spell(&rt, DELETE.as_slice(), &delete(&rt));
-    spell(&rt, CREATE.as_slice(), &create(&rt));
-    spell(&rt, REFUSAL.as_slice(), &refusal(&rt));
-    spell(&rt, PUBLISH.as_slice(), &publish(&rt));
+    spell(&rt, DELETE.as_slice(), delete(&rt));
+    spell(&rt, CREATE.as_slice(), create(&rt));
+    spell(&rt, REFUSAL.as_slice(), refusal(&rt));
+    spell(&rt, PUBLISH.as_slice(), publish(&rt));
 }
 
 // Eight mounts, each with an fs type of this text.
@@ -108,7 +108,7 @@ fn the_longest_body_has_1213_bytes(rt: HostRuntime) {
     let frame = longest(&rt);
     let bytes = written(&rt, &frame);
     assert!(rt; bytes.len() == 4 + 1213);
-    spell(&rt, bytes.as_slice(), &frame);
+    spell(&rt, bytes.as_slice(), frame);
 }
 
 #[test]

@@ -51,20 +51,22 @@ fn node_after(rt: &(impl Abort + AllocGlobal), steps: &[Step]) -> Node {
     node
 }
 
-// A volume's first call, also where it is refused, calls that are carried out, a kept reply, and a stale call.
+// A volume's first call, also one that is refused, calls that are carried out, refusals, a kept reply, and a stale
+// call.
 #[test]
 fn calls_answer_or_stay(rt: HostRuntime) {
     let publish = Ask::Publish(1, "/a", MANY, true);
     let refused = Status::FailedPrecondition;
     let steps = [
-        (1, publish, refused, "not staged"),
-        (2, Ask::Stage(1, MANY), Status::Ok, ""),
-        (3, publish, Status::Ok, ""),
-        (4, Ask::Unstage(1), refused, "/a"),
-        (4, Ask::Unstage(1), refused, "/a"),
-        (2, Ask::Unstage(1), Status::Aborted, "stale"),
-        (5, Ask::Unpublish(1, "/a"), Status::Ok, ""),
         (1, Ask::Stage(2, MANY), Status::Ok, ""),
+        (1, publish, refused, "not staged"),
+        (2, publish, refused, "not staged"),
+        (3, Ask::Stage(1, MANY), Status::Ok, ""),
+        (4, publish, Status::Ok, ""),
+        (4, publish, Status::Ok, ""),
+        (5, Ask::Unstage(1), refused, "/a"),
+        (2, Ask::Stage(1, MANY), Status::Aborted, "stale"),
+        (6, Ask::Unpublish(1, "/a"), Status::Ok, ""),
         (1, Ask::Unstage(3), Status::Ok, ""),
     ];
     node_after(&rt, &steps);

@@ -75,25 +75,42 @@ fn refusal_is_kept(rt: HostRuntime) {
     assert!(rt; is_reply(&reply, Some("n1"), 1, Kind::NodePublishVolume, told));
 }
 
+// The calls that publish volume 1 at sixteen targets.
+const SIXTEEN: [(u64, &str); 16] = [
+    (2, "/a"),
+    (3, "/b"),
+    (4, "/c"),
+    (5, "/d"),
+    (6, "/e"),
+    (7, "/f"),
+    (8, "/g"),
+    (9, "/h"),
+    (10, "/i"),
+    (11, "/j"),
+    (12, "/k"),
+    (13, "/l"),
+    (14, "/m"),
+    (15, "/n"),
+    (16, "/o"),
+    (17, "/p"),
+];
+
+fn published_count(rt: &impl Abort, node: &Node) -> usize {
+    node.published().expect(rt, "memory").len()
+}
+
 // Sixteen targets, and no more.
 #[test]
 fn seventeenth_target_is_refused(rt: HostRuntime) {
     let mut node = new_answers(&rt, &[(1, Ask::Stage(1, MANY), Status::Ok, "")]);
-    let texts = [
-        "/a", "/b", "/c", "/d", "/e", "/f", "/g", "/h", "/i", "/j", "/k", "/l", "/m", "/n", "/o",
-        "/p",
-    ];
-    for (call, text) in (2u64..18).zip(texts) {
+    for (call, text) in SIXTEEN {
         let ask = Ask::Publish(1, text, MANY, false);
         answers(&rt, &mut node, (call, ask, Status::Ok, ""));
     }
     let ask = Ask::Publish(1, "/q", MANY, false);
-    answers(
-        &rt,
-        &mut node,
-        (18, ask, Status::ResourceExhausted, "targets"),
-    );
-    assert_eq!(rt; node.published().expect(&rt, "memory").len(), 16);
+    let full = (18, ask, Status::ResourceExhausted, "targets");
+    answers(&rt, &mut node, full);
+    assert!(rt; published_count(&rt, &node) == 16);
 }
 
 // A frame for another node gets nothing, and opens no row.
