@@ -46,10 +46,20 @@ pub(super) fn listed(rt: &impl Abort, o: &Orchestrator) -> Vec<(Thing, Known)> {
     }
 }
 
+// Whether these are the same things, of which the same is known.
+fn are_same(first: &[(Thing, Known)], second: &[(Thing, Known)]) -> bool {
+    for ((thing, known), (other, found)) in first.iter().zip(second) {
+        if *thing != *other || *known != *found {
+            return false;
+        }
+    }
+    first.len() == second.len()
+}
+
 // Whether it lists what it listed before.
 pub(super) fn lists_again(rt: &impl Abort, o: &Orchestrator, before: &[(Thing, Known)]) -> bool {
     let things = listed(rt, o);
-    things.as_slice() == before
+    are_same(&things, before)
 }
 
 // Whether the thing is this.
