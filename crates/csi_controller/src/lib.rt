@@ -14,6 +14,3 @@ pub use fault::CoreFault;
 pub use laws::{delivery_law, exclusive_law, names_law, safety_law, table_law};
 pub use record::ControllerRecord;
 pub use row::{ControllerRow, NodeHolding};
-
-#[cfg(test)]
-mod tests;

@@ -14,6 +14,3 @@ mod owned;
 pub use decoding::{decode, one_reading};
 pub use encoding::encode;
 pub use fault::{FaultKind, FrameFault};
-
-#[cfg(test)]
-mod tests;

@@ -23,6 +23,3 @@ pub use laws::{delivery_law, publishing_law, safety_law, table_law};
 pub use node::Node;
 pub use record::NodeRecord;
 pub use row::{NodeRow, NodeTarget};
-
-#[cfg(test)]
-mod tests;

@@ -3,9 +3,17 @@
 #![tactic(auto)]
 
 #[cfg(test)]
+mod controller;
+#[cfg(test)]
+mod frames;
+#[cfg(test)]
+mod node;
+#[cfg(test)]
 mod orchestrator;
 #[cfg(test)]
 mod replay;
+#[cfg(test)]
+mod replies;
 #[cfg(test)]
 mod types;
 #[cfg(test)]

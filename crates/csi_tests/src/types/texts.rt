@@ -16,50 +16,44 @@ fn letters(rt: &(impl Abort + AllocGlobal), count: usize) -> String {
     text
 }
 
-// A value was made of the text, and shows it.
-fn shows(rt: &impl Abort, found: &str, text: &str, fault: Option<TextFault>) {
-    assert_eq!(rt; fault, None);
-    assert_eq!(rt; found, text);
-}
-
-// A name of so many letters, or this fault; and so the others below.
+// A name of so many letters is made and read again, or this fault is answered; and so the others below.
 fn is_name(rt: &(impl Abort + AllocGlobal), count: usize, fault: Option<TextFault>) {
     let text = letters(rt, count);
     match Name::try_new(rt.alloc(), text.as_str()) {
-        Ok(made) => shows(rt, made.as_str(), text.as_str(), fault),
-        Err(found) => assert_eq!(rt; Some(found), fault),
+        Ok(made) => assert!(rt; fault.is_none() && made.as_str() == text.as_str()),
+        Err(found) => assert!(rt; fault == Some(found)),
     }
 }
 
 fn is_fs_type(rt: &(impl Abort + AllocGlobal), count: usize, fault: Option<TextFault>) {
     let text = letters(rt, count);
     match FsType::try_new(rt.alloc(), text.as_str()) {
-        Ok(made) => shows(rt, made.as_str(), text.as_str(), fault),
-        Err(found) => assert_eq!(rt; Some(found), fault),
+        Ok(made) => assert!(rt; fault.is_none() && made.as_str() == text.as_str()),
+        Err(found) => assert!(rt; fault == Some(found)),
     }
 }
 
 fn is_node_id(rt: &(impl Abort + AllocGlobal), count: usize, fault: Option<TextFault>) {
     let text = letters(rt, count);
     match NodeId::try_new(rt.alloc(), text.as_str()) {
-        Ok(made) => shows(rt, made.as_str(), text.as_str(), fault),
-        Err(found) => assert_eq!(rt; Some(found), fault),
+        Ok(made) => assert!(rt; fault.is_none() && made.as_str() == text.as_str()),
+        Err(found) => assert!(rt; fault == Some(found)),
     }
 }
 
 fn is_target(rt: &(impl Abort + AllocGlobal), count: usize, fault: Option<TextFault>) {
     let text = letters(rt, count);
     match Target::try_new(rt.alloc(), text.as_str()) {
-        Ok(made) => shows(rt, made.as_str(), text.as_str(), fault),
-        Err(found) => assert_eq!(rt; Some(found), fault),
+        Ok(made) => assert!(rt; fault.is_none() && made.as_str() == text.as_str()),
+        Err(found) => assert!(rt; fault == Some(found)),
     }
 }
 
 fn is_detail(rt: &(impl Abort + AllocGlobal), count: usize, fault: Option<TextFault>) {
     let text = letters(rt, count);
     match Detail::try_new(rt.alloc(), text.as_str()) {
-        Ok(made) => shows(rt, made.as_str(), text.as_str(), fault),
-        Err(found) => assert_eq!(rt; Some(found), fault),
+        Ok(made) => assert!(rt; fault.is_none() && made.as_str() == text.as_str()),
+        Err(found) => assert!(rt; fault == Some(found)),
     }
 }
 

@@ -1,9 +1,21 @@
 //! Worked rows: whole runs of calls.
 use super::*;
 
+// The node gives nothing to this frame.
+fn is_silent_at(rt: &impl Abort, node: &mut Node, frame: &Frame) {
+    let answer = node.step(frame).expect(rt, "memory");
+    assert!(rt; answer.is_none());
+}
+
+// The node has no row for this volume.
+fn has_no_row(rt: &impl Abort, node: &Node, id: u64) {
+    let row = node.row(volume_id(rt, id)).expect(rt, "memory");
+    assert!(rt; row.is_none());
+}
+
 // One target in a mode for one node, two in a mode for several.
 #[test]
-fn publishes_by_the_mode(rt: HostRuntime) -> Result<(), Fail> {
+fn publishes_by_the_mode(rt: HostRuntime) {
     let steps = [
         (1, Ask::Stage(1, ONE), Status::Ok, ""),
         (2, Ask::Publish(1, "/a", ONE, false), Status::Ok, ""),
@@ -34,106 +46,85 @@ fn publishes_by_the_mode(rt: HostRuntime) -> Result<(), Fail> {
         (11, Ask::Unpublish(1, "/a"), Status::Ok, ""),
         (12, Ask::Unstage(1), Status::Ok, ""),
     ];
-    new_answers(&rt, &steps)?;
-    Ok(())
+    new_answers(&rt, &steps);
 }
 
 // An undoing call opens a row, and the call that it undid is stale.
 #[test]
-fn late_stage_is_stale(rt: HostRuntime) -> Result<(), Fail> {
+fn late_stage_is_stale(rt: HostRuntime) {
     let steps = [
         (6, Ask::Unstage(1), Status::Ok, ""),
         (3, Ask::Stage(1, ONE), Status::Aborted, "stale"),
     ];
-    let node = new_answers(&rt, &steps)?;
-    assert!(&rt; node.staged()?.is_empty());
-    Ok(())
+    let node = new_answers(&rt, &steps);
+    let staged = node.staged().expect(&rt, "memory");
+    assert!(rt; staged.is_empty());
 }
 
 // A refusal opens a row and is kept, whatever comes under its number again.
 #[test]
-fn refusal_is_kept(rt: HostRuntime) -> Result<(), Fail> {
+fn refusal_is_kept(rt: HostRuntime) {
+    let refused = Status::FailedPrecondition;
     let steps = [
-        (
-            1,
-            Ask::Publish(7, "/a", ONE, false),
-            Status::FailedPrecondition,
-            "not staged",
-        ),
-        (
-            1,
-            Ask::Publish(7, "/b", ONE, false),
-            Status::FailedPrecondition,
-            "not staged",
-        ),
+        (1, Ask::Publish(7, "/a", ONE, false), refused, "not staged"),
+        (1, Ask::Publish(7, "/b", ONE, false), refused, "not staged"),
     ];
-    let mut node = new_answers(&rt, &steps)?;
-    let reply = reply_to(&rt, &mut node, 1, Ask::Stage(7, ONE))?;
-    is_reply(
-        &rt,
-        &reply,
-        1,
-        Kind::NodePublishVolume,
-        Status::FailedPrecondition,
-        "not staged",
-    );
-    Ok(())
+    let mut node = new_answers(&rt, &steps);
+    let reply = reply_to(&rt, &mut node, 1, Ask::Stage(7, ONE));
+    let told = (refused, None, "not staged");
+    assert!(rt; is_reply(&reply, Some("n1"), 1, Kind::NodePublishVolume, told));
 }
 
 // Sixteen targets, and no more.
 #[test]
-fn seventeenth_target_is_refused(rt: HostRuntime) -> Result<(), Fail> {
-    let mut node = new_answers(&rt, &[(1, Ask::Stage(1, MANY), Status::Ok, "")])?;
+fn seventeenth_target_is_refused(rt: HostRuntime) {
+    let mut node = new_answers(&rt, &[(1, Ask::Stage(1, MANY), Status::Ok, "")]);
     let texts = [
         "/a", "/b", "/c", "/d", "/e", "/f", "/g", "/h", "/i", "/j", "/k", "/l", "/m", "/n", "/o",
         "/p",
     ];
     for (call, text) in (2u64..18).zip(texts) {
         let ask = Ask::Publish(1, text, MANY, false);
-        answers(&rt, &mut node, (call, ask, Status::Ok, ""))?;
+        answers(&rt, &mut node, (call, ask, Status::Ok, ""));
     }
     let ask = Ask::Publish(1, "/q", MANY, false);
     answers(
         &rt,
         &mut node,
         (18, ask, Status::ResourceExhausted, "targets"),
-    )?;
-    assert_eq!(&rt; node.published()?.len(), 16);
-    Ok(())
+    );
+    assert_eq!(rt; node.published().expect(&rt, "memory").len(), 16);
 }
 
 // A frame for another node gets nothing, and opens no row.
 #[test]
-fn frame_for_another_node(rt: HostRuntime) -> Result<(), Fail> {
-    let mut node = new_node(&rt)?;
-    let frame = frame_for(&rt, "n2", 1, Ask::Stage(1, ONE))?;
-    is_silent_at(&rt, &mut node, &frame)?;
-    assert_eq!(&rt; node.row(volume(&rt, 1))?, None);
-    Ok(())
+fn frame_for_another_node(rt: HostRuntime) {
+    let mut node = new_node(&rt);
+    let frame = frame_for(&rt, "n2", 1, Ask::Stage(1, ONE));
+    is_silent_at(&rt, &mut node, &frame);
+    has_no_row(&rt, &node, 1);
 }
 
 // So does a reply.
 #[test]
-fn reply_to_the_node(rt: HostRuntime) -> Result<(), Fail> {
-    let mut node = new_node(&rt)?;
-    let reply = reply_to(&rt, &mut node, 1, Ask::Stage(1, ONE))?;
-    is_silent_at(&rt, &mut node, &reply)?;
-    Ok(())
+fn reply_to_the_node(rt: HostRuntime) {
+    let mut node = new_node(&rt);
+    let reply = reply_to(&rt, &mut node, 1, Ask::Stage(1, ONE));
+    is_silent_at(&rt, &mut node, &reply);
 }
 
 // 4,096 rows, and no more: the refusal isn't kept, and a volume that has a row is answered.
 #[test]
-fn full_node_refuses(rt: HostRuntime) -> Result<(), Fail> {
-    let mut node = new_node(&rt)?;
+fn full_node_refuses(rt: HostRuntime) {
+    let mut node = new_node(&rt);
     for id in 1..4097u64 {
-        answers(&rt, &mut node, (1, Ask::Unstage(id), Status::Ok, ""))?;
+        answers(&rt, &mut node, (1, Ask::Unstage(id), Status::Ok, ""));
     }
     let steps = [
         (2, Ask::Unstage(5000), Status::ResourceExhausted, "rows"),
         (2, Ask::Stage(5000, ONE), Status::ResourceExhausted, "rows"),
         (2, Ask::Stage(4096, ONE), Status::Ok, ""),
     ];
-    answers_all(&rt, &mut node, &steps)?;
-    assert_eq!(&rt; node.row(volume(&rt, 5000))?, None);
-    Ok(())
+    answers_all(&rt, &mut node, &steps);
+    has_no_row(&rt, &node, 5000);
 }

@@ -1,0 +1,81 @@
+//! The first fault of damaged frames: its number and its place.
+use super::vectors::{CREATE, DELETE, PUBLISH};
+use csi_frames::decode;
+use std::alloc::Global;
+use std::process::Abort;
+
+// Whether the bytes have this first fault, by its number and its place.
+fn has_fault(alloc: Global, bytes: &[u8], number: u8, place: usize) -> bool {
+    match decode(alloc, bytes) {
+        Ok(_) => false,
+        Err(fault) => fault.kind.number() == number && fault.place == place,
+    }
+}
+
+// The frame with one byte changed.
+fn changed(rt: &(impl Abort + AllocGlobal), frame: &[u8], at: usize, byte: u8) -> Vec<u8> {
+    let mut bytes = frame.to_vec(rt.alloc()).expect(rt, "memory");
+    assert!(rt; at < bytes.len());
+    bytes[at] = byte;
+    bytes
+}
+
+// The frame with one byte changed, and so many bytes of 0 behind it.
+fn padded(
+    rt: &(impl Abort + AllocGlobal),
+    frame: &[u8],
+    at: usize,
+    byte: u8,
+    more: usize,
+) -> Vec<u8> {
+    let mut bytes = changed(rt, frame, at, byte);
+    for _ in 0..more {
+        bytes.push(0).expect(rt, "memory");
+    }
+    bytes
+}
+
+// Each line: a frame, where a byte of it is changed, to what, and the number and the place of the first fault.
+#[test]
+fn a_byte_that_is_not_allowed(rt: HostRuntime) {
+    let delete = DELETE.as_slice();
+    let create = CREATE.as_slice();
+    let publish = PUBLISH.as_slice();
+    for (frame, at, byte, fault, place) in [
+        // the version, the kind, the party, the id, and the length
+        (delete, 4, 2, 3, 4),
+        (delete, 5, 9, 4, 5),
+        (delete, 22, 1, 5, 22),
+        (delete, 30, 0, 11, 23),
+        (delete, 3, 0x1a, 13, 23),
+        // a mode, an access type, a count, a name that isn't UTF-8, and an empty one
+        (create, 43, 6, 7, 43),
+        (create, 42, 2, 8, 42),
+        (create, 41, 9, 12, 41),
+        (create, 24, 0xff, 6, 23),
+        (create, 23, 0, 6, 23),
+        // the controller for a node, and a flag
+        (publish, 22, 0, 5, 22),
+        (publish, 39, 2, 9, 39),
+    ] {
+        let bytes = changed(&rt, frame, at, byte);
+        let is_found = has_fault(rt.alloc(), bytes.as_slice(), fault, place);
+        assert!(rt; is_found, "{byte} at {at}");
+    }
+}
+
+#[test]
+fn a_length_that_differs(rt: HostRuntime) {
+    let alloc = rt.alloc();
+    assert!(rt; has_fault(alloc, &[], 1, 0), "no bytes");
+    assert!(rt; has_fault(alloc, &DELETE[..10], 1, 10), "ten bytes");
+    assert!(rt; has_fault(alloc, &[0, 0, 5, 1], 2, 0), "a length of 1281");
+    let longer = padded(&rt, DELETE.as_slice(), 3, 0x1c, 1);
+    assert!(rt; has_fault(alloc, longer.as_slice(), 13, 31), "a byte more");
+    let long = changed(&rt, CREATE.as_slice(), 2, 5);
+    let longest = padded(&rt, long.as_slice(), 3, 0, 1240);
+    assert!(rt;
+        has_fault(alloc, longest.as_slice(), 13, 44),
+        "a length of 1280"
+    );
+}

@@ -1,0 +1,49 @@
+//! Refused growths. With memory to spare these tests compare the whole answers. Run with one allocation refused, each
+//! in turn (`rt try --test --fail-alloc N`), they see want of memory and nothing changed, and then the whole answer.
+use super::read;
+use super::vectors::{CREATE, DELETE, PUBLISH};
+use csi_frames::{FaultKind, decode, encode};
+use csi_types::Frame;
+use std::alloc::Global;
+use std::process::Abort;
+
+// The frame of these bytes, in the end.
+fn read_in_the_end(rt: &(impl Abort + AllocGlobal), bytes: &[u8]) -> Frame {
+    match decode(rt.alloc(), bytes) {
+        Ok((frame, size)) => {
+            assert!(rt; size == bytes.len());
+            frame
+        }
+        Err(fault) => {
+            assert!(rt; fault.kind == FaultKind::NoMemory && fault.place == 0);
+            read(rt, bytes)
+        }
+    }
+}
+
+// The frame's one spelling, in the end.
+fn written_in_the_end(rt: &(impl Abort + AllocGlobal), frame: &Frame) -> Vec<u8> {
+    let mut out = Vec::new(rt.alloc());
+    if encode(frame, &mut out).is_err() {
+        assert!(rt; out.is_empty());
+        encode(frame, &mut out).expect(rt, "memory");
+    }
+    out
+}
+
+#[test]
+fn decode_gives_the_frame_or_wants_memory(rt: HostRuntime) {
+    for bytes in [CREATE.as_slice(), PUBLISH.as_slice()] {
+        let frame = read_in_the_end(&rt, bytes);
+        let out = written_in_the_end(&rt, &frame);
+        assert!(rt; out.as_slice() == bytes);
+    }
+}
+
+#[test]
+fn encode_appends_or_leaves_the_bytes(rt: HostRuntime) {
+    // Reading this call takes no memory: it has no texts.
+    let frame = read(&rt, DELETE.as_slice());
+    let out = written_in_the_end(&rt, &frame);
+    assert!(rt; out.as_slice() == DELETE.as_slice());
+}

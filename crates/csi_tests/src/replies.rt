@@ -1,0 +1,45 @@
+//! What a plugin's answer is to be.
+use crate::values::number;
+use csi_types::{Body, Frame, Kind, Party, Reply, Status, VolumeId};
+
+/// What a reply says: its status, the number of its id, and its detail.
+pub(crate) type Told = (Status, Option<u64>, &'static str);
+
+fn is_id(found: Option<VolumeId>, id: Option<u64>) -> bool {
+    match (found, id) {
+        (Some(found), Some(id)) => found.number() == id,
+        (None, None) => true,
+        _ => false,
+    }
+}
+
+// Whether the reply says this.
+fn tells(reply: &Reply, told: Told) -> bool {
+    let (status, id, detail) = told;
+    reply.status == status && is_id(reply.id, id) && reply.detail.as_str() == detail
+}
+
+// Whether it is the node of this id, or the controller.
+fn is_party(found: &Party, node: Option<&str>) -> bool {
+    match (found, node) {
+        (Party::Node(id), Some(node)) => id.as_str() == node,
+        (Party::Controller, None) => true,
+        _ => false,
+    }
+}
+
+/// Whether the frame is the reply of the node of this id, or of the controller, to the call of session 1 with this
+/// number and of this kind, and says this.
+pub(crate) fn is_reply(
+    frame: &Frame,
+    node: Option<&str>,
+    call: u64,
+    kind: Kind,
+    told: Told,
+) -> bool {
+    let is_answer = frame.number() == number(call) && is_party(frame.party(), node);
+    match frame.body() {
+        Body::Reply(of, reply) => is_answer && *of == kind && tells(reply, told),
+        Body::Call(_) => false,
+    }
+}
