@@ -46,20 +46,14 @@ pub(super) fn listed(rt: &impl Abort, o: &Orchestrator) -> Vec<(Thing, Known)> {
     }
 }
 
-// Whether these are the same things, of which the same is known.
-fn are_same(first: &[(Thing, Known)], second: &[(Thing, Known)]) -> bool {
-    for ((thing, known), (other, found)) in first.iter().zip(second) {
-        if *thing != *other || *known != *found {
+// Whether it lists as many things as it listed before, and knows the same of each of them.
+pub(super) fn lists_again(rt: &impl Abort, o: &Orchestrator, before: &[(Thing, Known)]) -> bool {
+    for (thing, known) in before {
+        if o.known(thing) != *known {
             return false;
         }
     }
-    first.len() == second.len()
-}
-
-// Whether it lists what it listed before.
-pub(super) fn lists_again(rt: &impl Abort, o: &Orchestrator, before: &[(Thing, Known)]) -> bool {
-    let things = listed(rt, o);
-    are_same(&things, before)
+    listed(rt, o).len() == before.len()
 }
 
 // Whether the thing is this.
