@@ -108,6 +108,3 @@ pub fn read_schedule(alloc: Global, text: &str) -> Result<(Config, Vec<Event>), 
         Err(_) => Err(ScheduleFault::NotJson),
     }
 }
-
-#[cfg(test)]
-mod tests;

@@ -2,8 +2,10 @@
 //! tables, by the formats.
 mod answers;
 mod endings;
+mod events;
 mod files;
 mod running;
+mod schedules;
 mod shown;
 
 use csi_commands::Ending;
@@ -33,6 +35,10 @@ const CREATED: &str = "0000001d 01 81 0000000000000001 0000000000000001 00 00 00
 // ControllerPublishVolume of id 1 at `n1` under (1, 2), for a block device of mode 1.
 const CONTROLLER_PUBLISH: &str =
     "00000021 01 03 0000000000000001 0000000000000002 00 0000000000000001 026e31 0001 00";
+
+// Its refusal where there are no nodes: NotFound, `node`.
+const NO_NODE: &str =
+    "00000021 01 83 0000000000000001 0000000000000002 00 05 0000000000000000 04 6e6f6465";
 
 const NODE_PUBLISH: &str =
     "00000024 01 07 0000000000000001 0000000000000004 01 026e31 0000000000000001 022f61 0001 01";

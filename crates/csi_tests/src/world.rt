@@ -5,6 +5,7 @@ mod events;
 mod given_up;
 mod modes;
 mod playing;
+mod refused;
 mod restarts;
 mod stopped;
 mod used;

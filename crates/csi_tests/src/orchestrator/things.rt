@@ -46,10 +46,14 @@ pub(super) fn listed(rt: &impl Abort, o: &Orchestrator) -> Vec<(Thing, Known)> {
     }
 }
 
-// Whether it lists what it listed before.
+// Whether it lists as many things as it listed before, and knows the same of each of them.
 pub(super) fn lists_again(rt: &impl Abort, o: &Orchestrator, before: &[(Thing, Known)]) -> bool {
-    let things = listed(rt, o);
-    things.as_slice() == before
+    for (thing, known) in before {
+        if o.known(thing) != *known {
+            return false;
+        }
+    }
+    listed(rt, o).len() == before.len()
 }
 
 // Whether the thing is this.

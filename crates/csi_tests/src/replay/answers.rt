@@ -1,39 +1,39 @@
 //! The replies to a stream, whole or in want of memory.
+use super::running::bytes;
+use super::{CONTROLLER_PUBLISH, CREATE, CREATED, NO_NODE};
 use csi_commands::{AnswerFault, answer};
 use std::alloc::Global;
 use std::process::Abort;
 
-// CreateVolume of `v` under (1, 1), required 10, for a block device of mode 1; ControllerPublishVolume of id 1 at `n1`
-// under (1, 2), so too; and DeleteVolume of id 1 under (1, 3).
-const CALLS: &[u8] = &[
-    0, 0, 0, 40, 1, 1, 0, 0, 0, 0, 0, 0, 0, 1, 0, 0, 0, 0, 0, 0, 0, 1, 0, 1, 118, 0, 0, 0, 0, 0, 0,
-    0, 10, 0, 0, 0, 0, 0, 0, 0, 0, 1, 0, 1, 0, 0, 0, 33, 1, 3, 0, 0, 0, 0, 0, 0, 0, 1, 0, 0, 0, 0,
-    0, 0, 0, 2, 0, 0, 0, 0, 0, 0, 0, 0, 1, 2, 110, 49, 0, 1, 0, 0, 0, 0, 27, 1, 2, 0, 0, 0, 0, 0,
-    0, 0, 1, 0, 0, 0, 0, 0, 0, 0, 3, 0, 0, 0, 0, 0, 0, 0, 0, 1,
-];
+// DeleteVolume of id 1 under (1, 3), and its reply.
+const DELETE: &str = "0000001b 01 02 0000000000000001 0000000000000003 00 0000000000000001";
 
-// Their replies, of 33, 37 and 33 bytes; the second one is NotFound with the detail `node`.
-const REPLIES: &[u8] = &[
-    0, 0, 0, 29, 1, 129, 0, 0, 0, 0, 0, 0, 0, 1, 0, 0, 0, 0, 0, 0, 0, 1, 0, 0, 0, 0, 0, 0, 0, 0, 0,
-    1, 0, 0, 0, 0, 33, 1, 131, 0, 0, 0, 0, 0, 0, 0, 1, 0, 0, 0, 0, 0, 0, 0, 2, 0, 5, 0, 0, 0, 0, 0,
-    0, 0, 0, 4, 110, 111, 100, 101, 0, 0, 0, 29, 1, 130, 0, 0, 0, 0, 0, 0, 0, 1, 0, 0, 0, 0, 0, 0,
-    0, 3, 0, 0, 0, 0, 0, 0, 0, 0, 0, 0, 0,
-];
+const DELETED: &str = "0000001d 01 82 0000000000000001 0000000000000003 00 00 0000000000000000 00";
 
-// All replies are given and three frames counted, or memory is wanted after the replies to some of the first frames.
-fn is_answered(alloc: Global) -> bool {
+const CALLS: &[&str] = &[CREATE, CONTROLLER_PUBLISH, DELETE];
+
+// Of 33, 37 and 33 bytes.
+const REPLIES: &[&str] = &[CREATED, NO_NODE, DELETED];
+
+// Whether these are the replies before one of the three frames, and the fault is want of memory.
+fn is_wanting(fault: AnswerFault, out: &[u8], replies: &[u8]) -> bool {
+    fault == AnswerFault::NoMemory
+        && (out.is_empty() || out.len() == 33 || out.len() == 70)
+        && replies.starts_with(out)
+}
+
+// Whether all replies are given and three frames counted, or memory is wanted after the replies to some of the first frames.
+fn is_answered(alloc: Global, calls: &[u8], replies: &[u8]) -> bool {
     let mut out = Vec::new(alloc);
-    match answer(alloc, CALLS, &mut out) {
-        Ok(count) => count == 3 && out.as_slice() == REPLIES,
-        Err(fault) => {
-            fault == AnswerFault::NoMemory
-                && matches!(out.len(), 0 | 33 | 70)
-                && REPLIES.starts_with(out.as_slice())
-        }
+    match answer(alloc, calls, &mut out) {
+        Ok(count) => count == 3 && out.as_slice() == replies,
+        Err(fault) => is_wanting(fault, out.as_slice(), replies),
     }
 }
 
 #[test]
 fn answer_gives_all_replies_or_the_first(rt: HostRuntime) {
-    assert!(&rt; is_answered(rt.alloc()));
+    let calls = bytes(&rt, CALLS);
+    let replies = bytes(&rt, REPLIES);
+    assert!(&rt; is_answered(rt.alloc(), &calls, &replies));
 }

@@ -1,6 +1,8 @@
 //! Files of frames, answered by a new controller.
 use super::running::run_all;
-use super::{CONTROLLER_PUBLISH, CREATE, CREATED, Case, DAMAGED, DELETE, DELETED, NODE_PUBLISH};
+use super::{
+    CONTROLLER_PUBLISH, CREATE, CREATED, Case, DAMAGED, DELETE, DELETED, NO_NODE, NODE_PUBLISH,
+};
 use csi_commands::Ending;
 use csi_frames::FaultKind;
 
@@ -116,10 +118,6 @@ const FOR_OTHERS: &[Case] = &[
 fn what_is_for_others_gets_nothing(rt: HostRuntime) {
     run_all(&rt, FOR_OTHERS);
 }
-
-// NotFound, `node`, to the ControllerPublishVolume.
-const NO_NODE: &str =
-    "00000021 01 83 0000000000000001 0000000000000002 00 05 0000000000000000 04 6e6f6465";
 
 const STALE: &str =
     "00000022 01 81 0000000000000001 0000000000000001 00 0a 0000000000000000 05 7374616c65";

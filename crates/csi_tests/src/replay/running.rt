@@ -40,7 +40,7 @@ fn try_bytes(alloc: Global, texts: &[&str]) -> Result<Vec<u8>, AllocError> {
 }
 
 // The bytes that these texts mean.
-fn bytes(rt: &(impl Abort + AllocGlobal), texts: &[&str]) -> Vec<u8> {
+pub(super) fn bytes(rt: &(impl Abort + AllocGlobal), texts: &[&str]) -> Vec<u8> {
     match try_bytes(rt.alloc(), texts) {
         Ok(bytes) => bytes,
         Err(_) => try_bytes(rt.alloc(), texts).expect(rt, "memory"),

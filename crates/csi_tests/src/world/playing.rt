@@ -4,7 +4,7 @@ use super::checking::{has, has_node, is_call, is_reply, knows};
 use super::events::event;
 use super::{Does, Step};
 use crate::orchestrator::Fact;
-use crate::values::config;
+use crate::values::{config, room};
 use csi_orchestrator::Known;
 use csi_types::{Config, Mode};
 use csi_world::{Event, Outcome, World, audit, simulate};
@@ -23,12 +23,6 @@ fn is_safe(rt: &(impl Abort + AllocGlobal), world: &World) -> bool {
     match audit(rt.alloc(), world) {
         Ok(found) => found.is_none(),
         Err(_) => matches!(audit(rt.alloc(), world), Ok(None)),
-    }
-}
-
-fn add(rt: &impl Abort, events: &mut Vec<Event>, event: Event) {
-    if let Err(refused) = events.push(event) {
-        assert!(rt; events.push(refused.value).is_ok());
     }
 }
 
@@ -54,7 +48,7 @@ fn happens(
     (does, outcome): (Does, Outcome),
     index: usize,
 ) {
-    add(rt, events, event(rt, does));
+    events.push(event(rt, does)).expect(rt, "room");
     let came = came_of_last(rt, config, events.as_slice(), outcome);
     assert!(rt; came, "step {index}: {outcome:?}");
 }
@@ -183,11 +177,20 @@ fn play_all(
     }
 }
 
+// Whether nothing came of no events, and the world is safe.
+fn starts(rt: &(impl Abort + AllocGlobal), config: &Config) -> bool {
+    let world = world_after(rt, config, &[]);
+    world.outcomes().is_empty() && is_safe(rt, &world)
+}
+
+// No test has more events.
+const MOST: usize = 100;
+
 // These steps are played, table by table, in a new world of these nodes.
 pub(super) fn plays(rt: &(impl Abort + AllocGlobal), nodes: &[(&str, u64)], tables: &[&[Step]]) {
     let config = config(rt, nodes);
-    let mut events = Vec::new(rt.alloc());
-    assert!(rt; is_safe(rt, &world_after(rt, &config, &[])));
+    let mut events = room(rt, MOST);
+    assert!(rt; starts(rt, &config));
     for steps in tables {
         play_all(rt, &config, &mut events, steps);
     }

@@ -41,7 +41,7 @@ fn other_nodes_are_not_there(rt: HostRuntime) {
 const NOTHING: &[Step] = &[Step::Frames(0), Step::KnowsOfEach(Known::No)];
 
 #[test]
-fn no_event_sends_nothing(rt: HostRuntime) {
+fn no_event_has_no_outcome(rt: HostRuntime) {
     plays(&rt, NONE, &[NOTHING]);
 }
 

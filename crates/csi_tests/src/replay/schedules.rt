@@ -1,0 +1,217 @@
+//! Texts that are read as schedules, or have a fault.
+use csi_schedules::{MAX_EVENTS, ScheduleFault, read_schedule};
+use std::alloc::{AllocError, Global};
+use std::process::Abort;
+
+// A text: a whole schedule, the configuration of one without events, or the events of one with a good configuration.
+#[derive(Clone, Copy)]
+enum Text {
+    Whole(&'static str),
+    Config(&'static str),
+    Events(&'static str),
+}
+
+// A fault's number and its place.
+type Fault = (u8, u64);
+
+const NONE: Fault = (0, 0);
+
+const NO_JSON: Fault = (1, 0);
+
+// What isn't an event has none of the places of events.
+const NO_SCHEDULE: Fault = (2, 0);
+
+const CONFIG: &str = "{\"greatest\":1,\"nodes\":[]}";
+
+// A schedule with this configuration and these events.
+pub(super) fn schedule(rt: &(impl Abort + AllocGlobal), config: &str, events: &str) -> String {
+    match format!(in rt.alloc(); "{{\"config\":{config},\"events\":{events}}}") {
+        Ok(text) => text,
+        Err(_) => format!(in rt.alloc(); "{{\"config\":{config},\"events\":{events}}}").expect(
+            rt, "memory",
+        ),
+    }
+}
+
+// A schedule with these events.
+pub(super) fn with_events(rt: &(impl Abort + AllocGlobal), events: &str) -> String {
+    schedule(rt, CONFIG, events)
+}
+
+fn fault_of(alloc: Global, text: &str) -> Result<(), ScheduleFault> {
+    match read_schedule(alloc, text) {
+        Ok(_) => Ok(()),
+        Err(fault) => Err(fault),
+    }
+}
+
+// A text's fault. Where memory is refused it is read the second time.
+fn fault_in(alloc: Global, text: &str) -> Fault {
+    let read = match fault_of(alloc, text) {
+        Err(ScheduleFault::NoMemory) => fault_of(alloc, text),
+        read => read,
+    };
+    match read {
+        Ok(()) => NONE,
+        Err(fault) => (fault.number(), fault.place()),
+    }
+}
+
+fn fault_of_text(rt: &(impl Abort + AllocGlobal), text: Text) -> Fault {
+    match text {
+        Text::Whole(text) => fault_in(rt.alloc(), text),
+        Text::Config(config) => fault_in(rt.alloc(), &schedule(rt, config, "[]")),
+        Text::Events(events) => fault_in(rt.alloc(), &with_events(rt, events)),
+    }
+}
+
+// Each of these texts has this fault.
+fn all_judged(rt: &(impl Abort + AllocGlobal), texts: &[(Text, Fault)]) {
+    for (index, (text, fault)) in texts.iter().enumerate() {
+        assert_eq!(rt; fault_of_text(rt, *text), *fault, "text {index}");
+    }
+}
+
+const WHOLE: &[(Text, Fault)] = &[
+    (Text::Whole(""), NO_JSON),
+    (Text::Whole("{"), NO_JSON),
+    (Text::Whole("[]"), NO_SCHEDULE),
+    (Text::Whole("{}"), NO_SCHEDULE),
+    (
+        Text::Whole("{\"config\":{\"greatest\":1,\"nodes\":[]}}"),
+        NO_SCHEDULE,
+    ),
+    (
+        Text::Whole("{\"config\":{\"greatest\":1,\"nodes\":[]},\"events\":{}}"),
+        NO_SCHEDULE,
+    ),
+    (
+        Text::Whole("{\"config\":{\"greatest\":0,\"nodes\":[]},\"events\":[]}"),
+        NO_SCHEDULE,
+    ),
+    (
+        Text::Whole("{\"config\":{\"greatest\":0,\"nodes\":[]},\"events\":[{}]}"),
+        NO_SCHEDULE,
+    ),
+    (
+        Text::Whole("{\"config\":{\"greatest\":1,\"nodes\":[]},\"events\":[],\"more\":1}"),
+        NO_SCHEDULE,
+    ),
+    (
+        Text::Whole(
+            "{\"config\":{\"greatest\":1,\"nodes\":[]},\"events\":[{\"deliver\":0},{\"drop\":1}]}",
+        ),
+        (2, 2),
+    ),
+    (
+        Text::Whole("{\"config\":{\"greatest\":1,\"nodes\":[]},\"events\":[]}"),
+        NONE,
+    ),
+];
+
+#[test]
+fn what_is_no_schedule_is_refused(rt: HostRuntime) {
+    all_judged(&rt, WHOLE);
+}
+
+// Of repeated keys the last stands.
+const CONFIGS: &[(Text, Fault)] = &[
+    (
+        Text::Config("{\"greatest\":1,\"nodes\":[{\"id\":\"n1\",\"slots\":4}]}"),
+        NONE,
+    ),
+    (
+        Text::Config("{\"greatest\":1,\"nodes\":[{\"id\":\"\",\"slots\":4}]}"),
+        NO_SCHEDULE,
+    ),
+    (
+        Text::Config("{\"greatest\":1,\"nodes\":[{\"id\":\"n1\",\"slots\":4097}]}"),
+        NO_SCHEDULE,
+    ),
+    (
+        Text::Config(
+            "{\"greatest\":1,\"nodes\":[{\"id\":\"a\",\"slots\":1},{\"id\":\"a\",\"slots\":1}]}",
+        ),
+        NO_SCHEDULE,
+    ),
+    (
+        Text::Config("{\"greatest\":1,\"nodes\":[{\"id\":\"a\",\"slots\":1,\"more\":1}]}"),
+        NO_SCHEDULE,
+    ),
+    (
+        Text::Config("{\"greatest\":9223372036854775808,\"nodes\":[]}"),
+        NO_SCHEDULE,
+    ),
+    (
+        Text::Config("{\"greatest\":0,\"greatest\":1,\"nodes\":[]}"),
+        NONE,
+    ),
+    (
+        Text::Config("{\"greatest\":1,\"greatest\":0,\"nodes\":[]}"),
+        NO_SCHEDULE,
+    ),
+];
+
+#[test]
+fn a_configuration_is_judged(rt: HostRuntime) {
+    all_judged(&rt, CONFIGS);
+}
+
+const EVENTS: &[(Text, Fault)] = &[
+    (Text::Events("[{\"deliver\":18446744073709551615}]"), NONE),
+    (Text::Events("[{\"deliver\":18446744073709551616}]"), (2, 1)),
+    (Text::Events("[{\"deliver\":1.0}]"), (2, 1)),
+    (Text::Events("[{\"deliver\":1e2}]"), (2, 1)),
+    (Text::Events("[{\"deliver\":-0}]"), (2, 1)),
+    (Text::Events("[{\"deliver\":1.0,\"deliver\":1}]"), NONE),
+    (Text::Events("[{\"deliver\":1,\"delete\":\"v\"}]"), (2, 1)),
+    (Text::Events("[{\"delete\":\"v\"},{}]"), (2, 2)),
+    (Text::Events("[{\"delete\":\"\"},{}]"), (2, 1)),
+    (Text::Events("[{\"restart\":\"node\"}]"), (2, 1)),
+    (Text::Events("[{\"restart_node\":\"\"}]"), (2, 1)),
+];
+
+#[test]
+fn the_first_bad_event_has_a_place(rt: HostRuntime) {
+    all_judged(&rt, EVENTS);
+}
+
+// A list of so many zeros, if there is memory for it.
+fn try_zeros(alloc: Global, count: usize) -> Result<String, AllocError> {
+    let mut text = String::from_str(alloc, "[0")?;
+    for _ in 1..count {
+        text.push_str(",0")?;
+    }
+    text.push_str("]")?;
+    Ok(text)
+}
+
+// The fault of a schedule with so many zeros for events.
+fn fault_of_zeros(rt: &(impl Abort + AllocGlobal), count: usize) -> Fault {
+    let zeros = match try_zeros(rt.alloc(), count) {
+        Ok(zeros) => zeros,
+        Err(_) => try_zeros(rt.alloc(), count).expect(rt, "memory"),
+    };
+    fault_in(rt.alloc(), &with_events(rt, &zeros))
+}
+
+#[test]
+fn too_many_events_are_refused_before_bad_ones(rt: HostRuntime) {
+    assert_eq!(&rt; fault_of_zeros(&rt, MAX_EVENTS), (2, 1));
+    assert_eq!(&rt; fault_of_zeros(&rt, MAX_EVENTS + 1), (3, 0));
+}
+
+const FAULTS: &[(ScheduleFault, Fault)] = &[
+    (ScheduleFault::NotJson, NO_JSON),
+    (ScheduleFault::BadSchedule { place: 7 }, (2, 7)),
+    (ScheduleFault::TooMany, (3, 0)),
+    (ScheduleFault::NoMemory, (4, 0)),
+];
+
+#[test]
+fn a_fault_has_a_number_and_a_place(rt: HostRuntime) {
+    for (fault, (number, place)) in FAULTS {
+        assert_eq!(&rt; fault.number(), *number);
+        assert_eq!(&rt; fault.place(), *place);
+    }
+}
