@@ -1,0 +1,13 @@
+-- What was gathered, as it is kept.
+use Rattle.csi_reports.specs.declared.gathering.Findings.{Findings}
+use Rattle.csi_reports.specs.Gathered.{Gathered}
+
+abbrev pub gathered_of : Findings → Gathered
+gathered_of findings =
+    record {
+      attached = findings.attached.items;
+      known = findings.known.items;
+      published = findings.published.items;
+      staged = findings.staged.items;
+      found = findings.found;
+    }

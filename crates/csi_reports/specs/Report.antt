@@ -1,0 +1,60 @@
+-- The report of a world: one object of JSON, in compact form, with its keys in order. This profile's own.
+use Rattle.std.specs.Prelude.{◌≡◌, ℕ, List, map, filter, length, codes, Bool, not, Option, is_some}
+use Rattle.serde_json.specs.Data.{Data, boolean, array, object, no_members, member}
+use Rattle.serde_json.specs.View.{items_of}
+use Rattle.serde_json.specs.Written.{compact_text}
+use Rattle.csi_controller.specs.declared.row.ControllerRow.{ControllerRow}
+use Rattle.csi_world.specs.Simulated.{WorldShown}
+use Rattle.csi_reports.specs.Entries.{whole, attached_entry, staged_entry, published_entry, volume_entry, known_entry}
+use Rattle.csi_reports.specs.Outcomes.{outcome_entry}
+use Rattle.csi_reports.specs.Gathered.{Gathered, IsGathered}
+
+-- each item's entry, in order
+abbrev pub entries : {A : Type 0} → (A → Data) → List A → Data
+entries entry items = array (items_of (map entry items))
+
+-- ---- a function for each key
+
+abbrev pub attached_value : Gathered → Data
+attached_value gathered = entries attached_entry gathered.attached
+
+abbrev pub events_value : WorldShown → Data
+events_value world = entries outcome_entry world.outcomes
+
+abbrev pub frames_value : WorldShown → Data
+frames_value world = whole (length world.frames)
+
+abbrev pub known_value : Gathered → Data
+known_value gathered = entries known_entry gathered.known
+
+abbrev pub published_value : Gathered → Data
+published_value gathered = entries published_entry gathered.published
+
+-- true where an audit finds nothing
+abbrev pub safe_value : Gathered → Data
+safe_value gathered = boolean (not (is_some gathered.found))
+
+abbrev pub session_value : WorldShown → Data
+session_value world = whole ((world.orchestrator).last).session
+
+abbrev pub staged_value : Gathered → Data
+staged_value gathered = entries staged_entry gathered.staged
+
+-- the live ones, by rising id
+abbrev pub live_rows : List ControllerRow → List ControllerRow
+live_rows rows = filter (λ row. row.live) rows
+
+abbrev pub volumes_value : WorldShown → Data
+volumes_value world = entries volume_entry (live_rows (world.controller).rows)
+
+-- ---- the whole
+
+abbrev pub report_of : WorldShown → Gathered → Data
+report_of world gathered =
+    object (member (codes "attached") (attached_value gathered) (member (codes "events") (events_value world) (member (codes "frames") (frames_value world) (member (codes "known") (known_value gathered) (member (codes "published") (published_value gathered) (member (codes "safe") (safe_value gathered) (member (codes "session") (session_value world) (member (codes "staged") (staged_value gathered) (member (codes "volumes") (volumes_value world) no_members)))))))))
+
+-- the text is the report of this world
+pub record IsReport (world : WorldShown) (text : List ℕ) : Type 0 where
+  pub gathered : Gathered
+  pub of : IsGathered world gathered
+  pub written : text ≡ compact_text (report_of world gathered)
