@@ -1,5 +1,5 @@
 -- How the end of the reading closes what was served.
-use Rattle.std.proofs.Common.{◌≡◌, refl, ℕ, ◌≤◌, ◌^◌, List, [], length, arith}
+use Rattle.std.proofs.Common.{◌≡◌, refl, inl, inr, ℕ, ◌≤◌, ◌^◌, List, [], length, arith}
 use Rattle.std.specs.Prelude.{Option, Result, Ok, Err}
 use Rattle.std.specs.Io.KnownBytes.{IsAtEnd}
 use Rattle.csi_types.specs.Frame.{Frame}
@@ -17,7 +17,7 @@ use Rattle.csi_service.specs.Content.{StoredPart}
 use Rattle.csi_service.specs.Stores.{Store}
 use Rattle.csi_service.specs.Keeping.{HasRisen}
 use Rattle.csi_service.specs.Reading.{IsReadEnd}
-use Rattle.csi_service.specs.Serving.{Setting, AllDone, LastUnwritten, NextRefused, StopsBy, Serves}
+use Rattle.csi_service.specs.Serving.{Setting, AllDone, LastUnwritten, NextRefused, StopsBy, Waits, Serves}
 use Rattle.csi_service.specs.Ending.{cut_frame, kind_cut_short, cut_short, ended_by}
 use Rattle.csi_service.proofs.Commits.{rests-same}
 use Rattle.csi_service.proofs.Known.{appends-none}
@@ -86,8 +86,8 @@ module _ {C : Type 0} (answers : C → Frame → Option Frame → C → Type 0) 
 
   -- reading ended for another cause
   frame-cut : (cause : ServeFaultKind) (frames : List Frame) (rest : List ℕ) (k : ℕ) (replies : List (Option Frame)) (now : C) (kind : FaultKind) (place : ℕ)
-      → ((k ≡ length frames) → AllDone full replies now → StopsBy full frames rest k replies now cause) → StopsBy part frames rest k replies now (kinds.Frame kind place) → StopsBy full frames rest k replies now (cut_frame cause kind place)
-  frame-cut cause frames rest k replies now Short place by stop = by stop.0 (full-done replies now stop.3)
+      → ((k ≡ length frames) → Waits rest → AllDone full replies now → StopsBy full frames rest k replies now cause) → StopsBy part frames rest k replies now (kinds.Frame kind place) → StopsBy full frames rest k replies now (cut_frame cause kind place)
+  frame-cut cause frames rest k replies now Short place by stop = by stop.0 (inr (stop.1.at, stop.1.faulty)) (full-done replies now stop.3)
   frame-cut cause frames rest k replies now TooLong place by stop = (stop.0, stop.1, λ e. absurd (cc), full-done replies now stop.3)
   frame-cut cause frames rest k replies now BadVersion place by stop = (stop.0, stop.1, λ e. absurd (cc), full-done replies now stop.3)
   frame-cut cause frames rest k replies now BadKind place by stop = (stop.0, stop.1, λ e. absurd (cc), full-done replies now stop.3)
@@ -103,7 +103,7 @@ module _ {C : Type 0} (answers : C → Frame → Option Frame → C → Type 0) 
   frame-cut cause frames rest k replies now OutOfMemory place by stop = (stop.0, stop.1, λ e. absurd (cc), full-done replies now stop.3)
 
   stops-cut : (cause : ServeFaultKind) (frames : List Frame) (rest : List ℕ) (k : ℕ) (replies : List (Option Frame)) (now : C) (kind : ServeFaultKind)
-      → ((k ≡ length frames) → AllDone full replies now → StopsBy full frames rest k replies now cause) → StopsBy part frames rest k replies now kind → StopsBy full frames rest k replies now (kind_cut_short cause kind)
+      → ((k ≡ length frames) → Waits rest → AllDone full replies now → StopsBy full frames rest k replies now cause) → StopsBy part frames rest k replies now kind → StopsBy full frames rest k replies now (kind_cut_short cause kind)
   stops-cut cause frames rest k replies now kinds.Input by stop = absurd stop.1
   stops-cut cause frames rest k replies now kinds.Output by stop = (stop.0, full-last replies now stop.1)
   stops-cut cause frames rest k replies now (kinds.Frame kind place) by stop = frame-cut cause frames rest k replies now kind place by stop
@@ -111,7 +111,7 @@ module _ {C : Type 0} (answers : C → Frame → Option Frame → C → Type 0) 
   stops-cut cause frames rest k replies now kinds.NoMemory by stop = full-done replies now stop
   stops-cut cause frames rest k replies now kinds.Endless by stop = absurd stop.1
 
-  serves-cut : (cause : ServeFaultKind) → ((frames : List Frame) (rest : List ℕ) (k : ℕ) (replies : List (Option Frame)) (now : C) → (k ≡ length frames) → AllDone full replies now → StopsBy full frames rest k replies now cause)
+  serves-cut : (cause : ServeFaultKind) → ((frames : List Frame) (rest : List ℕ) (k : ℕ) (replies : List (Option Frame)) (now : C) → (k ≡ length frames) → Waits rest → AllDone full replies now → StopsBy full frames rest k replies now cause)
       → (bytes : List ℕ) (result : Result Served ServeFault) → Serves part bytes result → Serves full bytes (cut_short cause result)
   serves-cut cause by bytes (Ok served) s = record {
     frames = s.frames;
@@ -121,7 +121,7 @@ module _ {C : Type 0} (answers : C → Frame → Option Frame → C → Type 0) 
     replies = s.replies;
     now = s.now;
     runs = s.runs;
-    ends = by s.frames s.rest served.frames s.replies s.now s.ends.0 (full-done s.replies s.now s.ends.4);
+    ends = by s.frames s.rest served.frames s.replies s.now s.ends.0 (inl s.ends.1) (full-done s.replies s.now s.ends.4);
   }
   serves-cut cause by bytes (Err fault) s = record {
     frames = s.frames;
@@ -156,6 +156,6 @@ pub serves-by : {C : Type 0} (answers : C → Frame → Option Frame → C → T
 serves-by answers parts_of core before after out0 out2 U left faults0 faults1 bytes ends.AtEnd result fact s =
     serves-ended answers parts_of core before after out0 out2 U (IsAtEnd left) (HasRisen faults0 faults1) (2 ^ 63 ≤ length bytes) fact bytes result s
 serves-by answers parts_of core before after out0 out2 U left faults0 faults1 bytes ends.Failed result fact s =
-    serves-cut answers parts_of core before after out0 out2 U (IsAtEnd left) (HasRisen faults0 faults1) (2 ^ 63 ≤ length bytes) kinds.Input (λ frames rest k replies now all done. (all, fact, done)) bytes result s
+    serves-cut answers parts_of core before after out0 out2 U (IsAtEnd left) (HasRisen faults0 faults1) (2 ^ 63 ≤ length bytes) kinds.Input (λ frames rest k replies now all waits done. (all, fact, waits, done)) bytes result s
 serves-by answers parts_of core before after out0 out2 U left faults0 faults1 bytes ends.Endless result fact s =
-    serves-cut answers parts_of core before after out0 out2 U (IsAtEnd left) (HasRisen faults0 faults1) (2 ^ 63 ≤ length bytes) kinds.Endless (λ frames rest k replies now all done. (all, fact, done)) bytes result s
+    serves-cut answers parts_of core before after out0 out2 U (IsAtEnd left) (HasRisen faults0 faults1) (2 ^ 63 ≤ length bytes) kinds.Endless (λ frames rest k replies now all waits done. (all, fact, waits, done)) bytes result s

@@ -1,5 +1,5 @@
 -- What serving does to a record and to the output, at each end. This profile's own.
-use Rattle.std.specs.Prelude.{◌≡◌, ◌≢◌, ℕ, ◌+◌, ◌≤◌, List, [], ◌∷◌, ◌++◌, length, take, count_by, slice_get, Option, Some, None, is_some, Result, Ok, Err}
+use Rattle.std.specs.Prelude.{◌≡◌, ◌≢◌, ◌⊎◌, ℕ, ◌+◌, ◌≤◌, List, [], ◌∷◌, ◌++◌, length, take, count_by, slice_get, Option, Some, None, is_some, Result, Ok, Err}
 use Rattle.std.specs.List.{flat_map}
 use Rattle.std.specs.Io.KnownBytes.{Appends}
 use Rattle.csi_types.specs.Frame.{Frame}
@@ -83,14 +83,18 @@ pub record IsFaultOf (frames : List Frame) (rest : List ℕ) (kind : FaultKind) 
   pub faulty : IsFaulty rest kind at
   pub here : place ≡ length (flat_map spelling frames) + at
 
+-- nothing is left over, or what may be the beginning of a frame
+abbrev pub Waits : List ℕ → Type 0
+Waits rest = (rest ≡ []) ⊎ ((place : ℕ) × IsFaulty rest Short place)
+
 -- why serving ended, after k of the frames
 abbrev pub StopsBy : {C : Type 0} → Setting C → List Frame → List ℕ → ℕ → List (Option Frame) → C → ServeFaultKind → Type 0
-StopsBy setting frames rest k replies now kinds.Input = (k ≡ length frames) × setting.reader_failed × AllDone setting replies now
+StopsBy setting frames rest k replies now kinds.Input = (k ≡ length frames) × setting.reader_failed × Waits rest × AllDone setting replies now
 StopsBy setting frames rest k replies now kinds.Output = setting.writer_failed × LastUnwritten setting replies now
 StopsBy setting frames rest k replies now (kinds.Frame kind place) = (k ≡ length frames) × IsFaultOf frames rest kind place × (kind ≡ Short → setting.at_end) × AllDone setting replies now
 StopsBy setting frames rest k replies now (kinds.Keep fault) = (frame : Frame) × (slice_get frames k ≡ Some frame) × NextRefused setting frame replies now fault
 StopsBy setting frames rest k replies now kinds.NoMemory = AllDone setting replies now
-StopsBy setting frames rest k replies now kinds.Endless = (k ≡ length frames) × setting.endless × AllDone setting replies now
+StopsBy setting frames rest k replies now kinds.Endless = (k ≡ length frames) × setting.endless × Waits rest × AllDone setting replies now
 
 -- how many frames were committed
 abbrev pub frames_counted : Result Served ServeFault → ℕ

@@ -84,7 +84,7 @@ fn not_served(input: &[u8]) -> ServeFault
 /// - at `Ok` these are all frames, nothing is left over nor unread, the store has the last core's parts, and all replies are
 ///   written;
 /// - at `Input`, `Frame` and `Endless` too all frames are answered, committed and written; the reader failed in this call, the
-///   rest is at fault, or 2^63 bytes were read; where the fault is `Short` nothing is left unread;
+///   rest is at fault, or 2^63 bytes were read (at `Input` and `Endless` nothing is left over but what may begin a frame); where the fault is `Short` nothing is left unread;
 /// - at `Output` the frames that are counted are committed, and of the last one's reply a front is written;
 /// - at `Keep` opening the store again finds the parts of the last core or those that the next frame would have led to, whose
 ///   reply isn't written; the device failed in this call, or those parts don't fit;
