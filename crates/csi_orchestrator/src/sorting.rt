@@ -57,17 +57,6 @@ fn place_of_kind(thing: &Thing) -> u8
     }
 }
 
-// Which of the two comes first, by its thing.
-fn compare(a: &(Thing, Known), b: &(Thing, Known)) -> Ordering
-    ensures { result ≡ thing_order a.now.0 b.now.0 }
-{
-    let names = name_of(&a.0).cmp(name_of(&b.0));
-    let nodes = node_of(&a.0).cmp(&node_of(&b.0));
-    let kinds = place_of_kind(&a.0).cmp(&place_of_kind(&b.0));
-    let targets = target_of(&a.0).cmp(&target_of(&b.0));
-    names.then(nodes.then(kinds.then(targets)))
-}
-
 impl Thing {
     /// Which of the two things comes first where they are listed, as by `Orchestrator::things`: by name; of one name by
     /// node, what has none first; of one node by kind (`Attached`, `Staged`, `Published`); of one kind by target; texts by
@@ -75,8 +64,19 @@ impl Thing {
     pub fn compare(&self, other: &Thing) -> Ordering
         ensures { result ≡ thing_order self.now other.now }
     {
-        compare(self, other)
+        let names = name_of(self).cmp(name_of(other));
+        let nodes = node_of(self).cmp(&node_of(other));
+        let kinds = place_of_kind(self).cmp(&place_of_kind(other));
+        let targets = target_of(self).cmp(&target_of(other));
+        names.then(nodes.then(kinds.then(targets)))
     }
+}
+
+// Which of the two comes first, by its thing.
+fn compare_entries(a: &(Thing, Known), b: &(Thing, Known)) -> Ordering
+    ensures { result ≡ thing_order a.now.0 b.now.0 }
+{
+    a.0.compare(&b.0)
 }
 
 /// Puts things in order, each before those that come after it by `compare`.
@@ -84,5 +84,5 @@ pub(crate) fn put_in_order(things: &mut Vec<(Thing, Known)>)
     ensures moved { IsPermutation things.old.items things.new.items }
     ensures order { IsSortedBy (λ a b. is_lt (thing_order a.0 b.0)) things.new.items }
 {
-    things.sort_unstable_by(compare);
+    things.sort_unstable_by(compare_entries);
 }
