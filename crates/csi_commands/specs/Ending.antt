@@ -4,17 +4,20 @@ use Rattle.std.specs.declared.io.ErrorKind.{ErrorKind}
 use Rattle.std.specs.declared.io.ErrorKind.TheVariants.{OutOfMemory}
 use Rattle.csi_types.specs.Frame.{Frame}
 use Rattle.csi_commands.specs.declared.ending.Ending.{Ending}
-use Rattle.csi_commands.specs.declared.ending.Ending.TheVariants.{Done, FrameFault, Usage, Device, Memory}
+use Rattle.csi_commands.specs.declared.ending.Ending.TheVariants.{Done, FrameFault, ScheduleFault, NotUtf8, Usage, Device, Memory}
 use Rattle.csi_commands.specs.declared.answers.AnswerFault.{AnswerFault}
 use Rattle.csi_commands.specs.declared.answers.AnswerFault.TheVariants as faults
 use Rattle.csi_commands.specs.declared.commands.FileCommand.{FileCommand}
-use Rattle.csi_commands.specs.declared.commands.FileCommand.TheVariants.{Answer, Show}
+use Rattle.csi_commands.specs.declared.commands.FileCommand.TheVariants.{Answer, Show, Run}
 use Rattle.csi_commands.specs.Replay.{answered, Fails, IsFaultOf, Grows}
+use Rattle.csi_commands.specs.Running.{Runs, IsRefused}
 
 -- 1 for input that is refused, 2 for the command line, 3 for a device or memory
 abbrev pub exit_status : Ending → ℕ
 exit_status Done = 0
 exit_status (FrameFault kind place) = 1
+exit_status (ScheduleFault fault) = 1
+exit_status NotUtf8 = 1
 exit_status Usage = 2
 exit_status Device = 3
 exit_status Memory = 3
@@ -28,16 +31,28 @@ abbrev pub ending_of : AnswerFault → Ending
 ending_of (faults.Frame kind place) = FrameFault kind place
 ending_of faults.NoMemory = Memory
 
--- Where all frames were answered, or shown, the rest is empty; a fault and want of memory are those of the answer, or of
+-- Of the commands on frames: where all were answered, or shown, the rest is empty; a fault and want of memory are those of the answer, or of
 -- the frames. Of the lines that are shown no text is said: they come behind what was there.
 abbrev pub EndsAs : FileCommand → List Frame → List ℕ → List ℕ → List ℕ → Ending → Type 0
 EndsAs Answer frames rest old new Done = (rest ≡ []) × (new ≡ old ++ answered frames)
 EndsAs Answer frames rest old new (FrameFault kind place) = Fails frames rest old new (faults.Frame kind place)
 EndsAs Answer frames rest old new Memory = Fails frames rest old new faults.NoMemory
+EndsAs Answer frames rest old new (ScheduleFault fault) = ⊥
+EndsAs Answer frames rest old new NotUtf8 = ⊥
 EndsAs Answer frames rest old new Usage = ⊥
 EndsAs Answer frames rest old new Device = ⊥
 EndsAs Show frames rest old new Done = (rest ≡ []) × Grows old new
 EndsAs Show frames rest old new (FrameFault kind place) = IsFaultOf frames rest kind place × Grows old new
 EndsAs Show frames rest old new Memory = Grows old new
+EndsAs Show frames rest old new (ScheduleFault fault) = ⊥
+EndsAs Show frames rest old new NotUtf8 = ⊥
 EndsAs Show frames rest old new Usage = ⊥
 EndsAs Show frames rest old new Device = ⊥
+EndsAs Run frames rest old new ending = Unit {0}
+
+-- Where a schedule was run, its report and a newline were appended, and otherwise nothing.
+abbrev pub RunsAs : FileCommand → List ℕ → List ℕ → List ℕ → Ending → Type 0
+RunsAs Answer input old new ending = Unit {0}
+RunsAs Show input old new ending = Unit {0}
+RunsAs Run input old new Done = Runs input old new
+RunsAs Run input old new ending = IsRefused input ending × (new ≡ old)

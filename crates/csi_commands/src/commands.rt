@@ -2,11 +2,12 @@
 ghost use Rattle.std.specs.Prelude.{List, ℕ};
 ghost use Rattle.csi_types.specs.Frame.{Frame};
 ghost use Rattle.csi_frames.specs.Stream.{FramesOf};
-ghost use Rattle.csi_commands.specs.Ending.{EndsAs};
+ghost use Rattle.csi_commands.specs.Ending.{EndsAs, RunsAs};
 
 use crate::answers::{AnswerFault, answer};
 use crate::ending::Ending;
 use crate::lines::show;
+use crate::running::run;
 use std::alloc::Global;
 
 /// What is done with the bytes of a file.
@@ -16,13 +17,17 @@ pub enum FileCommand {
     Answer,
     /// A line is shown for each frame.
     Show,
+    /// The schedule is run, and the report of its world is shown.
+    Run,
 }
 
 /// Carries the command out on the bytes of a file, and appends to `out` what goes to standard output. What was appended
-/// before a fault stays. The ending is never `Usage` nor `Device`.
+/// before a fault stays; of a run that is the whole report with a newline, or nothing. The ending is never `Usage` nor
+/// `Device`.
 pub fn file(alloc: Global, command: FileCommand, input: &[u8], out: &mut Vec<u8>) -> Ending
-    ensures { (frames : List Frame) (rest : List ℕ) → FramesOf input.now frames rest →
+    ensures frames { (frames : List Frame) (rest : List ℕ) → FramesOf input.now frames rest →
         EndsAs command frames rest out.old.items out.new.items result }
+    ensures run { RunsAs command input.now out.old.items out.new.items result }
 {
     match command {
         FileCommand::Answer => match answer(alloc, input, out) {
@@ -32,6 +37,10 @@ pub fn file(alloc: Global, command: FileCommand, input: &[u8], out: &mut Vec<u8>
         FileCommand::Show => match show(alloc, input, out) {
             Ok(()) => Ending::Done,
             Err(fault) => Ending::from(fault),
+        },
+        FileCommand::Run => match run(alloc, input, out) {
+            Ok(()) => Ending::Done,
+            Err(ending) => ending,
         },
     }
 }

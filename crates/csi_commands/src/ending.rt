@@ -3,6 +3,8 @@ ghost use Rattle.std.specs.Prelude.{◌≡◌};
 ghost use Rattle.csi_commands.specs.Ending.{exit_status, ending_unless_memory};
 
 use csi_frames::FaultKind;
+use csi_schedules::ScheduleFault;
+use csi_types::NoMemory;
 use std::alloc::AllocError;
 use std::fmt;
 use std::io::ErrorKind;
@@ -15,6 +17,10 @@ pub enum Ending {
     Done,
     /// The input has a fault of this kind in this place, counted in bytes from its front.
     FrameFault(FaultKind, u64),
+    /// The input is UTF-8 and no schedule: its fault, which is never `NoMemory`.
+    ScheduleFault(ScheduleFault),
+    /// The input is to be a text, and is no UTF-8.
+    NotUtf8,
     /// The words on the command line are no command.
     Usage,
     /// A file or a stream failed.
@@ -31,7 +37,7 @@ impl Ending {
     {
         match self {
             Ending::Done => 0,
-            Ending::FrameFault(..) => 1,
+            Ending::FrameFault(..) | Ending::ScheduleFault(_) | Ending::NotUtf8 => 1,
             Ending::Usage => 2,
             Ending::Device | Ending::Memory => 3,
         }
@@ -71,6 +77,17 @@ impl From<AllocError> for Ending {
     }
 }
 
+impl From<NoMemory> for Ending {
+    ghost use Rattle.std.specs.Prelude.{◌≡◌};
+    ghost use Rattle.csi_commands.specs.declared.ending.Ending.TheVariants.{Memory as Refused};
+
+    ghost from_gives = { λ _ ending. ending ≡ Refused };
+
+    fn from(_refused: NoMemory) -> Ending {
+        Ending::Memory
+    }
+}
+
 impl fmt::Display for Ending {
     fn fmt<W: fmt::Write>(&self, f: &mut fmt::Formatter<W>) -> fmt::Result {
         match self {
@@ -79,6 +96,12 @@ impl fmt::Display for Ending {
                 let number = kind.number();
                 write!(f, "csi-replay: frame fault {number} at {place}")
             }
+            Ending::ScheduleFault(fault) => {
+                let number = fault.number();
+                let place = fault.place();
+                write!(f, "csi-replay: schedule fault {number} at {place}")
+            }
+            Ending::NotUtf8 => write!(f, "csi-replay: not UTF-8"),
             Ending::Usage => write!(f, "csi-replay: usage"),
             Ending::Device => write!(f, "csi-replay: device"),
             Ending::Memory => write!(f, "csi-replay: memory"),

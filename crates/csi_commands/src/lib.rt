@@ -1,5 +1,5 @@
 //! What `csi-replay` does with the bytes of a file, without a process: frames are answered by a new controller, or shown in
-//! lines. This profile's own.
+//! lines, and schedules are run. This profile's own.
 #![tactic(auto)]
 
 mod answers;
@@ -7,9 +7,11 @@ mod commands;
 mod ending;
 mod lines;
 mod reading;
+mod running;
 mod shown;
 
 pub use answers::{AnswerFault, answer};
 pub use commands::{FileCommand, file};
 pub use ending::Ending;
 pub use lines::show;
+pub use running::run;

@@ -1,0 +1,42 @@
+-- What is printed of a schedule that is run, and why one isn't run. This profile's own.
+use Rattle.std.specs.Prelude.{◌≡◌, ℕ, List, [], ◌∷◌, ◌++◌, Ok, Err}
+use Rattle.std.specs.Str.{IsUtf8}
+use Rattle.csi_schedules.specs.Schedule.{Schedule, text_schedule}
+use Rattle.csi_world.specs.After.{after}
+use Rattle.csi_world.specs.Simulated.{WorldShown, ShowsRun}
+use Rattle.csi_reports.specs.Report.{IsReport}
+use Rattle.csi_commands.specs.declared.ending.Ending.{Ending}
+use Rattle.csi_commands.specs.declared.ending.Ending.TheVariants as endings
+use Rattle.csi_schedules.specs.declared.schedule.ScheduleFault.{ScheduleFault}
+use Rattle.csi_schedules.specs.declared.schedule.ScheduleFault.TheVariants.{NotJson, BadSchedule, TooMany, NoMemory}
+
+-- the text is the report of the world to which the schedule's events lead from an empty one
+pub record IsReportOf (schedule : Schedule) (text : List ℕ) : Type 0 where
+  pub world : WorldShown
+  pub shows : ShowsRun world (after schedule.config schedule.events)
+  pub reported : IsReport world text
+
+-- the input is a schedule, and its report and a newline were appended
+pub record Runs (input old new : List ℕ) : Type 0 where
+  pub schedule : Schedule
+  pub read : text_schedule input ≡ Ok schedule
+  pub report : List ℕ
+  pub reported : IsReportOf schedule report
+  pub appended : new ≡ old ++ report ++ 10 ∷ []
+
+-- The input is no UTF-8, or has this fault; or memory ran out.
+abbrev pub IsRefused : List ℕ → Ending → Type 0
+IsRefused input endings.NotUtf8 = IsUtf8 input → ⊥
+IsRefused input (endings.ScheduleFault fault) = text_schedule input ≡ Err fault
+IsRefused input endings.Memory = Unit {0}
+IsRefused input endings.Done = ⊥
+IsRefused input (endings.FrameFault kind place) = ⊥
+IsRefused input endings.Usage = ⊥
+IsRefused input endings.Device = ⊥
+
+-- want of memory is no fault of the schedule
+abbrev pub refusal_of : ScheduleFault → Ending
+refusal_of NoMemory = endings.Memory
+refusal_of NotJson = endings.ScheduleFault NotJson
+refusal_of (BadSchedule place) = endings.ScheduleFault (BadSchedule place)
+refusal_of TooMany = endings.ScheduleFault TooMany
