@@ -11,7 +11,8 @@ use Rattle.csi_types.proofs.Equality.{same_text-tells}
 use Rattle.csi_types.proofs.Lists.{find-passes}
 use Rattle.csi_controller.specs.declared.row.ControllerRow.{ControllerRow}
 use Rattle.csi_controller.specs.declared.row.NodeHolding.{NodeHolding}
-use Rattle.csi_controller.specs.Core.{AtMostOne, IsRising}
+use Rattle.csi_lists.specs.Places.{AtMostOne}
+use Rattle.csi_controller.specs.Core.{IsRising}
 use Rattle.csi_controller.specs.Shown.{volume_of_row, holdings_in_row, holdings_in}
 use Rattle.csi_controller.specs.State.{Volume, volume_named, is_held_at}
 use Rattle.csi_controller.proofs.Sound.{rising-one}

@@ -2,7 +2,7 @@
 use Rattle.std.proofs.Common.{sym, ◌∙◌}
 use Rattle.std.specs.Prelude.{Bool, ◌==◌}
 use Rattle.csi_controller.specs.declared.row.ControllerRow.{ControllerRow}
-use Rattle.csi_controller.proofs.FirstAt.{FirstAt-position, FirstAt-find}
+use Rattle.csi_lists.proofs.Places.{FirstAt-position, FirstAt-find}
 use Rattle.csi_world.proofs.SystemNodes.{find-nowhere}
 use Rattle.csi_world.proofs.auditing.halving.find_row.Goals as goal
 
