@@ -16,6 +16,7 @@ fn matches_of<'a>(alloc: Global, words: &'a [String]) -> Result<ArgMatches<'a>, 
         .subcommand_required(true)
         .subcommand(file_command(alloc, "answer")?)?
         .subcommand(file_command(alloc, "show")?)?
+        .subcommand(file_command(alloc, "run")?)?
         .try_get_matches_from(words)
 }
 
@@ -24,6 +25,7 @@ fn named(name: &str) -> Option<FileCommand> {
     match name {
         "answer" => Some(FileCommand::Answer),
         "show" => Some(FileCommand::Show),
+        "run" => Some(FileCommand::Run),
         _ => None,
     }
 }

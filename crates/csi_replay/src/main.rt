@@ -1,4 +1,4 @@
-//! Answers the frames of a file as a new controller plugin does, or shows them.
+//! Answers the frames of a file as a new controller plugin does, or shows them, or runs a schedule.
 #![tactic(auto)]
 
 mod command_line;

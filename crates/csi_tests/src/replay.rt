@@ -3,19 +3,23 @@
 mod answers;
 mod endings;
 mod events;
+mod examples;
 mod files;
 mod running;
+mod runs;
 mod schedules;
 mod shown;
 
 use csi_commands::Ending;
 
 // What a command is to give for the frames of a file, which are written in hexadecimal: for `answer` the replies, for `show`
-// the lines; and how it ends.
+// the lines; and how it ends. For `run` the file is a schedule and its report is given, or bytes that get nothing.
 #[derive(Clone, Copy)]
 enum Case {
     Answers(&'static [&'static str], &'static [&'static str], Ending),
     Shows(&'static [&'static str], &'static str, Ending),
+    Runs(&'static str, &'static str, Ending),
+    RunsBytes(&'static [&'static str], Ending),
 }
 
 // DeleteVolume of id 1 under (1, 2), and its reply.

@@ -1,6 +1,7 @@
 //! How a run of the program ends.
 use csi_commands::Ending;
 use csi_frames::FaultKind;
+use csi_schedules::ScheduleFault;
 use std::alloc::{AllocError, Global};
 use std::io::ErrorKind;
 use std::process::Abort;
@@ -13,6 +14,22 @@ const ENDINGS: &[(Ending, &str, u8)] = &[
         "csi-replay: frame fault 13 at 62",
         1,
     ),
+    (
+        Ending::ScheduleFault(ScheduleFault::NotJson),
+        "csi-replay: schedule fault 1 at 0",
+        1,
+    ),
+    (
+        Ending::ScheduleFault(ScheduleFault::BadSchedule { place: 2 }),
+        "csi-replay: schedule fault 2 at 2",
+        1,
+    ),
+    (
+        Ending::ScheduleFault(ScheduleFault::TooMany),
+        "csi-replay: schedule fault 3 at 0",
+        1,
+    ),
+    (Ending::NotUtf8, "csi-replay: not UTF-8", 1),
     (Ending::Usage, "csi-replay: usage", 2),
     (Ending::Device, "csi-replay: device", 3),
     (Ending::Memory, "csi-replay: memory", 3),

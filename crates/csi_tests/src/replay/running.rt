@@ -92,15 +92,13 @@ fn is_given(
 }
 
 // It gives this output, behind what was there.
-fn gives(
+pub(super) fn gives(
     rt: &(impl Abort + AllocGlobal),
-    (command, input): (FileCommand, &[&str]),
+    asked: (FileCommand, &[u8]),
     output: &[u8],
     ending: Ending,
     index: usize,
 ) {
-    let input = bytes(rt, input);
-    let asked = (command, input.as_slice());
     let wanted = joined(rt, b"there", output);
     assert!(rt; is_given(rt, asked, b"", output, ending), "case {index}");
     let behind = is_given(rt, asked, b"there", wanted.as_slice(), ending);
@@ -110,13 +108,23 @@ fn gives(
 fn run_case(rt: &(impl Abort + AllocGlobal), case: Case, index: usize) {
     match case {
         Case::Answers(input, replies, ending) => {
+            let input = bytes(rt, input);
             let replies = bytes(rt, replies);
-            let asked = (FileCommand::Answer, input);
+            let asked = (FileCommand::Answer, input.as_slice());
             gives(rt, asked, replies.as_slice(), ending, index)
         }
         Case::Shows(input, lines, ending) => {
-            let asked = (FileCommand::Show, input);
+            let input = bytes(rt, input);
+            let asked = (FileCommand::Show, input.as_slice());
             gives(rt, asked, lines.as_bytes(), ending, index)
+        }
+        Case::Runs(schedule, report, ending) => {
+            let asked = (FileCommand::Run, schedule.as_bytes());
+            gives(rt, asked, report.as_bytes(), ending, index)
+        }
+        Case::RunsBytes(input, ending) => {
+            let input = bytes(rt, input);
+            gives(rt, (FileCommand::Run, input.as_slice()), b"", ending, index)
         }
     }
 }

@@ -186,13 +186,18 @@ fn try_zeros(alloc: Global, count: usize) -> Result<String, AllocError> {
     Ok(text)
 }
 
-// The fault of a schedule with so many zeros for events.
-fn fault_of_zeros(rt: &(impl Abort + AllocGlobal), count: usize) -> Fault {
+// A schedule with so many zeros for events.
+pub(super) fn with_zeros(rt: &(impl Abort + AllocGlobal), count: usize) -> String {
     let zeros = match try_zeros(rt.alloc(), count) {
         Ok(zeros) => zeros,
         Err(_) => try_zeros(rt.alloc(), count).expect(rt, "memory"),
     };
-    fault_in(rt.alloc(), &with_events(rt, &zeros))
+    with_events(rt, &zeros)
+}
+
+// The fault of a schedule with so many zeros for events.
+fn fault_of_zeros(rt: &(impl Abort + AllocGlobal), count: usize) -> Fault {
+    fault_in(rt.alloc(), &with_zeros(rt, count))
 }
 
 #[test]

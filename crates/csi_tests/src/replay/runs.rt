@@ -1,0 +1,80 @@
+//! Schedules that are run to their reports, and bytes that are no schedule.
+use super::Case;
+use super::running::{gives, run_all};
+use super::schedules::with_zeros;
+use csi_commands::{Ending, FileCommand};
+use csi_schedules::{MAX_EVENTS, ScheduleFault};
+
+const DONE: Ending = Ending::Done;
+
+// A volume is made, and used at a node, with every frame delivered in turn.
+const USED: &str =
+    "{\"config\":{\"greatest\":1000,\"nodes\":[{\"id\":\"n1\",\"slots\":4}]},\"events\":[{\"create\":{\"capabilities\":[{\"access\":\"block\",\"mode\":1}],\"limit\":0,\"name\":\"v\",\"required\":10}},{\"deliver\":1},{\"deliver\":2},{\"use\":{\"capability\":{\"access\":\"block\",\"mode\":1},\"name\":\"v\",\"node\":\"n1\",\"readonly\":false,\"target\":\"/a\"}},{\"deliver\":3},{\"deliver\":4},{\"deliver\":5},{\"deliver\":6},{\"deliver\":7},{\"deliver\":8}]}";
+
+const USED_REPORT: &str =
+    "{\"attached\":[{\"id\":1,\"mode\":1,\"node\":\"n1\",\"readonly\":false}],\"events\":[\"sent 1\",\"answered 2\",\"taken\",\"sent 3\",\"answered 4\",\"taken, sent 5\",\"answered 6\",\"taken, sent 7\",\"answered 8\",\"taken\"],\"frames\":8,\"known\":[{\"known\":\"yes\",\"name\":\"v\",\"thing\":\"exists\"},{\"known\":\"yes\",\"name\":\"v\",\"node\":\"n1\",\"thing\":\"attached\"},{\"known\":\"yes\",\"name\":\"v\",\"node\":\"n1\",\"thing\":\"staged\"},{\"known\":\"yes\",\"name\":\"v\",\"node\":\"n1\",\"target\":\"/a\",\"thing\":\"published\"}],\"published\":[{\"id\":1,\"node\":\"n1\",\"readonly\":false,\"target\":\"/a\"}],\"safe\":true,\"session\":1,\"staged\":[{\"id\":1,\"mode\":1,\"node\":\"n1\"}],\"volumes\":[{\"capacity\":10,\"id\":1,\"name\":\"v\"}]}\n";
+
+const NO_FRAME: &str =
+    "{\"config\":{\"greatest\":1000,\"nodes\":[]},\"events\":[{\"deliver\":99}]}";
+
+const NO_FRAME_REPORT: &str =
+    "{\"attached\":[],\"events\":[\"no such frame\"],\"frames\":0,\"known\":[],\"published\":[],\"safe\":true,\"session\":1,\"staged\":[],\"volumes\":[]}\n";
+
+const NO_EVENT: &str = "{\"config\":{\"greatest\":1000,\"nodes\":[]},\"events\":[]}";
+
+const NO_EVENT_REPORT: &str =
+    "{\"attached\":[],\"events\":[],\"frames\":0,\"known\":[],\"published\":[],\"safe\":true,\"session\":1,\"staged\":[],\"volumes\":[]}\n";
+
+const RUNS: &[Case] = &[
+    Case::Runs(USED, USED_REPORT, DONE),
+    Case::Runs(NO_FRAME, NO_FRAME_REPORT, DONE),
+    Case::Runs(NO_EVENT, NO_EVENT_REPORT, DONE),
+];
+
+#[test]
+fn a_schedule_is_run_to_its_report(rt: HostRuntime) {
+    run_all(&rt, RUNS);
+}
+
+const REFUSED: &[Case] = &[
+    Case::Runs("{", "", Ending::ScheduleFault(ScheduleFault::NotJson)),
+    Case::Runs("", "", Ending::ScheduleFault(ScheduleFault::NotJson)),
+    Case::Runs(
+        "[]",
+        "",
+        Ending::ScheduleFault(ScheduleFault::BadSchedule { place: 0 }),
+    ),
+    Case::Runs(
+        "{\"config\":{\"greatest\":0,\"nodes\":[]},\"events\":[]}",
+        "",
+        Ending::ScheduleFault(ScheduleFault::BadSchedule { place: 0 }),
+    ),
+    Case::Runs(
+        "{\"config\":{\"greatest\":1,\"nodes\":[]},\"events\":[{\"deliver\":0},{\"drop\":1}]}",
+        "",
+        Ending::ScheduleFault(ScheduleFault::BadSchedule { place: 2 }),
+    ),
+];
+
+#[test]
+fn a_schedule_that_has_a_fault_is_not_run(rt: HostRuntime) {
+    run_all(&rt, REFUSED);
+}
+
+const NO_UTF_8: &[Case] = &[
+    Case::RunsBytes(&["ff"], Ending::NotUtf8),
+    Case::RunsBytes(&["7b c3"], Ending::NotUtf8),
+];
+
+#[test]
+fn bytes_that_are_no_text_are_not_run(rt: HostRuntime) {
+    run_all(&rt, NO_UTF_8);
+}
+
+#[test]
+fn too_many_events_are_not_run(rt: HostRuntime) {
+    let text = with_zeros(&rt, MAX_EVENTS + 1);
+    let asked = (FileCommand::Run, text.as_bytes());
+    let ending = Ending::ScheduleFault(ScheduleFault::TooMany);
+    gives(&rt, asked, b"", ending, 0);
+}
