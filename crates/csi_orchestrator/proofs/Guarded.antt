@@ -6,12 +6,14 @@ use Rattle.std.proofs.lemmas.Bool.{false≢true}
 use Rattle.csi_types.specs.declared.call.Call.TheVariants as calls
 use Rattle.csi_types.specs.declared.call.Party.TheVariants.{Controller, Node}
 use Rattle.csi_types.specs.Holding.{CanHoldBoth}
-use Rattle.csi_types.specs.Lists.{IsAmong}
+use Rattle.csi_lists.specs.Members.{IsAmong}
+use Rattle.csi_lists.proofs.Members.{among-find, each_of}
+use Rattle.csi_lists.proofs.Searches.{find-passes}
+use Rattle.std.proofs.lemmas.Option.{same_Some, none-some}
+use Rattle.csi_lists.proofs.Tests.{then-any}
 use Rattle.csi_types.specs.Same.{same_text}
 use Rattle.csi_types.specs.Sharing.{is_single_node}
-use Rattle.csi_types.proofs.Among.{among-find, each_of}
 use Rattle.csi_types.proofs.Equality.{same_text-tells}
-use Rattle.csi_types.proofs.Lists.{find-passes}
 use Rattle.csi_orchestrator.specs.declared.row.Aim.{Aim}
 use Rattle.csi_orchestrator.specs.declared.row.Goal.{Goal as KeptGoal}
 use Rattle.csi_orchestrator.specs.declared.row.Goal.TheVariants as kept
@@ -29,8 +31,6 @@ use Rattle.csi_orchestrator.specs.Guards.{CanBeHeldToo, holding_by, IsGuarded, M
 use Rattle.csi_orchestrator.specs.Shown.{PlaceShown, RowShown, Parts, row_of, place_of, aim_of, mark_in, published_in, mark_of, usage_shown, held_at, held_in, others_in, marks_for, use_due, stop_due, delete_due, due_by, due_in, AgreesWith}
 use Rattle.csi_orchestrator.specs.RowMoves.{is_so_elsewhere, has_elsewhere}
 use Rattle.csi_orchestrator.specs.Kept.{ArePlacesApart, IsUsable, MayBeWanted}
-use Rattle.csi_orchestrator.proofs.Numbers.{some-one, none-some}
-use Rattle.csi_orchestrator.proofs.Following.{any-among}
 use Rattle.csi_orchestrator.proofs.DueCalls.{no_is_no}
 
 yes_is_yes : (k : Known) → is_yes k ≡ true → k ≡ Yes
@@ -102,7 +102,7 @@ not-so row so node other place none e apart maybe = by (so (held_at place)) refl
 
     by : (b : Bool) → so (held_at place) ≡ b → b ≡ false
     by true f =
-        absurd (false≢true (sym none ∙ any-among (is_so_elsewhere so node) row.places place there.0
+        absurd (false≢true (sym none ∙ then-any (is_so_elsewhere so node) row.places place there.0
         (ap (λ b. not b && not (is_no place.attached) && so (held_at place)) elsewhere ∙ ap (λ b. not b && so (held_at place)) (is_not_no place.attached maybe) ∙ f)))
     by false f = refl
 
@@ -117,7 +117,7 @@ create-guarded row history due told no_id e = by (is_yes row.exists) refl e
     by : (b : Bool) → is_yes row.exists ≡ b → cond b None (Some create) ≡ Some due → Guarded history row.name due
     by true f g = absurd (none-some due g)
     by false f g =
-        subst (Guarded history row.name) (some-one create due g)
+        subst (Guarded history row.name) (same_Some create due g)
         (record {
           own_name = refl;
           not_made = not_yes (known history (Exists row.name)) (ap is_yes (sym (told.marks (Exists row.name) refl)) ∙ f);
@@ -139,7 +139,7 @@ delete-guarded row history due told detached e = by_id row.id refl e
     by : (id : ℕ) → row.id ≡ Some id → (b : Bool) → is_no row.exists ≡ b → cond b None (Some (delete id)) ≡ Some due → Guarded history row.name due
     by id own true f g = absurd (none-some due g)
     by id own false f g =
-        subst (Guarded history row.name) (some-one (delete id) due g) (
+        subst (Guarded history row.name) (same_Some (delete id) due g) (
           sym told.own_id ∙ own,
           record {
             made = not_no (known history (Exists row.name)) (ap is_no (sym (told.marks (Exists row.name) refl)) ∙ f);
@@ -174,7 +174,7 @@ shared-so row history usage id told usable other there apart maybe holds = by (p
 
     by : (o : Option PlaceShown) → place_of row other ≡ o → option_map held_at o ≡ Some there → CanHoldBoth (holding_by id other there) (holding_by id usage.node (held-so usage))
     by None e same = absurd (not_none same)
-    by (Some place) e same = alike place e (some-one (held_at place) there same)
+    by (Some place) e same = alike place e (same_Some (held_at place) there same)
 
 -- ControllerPublishVolume, NodeStageVolume and NodePublishVolume
 use-guarded : (row : RowShown) (history : History) (usage : KeptUsage) (id : ℕ) (due : Due) → ToldBy row history → IsUsable row usage → row.id ≡ Some id → use_due usage (marks_for row (kept.Use usage)) id ≡ Some due → Guarded history row.name due
@@ -215,7 +215,7 @@ use-guarded row history usage id due told usable own e = by (is_yes attached) re
     by : (a : Bool) → is_yes attached ≡ a → (s : Bool) → is_yes staged ≡ s → (p : Bool) → is_yes published ≡ p
         → cond (not a) (Some attach) (cond (not s) (Some stage) (cond (not p) (Some publish) None)) ≡ Some due → Guarded history row.name due
     by false f s g p h is =
-        subst (Guarded history row.name) (some-one attach due is) (
+        subst (Guarded history row.name) (same_Some attach due is) (
           has_id,
           record {
             made = sym (told.marks (Exists row.name) refl) ∙ usable.made;
@@ -224,7 +224,7 @@ use-guarded row history usage id due told usable own e = by (is_yes attached) re
           },
         )
     by true f false g p h is =
-        subst (Guarded history row.name) (some-one stage due is) (
+        subst (Guarded history row.name) (same_Some stage due is) (
           has_id,
           record {
             attached = is_attached f;
@@ -233,7 +233,7 @@ use-guarded row history usage id due told usable own e = by (is_yes attached) re
           },
         )
     by true f true g false h is =
-        subst (Guarded history row.name) (some-one publish due is) (
+        subst (Guarded history row.name) (same_Some publish due is) (
           has_id,
           record {
             staged = sym (told.marks (Staged row.name usage.node) refl) ∙ yes_is_yes staged g;
@@ -260,7 +260,7 @@ quiet-targets row node target other this others = by (place_of row node) this ot
         noted : (b : Bool) → is_no aim.published ≡ b → same_text aim.target target ≡ false → aim.published ≡ No
         noted true g h = no_is_no aim.published g
         noted false g h =
-            absurd (false≢true (sym rest ∙ any-among (λ (a : Aim). not (same_text a.target target) && not (is_no a.published)) place.aims aim among
+            absurd (false≢true (sym rest ∙ then-any (λ (a : Aim). not (same_text a.target target) && not (is_no a.published)) place.aims aim among
             (ap (λ b. not b && not (is_no aim.published)) h ∙ ap not g)))
 
         pick : (b : Bool) → same_text aim.target target ≡ b → aim.published ≡ No
@@ -302,13 +302,13 @@ stop-guarded row history node target id due told own e = by (is_no published) re
 
     by : (p : Bool) → is_no published ≡ p → (others : Bool) → others_in target (place_of row node) ≡ others → (s : Bool) → is_no staged ≡ s → (a : Bool)
         → cond (not p) (Some unpublish) (cond others None (cond (not s) (Some unstage) (cond (not a) (Some detach) None))) ≡ Some due → Guarded history row.name due
-    by false f others g s h a is = subst (Guarded history row.name) (some-one unpublish due is) has_id
+    by false f others g s h a is = subst (Guarded history row.name) (same_Some unpublish due is) has_id
     by true f true g s h a is = absurd (none-some due is)
     by true f false g false h a is =
-        subst (Guarded history row.name) (some-one unstage due is)
+        subst (Guarded history row.name) (same_Some unstage due is)
         (has_id, record { not_published = λ other. sym (told.marks (Published row.name node other) refl) ∙ quiet-targets row node target other f g })
     by true f false g true h false is =
-        subst (Guarded history row.name) (some-one detach due is)
+        subst (Guarded history row.name) (same_Some detach due is)
         (has_id, record { not_staged = sym (told.marks (Staged row.name node) refl) ∙ no_is_no staged h })
     by true f false g true h true is = absurd (none-some due is)
 

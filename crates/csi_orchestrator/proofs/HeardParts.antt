@@ -11,7 +11,8 @@ use Rattle.csi_types.specs.declared.number.Number.{Number}
 use Rattle.csi_types.specs.declared.reply.Reply.{Reply}
 use Rattle.csi_types.specs.Call.{kind_of}
 use Rattle.csi_types.specs.Frame.{Frame}
-use Rattle.csi_types.specs.Lists.{EachTwo}
+use Rattle.csi_lists.specs.Members.{EachTwo}
+use Rattle.csi_lists.proofs.Searches.{find-passes}
 use Rattle.csi_types.specs.Reply.{is_ok_status}
 use Rattle.csi_types.specs.Same.{same_text, same_number, same_party, same_kind}
 use Rattle.csi_types.proofs.Equality.{same_text-tells, same_kind-tells}
@@ -33,7 +34,6 @@ use Rattle.csi_orchestrator.specs.CoreMoves.{outgoing_by, gone_on, frame_in, las
 use Rattle.csi_orchestrator.specs.Hearing.{next_refused, next_heard, row_refused, row_heard}
 use Rattle.csi_orchestrator.specs.Kept.{IsKept, AreKept}
 use Rattle.csi_orchestrator.specs.Keyed.{put_by}
-use Rattle.csi_types.proofs.Lists.{find-passes}
 use Rattle.csi_orchestrator.proofs.ChangedEntries.{find-place, find-none_placed}
 use Rattle.csi_orchestrator.proofs.KeptEntries.{by_if}
 use Rattle.csi_orchestrator.proofs.DueCases.{IsDueFor, due-cases, ToMake, ToRemove, ToAttach, ToStage, ToPublish, ToUnpublish, ToUnstage, ToDetach}

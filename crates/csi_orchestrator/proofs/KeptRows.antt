@@ -7,7 +7,8 @@ use Rattle.csi_types.specs.declared.call.Kind.TheVariants as kinds
 use Rattle.csi_types.specs.declared.number.Number.{Number}
 use Rattle.csi_types.specs.Call.{kind_of}
 use Rattle.csi_types.specs.Same.{same_text}
-use Rattle.csi_types.proofs.Among.{two-filter}
+use Rattle.csi_lists.proofs.Pairs.{two-filter}
+use Rattle.csi_lists.proofs.Each.{each-filter, each-map}
 use Rattle.csi_types.proofs.Equality.{same_text-tells}
 use Rattle.csi_orchestrator.specs.declared.row.Aim.{Aim}
 use Rattle.csi_orchestrator.specs.declared.row.Goal.{Goal}
@@ -26,7 +27,7 @@ use Rattle.csi_orchestrator.specs.Keyed.{change_by}
 use Rattle.csi_orchestrator.specs.Kept.{ArePlacesApart, IsUsable, MayBeWanted, IsKept}
 use Rattle.csi_orchestrator.proofs.DueCalls.{text-same}
 use Rattle.csi_orchestrator.proofs.Keyed.{find-change}
-use Rattle.csi_orchestrator.proofs.KeptEntries.{by_if, each-change, apart-change, any-change, each-filter, each-map, apart-map}
+use Rattle.csi_orchestrator.proofs.KeptEntries.{by_if, each-change, apart-change, any-change, apart-map}
 
 -- a node has one entry, and so has each target there
 pub record AreDistinct (places : List PlaceShown) : Type 0 where

@@ -4,9 +4,10 @@ use Rattle.std.specs.Prelude.{Option, Some, None, find, is_some, ◌&&◌}
 use Rattle.std.specs.List.{AllByRecursion, list_any}
 use Rattle.std.proofs.lemmas.Bool.{false≢true, and_parts}
 use Rattle.csi_types.specs.Same.{same_text, same_flag, same_capability}
-use Rattle.csi_types.proofs.Among.{each_of, among-find, none_passes, two-append}
+use Rattle.csi_lists.proofs.Members.{each_of, among-find, none_passes}
+use Rattle.csi_lists.proofs.Pairs.{two-append}
+use Rattle.csi_lists.proofs.Searches.{find-append_one, find-passes}
 use Rattle.csi_types.proofs.Equality.{same_text-tells, same_capability-tells}
-use Rattle.csi_types.proofs.Lists.{find-append_one, find-passes}
 use Rattle.csi_orchestrator.specs.declared.row.Aim.{Aim}
 use Rattle.csi_orchestrator.specs.declared.row.Goal.TheVariants.{Use}
 use Rattle.csi_orchestrator.specs.declared.row.Usage.{Usage as KeptUsage}

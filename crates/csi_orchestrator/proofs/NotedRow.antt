@@ -5,11 +5,13 @@ use Rattle.std.specs.List.{AllByRecursion}
 use Rattle.std.specs.Option.{option_or}
 use Rattle.std.proofs.lemmas.Bool.{false≢true}
 use Rattle.csi_types.specs.declared.number.Number.{Number}
-use Rattle.csi_types.specs.Lists.{EachTwo}
+use Rattle.csi_lists.specs.Members.{EachTwo}
+use Rattle.csi_lists.proofs.Members.{each_of, among-find}
+use Rattle.csi_lists.proofs.Searches.{find-map, find-append, find-passes}
+use Rattle.csi_lists.proofs.Options.{option_or-some, option_or-none}
+use Rattle.std.specs.Option.{option_or}
 use Rattle.csi_types.specs.Same.{same_text}
-use Rattle.csi_types.proofs.Among.{each_of, among-find}
 use Rattle.csi_types.proofs.Equality.{same_text-tells}
-use Rattle.csi_types.proofs.Lists.{find-map, find-append, or_else, or_else-some, or_else-none, find-passes}
 use Rattle.csi_orchestrator.specs.declared.row.Aim.{Aim}
 use Rattle.csi_orchestrator.specs.declared.row.Goal.{Goal}
 use Rattle.csi_orchestrator.specs.declared.row.Goal.TheVariants.{Create, Use, Stop, Delete}
@@ -342,9 +344,9 @@ new-mark target other = by (same_text target other)
 aim-entry : (target other : List ℕ) (aims : List Aim) → mark_in (λ (a : Aim). a.published) (find (λ (a : Aim). same_text a.target other) (with_aim target aims)) ≡ mark_in (λ (a : Aim). a.published) (find (λ (a : Aim). same_text a.target other) aims)
 aim-entry target other aims = by (is_some (find (λ (a : Aim). same_text a.target target) aims))
   where
-    last : (o : Option Aim) → mark_in (λ (a : Aim). a.published) (or_else o (cond (same_text target other) (Some (new_aim target)) None)) ≡ mark_in (λ (a : Aim). a.published) o
-    last None = ap (mark_in (λ (a : Aim). a.published)) (or_else-none None (cond (same_text target other) (Some (new_aim target)) None) refl) ∙ new-mark target other
-    last (Some aim) = ap (mark_in (λ (a : Aim). a.published)) (or_else-some (Some aim) (cond (same_text target other) (Some (new_aim target)) None) aim refl)
+    last : (o : Option Aim) → mark_in (λ (a : Aim). a.published) (option_or o (cond (same_text target other) (Some (new_aim target)) None)) ≡ mark_in (λ (a : Aim). a.published) o
+    last None = ap (mark_in (λ (a : Aim). a.published)) (option_or-none None (cond (same_text target other) (Some (new_aim target)) None) refl) ∙ new-mark target other
+    last (Some aim) = ap (mark_in (λ (a : Aim). a.published)) (option_or-some (Some aim) (cond (same_text target other) (Some (new_aim target)) None) aim refl)
 
     by : (b : Bool) → mark_in (λ (a : Aim). a.published) (find (λ (a : Aim). same_text a.target other) (cond b aims (aims ++ new_aim target ∷ []))) ≡ mark_in (λ (a : Aim). a.published) (find (λ (a : Aim). same_text a.target other) aims)
     by true = refl

@@ -4,7 +4,8 @@ use Rattle.std.proofs.Common.{◌≡◌, ◌⊎◌, ℕ, List, [], ◌∷◌, Bo
 use Rattle.std.specs.Prelude.{Option, Some, None, filter_map}
 use Rattle.std.proofs.lemmas.Bool.Decides.{nat_tests}
 use Rattle.csi_types.specs.declared.number.Number.{Number}
-use Rattle.csi_types.specs.Lists.{IsAmong}
+use Rattle.csi_lists.specs.Members.{IsAmong}
+use Rattle.std.proofs.lemmas.Option.{same_Some, none-some}
 use Rattle.csi_types.specs.Number.{is_before, IsBefore}
 use Rattle.csi_types.specs.Same.{same_number, same_text}
 use Rattle.csi_types.proofs.Equality.{same_number-tells}
@@ -82,12 +83,6 @@ one-call began (Accepted number status id ∷ older) a b form at bt same = one-c
 one-call began (Closed number ∷ older) a b form at bt same = one-call began older a b form.1 at bt same
 one-call began (Noted name goal ∷ older) a b form at bt same = one-call began older a b form.1 at bt same
 
-pub some-one : {X : Type 0} (x y : X) → Some x ≡ Some y → x ≡ y
-some-one x y e = cc
-
-pub none-some : {X : Type 0} (x : X) → None ≡ Some x → ⊥
-none-some x e = cc
-
 -- the call, unless it is of that number
 pub unless-some : (number : Number) (o : Option Issued) (call : Issued) → unless number o ≡ Some call → (o ≡ Some call) × (same_number call.number number ≡ false)
 unless-some number None call e = absurd (none-some call e)
@@ -95,7 +90,7 @@ unless-some number (Some issued) call e = by (same_number issued.number number) 
   where
     by : (t : Bool) → same_number issued.number number ≡ t → cond t None (Some issued) ≡ Some call → (Some issued ≡ Some call) × (same_number call.number number ≡ false)
     by true s f = absurd (none-some call f)
-    by false s f = (f, ap (λ (c : Issued). same_number c.number number) (sym (some-one issued call f)) ∙ s)
+    by false s f = (f, ap (λ (c : Issued). same_number c.number number) (sym (same_Some issued call f)) ∙ s)
 
 -- an open call was sent, for that name
 pub open-sent : (name : List ℕ) (items : List Item) (call : Issued) → open_in name items ≡ Some call → IsAmong call (issued_in items) × (same_text call.name name ≡ true)
@@ -105,7 +100,7 @@ open-sent name (Sent issued ∷ older) call e = by (same_text issued.name name) 
   where
     by : (t : Bool) → same_text issued.name name ≡ t → cond t (Some issued) (open_in name older) ≡ Some call
         → (open_in name older ≡ Some call → IsAmong call (issued_in older) × (same_text call.name name ≡ true)) → ((call ≡ issued) ⊎ IsAmong call (issued_in older)) × (same_text call.name name ≡ true)
-    by true s f rest = let is : call ≡ issued = sym (some-one issued call f) in (inl is, ap (λ (c : Issued). same_text c.name name) is ∙ s)
+    by true s f rest = let is : call ≡ issued = sym (same_Some issued call f) in (inl is, ap (λ (c : Issued). same_text c.name name) is ∙ s)
     by false s f rest = let there = rest f in (inr there.0, there.1)
 open-sent name (Accepted number status id ∷ older) call e = open-sent name older call (unless-some number (open_in name older) call e).0
 open-sent name (Closed number ∷ older) call e = open-sent name older call (unless-some number (open_in name older) call e).0
@@ -139,7 +134,7 @@ open-silent began (Sent issued ∷ older) name call form e = by (same_text issue
   where
     by : (t : Bool) → cond t (Some issued) (open_in name older) ≡ Some call → (open_in name older ≡ Some call → (has_success older call.number ≡ false) × (filter_map (id_in call.number) older ≡ []))
         → (has_success older call.number ≡ false) × (filter_map (id_in call.number) older ≡ [])
-    by true f rest = subst (λ (c : Issued). (has_success older c.number ≡ false) × (filter_map (id_in c.number) older ≡ [])) (some-one issued call f) (fresh-silent began older issued.number form.1 form.0.0.later)
+    by true f rest = subst (λ (c : Issued). (has_success older c.number ≡ false) × (filter_map (id_in c.number) older ≡ [])) (same_Some issued call f) (fresh-silent began older issued.number form.1 form.0.0.later)
     by false f rest = rest f
 open-silent began (Accepted number status id ∷ older) name call form e =
     let parts = unless-some number (open_in name older) call e in

@@ -1,16 +1,17 @@
 -- Why the row whose open call a reply is to is found by its number, plugin and kind.
 use Rattle.std.proofs.Common.{◌≡◌, ◌⊎◌, List, [], ◌∷◌, Bool, true, false, cond, refl, sym, ◌∙◌, ap, inl, inr}
 use Rattle.std.specs.Prelude.{Option, Some, None, option_and_then, find, ◌&&◌}
-use Rattle.std.proofs.lemmas.Bool.{and_parts, and_from, false≢true}
+use Rattle.std.proofs.lemmas.Bool.{and_parts, and_from, false≢true, false_from_ne_true}
 use Rattle.csi_types.specs.declared.call.Kind.{Kind}
 use Rattle.csi_types.specs.declared.call.Party.{Party}
 use Rattle.csi_types.specs.declared.number.Number.{Number}
 use Rattle.csi_types.specs.Call.{kind_of}
-use Rattle.csi_types.specs.Lists.{IsAmong}
+use Rattle.csi_lists.specs.Members.{IsAmong}
+use Rattle.csi_lists.proofs.Members.{among-find, none_passes}
+use Rattle.csi_lists.proofs.Searches.{find-passes, find-one, find-none}
+use Rattle.std.proofs.lemmas.Option.{none-some}
 use Rattle.csi_types.specs.Same.{same_text, same_number, same_party, same_kind}
-use Rattle.csi_types.proofs.Among.{among-find, none_passes}
 use Rattle.csi_types.proofs.Equality.{same_text-tells, same_number-tells, same_party-tells, same_kind-tells}
-use Rattle.csi_types.proofs.Lists.{find-passes}
 use Rattle.csi_orchestrator.specs.Thing.{Issued}
 use Rattle.csi_orchestrator.specs.History.{History}
 use Rattle.csi_orchestrator.specs.Readings.{open_call, issued_in}
@@ -19,27 +20,8 @@ use Rattle.csi_orchestrator.specs.WellFormed.{IsWellFormed}
 use Rattle.csi_orchestrator.specs.Shown.{RowShown, Parts, row_of, open_in_row, AgreesWith}
 use Rattle.csi_orchestrator.specs.RowMoves.{is_issued_as, row_replied}
 use Rattle.csi_orchestrator.specs.Kept.{AreKept}
-use Rattle.csi_orchestrator.proofs.Numbers.{one-call, open-sent, none-some}
+use Rattle.csi_orchestrator.proofs.Numbers.{one-call, open-sent}
 use Rattle.csi_orchestrator.proofs.Joined.{own-entry}
-
--- the only one that passes is found
-find-one : {X : Type 0} (p : X → Bool) (xs : List X) (x : X) → IsAmong x xs → p x ≡ true → ((y : X) → IsAmong y xs → p y ≡ true → y ≡ x) → find p xs ≡ Some x
-find-one p [] x among passes only = absurd among
-find-one p (y ∷ ys) x among passes only = by (p y) refl among (λ there. find-one p ys x there passes (λ z among. only z (inr among)))
-  where
-    by : (b : Bool) → p y ≡ b → (x ≡ y) ⊎ IsAmong x ys → (IsAmong x ys → find p ys ≡ Some x) → cond b (Some y) (find p ys) ≡ Some x
-    by true e there rest = ap Some (only y (inl refl) e)
-    by false e (inl is) rest = absurd (false≢true (sym e ∙ ap p (sym is) ∙ passes))
-    by false e (inr there) rest = rest there
-
--- nothing is found where none passes
-find-none : {X : Type 0} (p : X → Bool) (xs : List X) → ((y : X) → IsAmong y xs → p y ≡ true → ⊥) → find p xs ≡ None
-find-none p [] none = refl
-find-none p (y ∷ ys) none = by (p y) refl (find-none p ys (λ z among. none z (inr among)))
-  where
-    by : (b : Bool) → p y ≡ b → find p ys ≡ None → cond b (Some y) (find p ys) ≡ None
-    by true e rest = absurd (none y (inl refl) e)
-    by false e rest = rest
 
 -- the call has this number, party and kind
 is-call : Number → Party → Kind → Issued → Bool
@@ -148,6 +130,6 @@ replied parts history number party kind form kept agrees = by (row_replied parts
     by (Some row) e = found row e (row-passes parts number party kind row e)
     by None e =
         find-none test (issued_in history.items)
-        (λ issued among passes.
+        (λ issued among. false_from_ne_true (test issued) (λ passes.
         let own = own_open issued among passes in
-        unheard issued e own.1 (row_of parts.rows issued.name) refl (agrees.same_open_calls issued.name ∙ own.0))
+        unheard issued e own.1 (row_of parts.rows issued.name) refl (agrees.same_open_calls issued.name ∙ own.0)))

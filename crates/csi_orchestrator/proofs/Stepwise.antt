@@ -12,12 +12,12 @@ use Rattle.csi_types.specs.declared.reply.Reply.{Reply}
 use Rattle.csi_types.specs.Call.{kind_of}
 use Rattle.csi_types.specs.Frame.{Frame}
 use Rattle.csi_types.specs.Replies.{reply_frame}
-use Rattle.csi_types.specs.Lists.{IsAmong}
+use Rattle.csi_lists.specs.Members.{IsAmong}
+use Rattle.csi_lists.proofs.Members.{among-find}
+use Rattle.csi_lists.proofs.Searches.{find-passes}
 use Rattle.csi_types.specs.Reply.{is_ok_status}
 use Rattle.csi_types.specs.Same.{same_number, same_party, same_kind}
-use Rattle.csi_types.proofs.Among.{among-find}
 use Rattle.csi_types.proofs.Equality.{same_number-tells, same_party-tells, same_kind-tells}
-use Rattle.csi_types.proofs.Lists.{find-passes}
 use Rattle.csi_orchestrator.specs.declared.fault.Heard.TheVariants.{Ignored}
 use Rattle.csi_orchestrator.specs.declared.fault.OrchFault.{OrchFault}
 use Rattle.csi_orchestrator.specs.declared.fault.OrchFault.TheVariants.{NumbersSpent}

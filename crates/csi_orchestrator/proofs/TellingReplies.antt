@@ -14,7 +14,7 @@ use Rattle.csi_types.specs.declared.status.Status.{Status}
 use Rattle.csi_types.specs.Call.{kind_of}
 use Rattle.csi_types.specs.Reply.{is_ok_status}
 use Rattle.csi_types.specs.Same.{same_text}
-use Rattle.csi_types.proofs.Lists.{find-passes}
+use Rattle.csi_lists.proofs.Searches.{find-passes}
 use Rattle.csi_orchestrator.specs.declared.fault.Heard.TheVariants.{Ignored}
 use Rattle.csi_orchestrator.specs.declared.fault.OrchFault.{OrchFault}
 use Rattle.csi_orchestrator.specs.declared.fault.OrchFault.TheVariants as faults

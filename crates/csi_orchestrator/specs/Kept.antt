@@ -1,7 +1,7 @@
 -- What an orchestrator's type keeps of its rows, and what follows from it. This profile's own.
 use Rattle.std.specs.Prelude.{◌≡◌, List, [], ◌∷◌, false, Option, Some, None, Result, Ok, Err}
 use Rattle.std.specs.List.{AllByRecursion}
-use Rattle.csi_types.specs.Lists.{EachTwo}
+use Rattle.csi_lists.specs.Members.{EachTwo}
 use Rattle.csi_types.specs.Same.{same_text}
 use Rattle.csi_orchestrator.specs.declared.fault.OrchFault.{OrchFault}
 use Rattle.csi_orchestrator.specs.declared.row.Aim.{Aim}

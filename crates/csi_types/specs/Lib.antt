@@ -8,7 +8,6 @@ pub mod Frame
 pub mod Capacity
 pub mod Limits
 pub mod Same
-pub mod Lists
 pub mod Sharing
 pub mod Number
 pub mod Holding

@@ -4,6 +4,8 @@ use Rattle.std.proofs.lemmas.List.{append-nil}
 use Rattle.std.specs.Prelude.{Option, Some, None, position, option_map}
 use Rattle.std.specs.List.{list_any}
 use Rattle.std.specs.Option.{option_to_list}
+use Rattle.csi_lists.proofs.Places.{FirstAt-position, FirstAt-passes}
+use Rattle.csi_lists.proofs.Searches.{find-no_place}
 use Rattle.csi_types.specs.declared.call.Party.TheVariants.{Controller, Node}
 use Rattle.csi_types.specs.Config.{has_node}
 use Rattle.csi_types.specs.Frame.{Frame}
@@ -23,7 +25,7 @@ use Rattle.csi_world.specs.After.{Occurred, node_id, next_frame, called}
 use Rattle.csi_world.specs.Simulated.{WorldShown, ShowsWorld}
 use Rattle.csi_world.specs.Simulating.{IsAnswered, ControllerDoes, NodeDoes, IsSameController, IsSameNode, HasOwnNodes, Becomes}
 use Rattle.csi_world.specs.Listed.{AreDistinct}
-use Rattle.csi_world.proofs.SystemNodes.{first-at, is_shown_node, IsFound, node-found, same-put, ids-put, any-ids, fit-apart, state-put, none-at, some-at, find-nowhere, first-passes}
+use Rattle.csi_world.proofs.SystemNodes.{is_shown_node, IsFound, node-found, same-put, ids-put, any-ids, fit-apart, state-put, none-at, some-at}
 
 -- a frame that is sent, if there is one, is appended
 with_frame-is : (reply : Option Frame) (world : World) → with_frame reply world ≡ record world { frames = world.frames ++ option_to_list reply }
@@ -64,9 +66,9 @@ pub node-becomes : (shown : WorldShown) (id : List ℕ) (place : ℕ) (old new :
     → NodeDoes old new frame reply → IsAnswered shown.frames posted reply outcome
     → Becomes shown (record shown { nodes = set shown.nodes place new; frames = posted }) outcome (called shown.config world frame (Node id))
 node-becomes shown id place old new posted frame reply outcome world own shows party at is does sent =
-    let first = first-at (is_shown_node id) shown.nodes place old at is in
+    let first = FirstAt-position (is_shown_node id) shown.nodes place old at is in
     let found : IsFound id old world.nodes = node-found id shown.nodes world.nodes place old shows.nodes first in
-    let own_id : old.id ≡ id = (same_text-tells old.id id).0 (first-passes (is_shown_node id) shown.nodes place old first) in
+    let own_id : old.id ≡ id = (same_text-tells old.id id).0 (FirstAt-passes (is_shown_node id) shown.nodes place old first) in
     let fenced : node.Fenced = node.fenced id found.node.state frame in
     let changed : World = with_node id fenced.state world in
     let after : World = record changed { frames = world.frames ++ option_to_list fenced.reply } in
@@ -100,7 +102,7 @@ node-becomes shown id place old new posted frame reply outcome world own shows p
 isnt-there : (shown : WorldShown) (id : List ℕ) → HasOwnNodes shown → position (is_shown_node id) shown.nodes ≡ None → has_node id (shown.config).nodes ≡ false
 isnt-there shown id own none =
     let ids : map (λ (m : NodeParts). m.id) shown.nodes ≡ map node_id (shown.config).nodes = own.ids in
-    any-ids id (shown.config).nodes ∙ ap (list_any (same_text id)) (sym ids) ∙ none-at id shown.nodes (find-nowhere (is_shown_node id) shown.nodes none)
+    any-ids id (shown.config).nodes ∙ ap (list_any (same_text id)) (sym ids) ∙ none-at id shown.nodes (find-no_place (is_shown_node id) shown.nodes none)
 
 -- a call to a node that isn't there
 pub nowhere-becomes : (shown : WorldShown) (id : List ℕ) (frame : Frame) (world : World) → HasOwnNodes shown → ShowsWorld shown world → position (is_shown_node id) shown.nodes ≡ None
@@ -135,7 +137,7 @@ pub node-restarts : (shown : WorldShown) (id : List ℕ) (place : ℕ) (old new 
     → position (is_shown_node id) shown.nodes ≡ Some place → old ≡ get_or shown.nodes place old → IsSameNode old new
     → Becomes shown (record shown { nodes = set shown.nodes place new }) outcomes.Restarted (record { world = world; outcome = cond (has_node id (shown.config).nodes) outcomes.Restarted outcomes.NoSuchNode })
 node-restarts shown id place old new world own shows at is same =
-    let first = first-at (is_shown_node id) shown.nodes place old at is in
+    let first = FirstAt-position (is_shown_node id) shown.nodes place old at is in
     let ids : map (λ (m : NodeParts). m.id) shown.nodes ≡ map node_id (shown.config).nodes = own.ids in
     let there : has_node id (shown.config).nodes ≡ true
     = any-ids id (shown.config).nodes ∙ ap (list_any (same_text id)) (sym ids) ∙ some-at id shown.nodes place old first in

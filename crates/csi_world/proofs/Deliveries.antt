@@ -18,10 +18,10 @@ use Rattle.csi_types.specs.Delivery.{View, Acts, Rests, Becomes, IsClosed, kept_
 use Rattle.csi_types.specs.Fence.{Kept}
 use Rattle.csi_types.specs.Frame.{Frame}
 use Rattle.csi_types.specs.Key.{Key, Exists, HasId, asked}
-use Rattle.csi_types.specs.Lists.{IsAmong}
+use Rattle.csi_lists.specs.Members.{IsAmong}
+use Rattle.csi_lists.proofs.Members.{among-last}
 use Rattle.csi_types.specs.Replies.{call_frame, reply_frame}
 use Rattle.csi_types.specs.Same.{same_party}
-use Rattle.csi_types.proofs.Among.{among-last}
 use Rattle.csi_types.proofs.Equality.{same_party-tells, same_key-tells}
 use Rattle.csi_controller.specs.State.{Volume, ControllerState}
 use Rattle.csi_controller.specs.Fenced as controller

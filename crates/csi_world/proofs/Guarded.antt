@@ -12,12 +12,13 @@ use Rattle.csi_types.specs.declared.reply.Reply.{Reply}
 use Rattle.csi_types.specs.Delivery.{View, IsClosed}
 use Rattle.csi_types.specs.Frame.{Frame}
 use Rattle.csi_types.specs.Key.{Attached, Staged, StagedAs, asked}
-use Rattle.csi_types.specs.Lists.{IsAmong}
+use Rattle.csi_lists.specs.Members.{IsAmong}
+use Rattle.csi_lists.proofs.Members.{among-find, none_passes}
+use Rattle.csi_lists.proofs.Searches.{find-passes, find-same_among}
+use Rattle.std.proofs.lemmas.Option.{none-some}
 use Rattle.csi_types.specs.Number.{IsBefore}
 use Rattle.csi_types.specs.Same.{same_text}
-use Rattle.csi_types.proofs.Among.{among-find, none_passes}
 use Rattle.csi_types.proofs.Equality.{same_text-tells}
-use Rattle.csi_types.proofs.Lists.{find-passes}
 use Rattle.csi_controller.specs.State.{ControllerState}
 use Rattle.csi_controller.specs.View as controllers
 use Rattle.csi_orchestrator.specs.declared.thing.Thing.TheVariants as things
@@ -27,7 +28,7 @@ use Rattle.csi_orchestrator.specs.History.{Held, History}
 use Rattle.csi_orchestrator.specs.Readings.{newest, issued_in, has_success, known, held_by, held}
 use Rattle.csi_orchestrator.specs.Guards.{IsGuarded, HasId}
 use Rattle.csi_world.proofs.Issued.{HasName, IsOwn, IsAnsweredOk, key_at, is_key, is_of, latest-last}
-use Rattle.csi_world.proofs.Named.{Named, touches-attached, touches-staged, find-same}
+use Rattle.csi_world.proofs.Named.{Named, touches-attached, touches-staged}
 use Rattle.csi_world.proofs.Heard.{IsHeard, IsLatest, success-ok, id-given, known-yes, known-no, latest-known}
 use Rattle.csi_world.proofs.Truth.{Truth}
 use Rattle.csi_world.proofs.Standing.{MayStage, IsStanding, IsAttachedSo, Stands}
@@ -61,12 +62,12 @@ own-guarded history frames view controller name party call so guard = absurd gua
 pub found-attached : (history : History) (frames : List Frame) (view : View) (controller : ControllerState) (name node : List ℕ) (id : ℕ) → IsSoFar history frames view controller → HasName controller name id
     → find (touches (things.Attached name node)) (issued_in history.items) ≡ find (is_of (Attached id node)) (issued_in history.items)
 found-attached history frames view controller name node id so has =
-    find-same (touches (things.Attached name node)) (is_of (Attached id node)) (issued_in history.items) (λ call among. touches-attached controller name node id call so.names has (so.named.own call among))
+    find-same_among (touches (things.Attached name node)) (is_of (Attached id node)) (issued_in history.items) (λ call among. touches-attached controller name node id call so.names has (so.named.own call among))
 
 pub found-staged : (history : History) (frames : List Frame) (view : View) (controller : ControllerState) (name node : List ℕ) (id : ℕ) → IsSoFar history frames view controller → HasName controller name id
     → find (touches (things.Staged name node)) (issued_in history.items) ≡ find (is_of (Staged id node)) (issued_in history.items)
 found-staged history frames view controller name node id so has =
-    find-same (touches (things.Staged name node)) (is_of (Staged id node)) (issued_in history.items) (λ call among. touches-staged controller name node id call so.names has (so.named.own call among))
+    find-same_among (touches (things.Staged name node)) (is_of (Staged id node)) (issued_in history.items) (λ call among. touches-staged controller name node id call so.names has (so.named.own call among))
 
 -- what stands is known to be attached
 attached-known : (history : History) (frames : List Frame) (view : View) (controller : ControllerState) (name node : List ℕ) (id : ℕ) (capability : Capability) → IsSoFar history frames view controller → HasName controller name id
@@ -83,9 +84,6 @@ asked-undoing (calls.NodeUnstageVolume id) reply h = refl
 asked-undoing (calls.NodeUnpublishVolume id target) reply h = refl
 asked-undoing c reply h = absurd (false≢true (sym h))
 
-none_is_some : {X : Type 0} (x : X) → None ≡ Some x → ⊥
-none_is_some x e = cc
-
 -- nothing stands where staging is known to be undone
 stages-of : (issued : List Issued) (view : View) (id : ℕ) (node : List ℕ) (capability : Capability) (may : MayStage issued view id node capability) → is_of (Staged id node) may.call ≡ true
 stages-of issued view id node capability may =
@@ -101,7 +99,7 @@ none-stands history frames view controller name node id capability so has is_no 
     same = found-staged history frames view controller name node id so has
 
     untouched : find (is_of (Staged id node)) (issued_in history.items) ≡ None → IsStanding (issued_in history.items) view id node capability → ⊥
-    untouched none (inl held) = none_is_some (StagedAs capability) (sym (so.truth.untouched (Staged id node) none) ∙ held)
+    untouched none (inl held) = none-some (StagedAs capability) (sym (so.truth.untouched (Staged id node) none) ∙ held)
     untouched none (inr may) =
         false≢true (sym (none_passes (is_of (Staged id node)) (issued_in history.items) may.call none may.among) ∙ stages-of (issued_in history.items) view id node capability may)
 
@@ -113,7 +111,7 @@ none-stands history frames view controller name node id capability so has is_no 
       where
         at : IsAmong call (issued_in history.items) → (reply : Reply) → IsAnsweredOk frames call reply → IsStanding (issued_in history.items) view id node capability → ⊥
         at there reply ok (inl held) =
-            none_is_some (StagedAs capability) (sym (asked-undoing call.call reply ends) ∙ sym (so.truth.told call (Staged id node) reply found ok) ∙ held)
+            none-some (StagedAs capability) (sym (asked-undoing call.call reply ends) ∙ sym (so.truth.told call (Staged id node) reply found ok) ∙ held)
         at there reply ok (inr may) = last (latest-last (Staged id node) (issued_in history.items) call may.call so.truth.numbers found may.among (stages-of (issued_in history.items) view id node capability may))
           where
             spent : IsTrue (view.is_spent (Staged id node) call.number)
@@ -200,7 +198,7 @@ held-none name node x other named = by x.party x.call other
 
 held-latest : (name node : List ℕ) (id : ℕ) (call : Issued) (here : Held) (xs : List Issued) → call.call ≡ calls.ControllerPublishVolume id node here.capability here.readonly → find (touches (things.Attached name node)) xs ≡ Some call
     → newest (filter_map (λ (issued : Issued). held_by node issued.call) (filter (λ (issued : Issued). same_text issued.name name) xs)) ≡ Some here
-held-latest name node id call here [] publishes found = absurd (none_is_some call found)
+held-latest name node id call here [] publishes found = absurd (none-some call found)
 held-latest name node id call here (x ∷ xs) publishes found = by (touches (things.Attached name node) x) refl found (held-latest name node id call here xs publishes)
   where
     same : Some x ≡ Some call → x ≡ call

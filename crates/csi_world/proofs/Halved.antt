@@ -7,7 +7,7 @@ use Rattle.std.specs.List.Sorted.{IsSearchInRange, IsBinarySearchResult, IsNonDe
 use Rattle.std.specs.Ordering.{ordering_index}
 use Rattle.std.specs.declared.cmp.Ordering.{Ordering}
 use Rattle.std.specs.declared.cmp.Ordering.TheVariants.{Less, Equal, Greater}
-use Rattle.csi_types.specs.Lists.{IsAmong}
+use Rattle.csi_lists.specs.Members.{IsAmong}
 
 -- what is among a list stands at a place of it, and the other way round
 pub place-of : {X : Type 0} (xs : List X) (x : X) → IsAmong x xs → (k : ℕ) × (k < length xs) × (get_or xs k x ≡ x)

@@ -12,13 +12,14 @@ use Rattle.csi_types.specs.declared.status.Status.{Status}
 use Rattle.csi_types.specs.declared.status.Status.TheVariants.{Ok}
 use Rattle.csi_types.specs.Call.{kind_of}
 use Rattle.csi_types.specs.Frame.{Frame}
-use Rattle.csi_types.specs.Lists.{IsAmong, EachTwo}
+use Rattle.csi_lists.specs.Members.{IsAmong, EachTwo}
+use Rattle.csi_lists.proofs.Members.{among-append, among-filter}
+use Rattle.csi_lists.proofs.Searches.{find-passes}
+use Rattle.csi_lists.proofs.Tests.{any-then}
 use Rattle.csi_types.specs.Reply.{is_ok_status}
 use Rattle.csi_types.specs.Replies.{reply_frame}
 use Rattle.csi_types.specs.Same.{same_text, same_number}
-use Rattle.csi_types.proofs.Among.{among-append, among-filter}
 use Rattle.csi_types.proofs.Equality.{same_number-tells, same_text-tells}
-use Rattle.csi_types.proofs.Lists.{find-passes}
 use Rattle.csi_controller.specs.State.{ControllerState}
 use Rattle.csi_orchestrator.specs.declared.thing.Thing.{Thing}
 use Rattle.csi_orchestrator.specs.declared.thing.Known.TheVariants.{Yes, No, Maybe}
@@ -47,15 +48,6 @@ pub sent-more : (issued more : List Issued) (frames : List Frame) (last : Frame)
 sent-more issued more frames last number status id wider was =
     record { call = was.call; among = wider was.call was.among; has_number = was.has_number; reply = was.reply; sent = among-append frames (last ∷ []) _ was.sent; has_status = was.has_status; has_id = was.has_id }
 
--- an element that passes
-pub any-found : {X : Type 0} (p : X → Bool) (xs : List X) → list_any p xs ≡ true → (x : X) × IsAmong x xs × (p x ≡ true)
-any-found p [] h = absurd (false≢true h)
-any-found {X} p (x ∷ xs) h = by (p x) refl h (any-found p xs)
-  where
-    by : (b : Bool) → p x ≡ b → (b || list_any p xs) ≡ true → (list_any p xs ≡ true → (y : X) × IsAmong y xs × (p y ≡ true)) → (y : X) × IsAmong y (x ∷ xs) × (p y ≡ true)
-    by true e h rest = (x, inl refl, e)
-    by false e h rest = let found = rest h in (found.0, inr found.1, found.2)
-
 pub is_ok-then : (status : Status) → is_ok_status status ≡ true → status ≡ Ok
 is_ok-then Ok h = refl
 is_ok-then status h = cc
@@ -64,7 +56,7 @@ is_ok-then status h = cc
 pub success-ok : (items : List Item) (issued : List Issued) (frames : List Frame) (call : Issued) → IsHeard items issued frames → EachTwo ComesAfter issued → IsAmong call issued → has_success items call.number ≡ true
     → (reply : Reply) × IsAnsweredOk frames call reply
 success-ok items issued frames call heard numbers there h =
-    let found = any-found (is_success_of call.number) items h in by found.0 found.1 found.2
+    let found = any-then (is_success_of call.number) items h in by found.0 found.1 found.2
   where
     by : (item : Item) → IsAmong item items → is_success_of call.number item ≡ true → (reply : Reply) × IsAnsweredOk frames call reply
     by (Accepted other status id) among passes =

@@ -12,13 +12,13 @@ use Rattle.csi_types.specs.declared.status.Status.TheVariants.{Ok}
 use Rattle.csi_types.specs.Call.{kind_of, is_party_of}
 use Rattle.csi_types.specs.Frame.{Frame}
 use Rattle.csi_types.specs.Key.{Key, Exists, Attached, Staged, Published, same_key}
-use Rattle.csi_types.specs.Lists.{IsAmong, EachTwo}
+use Rattle.csi_lists.specs.Members.{IsAmong, EachTwo}
+use Rattle.csi_lists.proofs.Members.{each_of}
+use Rattle.csi_lists.proofs.Searches.{find-passes}
 use Rattle.csi_types.specs.Number.{is_before, IsBefore}
 use Rattle.csi_types.specs.Replies.{reply_frame}
 use Rattle.csi_types.specs.Same.{same_text}
-use Rattle.csi_types.proofs.Among.{each_of}
 use Rattle.csi_types.proofs.Equality.{same_text-tells}
-use Rattle.csi_types.proofs.Lists.{find-passes}
 use Rattle.csi_controller.specs.State.{Volume, ControllerState, volume_named, volume_with_id}
 use Rattle.csi_controller.specs.View as controllers
 use Rattle.csi_node.specs.View as nodes

@@ -6,10 +6,6 @@ use Rattle.csi_world.specs.World.{NodeAt}
 use Rattle.csi_world.specs.Simulated.{AreNodesShown}
 use Rattle.csi_world.specs.Listed.{AreNodesAlike, IsListOf, AreListsOf}
 
-pub all-more : {X : Type 0} (P : X → Type 0) (xs : List X) (x : X) → AllByRecursion P xs → P x → AllByRecursion P (xs ++ x ∷ [])
-all-more P [] x all here = (here, tt)
-all-more P (y ∷ ys) x all here = (all.0, all-more P ys x all.1 here)
-
 pub lists-more : (nodes : List NodeParts) (lists : List NodeAt) (parts : NodeParts) (listed : NodeAt) → AreListsOf nodes lists → IsListOf parts listed
     → AreListsOf (nodes ++ parts ∷ []) (lists ++ listed ∷ [])
 lists-more [] [] parts listed are is = (is, tt)

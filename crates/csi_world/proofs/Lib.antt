@@ -6,7 +6,6 @@ pub mod Halved
 pub mod ThingsHeld
 pub mod ThingsFound
 pub mod OwnNodes
-pub mod Sought
 pub mod PluginSafety
 pub mod WorldView
 pub mod Issued

@@ -3,7 +3,8 @@ use Rattle.std.proofs.Common.{◌≡◌, ◌≢◌, ◌↔◌, List, Bool, true,
 use Rattle.std.specs.Prelude.{IsTrue, ◌&&◌}
 use Rattle.std.specs.List.{list_all}
 use Rattle.std.proofs.lemmas.Bool.{and_parts, and_from, false≢true, false_from_ne_true}
-use Rattle.csi_types.specs.Lists.{IsAmong}
+use Rattle.csi_lists.specs.Members.{IsAmong}
+use Rattle.csi_lists.proofs.Tests.{all-then, then-all, any-then, then-any}
 use Rattle.csi_types.specs.Same.{same_text}
 use Rattle.csi_types.proofs.Equality.{same_text-tells}
 use Rattle.csi_orchestrator.specs.declared.thing.Thing.{Thing}
@@ -16,7 +17,6 @@ use Rattle.csi_world.specs.World.{World}
 use Rattle.csi_world.specs.Safe.{holds}
 use Rattle.csi_world.specs.Audited.{AreMarkedRight}
 use Rattle.csi_world.specs.Listed.{is_listed, is_noted, is_affirmed}
-use Rattle.csi_world.proofs.Sought.{all-then, then-all, any-then, then-any}
 
 yes_not_no : Yes ≢ No
 yes_not_no e = cc

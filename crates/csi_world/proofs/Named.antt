@@ -10,7 +10,7 @@ use Rattle.csi_types.specs.declared.call.Party.TheVariants.{Controller, Node}
 use Rattle.csi_types.specs.declared.reply.Reply.{Reply}
 use Rattle.csi_types.specs.Frame.{Frame}
 use Rattle.csi_types.specs.Key.{Exists, Attached, Staged, Published}
-use Rattle.csi_types.specs.Lists.{IsAmong}
+use Rattle.csi_lists.specs.Members.{IsAmong}
 use Rattle.csi_types.specs.Same.{same_text}
 use Rattle.csi_types.proofs.Equality.{same_text-tells}
 use Rattle.csi_controller.specs.State.{Volume, ControllerState, volume_with_id}
@@ -124,9 +124,3 @@ touches-exists controller name call own = by call.party call.call own
     by (Node here) (calls.NodePublishVolume i target capability readonly) own = refl
     by (Node here) (calls.NodeUnpublishVolume i target) own = refl
     by party c own = absurd own
-
--- what is the same of each element is found the same
-pub find-same : {X : Type 0} (p q : X → Bool) (xs : List X) → ((x : X) → IsAmong x xs → p x ≡ q x) → find p xs ≡ find q xs
-find-same p q [] same = refl
-find-same p q (x ∷ xs) same =
-    ap (λ b. cond b (Some x) (find p xs)) (same x (inl refl)) ∙ ap (λ rest. cond (q x) (Some x) rest) (find-same p q xs (λ y among. same y (inr among)))

@@ -7,11 +7,13 @@ use Rattle.std.proofs.lemmas.Bool.{and_parts, and_from, eqb-true, eq-eqb, false�
 use Rattle.csi_types.specs.declared.capability.Capability.{Capability}
 use Rattle.csi_types.specs.declared.holding.Holding.{Holding}
 use Rattle.csi_types.specs.Holding.{AreApart}
-use Rattle.csi_types.specs.Lists.{IsAmong, EachTwo}
+use Rattle.csi_lists.specs.Members.{IsAmong, EachTwo}
+use Rattle.csi_lists.proofs.Members.{each_of, among-find, among-filter, in_filter, among-map, in-map, among-by_key}
+use Rattle.csi_lists.proofs.Searches.{find-and, find-passes, find-of_map}
+use Rattle.csi_lists.proofs.Tests.{all-then, then-all, any-then, then-any}
+use Rattle.csi_lists.proofs.Pairs.{two-by_key}
 use Rattle.csi_types.specs.Same.{same_text, same_capability}
-use Rattle.csi_types.proofs.Among.{each_of, among-find, among-filter, in_filter}
 use Rattle.csi_types.proofs.Equality.{same_text-tells, same_capability-tells}
-use Rattle.csi_types.proofs.Lists.{find-and, find-passes}
 use Rattle.csi_controller.specs.declared.row.ControllerRow.{ControllerRow}
 use Rattle.csi_controller.specs.declared.row.NodeHolding.{NodeHolding}
 use Rattle.csi_controller.specs.Core.{IsShown}
@@ -33,7 +35,6 @@ use Rattle.csi_world.specs.Audited.{ArePlugins}
 use Rattle.csi_world.specs.Listed.{node_listed, IsNodeAlike, IsListed, IsPublishing, ArePluginsSafe, is_held_as, is_row_held, row_with_id, is_staged_right, is_node_attached}
 use Rattle.csi_world.proofs.PluginSafety.{staged_there}
 use Rattle.csi_world.proofs.Likeness.{listed-of, node-of}
-use Rattle.csi_world.proofs.Sought.{all-then, then-all, any-then, then-any, among-mapped, in-mapped, same-among, find-mapped, two-by_key}
 
 -- ---- the controller
 
@@ -80,7 +81,7 @@ attached_live parts world all is holding among =
         let both : find (λ (r : ControllerRow). (r.id == holding.volume) && r.live) parts.rows ≡ Some row = find-and p (λ (r : ControllerRow). r.live) parts.rows row e live in
         let test : Volume → Bool = λ volume. (volume.id == holding.volume) && volume.is_live in
         some_is (live_volume holding.volume world.controller) (volume_of_row row)
-        (ap (find test) (sym is.shows.volumes) ∙ find-mapped test volume_of_row parts.rows ∙ ap (option_map volume_of_row) both)
+        (ap (find test) (sym is.shows.volumes) ∙ find-of_map test volume_of_row parts.rows ∙ ap (option_map volume_of_row) both)
 
 -- ---- the nodes
 
@@ -121,7 +122,7 @@ row_attached lists world is id node capability = by (row_with_id id (lists.kept)
         let found = any-then (is_held_as node capability) row.holdings.items h in
         let parts = held_parts node capability found.0 found.2 in
         let holding : Holding = held_of row found.0 in
-        let own : IsAmong holding (holdings_in (Some row)) = in-mapped (held_of row) row.holdings.items found.0 found.1 in
+        let own : IsAmong holding (holdings_in (Some row)) = in-map (held_of row) row.holdings.items found.0 found.1 in
         let there : IsAmong holding (filter (λ (x : Holding). x.volume == id) world.controller.holdings) = subst (IsAmong holding) (ap holdings_in (sym e) ∙ is.holdings id) own in
         record {
           holding = holding;
@@ -140,7 +141,7 @@ attached_row lists world is id node capability at =
     by : (o : Option ControllerRow) → IsAmong at.holding (holdings_in o) → is_row_held node capability o ≡ true
     by None there = absurd there
     by (Some row) there =
-        let entry = among-mapped (held_of row) row.holdings.items at.holding there in
+        let entry = among-map (held_of row) row.holdings.items at.holding there in
         let place : (entry.0).node ≡ node = sym (ap (λ (x : Holding). x.node) entry.2) ∙ at.at_node in
         let same : (entry.0).capability ≡ capability = sym (ap (λ (x : Holding). x.capability) entry.2) ∙ at.same_capability in
         then-any (is_held_as node capability) row.holdings.items entry.0 entry.1
@@ -150,11 +151,11 @@ to_attached : (lists : Lists) (world : World) → IsListed lists world → list_
 to_attached lists world is h n s at staged =
     let found = listed-of (map node_listed lists.nodes.items) world.nodes is.nodes n at in
     let same : IsNodeAlike found.0 n = found.2 in
-    let entry = among-mapped node_listed lists.nodes.items found.0 found.1 in
+    let entry = among-map node_listed lists.nodes.items found.0 found.1 in
     let k : NodeLists = entry.0 in
     let alike_k : IsNodeAlike (node_listed k) n = subst (λ (l : NodeAt). IsNodeAlike l n) entry.2 same in
-    let own = same-among (λ (x : StagedVolume). x.volume) (n.state).staged (map staged_shown k.staged.items) (λ id. sym (alike_k.staged id)) s staged in
-    let kept = among-mapped staged_shown k.staged.items s own in
+    let own = among-by_key (λ (x : StagedVolume). x.volume) (n.state).staged (map staged_shown k.staged.items) (λ id. sym (alike_k.staged id)) s staged in
+    let kept = among-map staged_shown k.staged.items s own in
     let x : StagedEntry = kept.0 in
     let test = all-then (is_staged_right (lists.kept).rows k.id) k.staged.items (all-then (is_node_attached (lists.kept).rows) lists.nodes.items h k entry.1) x kept.1 in
     let attached : IsAttachedAs world x.id k.id x.capability = row_attached lists world is x.id k.id x.capability test in
@@ -178,10 +179,10 @@ from_attached lists world listed is =
   where
     here : (k : NodeLists) → IsAmong k lists.nodes.items → (x : StagedEntry) → IsAmong x k.staged.items → is_staged_right (lists.kept).rows k.id x ≡ true
     here k at x staged =
-        let found = node-of (map node_listed lists.nodes.items) world.nodes listed.nodes (node_listed k) (in-mapped node_listed lists.nodes.items k at) in
+        let found = node-of (map node_listed lists.nodes.items) world.nodes listed.nodes (node_listed k) (in-map node_listed lists.nodes.items k at) in
         let n : NodeAt = found.0 in
         let same : IsNodeAlike (node_listed k) n = found.2 in
-        let there = same-among (λ (y : StagedVolume). y.volume) (map staged_shown k.staged.items) (n.state).staged same.staged (staged_shown x) (in-mapped staged_shown k.staged.items x staged) in
+        let there = among-by_key (λ (y : StagedVolume). y.volume) (map staged_shown k.staged.items) (n.state).staged same.staged (staged_shown x) (in-map staged_shown k.staged.items x staged) in
         let held : IsAttachedAs world x.id n.id x.capability = is n (staged_shown x) found.1 there in
         attached_row lists world listed x.id k.id x.capability (subst (λ (id : List ℕ). IsAttachedAs world x.id id x.capability) (sym same.id) held)
 

@@ -7,18 +7,19 @@ use Rattle.csi_types.specs.declared.call.Party.{Party}
 use Rattle.csi_types.specs.declared.call.Party.TheVariants.{Controller, Node}
 use Rattle.csi_types.specs.Config.{Config}
 use Rattle.csi_types.specs.Frame.{Frame}
-use Rattle.csi_types.specs.Lists.{IsAmong}
+use Rattle.csi_lists.specs.Members.{IsAmong}
+use Rattle.csi_lists.proofs.Members.{each_of, among-find}
+use Rattle.csi_lists.proofs.Searches.{find-passes}
 use Rattle.csi_types.specs.Same.{same_text}
 use Rattle.csi_types.specs.declared.capability.Capability.{Capability}
-use Rattle.csi_types.proofs.Lists.{find-passes}
 use Rattle.std.proofs.lemmas.Bool.{eqb-true}
+use Rattle.csi_lists.proofs.Options.{some-from_map}
 use Rattle.csi_controller.specs.Fenced as controller
 use Rattle.csi_node.specs.State.{NodeState, StagedVolume, staged_of}
 use Rattle.csi_node.specs.Fenced as node
 use Rattle.csi_world.specs.World.{NodeAt, World, new_node, empty_world, node_state, with_state, with_node, with_frame}
 use Rattle.csi_world.specs.Step.{Choice, Sends, Closes, Takes, Notes, Starts, Answers, MayChooseAll, answered_by_node, answered_by, chosen, chosen_all}
 use Rattle.csi_world.specs.Safe.{IsExclusive, IsPublishedWhereStaged, IsAttachedWhileLive}
-use Rattle.csi_types.proofs.Among.{each_of, among-find}
 use Rattle.csi_node.proofs.SafeStates as nodes
 use Rattle.csi_node.specs.Safe.{IsPublishedRight}
 use Rattle.csi_controller.proofs.SafeStates as controllers
@@ -97,20 +98,10 @@ all_kept : (config : Config) (world : World) (choices : List Choice) → IsKept 
 all_kept config world [] kept = kept
 all_kept config world (choice ∷ choices) kept = all_kept config (chosen config world choice) choices (chosen_kept config world choice kept)
 
-some_of : {X Y : Type 0} (f : X → Y) (o : Option X) (y : Y) → option_map f o ≡ Some y → (x : X) × (o ≡ Some x) × (f x ≡ y)
-some_of f None y h = absurd (clash h)
-  where
-    clash : None ≡ Some y → ⊥
-    clash e = cc
-some_of f (Some x) y h = (x, refl, same h)
-  where
-    same : Some (f x) ≡ Some y → f x ≡ y
-    same e = cc
-
 -- the capability in which a volume is staged stands in the list
 pub staged_there : (state : NodeState) (id : ℕ) (capability : Capability) → staged_of id state ≡ Some capability → IsAmong {X = StagedVolume} (record { volume = id; capability = capability }) state.staged
 staged_there state id capability h =
-    let found = some_of (λ (s : StagedVolume). s.capability) (find (λ (s : StagedVolume). s.volume == id) state.staged) capability h in
+    let found = some-from_map (λ (s : StagedVolume). s.capability) (find (λ (s : StagedVolume). s.volume == id) state.staged) capability h in
     let s : StagedVolume = found.0 in
     let passes : (s.volume == id) ≡ true = find-passes (λ (s : StagedVolume). s.volume == id) state.staged s found.1 in
     let volume : s.volume ≡ id = eqb-true s.volume id passes in

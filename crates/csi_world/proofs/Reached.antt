@@ -6,11 +6,12 @@ use Rattle.std.proofs.lemmas.Bool.{false≢true}
 use Rattle.csi_types.specs.declared.config.NodeSlots.{NodeSlots}
 use Rattle.csi_types.specs.Config.{Config}
 use Rattle.csi_types.specs.Frame.{Frame}
-use Rattle.csi_types.specs.Lists.{IsAmong}
+use Rattle.csi_lists.specs.Members.{IsAmong}
+use Rattle.csi_lists.proofs.Members.{each_of, among-find, among-map}
+use Rattle.csi_lists.proofs.Searches.{find-map, find-passes}
+use Rattle.csi_lists.proofs.Maps.{map-same}
 use Rattle.csi_types.specs.Same.{same_text}
-use Rattle.csi_types.proofs.Among.{each_of, among-find}
 use Rattle.csi_types.proofs.Equality.{same_text-tells}
-use Rattle.csi_types.proofs.Lists.{find-map, find-passes}
 use Rattle.csi_controller.specs.State.{ControllerState, empty_controller}
 use Rattle.csi_controller.specs.Fenced as controller
 use Rattle.csi_node.specs.State.{NodeState, empty_node}
@@ -95,16 +96,6 @@ pub node_state-same : (id : List ℕ) (old state : NodeState) (world : World) �
 node_state-same id old state world h =
     ap (option_map (λ (n : NodeAt). n.state)) (find-map (λ (n : NodeAt). same_text n.id id) (with_state id state) world.nodes (with_state-id id id state))
     ∙ state-same id old state (find (λ (n : NodeAt). same_text n.id id) world.nodes) h (λ at e. find-passes (λ (n : NodeAt). same_text n.id id) world.nodes at e)
-
--- each element of a mapped list comes from one
-among-map : {X : Type 0} (f : X → X) (xs : List X) (y : X) → IsAmong y (map f xs) → (x : X) × IsAmong x xs × (y ≡ f x)
-among-map f [] y among = absurd among
-among-map f (x ∷ xs) y (inl e) = (x, inl refl, e)
-among-map f (x ∷ xs) y (inr there) = let found = among-map f xs y there in (found.0, inr found.1, found.2)
-
-pub map-same : {X : Type 0} (f : X → X) (xs : List X) → ((x : X) → IsAmong x xs → f x ≡ x) → map f xs ≡ xs
-map-same f [] same = refl
-map-same f (x ∷ xs) same = let first = same x (inl refl) in let rest = map-same f xs (λ y among. same y (inr among)) in λ i. first i ∷ rest i
 
 -- a node's answer to a frame
 with_states : (id : List ℕ) (state : NodeState) (ns : List NodeAt) → ((frames : List Frame) × (state ≡ node.after_frames id empty_node frames)) → AllByRecursion IsNodeOfFrames ns → AllByRecursion IsNodeOfFrames (map (with_state id state) ns)

@@ -10,12 +10,13 @@ use Rattle.csi_types.specs.declared.reply.Reply.{Reply}
 use Rattle.csi_types.specs.declared.status.Status.TheVariants.{Ok}
 use Rattle.csi_types.specs.Call.{kind_of}
 use Rattle.csi_types.specs.Key.{Key, Exists, Attached, Staged, Published, Form, HasId, StagedAs, PublishedAs, asked}
-use Rattle.csi_types.specs.Lists.{IsAmong}
+use Rattle.csi_lists.specs.Members.{IsAmong}
+use Rattle.csi_lists.proofs.Members.{among-find}
+use Rattle.csi_lists.proofs.Searches.{find-passes, find-same_among}
+use Rattle.csi_lists.proofs.Options.{is_some-map}
 use Rattle.csi_types.specs.Reply.{is_ok_status, has_id_by_rule}
 use Rattle.csi_types.specs.Same.{same_text}
-use Rattle.csi_types.proofs.Among.{among-find}
 use Rattle.csi_types.proofs.Equality.{same_text-tells}
-use Rattle.csi_types.proofs.Lists.{find-passes}
 use Rattle.csi_controller.specs.State.{Volume, ControllerState, volume_named, holding_at}
 use Rattle.csi_controller.specs.View as controllers
 use Rattle.csi_node.specs.State.{NodeState, PublishedVolume, staged_of, published_at}
@@ -28,7 +29,7 @@ use Rattle.csi_world.specs.World.{World, node_state}
 use Rattle.csi_world.specs.Safe.{holds_attached, holds_staged, holds_published, holds, IsRecordedRight}
 use Rattle.csi_world.proofs.WorldView.{node_view, view_of}
 use Rattle.csi_world.proofs.Issued.{HasName, IsOwn, is_of, named-found}
-use Rattle.csi_world.proofs.Named.{touches-exists, touches-published, find-same}
+use Rattle.csi_world.proofs.Named.{touches-exists, touches-published}
 use Rattle.csi_world.proofs.Heard.{IsLatest, success-ok, known-yes, known-no}
 use Rattle.csi_world.proofs.Guarded.{IsSoFar, found-attached, found-staged, asked-undoing}
 
@@ -42,10 +43,6 @@ IsWell world = IsSoFar world.history world.frames (view_of world) world.controll
 
 is_ok : (reply : Reply) → reply.status ≡ Ok → is_ok_status reply.status ≡ true
 is_ok reply ok = ap is_ok_status ok
-
-is_some-map : {X Y : Type 0} (f : X → Y) (o : Option X) → is_some (option_map f o) ≡ is_some o
-is_some-map f None = refl
-is_some-map f (Some x) = refl
 
 -- a call that brings its thing about asks for it
 asked-doing : (c : Call) (reply : Reply) → is_doing c ≡ true → reply.status ≡ Ok → IsTrue (has_id_by_rule (kind_of c) reply) → is_some (asked c reply) ≡ true
@@ -80,11 +77,11 @@ not_there world thing key well one is_no = by (known-no world.history thing is_n
 
 -- a thing by its name, and by its id where the name has one
 exists-one : (world : World) (name : List ℕ) → IsWell world → AreOneThing world (things.Exists name) (Exists name)
-exists-one world name well = find-same (touches (things.Exists name)) (is_of (Exists name)) (issued_in world.history.items) (λ call among. touches-exists world.controller name call (well.named.own call among))
+exists-one world name well = find-same_among (touches (things.Exists name)) (is_of (Exists name)) (issued_in world.history.items) (λ call among. touches-exists world.controller name call (well.named.own call among))
 
 published-one : (world : World) (name node target : List ℕ) (id : ℕ) → IsWell world → HasName world.controller name id → AreOneThing world (things.Published name node target) (Published id node target)
 published-one world name node target id well has =
-    find-same (touches (things.Published name node target)) (is_of (Published id node target)) (issued_in world.history.items)
+    find-same_among (touches (things.Published name node target)) (is_of (Published id node target)) (issued_in world.history.items)
     (λ call among. touches-published world.controller name node target id call well.names has (well.named.own call among))
 
 -- a call of a volume has its id

@@ -7,8 +7,8 @@ use Rattle.csi_types.specs.declared.frame.Body.{Body}
 use Rattle.csi_types.specs.declared.frame.Body.TheVariants as bodies
 use Rattle.csi_types.specs.Config.{Config, has_node}
 use Rattle.csi_types.specs.Frame.{Frame}
-use Rattle.csi_types.specs.Lists.{IsAmong}
-use Rattle.csi_types.proofs.Among.{among-append}
+use Rattle.csi_lists.specs.Members.{IsAmong}
+use Rattle.csi_lists.proofs.Members.{among-append}
 use Rattle.csi_controller.specs.Fenced as controller
 use Rattle.csi_node.specs.State.{NodeState}
 use Rattle.csi_node.specs.Fenced as node

@@ -6,11 +6,11 @@ use Rattle.csi_types.specs.declared.capability.Capability.{Capability}
 use Rattle.csi_types.specs.declared.holding.Holding.{Holding}
 use Rattle.csi_types.specs.Config.{Config}
 use Rattle.csi_types.specs.Key.{AttachedAs, StagedAs, Attached, Staged, asked}
-use Rattle.csi_types.specs.Lists.{IsAmong}
+use Rattle.csi_lists.specs.Members.{IsAmong}
+use Rattle.csi_lists.proofs.Members.{each_of, among-find}
+use Rattle.csi_lists.proofs.Searches.{find-passes}
 use Rattle.csi_types.specs.Same.{same_text}
-use Rattle.csi_types.proofs.Among.{each_of, among-find}
 use Rattle.csi_types.proofs.Equality.{same_text-tells}
-use Rattle.csi_types.proofs.Lists.{find-passes}
 use Rattle.csi_controller.specs.State.{is_held_at, holding_at}
 use Rattle.csi_node.specs.State.{NodeState, StagedVolume, staged_of}
 use Rattle.csi_orchestrator.specs.Readings.{issued_in}

@@ -13,7 +13,7 @@ use Rattle.csi_types.specs.declared.reply.Reply.{Reply}
 use Rattle.csi_types.specs.declared.status.Status.TheVariants.{Ok}
 use Rattle.csi_types.specs.Delivery.{View, Acts, Rests}
 use Rattle.csi_types.specs.Key.{Key, Attached, Staged, StagedAs, same_key, asked}
-use Rattle.csi_types.specs.Lists.{IsAmong}
+use Rattle.csi_lists.specs.Members.{IsAmong}
 use Rattle.csi_types.specs.Reply.{is_ok_status}
 use Rattle.csi_types.specs.Same.{same_text}
 use Rattle.csi_types.proofs.Equality.{same_text-tells, same_key-tells}

@@ -4,6 +4,8 @@ use Rattle.std.specs.Prelude.{Some, None, find, position, option_map, ◌||◌, 
 use Rattle.std.specs.List.{list_any, position_or_len}
 use Rattle.std.proofs.lemmas.Bool.Decides.{nat_tests}
 use Rattle.std.proofs.lemmas.List.Quantifiers.{position-Some}
+use Rattle.csi_lists.specs.Places.{FirstAt}
+use Rattle.csi_lists.proofs.Options.{some_is_not_none}
 use Rattle.csi_types.specs.declared.config.NodeSlots.{NodeSlots}
 use Rattle.csi_types.specs.declared.config.ConfigFault.TheVariants.{BadGreatest, TooManyNodes, SameNode, BadSlots}
 use Rattle.csi_types.specs.Config.{Config, is_bad_greatest, has_node, has_same_node, has_bad_slots, config_fault}
@@ -18,48 +20,8 @@ use Rattle.csi_world.specs.Simulated.{AreNodesShown}
 use Rattle.csi_world.specs.Simulating.{IsSameNode, ShowsNode, new_node_parts}
 use Rattle.csi_world.specs.Listed.{AreDistinct}
 
--- x is the first that passes, and stands there
-abbrev pub FirstAt : {X : Type 0} → (X → Bool) → List X → ℕ → X → Type 0
-FirstAt p [] place x = ⊥
-FirstAt p (y ∷ ys) zero x = (p y ≡ true) × (y ≡ x)
-FirstAt p (y ∷ ys) (suc place) x = (p y ≡ false) × FirstAt p ys place x
-
-first-from : {X : Type 0} (p : X → Bool) (xs : List X) (i : ℕ) (d : X) → i < length xs → p (get_or xs i d) ≡ true → ((k : ℕ) → k < i → p (get_or xs k d) ≡ false) → FirstAt p xs i (get_or xs i d)
-first-from p [] i d inside here before = absurd (omega arith)
-first-from p (x ∷ xs) zero d inside here before = (here, refl)
-first-from p (x ∷ xs) (suc i) d inside here before = (before 0 (omega arith), first-from p xs i d (omega arith) here (λ k below. before (suc k) (omega arith)))
-
-pub first-at : {X : Type 0} (p : X → Bool) (xs : List X) (i : ℕ) (x : X) → position p xs ≡ Some i → x ≡ get_or xs i x → FirstAt p xs i x
-first-at p xs i x at is =
-    let found = position-Some p xs i x at in
-    subst (λ y. FirstAt p xs i y) (sym is) (first-from p xs i x found.0 found.1 found.2)
-
-pub first-passes : {X : Type 0} (p : X → Bool) (xs : List X) (i : ℕ) (x : X) → FirstAt p xs i x → p x ≡ true
-first-passes p [] i x h = absurd h
-first-passes p (y ∷ ys) zero x h = ap p (sym (h.1)) ∙ h.0
-first-passes p (y ∷ ys) (suc i) x h = first-passes p ys i x (h.1)
-
 true_isnt_false : true ≡ false → ⊥
 true_isnt_false h = cc
-
--- a search that finds no place finds nothing
-some_isnt_none : {X : Type 0} (x : X) → Some x ≡ None → ⊥
-some_isnt_none x h = cc
-
-find-beyond : {X : Type 0} (p : X → Bool) (xs : List X) → length xs ≤ position_or_len p xs → find p xs ≡ None
-find-beyond p [] h = refl
-find-beyond p (x ∷ xs) h = by (p x) (find-beyond p xs) h
-  where
-    by : (b : Bool) → (length xs ≤ position_or_len p xs → find p xs ≡ None) → suc (length xs) ≤ cond (not b) (1 + position_or_len p xs) 0 → cond b (Some x) (find p xs) ≡ None
-    by true rest k = absurd (omega arith)
-    by false rest k = rest (omega arith)
-
-beyond : (place size : ℕ) (b : Bool) → nat_lt place size ≡ b → cond b (Some place) None ≡ None → size ≤ place
-beyond place size true e h = absurd (some_isnt_none place h)
-beyond place size false e h = grind (arith, nat_tests)
-
-pub find-nowhere : {X : Type 0} (p : X → Bool) (xs : List X) → position p xs ≡ None → find p xs ≡ None
-find-nowhere p xs none = find-beyond p xs (beyond (position_or_len p xs) (length xs) (nat_lt (position_or_len p xs) (length xs)) refl none)
 
 -- is this node the one of the id
 abbrev pub is_shown_node : List ℕ → NodeParts → Bool
@@ -133,9 +95,9 @@ apart-from (n ∷ ns) h =
     (sym (any-ids n.id ns) ∙ both.0, apart-from ns (both.1))
 
 fault-none : (a b c d : Bool) → cond a (Some BadGreatest) (cond b (Some TooManyNodes) (cond c (Some SameNode) (cond d (Some BadSlots) None))) ≡ None → c ≡ false
-fault-none true b c d h = absurd (some_isnt_none BadGreatest h)
-fault-none false true c d h = absurd (some_isnt_none TooManyNodes h)
-fault-none false false true d h = absurd (some_isnt_none SameNode h)
+fault-none true b c d h = absurd (some_is_not_none BadGreatest h)
+fault-none false true c d h = absurd (some_is_not_none TooManyNodes h)
+fault-none false false true d h = absurd (some_is_not_none SameNode h)
 fault-none false false false d h = refl
 
 pub fit-apart : (config : Config) → config_fault config.greatest config.nodes ≡ None → AreDistinct (map node_id config.nodes)
@@ -188,7 +150,7 @@ none-at id (x ∷ xs) none = by (same_text x.id id) refl (none-at id xs) none
   where
     by : (b : Bool) → same_text x.id id ≡ b → (find (is_shown_node id) xs ≡ None → list_any (same_text id) (map (λ (m : NodeParts). m.id) xs) ≡ false) → cond b (Some x) (find (is_shown_node id) xs) ≡ None
         → list_any (same_text id) (x.id ∷ map (λ (m : NodeParts). m.id) xs) ≡ false
-    by true e rest h = absurd (some_isnt_none x h)
+    by true e rest h = absurd (some_is_not_none x h)
     by false e rest h = rw (same-symmetric id x.id ∙ e) (rest h)
 
 pub some-at : (id : List ℕ) (shown : List NodeParts) (i : ℕ) (x : NodeParts) → FirstAt (is_shown_node id) shown i x → list_any (same_text id) (map (λ (m : NodeParts). m.id) shown) ≡ true

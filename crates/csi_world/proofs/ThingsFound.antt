@@ -8,17 +8,17 @@ use Rattle.std.specs.Cmp.{both_ways}
 use Rattle.std.specs.declared.cmp.Ordering.TheVariants.{Less, Equal}
 use Rattle.std.proofs.lemmas.Cmp.{tied_itself}
 use Rattle.std.proofs.lemmas.List.Sorted.{searchable_from_sorted}
-use Rattle.csi_types.specs.Lists.{EachTwo}
+use Rattle.csi_lists.specs.Members.{EachTwo}
+use Rattle.csi_lists.proofs.Each.{each-place}
+use Rattle.csi_lists.proofs.Tests.{any-then, then-any}
 use Rattle.csi_orchestrator.specs.declared.thing.Thing.{Thing}
 use Rattle.csi_orchestrator.specs.declared.thing.Known.{Known}
 use Rattle.csi_orchestrator.specs.Listing.{thing_order, IsInOrder}
 use Rattle.csi_orchestrator.specs.Thing.{same_thing}
-use Rattle.csi_orchestrator.proofs.Joined.{all-at}
 use Rattle.csi_orchestrator.proofs.ThingOrder.{order-total, order-same}
 use Rattle.csi_world.specs.Listed.{AreSorted, is_listed, is_noted}
 use Rattle.csi_world.proofs.Halved.{found-ties, ties-found}
 use Rattle.csi_world.proofs.MarksTold.{same-itself, same-tells}
-use Rattle.csi_world.proofs.Sought.{any-then, then-any}
 
 -- the search tells whether one with this key is in the list
 told : {X : Type 0} (key : X → Thing) (xs : List X) (thing : Thing) (r : Result ℕ ℕ) → IsSortedBy (λ a b. is_lt (thing_order (key a) (key b))) xs → IsSearchInRange r (length xs)
@@ -45,7 +45,7 @@ listed-told things thing r sorted within found = told (λ other. other) things t
 two-at : {X : Type 0} (R : X → X → Type 0) (xs : List X) (i j : ℕ) (d : X) → EachTwo R xs → i < j → j < length xs → R (get_or xs i d) (get_or xs j d)
 two-at R [] i j d two before inside = absurd (omega arith)
 two-at R (x ∷ xs) i zero d two before inside = absurd (omega arith)
-two-at R (x ∷ xs) zero (suc j) d two before inside = all-at (R x) xs j d two.0 (omega arith)
+two-at R (x ∷ xs) zero (suc j) d two before inside = each-place (R x) xs j d two.0 (omega arith)
 two-at R (x ∷ xs) (suc i) (suc j) d two before inside = two-at R xs i j d two.1 (omega arith) (omega arith)
 
 in-order-sorted : (noted : List (Thing × Known)) → IsInOrder noted → IsSortedBy (λ a b. is_lt (thing_order a.0 b.0)) noted

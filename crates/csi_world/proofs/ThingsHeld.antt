@@ -4,14 +4,16 @@ use Rattle.std.specs.Prelude.{Option, Some, None, option_map, find, filter, is_s
 use Rattle.std.specs.List.{list_any, flat_map}
 use Rattle.std.proofs.lemmas.Bool.{and_parts, and_from, eqb-true, eq-eqb, false≢true}
 use Rattle.csi_types.specs.declared.holding.Holding.{Holding}
-use Rattle.csi_types.specs.Lists.{IsAmong}
+use Rattle.csi_lists.specs.Members.{IsAmong}
+use Rattle.csi_lists.proofs.Members.{among-append, among-filter, among-find, in_filter, among-joined, among-flat, in-flat, among-right, among-map, in-map, among-by_key}
+use Rattle.csi_lists.proofs.Searches.{find-passes, find-of_map}
 use Rattle.csi_types.specs.Same.{same_text}
-use Rattle.csi_types.proofs.Among.{among-append, among-filter, among-find, in_filter}
 use Rattle.csi_types.proofs.Equality.{same_text-tells}
-use Rattle.csi_types.proofs.Lists.{find-passes}
 use Rattle.csi_controller.specs.declared.row.ControllerRow.{ControllerRow}
 use Rattle.csi_controller.specs.declared.row.NodeHolding.{NodeHolding}
 use Rattle.csi_lists.specs.Places.{AtMostOne}
+use Rattle.csi_lists.proofs.Tests.{any-then, then-any, any-of_map, any-find}
+use Rattle.csi_lists.proofs.Options.{is_some-map}
 use Rattle.csi_controller.specs.Core.{IsRising}
 use Rattle.csi_controller.specs.Shown.{volume_of_row, holdings_in_row, holdings_in}
 use Rattle.csi_controller.specs.State.{Volume, volume_named, is_held_at}
@@ -22,14 +24,12 @@ use Rattle.csi_node.specs.State.{StagedVolume, PublishedVolume, NodeState, stage
 use Rattle.csi_node.specs.Views.{staged_shown, published_shown}
 use Rattle.csi_orchestrator.specs.declared.thing.Thing.{Thing}
 use Rattle.csi_orchestrator.specs.declared.thing.Thing.TheVariants.{Exists, Attached, Staged, Published}
-use Rattle.csi_orchestrator.proofs.Joined.{among-joined, among-flat}
 use Rattle.csi_world.specs.declared.auditing.lists.NodeLists.{NodeLists}
 use Rattle.csi_world.specs.declared.auditing.lists.Lists.{Lists}
 use Rattle.csi_world.specs.World.{NodeAt, World, node_state}
 use Rattle.csi_world.specs.Safe.{holds, holds_attached, holds_staged, holds_published}
 use Rattle.csi_world.specs.Listed.{node_listed, IsNodeAlike, IsListed, row_with_id, exists_thing, attached_thing, things_of, staged_by, staged_thing, published_by, published_thing, things_at, things_listed}
 use Rattle.csi_world.proofs.Likeness.{listed-of, node-of, node-found-by-id}
-use Rattle.csi_world.proofs.Sought.{any-then, then-any, some-any, any-mapped, find-mapped, some-mapped, in-flat, among-right, among-mapped, in-mapped, same-among}
 
 -- ---- rows, of which at most one has a name, and one an id
 
@@ -59,7 +59,7 @@ row-by-name rows kept row among name same =
 volume-by-name : (lists : Lists) (world : World) → IsListed lists world → (name : List ℕ)
     → volume_named name world.controller ≡ option_map volume_of_row (find (λ (r : ControllerRow). same_text r.name name) (lists.kept).rows)
 volume-by-name lists world is name =
-    ap (find (λ (v : Volume). same_text v.name name)) (sym is.volumes) ∙ find-mapped (λ (v : Volume). same_text v.name name) volume_of_row (lists.kept).rows
+    ap (find (λ (v : Volume). same_text v.name name)) (sym is.volumes) ∙ find-of_map (λ (v : Volume). same_text v.name name) volume_of_row (lists.kept).rows
 
 volume-of : (lists : Lists) (world : World) → IsListed lists world → AreKept (lists.kept).rows → (row : ControllerRow) → IsAmong row (lists.kept).rows → volume_named row.name world.controller ≡ Some (volume_of_row row)
 volume-of lists world is kept row among =
@@ -97,18 +97,18 @@ holdings-of-row lists world is kept row among = ap holdings_in (sym (row-by-id (
 exists-holds : (lists : Lists) (world : World) → IsListed lists world → (row : ControllerRow) → IsAmong row (lists.kept).rows → row.live ≡ true → holds world (Exists row.name) ≡ true
 exists-holds lists world is row among live =
     let p : Volume → Bool = λ volume. same_text volume.name row.name && volume.is_live in
-    ap (λ (vs : List Volume). is_some (find p vs)) (sym is.volumes) ∙ some-any p (map volume_of_row (lists.kept).rows) ∙ any-mapped p volume_of_row (lists.kept).rows
+    ap (λ (vs : List Volume). is_some (find p vs)) (sym is.volumes) ∙ sym (any-find p (map volume_of_row (lists.kept).rows)) ∙ any-of_map p volume_of_row (lists.kept).rows
     ∙ then-any (λ (r : ControllerRow). p (volume_of_row r)) (lists.kept).rows row among (and_from _ _ ((same_text-tells row.name row.name).1 refl) live)
 
 attached-holds : (lists : Lists) (world : World) → IsListed lists world → AreKept (lists.kept).rows → (row : ControllerRow) → IsAmong row (lists.kept).rows → (held : NodeHolding) → IsAmong held row.holdings.items
     → holds world (Attached row.name held.node) ≡ true
 attached-holds lists world is kept row among held here =
-    let own : IsAmong (held_of row held) (holdings_in_row row) = in-mapped (λ (h : NodeHolding). let one : Holding = record { volume = row.id; node = h.node; capability = h.capability; readonly = h.readonly } in one) row.holdings.items held here in
+    let own : IsAmong (held_of row held) (holdings_in_row row) = in-map (λ (h : NodeHolding). let one : Holding = record { volume = row.id; node = h.node; capability = h.capability; readonly = h.readonly } in one) row.holdings.items held here in
     let there : IsAmong (held_of row held) world.controller.holdings
     = among-filter (λ (h : Holding). h.volume == row.id) world.controller.holdings (held_of row held) (subst (IsAmong (held_of row held)) (holdings-of-row lists world is kept row among) own)
     in
     ap (holds_attached world.controller held.node) (volume-of lists world is kept row among)
-    ∙ some-any (is_held_at row.id held.node) world.controller.holdings
+    ∙ sym (any-find (is_held_at row.id held.node) world.controller.holdings)
     ∙ then-any (is_held_at row.id held.node) world.controller.holdings (held_of row held) there (and_from _ _ (eq-eqb row.id row.id refl) ((same_text-tells held.node held.node).1 refl))
 
 -- the node of a list, as the world has it
@@ -120,7 +120,7 @@ record IsNodeOf (world : World) (n : NodeLists) : Type 0 where
 
 node-of-list : (lists : Lists) (world : World) → IsListed lists world → (n : NodeLists) → IsAmong n lists.nodes.items → IsNodeOf world n
 node-of-list lists world is n at =
-    let found = node-of (map node_listed lists.nodes.items) world.nodes is.nodes (node_listed n) (in-mapped node_listed lists.nodes.items n at) in
+    let found = node-of (map node_listed lists.nodes.items) world.nodes is.nodes (node_listed n) (in-map node_listed lists.nodes.items n at) in
     let m : NodeAt = found.0 in
     let alike : IsNodeAlike (node_listed n) m = found.2 in
     let by_id : find (λ (k : NodeAt). same_text k.id n.id) world.nodes ≡ Some m
@@ -139,12 +139,12 @@ staged-holds lists world is kept n at s here row e =
     let m : IsNodeOf world n = node-of-list lists world is n at in
     let p : StagedVolume → Bool = λ x. x.volume == row.id in
     let there : IsAmong (staged_shown s) (m.node).state.staged
-    = same-among (λ (x : StagedVolume). x.volume) (map staged_shown n.staged.items) (m.node).state.staged (m.alike).staged (staged_shown s) (in-mapped staged_shown n.staged.items s here)
+    = among-by_key (λ (x : StagedVolume). x.volume) (map staged_shown n.staged.items) (m.node).state.staged (m.alike).staged (staged_shown s) (in-map staged_shown n.staged.items s here)
     in
     let volume = volume-of lists world is kept row own.0 in
     let place = m.state in
     (λ i. holds_staged (volume i) (place i))
-    ∙ some-mapped (λ (x : StagedVolume). x.capability) (find p (m.node).state.staged) ∙ some-any p (m.node).state.staged
+    ∙ is_some-map (λ (x : StagedVolume). x.capability) (find p (m.node).state.staged) ∙ sym (any-find p (m.node).state.staged)
     ∙ then-any p (m.node).state.staged (staged_shown s) there (eq-eqb s.id row.id own.1)
 
 published-holds : (lists : Lists) (world : World) → IsListed lists world → AreKept (lists.kept).rows → (n : NodeLists) → IsAmong n lists.nodes.items → (s : PublishedEntry) → IsAmong s n.published.items
@@ -154,12 +154,12 @@ published-holds lists world is kept n at s here row e =
     let m : IsNodeOf world n = node-of-list lists world is n at in
     let p : PublishedVolume → Bool = is_published_at row.id s.target in
     let there : IsAmong (published_shown s) (m.node).state.published
-    = same-among (λ (x : PublishedVolume). x.volume) (map published_shown n.published.items) (m.node).state.published (m.alike).published (published_shown s) (in-mapped published_shown n.published.items s here)
+    = among-by_key (λ (x : PublishedVolume). x.volume) (map published_shown n.published.items) (m.node).state.published (m.alike).published (published_shown s) (in-map published_shown n.published.items s here)
     in
     let volume = volume-of lists world is kept row own.0 in
     let place = m.state in
     (λ i. holds_published s.target (volume i) (place i))
-    ∙ some-any p (m.node).state.published
+    ∙ sym (any-find p (m.node).state.published)
     ∙ then-any p (m.node).state.published (published_shown s) there (and_from _ _ (eq-eqb s.id row.id own.1) ((same_text-tells s.target s.target).1 refl))
 
 one_if : {X : Type 0} (b : Bool) (x y : X) → IsAmong y (cond b (x ∷ []) []) → (b ≡ true) × (y ≡ x)
@@ -181,7 +181,7 @@ listed-then-holds lists world is kept thing among = either (among-joined (flat_m
         let parts = one_if row.live (Exists row.name) thing here in
         subst Holds (sym parts.1) (exists-holds lists world is row own parts.0)
     of_row row own (inr here) =
-        let found = among-mapped (attached_thing row.name) row.holdings.items thing here in
+        let found = among-map (attached_thing row.name) row.holdings.items thing here in
         subst Holds (sym found.2) (attached-holds lists world is kept row own found.0 found.1)
 
     staged_at : (n : NodeLists) → IsAmong n lists.nodes.items → (s : StagedEntry) → IsAmong s n.staged.items → (o : Option ControllerRow) → row_with_id s.id rows ≡ o → IsAmong thing (staged_by n.id o) → Holds thing
@@ -223,7 +223,7 @@ exists-listed lists world is name h =
     let rows : List ControllerRow = (lists.kept).rows in
     let p : Volume → Bool = λ volume. same_text volume.name name && volume.is_live in
     let any : list_any (λ (r : ControllerRow). p (volume_of_row r)) rows ≡ true
-    = sym (ap (λ (vs : List Volume). is_some (find p vs)) (sym is.volumes) ∙ some-any p (map volume_of_row rows) ∙ any-mapped p volume_of_row rows) ∙ h
+    = sym (ap (λ (vs : List Volume). is_some (find p vs)) (sym is.volumes) ∙ sym (any-find p (map volume_of_row rows)) ∙ any-of_map p volume_of_row rows) ∙ h
     in
     let found = any-then (λ (r : ControllerRow). p (volume_of_row r)) rows any in
     let row : ControllerRow = found.0 in
@@ -242,20 +242,20 @@ attached-listed lists world is kept name node = by (volume_named name world.cont
         let found = row-of-volume lists world is name v e in
         let row : ControllerRow = found.0 in
         let same_id : row.id ≡ v.id = ap (λ (x : Volume). x.id) found.3 in
-        let held = any-then (is_held_at v.id node) world.controller.holdings (sym (some-any (is_held_at v.id node) world.controller.holdings) ∙ h) in
+        let held = any-then (is_held_at v.id node) world.controller.holdings (any-find (is_held_at v.id node) world.controller.holdings ∙ h) in
         let holding : Holding = held.0 in
         let parts = and_parts (holding.volume == v.id) (same_text holding.node node) held.2 in
         let own : (holding.volume == row.id) ≡ true = ap (λ id. holding.volume == id) same_id ∙ parts.0 in
         let there : IsAmong holding (holdings_in_row row)
         = subst (IsAmong holding) (sym (holdings-of-row lists world is kept row found.1)) (in_filter (λ (x : Holding). x.volume == row.id) world.controller.holdings holding held.1 own)
         in
-        let entry = among-mapped (λ (x : NodeHolding). let one : Holding = record { volume = row.id; node = x.node; capability = x.capability; readonly = x.readonly } in one) row.holdings.items holding there in
+        let entry = among-map (λ (x : NodeHolding). let one : Holding = record { volume = row.id; node = x.node; capability = x.capability; readonly = x.readonly } in one) row.holdings.items holding there in
         let place : (entry.0).node ≡ node = sym (ap (λ (x : Holding). x.node) entry.2) ∙ (same_text-tells holding.node node).0 parts.1 in
         let called : row.name ≡ name = found.2 in
         let equal : Attached row.name (entry.0).node ≡ Attached name node = λ i. Attached (called i) (place i) in
         subst (λ (t : Thing). IsAmong t (things_listed (lists.kept).rows lists.nodes.items)) equal
         (at-controller (lists.kept).rows lists.nodes.items row (Attached row.name (entry.0).node) found.1
-        (among-right (exists_thing row) (map (attached_thing row.name) row.holdings.items) (Attached row.name (entry.0).node) (in-mapped (attached_thing row.name) row.holdings.items entry.0 entry.1)))
+        (among-right (exists_thing row) (map (attached_thing row.name) row.holdings.items) (Attached row.name (entry.0).node) (in-map (attached_thing row.name) row.holdings.items entry.0 entry.1)))
 
 -- the list of a node of the world
 record IsListOfId (lists : Lists) (world : World) (id : List ℕ) (state : NodeState) : Type 0 where
@@ -277,7 +277,7 @@ list-of-id lists world is id state = by (find p world.nodes) refl
     by (Some n) e h =
         let found = listed-of (map node_listed lists.nodes.items) world.nodes is.nodes n (among-find p world.nodes n e) in
         let alike : IsNodeAlike found.0 n = found.2 in
-        let entry = among-mapped node_listed lists.nodes.items found.0 found.1 in
+        let entry = among-map node_listed lists.nodes.items found.0 found.1 in
         let own : IsNodeAlike (node_listed entry.0) n = subst (λ (l : NodeAt). IsNodeAlike l n) entry.2 alike in
         let same : Some n.state ≡ Some state = h in
         let state_is : n.state ≡ state = cc in
@@ -300,11 +300,11 @@ staged-listed lists world is kept name node = by (volume_named name world.contro
         let n : NodeLists = l.list in
         let p : StagedVolume → Bool = λ x. x.volume == v.id in
         let any : list_any p (l.node).state.staged ≡ true
-        = sym (some-mapped (λ (x : StagedVolume). x.capability) (find p (l.node).state.staged) ∙ some-any p (l.node).state.staged) ∙ ap (λ (s : NodeState). is_some (staged_of v.id s)) l.own_state ∙ h
+        = sym (is_some-map (λ (x : StagedVolume). x.capability) (find p (l.node).state.staged) ∙ sym (any-find p (l.node).state.staged)) ∙ ap (λ (s : NodeState). is_some (staged_of v.id s)) l.own_state ∙ h
         in
         let one = any-then p (l.node).state.staged any in
-        let there = same-among (λ (x : StagedVolume). x.volume) (l.node).state.staged (map staged_shown n.staged.items) (λ id. sym ((l.alike).staged id)) one.0 one.1 in
-        let entry = among-mapped staged_shown n.staged.items one.0 there in
+        let there = among-by_key (λ (x : StagedVolume). x.volume) (l.node).state.staged (map staged_shown n.staged.items) (λ id. sym ((l.alike).staged id)) one.0 one.1 in
+        let entry = among-map staged_shown n.staged.items one.0 there in
         let s : StagedEntry = entry.0 in
         let own : row.id ≡ s.id = sym (sym (ap (λ (x : StagedVolume). x.volume) entry.2) ∙ eqb-true (one.0).volume v.id one.2 ∙ same_id) in
         let has : row_with_id s.id rows ≡ Some row = row-by-id rows kept row found.1 s.id own in
@@ -334,11 +334,11 @@ published-listed lists world is kept name node target = by (volume_named name wo
         let l : IsListOfId lists world node state = list-of-id lists world is node state f in
         let n : NodeLists = l.list in
         let p : PublishedVolume → Bool = is_published_at v.id target in
-        let any : list_any p (l.node).state.published ≡ true = sym (some-any p (l.node).state.published) ∙ ap (λ (s : NodeState). is_some (published_at v.id target s)) l.own_state ∙ h in
+        let any : list_any p (l.node).state.published ≡ true = any-find p (l.node).state.published ∙ ap (λ (s : NodeState). is_some (published_at v.id target s)) l.own_state ∙ h in
         let one = any-then p (l.node).state.published any in
         let parts = and_parts ((one.0).volume == v.id) (same_text (one.0).target target) one.2 in
-        let there = same-among (λ (x : PublishedVolume). x.volume) (l.node).state.published (map published_shown n.published.items) (λ id. sym ((l.alike).published id)) one.0 one.1 in
-        let entry = among-mapped published_shown n.published.items one.0 there in
+        let there = among-by_key (λ (x : PublishedVolume). x.volume) (l.node).state.published (map published_shown n.published.items) (λ id. sym ((l.alike).published id)) one.0 one.1 in
+        let entry = among-map published_shown n.published.items one.0 there in
         let s : PublishedEntry = entry.0 in
         let own : row.id ≡ s.id = sym (sym (ap (λ (x : PublishedVolume). x.volume) entry.2) ∙ eqb-true (one.0).volume v.id parts.0 ∙ same_id) in
         let has : row_with_id s.id rows ≡ Some row = row-by-id rows kept row found.1 s.id own in

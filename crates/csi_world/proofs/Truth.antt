@@ -15,13 +15,13 @@ use Rattle.csi_types.specs.Delivery.{View, Delivery, Acts, Rests, IsClosed, kept
 use Rattle.csi_types.specs.Fence.{Kept}
 use Rattle.csi_types.specs.Frame.{Frame}
 use Rattle.csi_types.specs.Key.{Key, same_key, asked}
-use Rattle.csi_types.specs.Lists.{IsAmong, EachTwo}
+use Rattle.csi_lists.specs.Members.{IsAmong, EachTwo}
+use Rattle.csi_lists.proofs.Members.{all_of, among-append, among-either, among-find, none_passes}
+use Rattle.csi_lists.proofs.Searches.{find-passes}
 use Rattle.csi_types.specs.Number.{IsBefore}
 use Rattle.csi_types.specs.Reply.{has_id_by_rule}
 use Rattle.csi_types.specs.Replies.{reply_frame}
-use Rattle.csi_types.proofs.Among.{all_of, among-append, among-either, among-find, none_passes}
 use Rattle.csi_types.proofs.Equality.{same_key-tells}
-use Rattle.csi_types.proofs.Lists.{find-passes}
 use Rattle.csi_orchestrator.specs.Thing.{Issued}
 use Rattle.csi_world.specs.Step.{frame_of}
 use Rattle.csi_world.proofs.WorldView.{party_of}

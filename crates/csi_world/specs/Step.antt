@@ -8,7 +8,7 @@ use Rattle.csi_types.specs.declared.reply.Reply.{Reply}
 use Rattle.csi_types.specs.Call.{kind_of}
 use Rattle.csi_types.specs.Config.{Config}
 use Rattle.csi_types.specs.Frame.{Frame}
-use Rattle.csi_types.specs.Lists.{IsAmong}
+use Rattle.csi_lists.specs.Members.{IsAmong}
 use Rattle.csi_types.specs.Replies.{call_frame, reply_frame}
 use Rattle.csi_controller.specs.Fenced as controller
 use Rattle.csi_node.specs.State.{NodeState}

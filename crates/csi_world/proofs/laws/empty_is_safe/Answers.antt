@@ -6,7 +6,7 @@ use Rattle.csi_orchestrator.specs.declared.thing.Thing.{Thing}
 use Rattle.csi_orchestrator.specs.declared.thing.Thing.TheVariants.{Exists, Attached, Staged, Published}
 use Rattle.csi_orchestrator.specs.declared.thing.Known.TheVariants.{Yes, No}
 use Rattle.csi_types.specs.Config.{Config}
-use Rattle.csi_types.specs.Lists.{IsAmong}
+use Rattle.csi_lists.specs.Members.{IsAmong}
 use Rattle.csi_world.specs.World.{NodeAt, empty_world, new_node}
 use Rattle.csi_world.specs.Safe.{holds}
 use Rattle.csi_world.proofs.laws.empty_is_safe.Goals as goal

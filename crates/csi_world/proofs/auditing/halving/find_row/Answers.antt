@@ -3,7 +3,7 @@ use Rattle.std.proofs.Common.{sym, ◌∙◌}
 use Rattle.std.specs.Prelude.{Bool, ◌==◌}
 use Rattle.csi_controller.specs.declared.row.ControllerRow.{ControllerRow}
 use Rattle.csi_lists.proofs.Places.{FirstAt-position, FirstAt-find}
-use Rattle.csi_world.proofs.SystemNodes.{find-nowhere}
+use Rattle.csi_lists.proofs.Searches.{find-no_place}
 use Rattle.csi_world.proofs.auditing.halving.find_row.Goals as goal
 
 pub returns-in-Some : goal.returns-in-Some
@@ -14,4 +14,4 @@ returns-in-Some c =
     sym (FirstAt-find p c.args.rows.now place row (FirstAt-position p c.args.rows.now place row (sym c.place_of_row.ensures ∙ c.in-Some.is) c.index-rows-place.is))
 
 pub returns-in-None : goal.returns-in-None
-returns-in-None c = sym (find-nowhere (λ (row : ControllerRow). row.id == c.args.id) c.args.rows.now (sym c.place_of_row.ensures ∙ c.in-None.is))
+returns-in-None c = sym (find-no_place (λ (row : ControllerRow). row.id == c.args.id) c.args.rows.now (sym c.place_of_row.ensures ∙ c.in-None.is))

@@ -2,9 +2,9 @@
 use Rattle.std.proofs.Common.{◌≡◌, ◌+◌, List, [], ◌∷◌, ◌++◌, take, ap, sym, ◌∙◌, subst}
 use Rattle.std.specs.List.{AllByRecursion}
 use Rattle.std.proofs.lemmas.List.{take_more}
+use Rattle.csi_lists.proofs.Each.{each-append_one}
 use Rattle.csi_node.specs.Record.{NodeParts}
 use Rattle.csi_world.specs.Listed.{IsPublishing}
-use Rattle.csi_world.proofs.Laid.{all-more}
 use Rattle.csi_world.proofs.auditing.safety.nodes_publish.Goals as goal
 
 pub loop-node-preserved : goal.loop-node-preserved
@@ -13,4 +13,4 @@ loop-node-preserved c =
     let i = c.loop-node.node-index in
     let parts : NodeParts = c.node-item.result in
     let front : take i nodes ++ parts ∷ [] ≡ take (i + 1) nodes = ap (λ (p : NodeParts). take i nodes ++ p ∷ []) c.node-item.is ∙ sym (take_more nodes i parts c.loop-node-test.true) in
-    subst (AllByRecursion IsPublishing) front (all-more IsPublishing (take i nodes) parts c.loop-node.invariant c.publishing_law.ensures)
+    subst (AllByRecursion IsPublishing) front (each-append_one IsPublishing (take i nodes) parts c.loop-node.invariant c.publishing_law.ensures)

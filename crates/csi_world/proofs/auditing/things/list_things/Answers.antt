@@ -1,9 +1,9 @@
 -- What is listed is what holds, in whatever order.
 use Rattle.std.proofs.Common.{◌≡◌, List, ◌∙◌, subst}
 use Rattle.std.specs.List.Sorted.{IsPermutation}
+use Rattle.csi_lists.proofs.Members.{among-moved, among-back}
 use Rattle.csi_controller.specs.declared.row.ControllerRow.{ControllerRow}
 use Rattle.csi_orchestrator.specs.declared.thing.Thing.{Thing}
-use Rattle.csi_orchestrator.proofs.Joined.{among-moved, among-back}
 use Rattle.csi_world.specs.declared.auditing.lists.NodeLists.{NodeLists}
 use Rattle.csi_world.specs.Listed.{things_listed}
 use Rattle.csi_world.proofs.ThingsHeld.{AreKept, listed-then-holds, holds-then-listed}
