@@ -4,12 +4,12 @@ use Rattle.std.specs.declared.io.ErrorKind.{ErrorKind}
 use Rattle.std.specs.declared.io.ErrorKind.TheVariants.{OutOfMemory}
 use Rattle.csi_types.specs.Frame.{Frame}
 use Rattle.csi_commands.specs.declared.ending.Ending.{Ending}
-use Rattle.csi_commands.specs.declared.ending.Ending.TheVariants.{Done, FrameFault, ScheduleFault, NotUtf8, Usage, Device, Memory}
-use Rattle.csi_commands.specs.declared.answers.AnswerFault.{AnswerFault}
-use Rattle.csi_commands.specs.declared.answers.AnswerFault.TheVariants as faults
+use Rattle.csi_commands.specs.declared.ending.Ending.TheVariants.{Done, FrameFault, ScheduleFault, NotUtf8, ConfigRefused, RecordFault, Usage, Device, StoreNotOpened, Endless, Memory}
+use Rattle.csi_streams.specs.declared.answers.AnswerFault.{AnswerFault}
+use Rattle.csi_streams.specs.declared.answers.AnswerFault.TheVariants as faults
 use Rattle.csi_commands.specs.declared.commands.FileCommand.{FileCommand}
 use Rattle.csi_commands.specs.declared.commands.FileCommand.TheVariants.{Answer, Show, Run}
-use Rattle.csi_commands.specs.Replay.{answered, Fails, IsFaultOf, Grows}
+use Rattle.csi_streams.specs.Replay.{answered, Fails, IsFaultOf, Grows}
 use Rattle.csi_commands.specs.Running.{Runs, IsRefused}
 
 -- 1 for input that is refused, 2 for the command line, 3 for a device or memory
@@ -18,8 +18,12 @@ exit_status Done = 0
 exit_status (FrameFault kind place) = 1
 exit_status (ScheduleFault fault) = 1
 exit_status NotUtf8 = 1
+exit_status ConfigRefused = 1
+exit_status (RecordFault place) = 1
 exit_status Usage = 2
 exit_status Device = 3
+exit_status StoreNotOpened = 3
+exit_status Endless = 3
 exit_status Memory = 3
 
 -- where a call of the system fails so
@@ -37,17 +41,11 @@ abbrev pub EndsAs : FileCommand → List Frame → List ℕ → List ℕ → Lis
 EndsAs Answer frames rest old new Done = (rest ≡ []) × (new ≡ old ++ answered frames)
 EndsAs Answer frames rest old new (FrameFault kind place) = Fails frames rest old new (faults.Frame kind place)
 EndsAs Answer frames rest old new Memory = Fails frames rest old new faults.NoMemory
-EndsAs Answer frames rest old new (ScheduleFault fault) = ⊥
-EndsAs Answer frames rest old new NotUtf8 = ⊥
-EndsAs Answer frames rest old new Usage = ⊥
-EndsAs Answer frames rest old new Device = ⊥
+EndsAs Answer frames rest old new _ = ⊥
 EndsAs Show frames rest old new Done = (rest ≡ []) × Grows old new
 EndsAs Show frames rest old new (FrameFault kind place) = IsFaultOf frames rest kind place × Grows old new
 EndsAs Show frames rest old new Memory = Grows old new
-EndsAs Show frames rest old new (ScheduleFault fault) = ⊥
-EndsAs Show frames rest old new NotUtf8 = ⊥
-EndsAs Show frames rest old new Usage = ⊥
-EndsAs Show frames rest old new Device = ⊥
+EndsAs Show frames rest old new _ = ⊥
 EndsAs Run frames rest old new ending = Unit {0}
 
 -- Where a schedule was run, its report and a newline were appended, and otherwise nothing.

@@ -1,4 +1,2 @@
-pub mod Replay
-pub mod Answering
 pub mod Running
 pub mod Ending

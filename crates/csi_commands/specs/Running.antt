@@ -29,10 +29,7 @@ abbrev pub IsRefused : List ℕ → Ending → Type 0
 IsRefused input endings.NotUtf8 = IsUtf8 input → ⊥
 IsRefused input (endings.ScheduleFault fault) = text_schedule input ≡ Err fault
 IsRefused input endings.Memory = Unit {0}
-IsRefused input endings.Done = ⊥
-IsRefused input (endings.FrameFault kind place) = ⊥
-IsRefused input endings.Usage = ⊥
-IsRefused input endings.Device = ⊥
+IsRefused input _ = ⊥
 
 -- want of memory is no fault of the schedule
 abbrev pub refusal_of : ScheduleFault → Ending

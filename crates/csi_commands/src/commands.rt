@@ -4,10 +4,9 @@ ghost use Rattle.csi_types.specs.Frame.{Frame};
 ghost use Rattle.csi_frames.specs.Stream.{FramesOf};
 ghost use Rattle.csi_commands.specs.Ending.{EndsAs, RunsAs};
 
-use crate::answers::{AnswerFault, answer};
 use crate::ending::Ending;
-use crate::lines::show;
 use crate::running::run;
+use csi_streams::{AnswerFault, answer, show};
 use std::alloc::Global;
 
 /// What is done with the bytes of a file.

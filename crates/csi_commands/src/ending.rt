@@ -21,10 +21,18 @@ pub enum Ending {
     ScheduleFault(ScheduleFault),
     /// The input is to be a text, and is no UTF-8.
     NotUtf8,
+    /// The file of the configuration has none, or the id is no node's.
+    ConfigRefused,
+    /// The store has no record of this plugin: the position, from 0, of the first part that is refused.
+    RecordFault(u64),
     /// The words on the command line are no command.
     Usage,
-    /// A file or a stream failed.
+    /// A file, a stream or the store failed, or the store is full.
     Device,
+    /// The store can't be opened.
+    StoreNotOpened,
+    /// The input has 2^63 bytes or more.
+    Endless,
     /// An allocation was refused.
     Memory,
 }
@@ -38,8 +46,9 @@ impl Ending {
         match self {
             Ending::Done => 0,
             Ending::FrameFault(..) | Ending::ScheduleFault(_) | Ending::NotUtf8 => 1,
+            Ending::ConfigRefused | Ending::RecordFault(_) => 1,
             Ending::Usage => 2,
-            Ending::Device | Ending::Memory => 3,
+            Ending::Device | Ending::StoreNotOpened | Ending::Endless | Ending::Memory => 3,
         }
     }
 }
@@ -102,8 +111,12 @@ impl fmt::Display for Ending {
                 write!(f, "csi-replay: schedule fault {number} at {place}")
             }
             Ending::NotUtf8 => write!(f, "csi-replay: not UTF-8"),
+            Ending::ConfigRefused => write!(f, "csi-replay: config refused"),
+            Ending::RecordFault(place) => write!(f, "csi-replay: record fault at {place}"),
             Ending::Usage => write!(f, "csi-replay: usage"),
             Ending::Device => write!(f, "csi-replay: device"),
+            Ending::StoreNotOpened => write!(f, "csi-replay: store not opened"),
+            Ending::Endless => write!(f, "csi-replay: endless"),
             Ending::Memory => write!(f, "csi-replay: memory"),
         }
     }

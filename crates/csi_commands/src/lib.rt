@@ -2,16 +2,11 @@
 //! lines, and schedules are run. This profile's own.
 #![tactic(auto)]
 
-mod answers;
 mod commands;
 mod ending;
-mod lines;
-mod reading;
 mod running;
-mod shown;
 
-pub use answers::{AnswerFault, answer};
 pub use commands::{FileCommand, file};
+pub use csi_streams::{AnswerFault, answer, show};
 pub use ending::Ending;
-pub use lines::show;
 pub use running::run;

@@ -78,6 +78,20 @@ schedule_read None = Err NotJson
 abbrev pub text_schedule : List ℕ → Result Schedule ScheduleFault
 text_schedule text = schedule_read (read text)
 
+-- ---- a configuration alone
+
+abbrev pub config_in : Option Config → Result Config ScheduleFault
+config_in (Some config) = Ok config
+config_in None = Err (BadSchedule 0)
+
+abbrev pub config_read : Option Data → Result Config ScheduleFault
+config_read (Some d) = config_in (config_of d)
+config_read None = Err NotJson
+
+-- the configuration that a text says, or its fault
+abbrev pub text_config : List ℕ → Result Config ScheduleFault
+text_config text = config_read (read text)
+
 -- ---- what functions answer
 
 -- where the event of a place has a flaw; 0 is the place of what is no event

@@ -8,4 +8,4 @@ mod lists;
 mod schedule;
 mod values;
 
-pub use schedule::{MAX_EVENTS, ScheduleFault, read_schedule};
+pub use schedule::{MAX_EVENTS, ScheduleFault, read_config, read_schedule};

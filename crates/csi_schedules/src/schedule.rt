@@ -1,7 +1,7 @@
 //! A schedule: a configuration, and what happens. It is read from JSON. This profile's own.
 ghost use Rattle.std.specs.Prelude.{◌≡◌, IfOk, IfErr, map};
 ghost use Rattle.serde_json.specs.View.{view};
-ghost use Rattle.csi_schedules.specs.Schedule.{events_of, schedule_of, text_schedule, fault_number, fault_place, IsFaultOf};
+ghost use Rattle.csi_schedules.specs.Schedule.{config_of, config_in, events_of, schedule_of, text_config, text_schedule, fault_number, fault_place, IsFaultOf};
 
 use crate::configs::config;
 use crate::lists::read_events;
@@ -104,6 +104,27 @@ pub fn read_schedule(alloc: Global, text: &str) -> Result<(Config, Vec<Event>), 
 {
     match Value::from_str(alloc, text) {
         Ok(value) => schedule(alloc, &value),
+        Err(error) if error.is_memory() => Err(ScheduleFault::NoMemory),
+        Err(_) => Err(ScheduleFault::NotJson),
+    }
+}
+
+// The configuration that a value is.
+fn config_alone(alloc: Global, value: &Value) -> Result<Config, ScheduleFault>
+    ensures read { IfOk result (λ config. config_in (config_of (view value.now)) ≡ Ok config) }
+    ensures fault { IfErr result (IsFaultOf (config_in (config_of (view value.now)))) }
+{
+    Ok(config(alloc, value)?)
+}
+
+/// The configuration that a text says: alone, the object that a schedule has at `config`. `NotJson` where the text isn't JSON,
+/// and `BadSchedule` at 0 where it isn't as the format says. `NoMemory` can come at any step.
+pub fn read_config(alloc: Global, text: &str) -> Result<Config, ScheduleFault>
+    ensures read { IfOk result (λ config. text_config text.now ≡ Ok config) }
+    ensures fault { IfErr result (IsFaultOf (text_config text.now)) }
+{
+    match Value::from_str(alloc, text) {
+        Ok(value) => config_alone(alloc, &value),
         Err(error) if error.is_memory() => Err(ScheduleFault::NoMemory),
         Err(_) => Err(ScheduleFault::NotJson),
     }

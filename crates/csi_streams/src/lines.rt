@@ -2,8 +2,8 @@
 ghost use Rattle.std.specs.Prelude.{◌≡◌, ℕ, ◌≤◌, List, [], length, drop, IfOk, IfErr, OnOk, OnErr};
 ghost use Rattle.csi_types.specs.Frame.{Frame as FrameParts};
 ghost use Rattle.csi_frames.specs.Stream.{FramesOf};
-ghost use Rattle.csi_commands.specs.Replay.{Grows, Stops};
-ghost use Rattle.csi_commands.specs.Answering.{Takes, StopsAt};
+ghost use Rattle.csi_streams.specs.Replay.{Grows, Stops};
+ghost use Rattle.csi_streams.specs.Answering.{Takes, StopsAt};
 
 use crate::answers::AnswerFault;
 use crate::reading::read_at;

@@ -9,15 +9,15 @@ use Rattle.csi_types.specs.Frame.{Frame}
 use Rattle.csi_frames.specs.Spelling.{spelling}
 use Rattle.csi_frames.specs.Stream.{FramesOf}
 use Rattle.csi_frames.specs.Bytes.{AreBytes}
-use Rattle.csi_commands.specs.declared.answers.AnswerFault.{AnswerFault}
-use Rattle.csi_commands.specs.declared.answers.AnswerFault.TheVariants as faults
+use Rattle.csi_streams.specs.declared.answers.AnswerFault.{AnswerFault}
+use Rattle.csi_streams.specs.declared.answers.AnswerFault.TheVariants as faults
 use Rattle.csi_controller.specs.State.{ControllerState, empty_controller}
 use Rattle.csi_controller.specs.Fenced.{fenced, after_frames}
 use Rattle.csi_controller.specs.Core.{Parts, IsShown}
-use Rattle.csi_commands.specs.Replay.{replay_config, replies_from, answered, AnswersAll, Fails, IsFaultOf}
-use Rattle.csi_commands.specs.Answering.{Advances, StopsAt}
-use Rattle.csi_commands.proofs.Streams.{IsFront}
-use Rattle.csi_commands.proofs.Taken.{Taken, nothing_taken, taken_more, front, taken_all, stopped_at}
+use Rattle.csi_streams.specs.Replay.{replay_config, replies_from, answered, AnswersAll, Fails, IsFaultOf}
+use Rattle.csi_streams.specs.Answering.{Advances, StopsAt}
+use Rattle.csi_streams.proofs.Streams.{IsFront}
+use Rattle.csi_streams.proofs.Taken.{Taken, nothing_taken, taken_more, front, taken_all, stopped_at}
 
 pub record Progress (input old : List ℕ) (place count : ℕ) (controller : Parts) (out : List ℕ) : Type 0 where
   pub done : List Frame

@@ -7,8 +7,8 @@ ghost use Rattle.csi_types.specs.Frame.{Frame as FrameParts};
 ghost use Rattle.csi_frames.specs.Stream.{FramesOf};
 ghost use Rattle.csi_controller.specs.State.{ControllerState, empty_controller};
 ghost use Rattle.csi_controller.specs.Core.{IsShown};
-ghost use Rattle.csi_commands.specs.Replay.{replay_config, AnswersAll, Fails};
-ghost use Rattle.csi_commands.specs.Answering.{IsAnswered, Advances, StopsAt};
+ghost use Rattle.csi_streams.specs.Replay.{replay_config, AnswersAll, Fails};
+ghost use Rattle.csi_streams.specs.Answering.{IsAnswered, Advances, StopsAt};
 
 use crate::reading::read_at;
 use csi_controller::{Controller, CoreFault};
@@ -31,7 +31,7 @@ pub enum AnswerFault {
 
 impl From<NoMemory> for AnswerFault {
     ghost use Rattle.std.specs.Prelude.{◌≡◌};
-    ghost use Rattle.csi_commands.specs.declared.answers.AnswerFault.TheVariants.{NoMemory as Refused};
+    ghost use Rattle.csi_streams.specs.declared.answers.AnswerFault.TheVariants.{NoMemory as Refused};
 
     ghost from_gives = { λ _ fault. fault ≡ Refused };
 
@@ -42,7 +42,7 @@ impl From<NoMemory> for AnswerFault {
 
 impl From<CoreFault> for AnswerFault {
     ghost use Rattle.std.specs.Prelude.{◌≡◌};
-    ghost use Rattle.csi_commands.specs.declared.answers.AnswerFault.TheVariants.{NoMemory as Refused};
+    ghost use Rattle.csi_streams.specs.declared.answers.AnswerFault.TheVariants.{NoMemory as Refused};
 
     ghost from_gives = { λ _ fault. fault ≡ Refused };
 
@@ -55,7 +55,7 @@ impl From<CoreFault> for AnswerFault {
 
 impl From<AllocError> for AnswerFault {
     ghost use Rattle.std.specs.Prelude.{◌≡◌};
-    ghost use Rattle.csi_commands.specs.declared.answers.AnswerFault.TheVariants.{NoMemory as Refused};
+    ghost use Rattle.csi_streams.specs.declared.answers.AnswerFault.TheVariants.{NoMemory as Refused};
 
     ghost from_gives = { λ _ fault. fault ≡ Refused };
 

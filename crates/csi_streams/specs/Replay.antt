@@ -9,8 +9,8 @@ use Rattle.csi_frames.specs.Spelling.{spelling}
 use Rattle.csi_frames.specs.Fault.{IsFaulty}
 use Rattle.csi_controller.specs.State.{ControllerState, empty_controller}
 use Rattle.csi_controller.specs.Fenced.{fenced}
-use Rattle.csi_commands.specs.declared.answers.AnswerFault.{AnswerFault}
-use Rattle.csi_commands.specs.declared.answers.AnswerFault.TheVariants as faults
+use Rattle.csi_streams.specs.declared.answers.AnswerFault.{AnswerFault}
+use Rattle.csi_streams.specs.declared.answers.AnswerFault.TheVariants as faults
 
 -- the greatest capacity that a call may name, 2^63 - 1, and no nodes
 abbrev pub replay_config : Config

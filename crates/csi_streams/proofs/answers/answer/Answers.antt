@@ -2,10 +2,10 @@ use Rattle.std.proofs.Common.{arith, length-drop, drop}
 use Rattle.std.proofs.lemmas.Result.{err_from_is_err_and}
 use Rattle.csi_controller.specs.State.{empty_controller}
 use Rattle.csi_controller.specs.Fenced.{after_frames}
-use Rattle.csi_commands.specs.Replay.{replay_config}
-use Rattle.csi_commands.proofs.Streams.{frames_of, frames_few, count_is, spelling-not-empty}
-use Rattle.csi_commands.proofs.Progress.{start, more, all_answered, stopped}
-use Rattle.csi_commands.proofs.answers.answer.Goals as goal
+use Rattle.csi_streams.specs.Replay.{replay_config}
+use Rattle.csi_streams.proofs.Streams.{frames_of, frames_few, count_is, spelling-not-empty}
+use Rattle.csi_streams.proofs.Progress.{start, more, all_answered, stopped}
+use Rattle.csi_streams.proofs.answers.answer.Goals as goal
 
 pub loop-place-init : goal.loop-place-init
 loop-place-init c = start c.args.input.now c.args.out.now.items c.new_controller-controller.result c.new_controller-controller.ensures.empty c.new_controller-controller.ensures.config

@@ -1,6 +1,6 @@
 use Rattle.std.proofs.Common.{ap, drop, inl, inr, arith, length-drop}
-use Rattle.csi_commands.proofs.FaultPlaces.{place_within}
-use Rattle.csi_commands.proofs.reading.in_stream.Goals as goal
+use Rattle.csi_streams.proofs.FaultPlaces.{place_within}
+use Rattle.csi_streams.proofs.reading.in_stream.Goals as goal
 
 pub overflow_add-result : goal.overflow_add-result
 overflow_add-result c =

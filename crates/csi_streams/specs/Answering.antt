@@ -8,9 +8,9 @@ use Rattle.csi_frames.specs.Fault.{IsFaulty}
 use Rattle.csi_controller.specs.State.{ControllerState}
 use Rattle.csi_controller.specs.Fenced.{fenced}
 use Rattle.csi_controller.specs.Core.{Parts, IsShown}
-use Rattle.csi_commands.specs.declared.answers.AnswerFault.{AnswerFault}
-use Rattle.csi_commands.specs.declared.answers.AnswerFault.TheVariants as faults
-use Rattle.csi_commands.specs.Replay.{replay_config}
+use Rattle.csi_streams.specs.declared.answers.AnswerFault.{AnswerFault}
+use Rattle.csi_streams.specs.declared.answers.AnswerFault.TheVariants as faults
+use Rattle.csi_streams.specs.Replay.{replay_config}
 
 -- the bytes begin with a frame of n bytes
 pub record Takes (bytes : List ℕ) (n : ℕ) : Type 0 where

@@ -3,7 +3,7 @@ ghost use Rattle.std.specs.Prelude.{◌≡◌, ◌⊎◌, ◌+◌, ◌<◌, ◌�
 ghost use Rattle.csi_frames.specs.Spelling.{BeginsWith};
 ghost use Rattle.csi_frames.specs.Fault.{IsFaulty};
 ghost use Rattle.csi_frames.specs.Decoding.{no_memory};
-ghost use Rattle.csi_commands.specs.Answering.{StopsAt};
+ghost use Rattle.csi_streams.specs.Answering.{StopsAt};
 
 use crate::answers::AnswerFault;
 use csi_frames::{FaultKind, FrameFault, decode};

@@ -11,11 +11,11 @@ use Rattle.csi_frames.specs.Spelling.{spelling, BeginsWith}
 use Rattle.csi_frames.specs.Fault.{IsFaulty}
 use Rattle.csi_frames.specs.Stream.{FramesOf}
 use Rattle.csi_frames.specs.Bytes.{AreBytes}
-use Rattle.csi_commands.specs.declared.answers.AnswerFault.{AnswerFault}
-use Rattle.csi_commands.specs.declared.answers.AnswerFault.TheVariants as faults
-use Rattle.csi_commands.specs.Replay.{IsFaultOf, Stops, Grows}
-use Rattle.csi_commands.specs.Answering.{StopsAt, Takes}
-use Rattle.csi_commands.proofs.Streams.{never_both, AreBytes-drop, IsFront, front_of, all_read, splits_at, count_is, none_in_nothing}
+use Rattle.csi_streams.specs.declared.answers.AnswerFault.{AnswerFault}
+use Rattle.csi_streams.specs.declared.answers.AnswerFault.TheVariants as faults
+use Rattle.csi_streams.specs.Replay.{IsFaultOf, Stops, Grows}
+use Rattle.csi_streams.specs.Answering.{StopsAt, Takes}
+use Rattle.csi_streams.proofs.Streams.{never_both, AreBytes-drop, IsFront, front_of, all_read, splits_at, count_is, none_in_nothing}
 
 -- these frames were read
 pub record Taken (input : List ℕ) (done : List Frame) (place : ℕ) : Type 0 where

@@ -1,8 +1,8 @@
 use Rattle.std.proofs.Common.{arith, length-drop, drop}
 use Rattle.std.proofs.lemmas.Result.{err_from_is_err_and}
-use Rattle.csi_commands.proofs.Streams.{count_is, spelling-not-empty}
-use Rattle.csi_commands.proofs.Taken.{showing_none, showing_more, taken_all, stops}
-use Rattle.csi_commands.proofs.lines.show.Goals as goal
+use Rattle.csi_streams.proofs.Streams.{count_is, spelling-not-empty}
+use Rattle.csi_streams.proofs.Taken.{showing_none, showing_more, taken_all, stops}
+use Rattle.csi_streams.proofs.lines.show.Goals as goal
 
 pub loop-place-init : goal.loop-place-init
 loop-place-init c = showing_none c.args.input.now c.args.out.now.items

@@ -1,0 +1,10 @@
+//! Streams of frames: answered by a new controller plugin, or shown in lines. This profile's own.
+#![tactic(auto)]
+
+mod answers;
+mod lines;
+mod reading;
+mod shown;
+
+pub use answers::{AnswerFault, answer};
+pub use lines::show;
