@@ -6,11 +6,11 @@ mod answer;
 mod fence;
 mod inner;
 mod line;
-mod lines;
+pub(crate) mod lines;
 mod listing;
 mod new_row;
 mod row_calls;
-mod wanted;
+pub(crate) mod wanted;
 
 use crate::fault::CoreFault;
 use crate::record::ControllerRecord;
