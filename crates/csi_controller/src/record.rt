@@ -1,5 +1,5 @@
 //! A controller's record.
-ghost use Rattle.std.specs.Prelude.{◌≡◌, IfOk, IfErr, OnOk};
+ghost use Rattle.std.specs.Prelude.{◌≡◌, List, IfOk, IfErr, OnOk};
 
 use crate::fault::RecordFault;
 use crate::judging::first_refused;
@@ -30,7 +30,9 @@ impl Model for ControllerRecord {
 
 impl ControllerRecord {
     ghost use Rattle.csi_controller.specs.Core.{IsSound};
+    ghost use Rattle.csi_controller.specs.declared.row.ControllerRow.{ControllerRow as OneRow};
     ghost use Rattle.csi_controller.specs.Judging.{IsRefusal};
+    ghost use Rattle.csi_controller.specs.Views.{AreSameRows};
 
     // A record of these rows.
     pub(crate) fn new(next_id: u64, rows: Vec<ControllerRow>) -> ControllerRecord
@@ -45,7 +47,7 @@ impl ControllerRecord {
     /// below the next id; its capacity is 0 or above 2^63 - 1; it has no capability; its name stands in an earlier row; it was
     /// deleted and has holdings, or has more than 64; two of its holdings name one node or can't be held together, or one is in
     /// a capability that the row lacks; its kept reply isn't one of a controller; or 4,096 rows stand before it. It is refused
-    /// with `NoMemory` where an allocation was, and takes some for the names.
+    /// with `NoMemory` where an allocation was, and takes some for the names. Copies of a record's rows are a record's.
     pub fn try_new(
         alloc: Global,
         next_id: u64,
@@ -55,6 +57,7 @@ impl ControllerRecord {
         ensures sound { OnOk result (IsSound next_id rows.items) }
         ensures refused { IfErr result (IsRefusal next_id rows.items) }
         ensures accepted { IsSound next_id rows.items → IfErr result (λ fault. fault ≡ RecordFault.NoMemory) }
+        ensures copies { (kept : List OneRow) → IsSound next_id kept → AreSameRows kept rows.items → IfErr result (λ fault. fault ≡ RecordFault.NoMemory) }
     {
         match first_refused(alloc, next_id, rows.as_slice()) {
             Ok(None) => Ok(ControllerRecord { next_id, rows }),
