@@ -15,6 +15,7 @@ use Rattle.csi_types.specs.declared.number.Number.{Number}
 use Rattle.csi_types.specs.declared.capability.Capability.{Capability}
 use Rattle.csi_types.specs.declared.call.Kind.{Kind}
 use Rattle.csi_types.specs.declared.call.Kind.TheVariants as kinds
+use Rattle.csi_types.specs.declared.call.Call.{Call}
 use Rattle.csi_types.specs.declared.call.Call.TheVariants.{CreateVolume, DeleteVolume, ControllerPublishVolume, ControllerUnpublishVolume}
 use Rattle.csi_types.specs.declared.call.Party.TheVariants.{Controller}
 use Rattle.csi_types.specs.declared.fence.Verdict.{Verdict}
@@ -29,7 +30,8 @@ use Rattle.csi_types.specs.declared.status.Status.TheVariants.{Ok, NotFound}
 use Rattle.csi_types.specs.Same.{same_text}
 use Rattle.csi_controller.specs.declared.row.NodeHolding.{NodeHolding}
 use Rattle.csi_controller.specs.declared.row.ControllerRow.{ControllerRow}
-use Rattle.csi_controller.specs.State.{Volume, ControllerState, volume_named}
+use Rattle.csi_controller.specs.Repeats.{IsPlainRepeat}
+use Rattle.csi_controller.specs.State.{Volume, ControllerState, is_row_for, volume_named}
 use Rattle.csi_controller.specs.Table.{Outcome, delete, publish, unpublish}
 use Rattle.csi_controller.specs.Fenced.{fenced_call, kept_for}
 use Rattle.csi_controller.specs.Shown.{volume_of_row}
@@ -37,7 +39,7 @@ use Rattle.csi_controller.specs.Core.{IsShown, Answers, IsSound, IsSoundRow, hel
 use Rattle.csi_controller.proofs.Lines.{create-told, delete-told, publish-told, unpublish-told, full-told, sees-row, live-nowhere, held-nowhere}
 use Rattle.csi_controller.proofs.Sound.{sound-after, sound-same, sound-set, rising-one}
 use Rattle.csi_controller.proofs.Fit.{IsGood, create-ends_not, unpublish-ends_not, publish-ends_not}
-use Rattle.csi_controller.proofs.Steps.{row-answers, shown-same, nowhere-answers, kept-there}
+use Rattle.csi_controller.proofs.Steps.{row-answers, shown-same, nowhere-answers, kept-nowhere, kept-there}
 
 -- the row that a search by position gives
 pub at-place : (p : ControllerRow → Bool) (rows : List ControllerRow) (place : ℕ) (row : ControllerRow) → Some place ≡ position p rows → row ≡ get_or rows place row → FirstAt p rows place row
@@ -249,6 +251,19 @@ pub unpublish-let_through : (config : Config) (n : ℕ) (rows : List ControllerR
 unpublish-let_through config n rows state number id node place row shown at is answered =
     let kept = kept-there config n rows state (ControllerUnpublishVolume id node) place row shown (at-place (λ (r : ControllerRow). r.id == id) rows place row at is) in
     ap (λ (k : Option Kept). verdict_of (option_map (λ (x : Kept). x.number) k) number) (sym kept) ∙ answered.0
+
+-- a call whose plain reply is kept, at its row, and without one
+pub repeat-there : (config : Config) (n : ℕ) (rows : List ControllerRow) (state : ControllerState) (number : Number) (call : Call) (place : ℕ) (row : ControllerRow)
+    → IsShown (record { config = config; next_id = n; rows = rows }) state → FirstAt (λ (r : ControllerRow). is_row_for call (volume_of_row r)) rows place row
+    → IsPlainRepeat (kept_for call state) number → (verdict_of (Some row.last) number ≡ Repeated) × (row.reply.detail ≡ [])
+repeat-there config n rows state number call place row shown first repeat = subst (λ (k : Option Kept). IsPlainRepeat k number) (kept-there config n rows state call place row shown first) repeat
+
+pub repeat-nowhere : (config : Config) (n : ℕ) (rows : List ControllerRow) (state : ControllerState) (number : Number) (call : Call)
+    → IsShown (record { config = config; next_id = n; rows = rows }) state → find (λ (r : ControllerRow). is_row_for call (volume_of_row r)) rows ≡ None → IsPlainRepeat (kept_for call state) number → ⊥
+repeat-nowhere config n rows state number call shown none repeat = subst (λ (k : Option Kept). IsPlainRepeat k number) (kept-nowhere config n rows state call shown none) repeat
+
+pub not-repeated : (verdict : Verdict) → verdict ≡ Fresh → verdict ≡ Repeated → ⊥
+not-repeated verdict fresh repeated = let clash : Fresh ≡ Repeated = sym fresh ∙ repeated in cc
 
 -- what follows from a success and from a refusal alike
 pub either_way : {T E : Type 0} (r : Result T E) (P : T → Type 0) (Q R : Type 0) → ((x : T) → P x → R) → (Q → R) → IfOk r P → OnErr r Q → R

@@ -15,7 +15,7 @@ use Rattle.csi_controller.specs.Exclusive.{IsRowExclusive}
 use Rattle.csi_controller.proofs.Apart.{apart, turned}
 
 -- no later one is at the same node
-other_nodes : (node : List ℕ) (later : List NodeHolding) → find (λ (h : NodeHolding). same_text h.node node) later ≡ None → AllByRecursion (λ (h : NodeHolding). same_text h.node node ≡ false) later
+pub other_nodes : (node : List ℕ) (later : List NodeHolding) → find (λ (h : NodeHolding). same_text h.node node) later ≡ None → AllByRecursion (λ (h : NodeHolding). same_text h.node node ≡ false) later
 other_nodes node [] none = tt
 other_nodes node (h ∷ hs) none = by (same_text h.node node) refl (other_nodes node hs) none
   where

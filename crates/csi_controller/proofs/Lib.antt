@@ -24,3 +24,5 @@ pub mod Delivered
 pub mod Facts
 pub mod TableLaw
 pub mod SafeStates
+mod SoundRow
+pub mod FirstRefused

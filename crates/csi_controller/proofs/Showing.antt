@@ -1,8 +1,7 @@
 -- Rows that keep the rules of a record show a state.
-use Rattle.std.proofs.Common.{◌≡◌, ◌<◌, ◌≤◌, ℕ, ◌^◌, ◌%◌, Bool, true, false, cond, map, refl, sym, ◌∙◌, ap, arith}
+use Rattle.std.proofs.Common.{◌≡◌, ◌<◌, ◌≤◌, ℕ, ◌^◌, ◌%◌, Bool, true, false, cond, map, refl, sym, arith}
 use Rattle.std.specs.Prelude.{◌==◌}
 use Rattle.std.proofs.lemmas.Bool.{eqb-true, eqb-false}
-use Rattle.csi_controller.specs.declared.row.ControllerRow.{ControllerRow}
 use Rattle.csi_controller.specs.State.{ControllerState}
 use Rattle.csi_controller.specs.Shown.{volume_of_row}
 use Rattle.csi_controller.specs.Core.{Parts, IsShown, IsSound, next_shown}

@@ -191,6 +191,13 @@ nowhere-answers config n rows state number call frame reply shown none line is =
     subst (λ (k : Option Kept). Answers (record { config = config; next_id = n; rows = rows }) frame (fenced_call config state number call k)) (sym found)
     (subst (λ (o : Outcome). Answers (record { config = config; next_id = n; rows = rows }) frame (carried_out state number call o)) (sym line) answer)
 
+-- nothing is kept for a call that has no row
+pub kept-nowhere : (config : Config) (n : ℕ) (rows : List ControllerRow) (state : ControllerState) (call : Call)
+    → IsShown (record { config = config; next_id = n; rows = rows }) state → find (λ (r : ControllerRow). is_row_for call (volume_of_row r)) rows ≡ None → kept_for call state ≡ None
+kept-nowhere config n rows state call shown none =
+    ap (option_map (λ (v : Volume). v.kept))
+    (ap (find (is_row_for call)) (sym shown.shows.volumes) ∙ find-of_map (is_row_for call) volume_of_row rows ∙ ap (option_map volume_of_row) none)
+
 -- what is kept in the row of a call
 pub kept-there : (config : Config) (n : ℕ) (rows : List ControllerRow) (state : ControllerState) (call : Call) (place : ℕ) (row : ControllerRow)
     → IsShown (record { config = config; next_id = n; rows = rows }) state → FirstAt (λ (r : ControllerRow). is_row_for call (volume_of_row r)) rows place row

@@ -12,3 +12,6 @@ pub mod Views
 pub mod Exclusive
 pub mod Safe
 pub mod View
+pub mod SoundRow
+pub mod Judging
+pub mod Repeats

@@ -1,16 +1,16 @@
 //! The controller plugin.
-ghost use Rattle.std.specs.Prelude.{◌≡◌, ◌%◌, ◌^◌, Some, None, [], IfOk, OnOk, OnErr, IsOk, option_map, find, ◌==◌};
+ghost use Rattle.std.specs.Prelude.{◌≡◌, ◌%◌, ◌^◌, Some, None, [], Ok, IfOk, OnOk, OnErr, IsOk, option_map, find, ◌==◌};
 ghost use Rattle.csi_types.specs.declared.call.Call.{Call as OneCall};
 
 mod answer;
 mod fence;
 mod inner;
 mod line;
-mod lines;
+pub(crate) mod lines;
 mod listing;
 mod new_row;
 mod row_calls;
-mod wanted;
+pub(crate) mod wanted;
 
 use crate::fault::CoreFault;
 use crate::record::ControllerRecord;
@@ -42,7 +42,8 @@ impl Model for Controller {
 
 impl Controller {
     ghost use Rattle.csi_controller.specs.State.{ControllerState, empty_controller, volume_named};
-    ghost use Rattle.csi_controller.specs.Fenced.{fenced};
+    ghost use Rattle.csi_controller.specs.Fenced.{fenced, kept_for};
+    ghost use Rattle.csi_controller.specs.Repeats.{IsPlainRepeat};
     ghost use Rattle.csi_lists.specs.Members.{EachTwo};
     ghost use Rattle.csi_controller.specs.Views.{shown_if_live, attached, IsHeldBefore, HasHoldingsOf, IsCopyOf, IsRowOf};
     ghost use Rattle.csi_controller.specs.Core.{IsShown, IsSound, IsAnsweredOk, IsUndoing};
@@ -64,9 +65,9 @@ impl Controller {
 
     /// Answers a call: the fence, then the table ("CreateVolume", "DeleteVolume", "ControllerPublishVolume"
     /// and "ControllerUnpublishVolume" of CSI's spec.md; the fence is this profile's own). A reply and another
-    /// plugin's call get no answer, change nothing and take no memory, as do a DeleteVolume and a
-    /// ControllerUnpublishVolume that the table answers with `Ok`. A refusal for want of memory leaves the
-    /// controller as it was.
+    /// plugin's call get no answer, change nothing and take no memory. None is taken by a DeleteVolume and a
+    /// ControllerUnpublishVolume that the table answers with `Ok`, nor by a kept reply without a detail that is given
+    /// again. A refusal for want of memory leaves the controller as it was.
     pub fn step(&mut self, frame: &Frame) -> Result<Option<Frame>, CoreFault>
         // the answer and the new state are the definition's
         ensures reply { (state : ControllerState) → IsShown self.old state → IfOk result (λ reply. reply ≡ (fenced self.old.config state frame.now).reply) }
@@ -77,6 +78,8 @@ impl Controller {
         ensures silent { (state : ControllerState) → (fenced self.old.config state frame.now).reply ≡ None → IsOk result }
         ensures undone { (state : ControllerState) (call : OneCall) → IsShown self.old state → frame.now.body ≡ Body.Call call → IsUndoing call
             → IsAnsweredOk self.old.config state frame.now.number call → IsOk result }
+        ensures repeated { (state : ControllerState) (call : OneCall) → IsShown self.old state → frame.now.body ≡ Body.Call call
+            → IsPlainRepeat (kept_for call state) frame.now.number → IsOk result }
     {
         self.core.step(frame)
     }
@@ -104,13 +107,13 @@ impl Controller {
     }
 
     /// The controller of a record, under a configuration that need not be the one that it was made under: what
-    /// the record holds stays, also where the configuration wouldn't grant it. It takes no memory today.
+    /// the record holds stays, also where the configuration wouldn't grant it. It takes no memory.
     pub fn from_record(
         alloc: Global,
         config: Config,
         kept: ControllerRecord,
     ) -> Result<Controller, CoreFault>
-        ensures { IfOk result (λ controller. controller ≡ record { config = config; next_id = kept.next_id; rows = kept.rows }) }
+        ensures { result ≡ Ok (record { config = config; next_id = kept.next_id; rows = kept.rows }) }
     {
         let next_id = kept.next_id();
         let rows = kept.into_rows();
@@ -134,10 +137,11 @@ impl Controller {
         Ok(ControllerRecord::new(core.next_id, rows))
     }
 
-    /// The row of the volume of this id, deleted or not, as the record has it.
+    /// The row of the volume of this id, deleted or not, as the record has it. Where there is none it takes no memory.
     pub fn row(&self, _alloc: Global, id: VolumeId) -> Result<Option<ControllerRow>, CoreFault>
         ensures copy { IfOk result (λ copy. IsCopyOf (find (λ row. row.id == id) self.now.rows) copy) }
         ensures state { (state : ControllerState) → IsShown self.now state → IfOk result (IsRowOf state id) }
+        ensures succeeds { find (λ row. row.id == id) self.now.rows ≡ None → IsOk result }
     {
         self.core.row(id)
     }

@@ -4,13 +4,15 @@
 
 mod controller;
 mod fault;
+mod judging;
 mod laws;
 mod record;
 mod row;
 mod rows;
+mod sound_row;
 
 pub use controller::Controller;
-pub use fault::CoreFault;
+pub use fault::{CoreFault, RecordFault};
 pub use laws::{delivery_law, exclusive_law, names_law, safety_law, showing_law, table_law};
 pub use record::ControllerRecord;
 pub use row::{ControllerRow, NodeHolding};

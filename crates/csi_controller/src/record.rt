@@ -1,11 +1,16 @@
 //! A controller's record.
-ghost use Rattle.std.specs.Prelude.{◌≡◌};
+ghost use Rattle.std.specs.Prelude.{◌≡◌, List, IfOk, IfErr, OnOk};
 
+use crate::fault::RecordFault;
+use crate::judging::first_refused;
 use crate::row::ControllerRow;
+use csi_types::NoMemory;
+use std::alloc::Global;
 use std::marker::Model;
 
 /// All that a controller has to keep (this profile's own): the next id, 0 once all were given, and its rows by
-/// rising id. It is made by `Controller::record`.
+/// rising id. It is what `Controller::record` gives, or is made of rows
+/// by `ControllerRecord::try_new`.
 #[derive(Drop)]
 pub struct ControllerRecord {
     next_id: u64,
@@ -25,6 +30,9 @@ impl Model for ControllerRecord {
 
 impl ControllerRecord {
     ghost use Rattle.csi_controller.specs.Core.{IsSound};
+    ghost use Rattle.csi_controller.specs.declared.row.ControllerRow.{ControllerRow as OneRow};
+    ghost use Rattle.csi_controller.specs.Judging.{IsRefusal};
+    ghost use Rattle.csi_controller.specs.Views.{AreSameRows};
 
     // A record of these rows.
     pub(crate) fn new(next_id: u64, rows: Vec<ControllerRow>) -> ControllerRecord
@@ -32,6 +40,30 @@ impl ControllerRecord {
         ensures { result ≡ record { next_id = next_id; rows = rows.items } }
     {
         ControllerRecord { next_id, rows }
+    }
+
+    /// The record of these rows, which stand by rising id, with this next id, 0 for all that were given (this profile's own).
+    /// It is refused with `BadRow` at the first row that no record has there: its id isn't above the one before it, or isn't
+    /// below the next id; its capacity is 0 or above 2^63 - 1; it has no capability; its name stands in an earlier row; it was
+    /// deleted and has holdings, or has more than 64; two of its holdings name one node or can't be held together, or one is in
+    /// a capability that the row lacks; its kept reply isn't one of a controller; or 4,096 rows stand before it. It is refused
+    /// with `NoMemory` where an allocation was, and takes some for the names. Copies of a record's rows are a record's.
+    pub fn try_new(
+        alloc: Global,
+        next_id: u64,
+        rows: Vec<ControllerRow>,
+    ) -> Result<ControllerRecord, RecordFault>
+        ensures value { IfOk result (λ made. made ≡ record { next_id = next_id; rows = rows.items }) }
+        ensures sound { OnOk result (IsSound next_id rows.items) }
+        ensures refused { IfErr result (IsRefusal next_id rows.items) }
+        ensures accepted { IsSound next_id rows.items → IfErr result (λ fault. fault ≡ RecordFault.NoMemory) }
+        ensures copies { (kept : List OneRow) → IsSound next_id kept → AreSameRows kept rows.items → IfErr result (λ fault. fault ≡ RecordFault.NoMemory) }
+    {
+        match first_refused(alloc, next_id, rows.as_slice()) {
+            Ok(None) => Ok(ControllerRecord { next_id, rows }),
+            Ok(Some(place)) => Err(RecordFault::BadRow(place)),
+            Err(NoMemory) => Err(RecordFault::NoMemory),
+        }
     }
 
     /// The next id, 0 once all were given.

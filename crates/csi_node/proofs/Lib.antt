@@ -20,3 +20,5 @@ pub mod Listed
 pub mod TableLaw
 pub mod SafeStates
 pub mod StagedOnce
+mod SoundRow
+pub mod FirstRefused

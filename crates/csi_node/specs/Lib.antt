@@ -10,3 +10,5 @@ pub mod Laws
 pub mod Rows
 pub mod Safe
 pub mod View
+pub mod SoundRow
+pub mod Judging

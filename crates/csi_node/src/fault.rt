@@ -21,3 +21,14 @@ impl<T: Drop> From<AllocFailed<T>> for CoreFault {
         CoreFault::NoMemory
     }
 }
+
+/// Why a record isn't made of rows (this profile's own).
+#[derive(Clone, Copy, Debug, PartialEq, Eq, Error)]
+pub enum RecordFault {
+    /// The place, counted from 1, of the first row that no record has there.
+    #[error("no record has row {0}")]
+    BadRow(u64),
+    /// An allocation was refused.
+    #[error("out of memory")]
+    NoMemory,
+}

@@ -30,8 +30,8 @@ fn same_flag(a: bool, b: bool) -> bool
     a == b
 }
 
-// Whether the target is a path from the root.
-fn is_absolute(target: &Target) -> bool
+/// Whether the target is a path from the root.
+pub(crate) fn is_absolute(target: &Target) -> bool
     ensures { result ≡ begins_with_slash target.now }
 {
     target.as_str().as_bytes().first() == Some(&b'/')

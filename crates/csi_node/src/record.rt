@@ -1,8 +1,9 @@
 //! A node's record as a value.
-ghost use Rattle.std.specs.Prelude.{◌≡◌, true, Some, None, [], IfOk, IsOk, OnErr, option_map};
+ghost use Rattle.std.specs.Prelude.{◌≡◌, true, Some, None, [], IfOk, IfErr, IsOk, OnOk, OnErr, option_map};
 
 use crate::copies::{copies_of, copy_in};
-use crate::fault::CoreFault;
+use crate::fault::{CoreFault, RecordFault};
+use crate::judging::first_refused;
 use crate::row::NodeRow;
 use crate::step::answer;
 use csi_types::{Call, Frame, NodeId, Number, VolumeId};
@@ -30,12 +31,29 @@ impl Model for NodeRecord {
 }
 
 impl NodeRecord {
+    ghost use Rattle.csi_node.specs.Judging.{IsRefusal};
     ghost use Rattle.csi_types.specs.Call.{kind_of, is_node_kind};
     ghost use Rattle.csi_node.specs.Fenced.{fenced_call, kept_for};
     ghost use Rattle.csi_node.specs.Record.{parts, IsRecord, Gives};
     ghost use Rattle.csi_node.specs.Shown.{Shows, row_in};
     ghost use Rattle.csi_node.specs.OneRow.{shown};
     ghost use Rattle.csi_node.specs.State.{NodeState, volume_of};
+
+    /// The record of the node of this id that has these rows, by rising id (this profile's own). It is refused with `BadRow` at
+    /// the first row that no record has there: its id isn't above the one before it; it has targets and isn't staged, more than
+    /// 16, one twice, one that doesn't begin with `/`, or two in a mode that allows one; its kept reply isn't one of a node; or
+    /// 4,096 rows stand before it. It takes no memory, and so doesn't answer `NoMemory`.
+    pub fn try_new(id: NodeId, rows: Vec<NodeRow>) -> Result<NodeRecord, RecordFault>
+        ensures value { IfOk result (λ made. made ≡ record { id = id; rows = rows.items }) }
+        ensures rules { OnOk result (IsRecord (parts rows.items)) }
+        ensures refused { IfErr result (IsRefusal rows.items) }
+        ensures accepted { IsRecord (parts rows.items) → IsOk result }
+    {
+        match first_refused(rows.as_slice()) {
+            None => Ok(NodeRecord { id, rows }),
+            Some(place) => Err(RecordFault::BadRow(place)),
+        }
+    }
 
     /// The node's id.
     pub fn id(&self) -> &NodeId

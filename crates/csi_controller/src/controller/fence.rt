@@ -1,7 +1,7 @@
 //! The fence at a row, and what a row keeps.
 ghost use Rattle.std.specs.Prelude.{◌≡◌, [], Some, IsTrue, IsOk, IfOk, OnOk, OnErr, IfSome, IfNone, IsNone};
 ghost use Rattle.csi_types.specs.declared.call.Party.TheVariants.{Controller};
-ghost use Rattle.csi_types.specs.declared.fence.Verdict.TheVariants.{Fresh};
+ghost use Rattle.csi_types.specs.declared.fence.Verdict.TheVariants.{Fresh, Repeated};
 ghost use Rattle.csi_types.specs.Call.{is_party_of};
 ghost use Rattle.csi_types.specs.Fence.{verdict_of as verdict_by};
 ghost use Rattle.csi_types.specs.Reply.{has_id_by_rule};
@@ -16,7 +16,8 @@ use csi_types::{Frame, Kind, Number, Reply, Status, Verdict, verdict_of};
 use std::alloc::Global;
 
 /// What the fence answers at a row to a call of this number and kind, whatever its line of the table is: a refusal
-/// where a later call was answered, the kept reply where this one was, and nothing where it is to be carried out.
+/// where a later call was answered, the kept reply where this one was, and nothing where it is to be carried out. A kept reply
+/// without a detail takes no memory.
 pub fn fence(
     row: &ControllerRow,
     alloc: Global,
@@ -29,6 +30,7 @@ pub fn fence(
     ensures closed { IfSome result (λ answer. IfOk answer (λ frame. (outcome : RowOutcome) → RowGives row.now frame (row_after number kind outcome row.now (verdict_by (Some row.now.last) number)))) }
     ensures open { IfNone result (verdict_by (Some row.now.last) number ≡ Fresh) }
     ensures fresh { verdict_by (Some row.now.last) number ≡ Fresh → IsNone result }
+    ensures repeated { verdict_by (Some row.now.last) number ≡ Repeated → row.now.reply.detail ≡ [] → IfSome result (λ answer. IsOk answer) }
 {
     match verdict_of(Some(row.last), number) {
         Verdict::Stale => Some(unkept(alloc, number, kind, &refused(Status::Aborted, "stale"))),

@@ -65,6 +65,7 @@ impl Core {
     ghost use Rattle.csi_controller.specs.Core.{by_line, publish_line as publish_told};
     ghost use Rattle.csi_controller.specs.Core.RowChange.{RowAttaches};
     ghost use Rattle.csi_controller.specs.CoreParts.{parts_of, IsMade};
+    ghost use Rattle.csi_controller.specs.Repeats.{IsPlainRepeat};
 
     // Where the row of this name is.
     fn place_of_name(&self, name: &Name) -> Option<usize>
@@ -196,6 +197,7 @@ impl Core {
         ensures err { (state : ControllerState) → IsShown (parts_of self.old) state → OnErr result (IsShown (parts_of self.new) state) }
         ensures sound { IsSound self.new.next_id self.new.rows.items }
         ensures config { self.new.config ≡ self.old.config }
+        ensures repeated { (state : ControllerState) → IsShown (parts_of self.old) state → IsPlainRepeat (kept_for (Call.CreateVolume name.now required limit capabilities.now) state) number → IsOk result }
     {
         let alloc = self.alloc;
         let wished = capabilities.as_slice();
@@ -222,6 +224,7 @@ impl Core {
         ensures err { (state : ControllerState) → IsShown (parts_of self.old) state → OnErr result (IsShown (parts_of self.new) state) }
         ensures sound { IsSound self.new.next_id self.new.rows.items }
         ensures config { self.new.config ≡ self.old.config }
+        ensures repeated { (state : ControllerState) → IsShown (parts_of self.old) state → IsPlainRepeat (kept_for (Call.DeleteVolume id) state) number → IsOk result }
         ensures succeeds { (state : ControllerState) → IsShown (parts_of self.old) state → IsAnsweredOk self.old.config state number (Call.DeleteVolume id) → IsOk result }
     {
         let alloc = self.alloc;
@@ -271,6 +274,7 @@ impl Core {
         ensures err { (state : ControllerState) → IsShown (parts_of self.old) state → OnErr result (IsShown (parts_of self.new) state) }
         ensures sound { IsSound self.new.next_id self.new.rows.items }
         ensures config { self.new.config ≡ self.old.config }
+        ensures repeated { (state : ControllerState) → IsShown (parts_of self.old) state → IsPlainRepeat (kept_for (Call.ControllerPublishVolume id node.now capability.now readonly) state) number → IsOk result }
     {
         let alloc = self.alloc;
         let wanted = Wanted {
@@ -305,6 +309,7 @@ impl Core {
         ensures err { (state : ControllerState) → IsShown (parts_of self.old) state → OnErr result (IsShown (parts_of self.new) state) }
         ensures sound { IsSound self.new.next_id self.new.rows.items }
         ensures config { self.new.config ≡ self.old.config }
+        ensures repeated { (state : ControllerState) → IsShown (parts_of self.old) state → IsPlainRepeat (kept_for (Call.ControllerUnpublishVolume id node.now) state) number → IsOk result }
         ensures succeeds { (state : ControllerState) → IsShown (parts_of self.old) state → IsAnsweredOk self.old.config state number (Call.ControllerUnpublishVolume id node.now) → IsOk result }
     {
         let alloc = self.alloc;
@@ -325,6 +330,7 @@ impl Core {
         ensures none { (state : ControllerState) → IsShown (parts_of self.old) state → IfNone result (IsShown (parts_of self.new) state) }
         ensures sound { IsSound self.new.next_id self.new.rows.items }
         ensures config { self.new.config ≡ self.old.config }
+        ensures repeated { (state : ControllerState) → IsShown (parts_of self.old) state → IsPlainRepeat (kept_for call.now state) number → IfSome result (λ answer. IsOk answer) }
         ensures undone { (state : ControllerState) → IsShown (parts_of self.old) state → IsUndoing call.now → IsAnsweredOk self.old.config state number call.now → IfSome result (λ answer. IsOk answer) }
     {
         match call {
@@ -359,6 +365,8 @@ impl Core {
         ensures silent { (state : ControllerState) → (fenced self.old.config state frame.now).reply ≡ None → IsOk result }
         ensures undone { (state : ControllerState) (call : OneCall) → IsShown (parts_of self.old) state → frame.now.body ≡ Body.Call call → IsUndoing call
             → IsAnsweredOk self.old.config state frame.now.number call → IsOk result }
+        ensures repeated { (state : ControllerState) (call : OneCall) → IsShown (parts_of self.old) state → frame.now.body ≡ Body.Call call
+            → IsPlainRepeat (kept_for call state) frame.now.number → IsOk result }
     {
         let number = frame.number();
         let Body::Call(call) = frame.body() else {
@@ -411,10 +419,11 @@ impl Core {
         Ok(copies)
     }
 
-    /// A copy of the row of this id.
+    /// A copy of the row of this id. Without one it takes no memory.
     pub fn row(&self, id: VolumeId) -> Result<Option<ControllerRow>, CoreFault>
         requires { IsSound self.now.next_id self.now.rows.items }
-        ensures { IfOk result (λ copy. IsCopyOf (find (λ row. row.id == id) self.now.rows.items) copy) }
+        ensures copy { IfOk result (λ copy. IsCopyOf (find (λ row. row.id == id) self.now.rows.items) copy) }
+        ensures succeeds { find (λ row. row.id == id) self.now.rows.items ≡ None → IsOk result }
     {
         match self.place_of_id(id) {
             Some(place) => match copied_row(&self.rows[place]) {

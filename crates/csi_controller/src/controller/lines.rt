@@ -38,8 +38,8 @@ fn same_capability(a: &Capability, b: &Capability) -> bool
     same_access(&a.access, &b.access) && a.mode.number() == b.mode.number()
 }
 
-// Whether the list has the capability.
-fn has(capabilities: &[Capability], wished: &Capability) -> bool
+/// Whether the list has the capability.
+pub fn has(capabilities: &[Capability], wished: &Capability) -> bool
     ensures { result ≡ has_capability capabilities.now wished.now }
 {
     capabilities.iter().any(|own| same_capability(wished, own))
@@ -157,8 +157,8 @@ fn is_held_so(held: &NodeHolding, wanted: Wanted) -> bool
         && held.readonly == wanted.readonly
 }
 
-// Whether it is the same holding, or can be held beside this one at another node.
-fn can_hold_with(held: &NodeHolding, wanted: Wanted) -> bool
+/// Whether it is the same holding, or can be held beside this one at another node.
+pub fn can_hold_with(held: &NodeHolding, wanted: Wanted) -> bool
     ensures { (id : ℕ) → result ≡ is_compatible (held_by id (wanted_shown wanted.entry)) (held_by id held.now) }
 {
     let mode = wanted.capability.mode;

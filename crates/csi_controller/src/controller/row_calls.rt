@@ -1,7 +1,7 @@
 //! What a row answers to the calls of its volume, behind the fence.
 ghost use Rattle.std.specs.Prelude.{◌≡◌, ℕ, Some, [], ◌∷◌, ◌++◌, OnOk, IfSome, IsTrue, not, filter, IfOk, IsOk, OnErr};
 ghost use Rattle.csi_types.specs.declared.call.Kind.TheVariants.{CreateVolume, DeleteVolume, ControllerPublishVolume, ControllerUnpublishVolume};
-ghost use Rattle.csi_types.specs.declared.fence.Verdict.TheVariants.{Fresh};
+ghost use Rattle.csi_types.specs.declared.fence.Verdict.TheVariants.{Fresh, Repeated};
 ghost use Rattle.csi_types.specs.declared.status.Status.TheVariants.{Ok as OkStatus};
 ghost use Rattle.csi_types.specs.Fence.{verdict_of};
 ghost use Rattle.csi_types.specs.Reply.{has_id_by_rule};
@@ -31,6 +31,7 @@ pub fn create_again(
     requires { (next_id : ℕ) × IsSoundRow next_id row.old }
     ensures ok { IfOk result (λ frame. RowGives row.new frame (row_after number CreateVolume (create_told row.old required limit wished.now) row.old (verdict_of (Some row.old.last) number))) }
     ensures err { OnErr result (IsSameRow row.old row.new) }
+    ensures repeated { verdict_of (Some row.old.last) number ≡ Repeated → row.old.reply.detail ≡ [] → IsOk result }
 {
     if let Some(answer) = fence(row, alloc, number, Kind::CreateVolume) {
         return answer;
@@ -47,6 +48,7 @@ pub fn delete(row: &mut ControllerRow, alloc: Global, number: Number) -> Result<
     ensures ok { IfOk result (λ frame. RowGives row.new frame (row_after number DeleteVolume (delete_told row.old) row.old (verdict_of (Some row.old.last) number))) }
     ensures err { OnErr result (IsSameRow row.old row.new) }
     ensures succeeds { verdict_of (Some row.old.last) number ≡ Fresh → (delete_told row.old).reply.status ≡ OkStatus → IsOk result }
+    ensures repeated { verdict_of (Some row.old.last) number ≡ Repeated → row.old.reply.detail ≡ [] → IsOk result }
 {
     if let Some(answer) = fence(row, alloc, number, Kind::DeleteVolume) {
         return answer;
@@ -119,6 +121,7 @@ pub fn unpublish(
     ensures ok { IfOk result (λ frame. RowGives row.new frame (row_after number ControllerUnpublishVolume (unpublish_told row.old node.now) row.old (verdict_of (Some row.old.last) number))) }
     ensures err { OnErr result (IsSameRow row.old row.new) }
     ensures succeeds { verdict_of (Some row.old.last) number ≡ Fresh → IsOk result }
+    ensures repeated { verdict_of (Some row.old.last) number ≡ Repeated → row.old.reply.detail ≡ [] → IsOk result }
 {
     if let Some(answer) = fence(row, alloc, number, Kind::ControllerUnpublishVolume) {
         return answer;

@@ -1,13 +1,14 @@
 -- CreateVolume at the row of its name, or with none.
 use Rattle.std.proofs.Common.{refl, Some}
 use Rattle.std.proofs.lemmas.Result.{IfOk-weaker, on_err_weaker}
+use Rattle.csi_types.specs.declared.call.Call.TheVariants.{CreateVolume as CreateCall}
 use Rattle.csi_types.specs.declared.call.Kind.TheVariants.{CreateVolume}
 use Rattle.csi_types.specs.Fence.{verdict_of}
 use Rattle.csi_types.specs.Same.{same_text}
 use Rattle.csi_controller.specs.declared.row.ControllerRow.{ControllerRow}
 use Rattle.csi_controller.specs.Core.{create_line}
 use Rattle.csi_controller.proofs.Fit.{create-good}
-use Rattle.csi_controller.proofs.Calls.{create-answers, nowhere, shown-refused, sound-gives, sound-refused, either_way}
+use Rattle.csi_controller.proofs.Calls.{at-place, repeat-there, repeat-nowhere, create-answers, nowhere, shown-refused, sound-gives, sound-refused, either_way}
 use Rattle.csi_controller.proofs.controller.inner.Core.create.Goals as goal
 
 pub create_new-requires-clause-new : goal.create_new-requires-clause-new
@@ -37,3 +38,16 @@ returns-in-Some-clause-sound c =
     (create-good row c.args.required c.args.limit c.as_slice-wished.result.now) (verdict_of (Some row.last) c.args.number) gives)
     (λ same. sound-refused (λ (r : ControllerRow). same_text r.name c.args.name.now) core.next_id core.rows.items c.in-Some.place row c.create_again.new.row c.requires.sound c.in-Some.ensures c.index_mut.ensures.value same)
     c.create_again.ensures.ok c.create_again.ensures.err
+
+pub returns-in-Some-clause-repeated : goal.returns-in-Some-clause-repeated
+returns-in-Some-clause-repeated c = λ state shown repeat.
+    let core = c.args.self.now in
+    let told = repeat-there core.config core.next_id core.rows.items state c.args.number (CreateCall c.args.name.now c.args.required c.args.limit c.args.capabilities.now) c.in-Some.place c.index_mut.result.now shown
+    (at-place (λ (r : ControllerRow). same_text r.name c.args.name.now) core.rows.items c.in-Some.place c.index_mut.result.now c.in-Some.ensures c.index_mut.ensures.value) repeat in
+    c.create_again.ensures.repeated told.0 told.1
+
+pub returns-in-None-clause-repeated : goal.returns-in-None-clause-repeated
+returns-in-None-clause-repeated c = λ state shown repeat.
+    let core = c.args.self.now in
+    absurd (repeat-nowhere core.config core.next_id core.rows.items state c.args.number (CreateCall c.args.name.now c.args.required c.args.limit c.args.capabilities.now) shown
+    (nowhere (λ (r : ControllerRow). same_text r.name c.args.name.now) core.rows.items c.in-None.ensures) repeat)

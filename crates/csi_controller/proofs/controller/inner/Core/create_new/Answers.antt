@@ -2,7 +2,6 @@
 use Rattle.std.proofs.Common.{◌≡◌, ◌∙◌, ap, subst, sym, length, Some, None}
 use Rattle.std.proofs.lemmas.Result.{IfOk-weaker}
 use Rattle.csi_types.specs.declared.call.Call.TheVariants.{CreateVolume}
-use Rattle.csi_types.specs.Replies.{plain_reply}
 use Rattle.csi_controller.specs.Fenced.{fenced_call, kept_for}
 use Rattle.csi_controller.specs.Core.{Parts, Answers, IsSound, argument_fault, next_shown}
 use Rattle.csi_controller.specs.CoreParts.{parts_of}

@@ -3,6 +3,7 @@ use Rattle.std.proofs.Common.{◌∙◌, ap, refl, Some}
 use Rattle.std.specs.Prelude.{◌==◌}
 use Rattle.std.proofs.lemmas.Result.{IfOk-weaker, on_err_weaker}
 use Rattle.csi_types.specs.declared.call.Party.TheVariants.{Controller}
+use Rattle.csi_types.specs.declared.call.Call.TheVariants.{DeleteVolume as DeleteCall}
 use Rattle.csi_types.specs.declared.call.Kind.TheVariants.{DeleteVolume}
 use Rattle.csi_types.specs.declared.reply.Reply.{Reply}
 use Rattle.csi_types.specs.Fence.{verdict_of}
@@ -10,7 +11,7 @@ use Rattle.csi_types.specs.Replies.{reply_frame}
 use Rattle.csi_controller.specs.declared.row.ControllerRow.{ControllerRow}
 use Rattle.csi_controller.specs.Core.{delete_line}
 use Rattle.csi_controller.proofs.Fit.{delete-good}
-use Rattle.csi_controller.proofs.Calls.{delete-answers, delete-nowhere, delete-let_through, shown-refused, sound-gives, sound-refused, either_way}
+use Rattle.csi_controller.proofs.Calls.{at-place, repeat-there, delete-answers, delete-nowhere, delete-let_through, shown-refused, sound-gives, sound-refused, either_way}
 use Rattle.csi_controller.proofs.controller.inner.Core.delete.Goals as goal
 
 pub returns-in-Some-clause-ok : goal.returns-in-Some-clause-ok
@@ -48,3 +49,10 @@ returns-in-None-clause-ok c = λ state shown.
     let core = c.args.self.now in
     delete-nowhere core.config core.next_id core.rows.items state c.args.number c.args.id c.carried.result shown c.in-None.ensures
     (c.carried.ensures ∙ ap (λ (reply : Reply). reply_frame c.args.number Controller DeleteVolume reply) c.done.ensures)
+
+pub returns-in-Some-clause-repeated : goal.returns-in-Some-clause-repeated
+returns-in-Some-clause-repeated c = λ state shown repeat.
+    let core = c.args.self.now in
+    let told = repeat-there core.config core.next_id core.rows.items state c.args.number (DeleteCall c.args.id) c.in-Some.place c.index_mut.result.now shown
+    (at-place (λ (r : ControllerRow). r.id == c.args.id) core.rows.items c.in-Some.place c.index_mut.result.now c.in-Some.ensures c.index_mut.ensures.value) repeat in
+    c.delete.ensures.repeated told.0 told.1

@@ -2,6 +2,7 @@
 use Rattle.std.proofs.Common.{◌≡◌, ◌∙◌, ap, refl, Some}
 use Rattle.std.specs.Prelude.{◌==◌}
 use Rattle.std.proofs.lemmas.Result.{IfOk-weaker, on_err_weaker}
+use Rattle.csi_types.specs.declared.call.Call.TheVariants.{ControllerPublishVolume as PublishCall}
 use Rattle.csi_types.specs.declared.call.Kind.TheVariants.{ControllerPublishVolume}
 use Rattle.csi_types.specs.declared.call.Party.TheVariants.{Controller}
 use Rattle.csi_types.specs.declared.reply.Reply.{Reply}
@@ -11,7 +12,7 @@ use Rattle.csi_types.specs.Fence.{verdict_of}
 use Rattle.csi_controller.specs.declared.row.NodeHolding.{NodeHolding}
 use Rattle.csi_controller.specs.declared.row.ControllerRow.{ControllerRow}
 use Rattle.csi_controller.proofs.Fit.{publish-good}
-use Rattle.csi_controller.proofs.Calls.{publish-answers, publish-fenced, publish-gives, where_none, publish-nowhere, shown-refused, sound-gives, sound-refused, either_way}
+use Rattle.csi_controller.proofs.Calls.{at-place, not-repeated, nowhere, repeat-there, repeat-nowhere, publish-answers, publish-fenced, publish-gives, where_none, publish-nowhere, shown-refused, sound-gives, sound-refused, either_way}
 use Rattle.csi_controller.proofs.controller.inner.Core.publish.Goals as goal
 
 pub returns-in-Some-fence-clause-ok : goal.returns-in-Some-fence-clause-ok
@@ -59,3 +60,34 @@ returns-in-None-clause-ok c = λ state shown.
     (λ frame is. publish-nowhere core.config core.next_id core.rows.items state c.args.number c.args.id (let w : NodeHolding = record { node = c.args.node.now; capability = c.args.capability.now; readonly = c.args.readonly } in w) frame shown c.in-None.ensures
     (is ∙ ap (λ (reply : Reply). reply_frame c.args.number Controller ControllerPublishVolume reply) c.refused-line.ensures))
     c.unkept.ensures.ok
+
+pub returns-in-Some-fence-clause-repeated : goal.returns-in-Some-fence-clause-repeated
+returns-in-Some-fence-clause-repeated c = λ state shown repeat.
+    let core = c.args.self.now in
+    let told = repeat-there core.config core.next_id core.rows.items state c.args.number (PublishCall c.args.id c.args.node.now c.args.capability.now c.args.readonly) c.in-Some.place c.index-row.result.now shown
+    (at-place (λ (r : ControllerRow). r.id == c.args.id) core.rows.items c.in-Some.place c.index-row.result.now c.in-Some.ensures c.index-row.ensures) repeat in
+    c.in-Some-fence.ensures.repeated told.0 told.1
+
+pub returns-in-Ok-clause-repeated : goal.returns-in-Ok-clause-repeated
+returns-in-Ok-clause-repeated c = λ state shown repeat.
+    let core = c.args.self.now in
+    let row = c.index-row.result.now in
+    let fresh = where_none c.fence.result (verdict_of (Some row.last) c.args.number ≡ Fresh) c.in_default.not-Some c.fence.ensures.open in
+    let told = repeat-there core.config core.next_id core.rows.items state c.args.number (PublishCall c.args.id c.args.node.now c.args.capability.now c.args.readonly) c.in-Some.place row shown
+    (at-place (λ (r : ControllerRow). r.id == c.args.id) core.rows.items c.in-Some.place row c.in-Some.ensures c.index-row.ensures) repeat in
+    absurd (not-repeated (verdict_of (Some row.last) c.args.number) fresh told.0)
+
+pub returns-in-Err-clause-repeated : goal.returns-in-Err-clause-repeated
+returns-in-Err-clause-repeated c = λ state shown repeat.
+    let core = c.args.self.now in
+    let row = c.index-row.result.now in
+    let fresh = where_none c.fence.result (verdict_of (Some row.last) c.args.number ≡ Fresh) c.in_default.not-Some c.fence.ensures.open in
+    let told = repeat-there core.config core.next_id core.rows.items state c.args.number (PublishCall c.args.id c.args.node.now c.args.capability.now c.args.readonly) c.in-Some.place row shown
+    (at-place (λ (r : ControllerRow). r.id == c.args.id) core.rows.items c.in-Some.place row c.in-Some.ensures c.index-row.ensures) repeat in
+    absurd (not-repeated (verdict_of (Some row.last) c.args.number) fresh told.0)
+
+pub returns-in-None-clause-repeated : goal.returns-in-None-clause-repeated
+returns-in-None-clause-repeated c = λ state shown repeat.
+    let core = c.args.self.now in
+    absurd (repeat-nowhere core.config core.next_id core.rows.items state c.args.number (PublishCall c.args.id c.args.node.now c.args.capability.now c.args.readonly) shown
+    (nowhere (λ (r : ControllerRow). r.id == c.args.id) core.rows.items c.in-None.ensures) repeat)

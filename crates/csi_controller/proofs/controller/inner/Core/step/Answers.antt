@@ -3,6 +3,8 @@ use Rattle.std.proofs.Common.{◌∙◌, sym, subst}
 use Rattle.csi_types.specs.declared.call.Call.{Call}
 use Rattle.csi_controller.specs.Core.{IsUndoing, IsAnsweredOk}
 use Rattle.csi_controller.specs.CoreParts.{parts_of}
+use Rattle.csi_controller.specs.Fenced.{kept_for}
+use Rattle.csi_controller.specs.Repeats.{IsPlainRepeat}
 use Rattle.csi_controller.proofs.Called.{Brings, reply-told, state-told, silent-ok, err-same, undone-ok, one-call}
 use Rattle.csi_controller.proofs.controller.inner.Core.step.Goals as goal
 
@@ -33,3 +35,11 @@ returns-clause-undone c = λ state call shown is undoing answered.
     (undone-ok c.answer.result
     (c.answer.ensures.undone state shown (subst IsUndoing same undoing)
     (subst (λ n. IsAnsweredOk c.args.self.now.config state n c.in-Call.call) (sym c.number-number.ensures) (subst (λ (k : Call). IsAnsweredOk c.args.self.now.config state c.args.frame.now.number k) same answered))))
+
+pub returns-clause-repeated : goal.returns-clause-repeated
+returns-clause-repeated c = λ state call shown is repeat.
+    let same = one-call c.args.frame.now call c.in-Call.call is (sym c.body.ensures.value ∙ c.in-Call.is) in
+    rw c.transpose.ensures
+    (undone-ok c.answer.result
+    (c.answer.ensures.repeated state shown
+    (subst (λ n. IsPlainRepeat (kept_for c.in-Call.call state) n) (sym c.number-number.ensures) (subst (λ (k : Call). IsPlainRepeat (kept_for k state) c.args.frame.now.number) same repeat))))

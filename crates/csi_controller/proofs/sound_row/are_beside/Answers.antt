@@ -1,0 +1,14 @@
+-- At different nodes, as far as the two can be held together.
+use Rattle.std.proofs.Common.{◌≡◌, ◌∙◌, not, true, ap, sym}
+use Rattle.std.specs.Prelude.{◌&&◌}
+use Rattle.csi_types.specs.Holding.{is_compatible}
+use Rattle.csi_types.specs.Same.{same_text}
+use Rattle.csi_controller.specs.Core.{held_by}
+use Rattle.csi_controller.proofs.sound_row.are_beside.Goals as goal
+
+pub returns-then-ne : goal.returns-then-ne
+returns-then-ne c =
+    let held = c.args.held.now in
+    let later = c.args.later.now in
+    let differ : not (same_text later.node held.node) ≡ true = sym c.ne.ensures ∙ c.if-ne.true in
+    c.can_hold_with.ensures 1 ∙ ap (λ b. b && is_compatible (held_by 1 later) (held_by 1 held)) (sym differ)

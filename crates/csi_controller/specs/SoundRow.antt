@@ -1,0 +1,39 @@
+-- The rules of one row of a controller's record, as tests. This profile's own.
+use Rattle.std.specs.Prelude.{ℕ, ◌==◌, List, [], ◌∷◌, length, Bool, true, not, ◌&&◌, ◌||◌, nat_le, nat_lt}
+use Rattle.std.specs.List.{list_all}
+use Rattle.csi_types.specs.declared.call.Party.TheVariants.{Controller}
+use Rattle.csi_types.specs.Call.{is_party_of}
+use Rattle.csi_types.specs.Holding.{is_compatible}
+use Rattle.csi_types.specs.Reply.{has_id_by_rule}
+use Rattle.csi_types.specs.Same.{same_text, has_capability}
+use Rattle.csi_controller.specs.declared.row.NodeHolding.{NodeHolding}
+use Rattle.csi_controller.specs.declared.row.ControllerRow.{ControllerRow}
+use Rattle.csi_controller.specs.Core.{held_by, next_shown}
+
+-- the id is below the next one, and the capacity from 1 to the greatest that a call may name
+abbrev pub has_fit_numbers : ℕ → ControllerRow → Bool
+has_fit_numbers next_id row = nat_lt row.id (next_shown next_id) && nat_le 1 row.capacity && nat_le row.capacity 9223372036854775807
+
+-- the kept reply is one that a controller gives
+abbrev pub has_own_reply : ControllerRow → Bool
+has_own_reply row = is_party_of row.kind Controller && has_id_by_rule row.kind row.reply
+
+-- two holdings are at different nodes, and can be held together
+abbrev pub are_beside : NodeHolding → NodeHolding → Bool
+are_beside held later = not (same_text later.node held.node) && is_compatible (held_by 1 later) (held_by 1 held)
+
+-- so are each two of them
+abbrev pub are_all_beside : List NodeHolding → Bool
+are_all_beside [] = true
+are_all_beside (held ∷ later) = list_all (are_beside held) later && are_all_beside later
+
+-- at most 64 holdings, none of a volume that was deleted, each in a capability of the volume's, and each two beside one another
+abbrev pub has_fit_holdings : ControllerRow → Bool
+has_fit_holdings row =
+    nat_le (length row.holdings.items) 64 && (row.live || (length row.holdings.items == 0))
+    && list_all (λ held. has_capability row.capabilities held.capability) row.holdings.items && are_all_beside row.holdings.items
+
+-- all of them
+abbrev pub is_sound_row : ℕ → ControllerRow → Bool
+is_sound_row next_id row =
+    has_fit_numbers next_id row && has_own_reply row && not (length row.capabilities == 0) && has_fit_holdings row

@@ -1,0 +1,61 @@
+//! Which of the rows that a record is to be made of is the first that no record has there.
+ghost use Rattle.std.specs.Prelude.{◌≡◌, ◌||◌, ℕ, List, not, IfOk, OnOk, MatchOption};
+ghost use Rattle.std.specs.BTreeSet.{contains_by};
+ghost use Rattle.std.specs.Cmp.Lexicographic.{slice_cmp};
+ghost use Rattle.std.specs.Ordering.{nat_cmp};
+ghost use Rattle.csi_types.specs.Same.{same_text};
+ghost use Rattle.csi_controller.specs.Core.{IsSound};
+ghost use Rattle.csi_controller.specs.Judging.{IsFirstRefused, may_follow as is_fit_after};
+
+use crate::row::ControllerRow;
+use crate::sound_row::is_sound_row;
+use csi_types::NoMemory;
+use std::alloc::Global;
+use std::collections::BTreeSet;
+
+/// The most rows that a record has.
+const MAX_ROWS: usize = 4096;
+
+// Whether the row may follow so many others, the last of which has this id, whatever their names are.
+fn may_follow(next_id: u64, count: usize, last: u64, row: &ControllerRow) -> bool
+    ensures { result ≡ is_fit_after next_id count last row.now }
+{
+    count < MAX_ROWS && last < row.id.number() && is_sound_row(next_id, row)
+}
+
+// Adds a name, and says whether it is new.
+fn add_name<'a>(names: &mut BTreeSet<&'a str>, name: &'a str) -> Result<bool, NoMemory>
+    ensures is_new { IfOk result (λ is_new. is_new ≡ not (contains_by (λ known. slice_cmp nat_cmp name.now known.now) names.old)) }
+    ensures names { OnOk result ((other : List ℕ) → contains_by (λ known. slice_cmp nat_cmp other known.now) names.new
+        ≡ (same_text name.now other || contains_by (λ known. slice_cmp nat_cmp other known.now) names.old)) }
+{
+    match names.insert(name) {
+        Ok(is_new) => Ok(is_new),
+        Err(_) => Err(NoMemory),
+    }
+}
+
+/// The place, counted from 1, of the first row that no record with this next id has there; `None` where all these rows
+/// are a record's. The names are kept in order, so that each row is compared with few others.
+pub(crate) fn first_refused(
+    alloc: Global,
+    next_id: u64,
+    rows: &[ControllerRow],
+) -> Result<Option<u64>, NoMemory>
+    ensures { IfOk result (λ found. MatchOption found (IsSound next_id rows.now) (IsFirstRefused next_id rows.now)) }
+{
+    let mut names = BTreeSet::new(alloc);
+    let mut last = 0;
+    for (index, row) in rows.iter().enumerate() {
+        let id = row.id.number();
+        let place = index as u64 + 1;
+        if !may_follow(next_id, index, last, row) {
+            return Ok(Some(place));
+        }
+        if !add_name(&mut names, row.name.as_str())? {
+            return Ok(Some(place));
+        }
+        last = id;
+    }
+    Ok(None)
+}

@@ -1,0 +1,6 @@
+-- The rows so far are a record's.
+use Rattle.csi_node.proofs.FirstRefused.{SoFar}
+use Rattle.csi_node.proofs.judging.first_refused.Given as goal
+
+abbrev pub invariant-loop-index : goal.invariant-loop-index
+invariant-loop-index l = SoFar l.rows l.index l.last
