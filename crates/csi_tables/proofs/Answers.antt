@@ -1,0 +1,132 @@
+-- What a query over the one table answers, and that a text that only reads commits nothing.
+use Rattle.std.proofs.Common.{◌≡◌, ℕ, ◌+◌, Bool, true, false, ◌&&◌, cond, List, [], ◌∷◌, ◌++◌, map, drop, filter, flat_map, None, Result, Ok, Err, IfOk, refl, sym, ap, subst, ◌∙◌, inl, inr, IsPermutation}
+use Rattle.std.proofs.lemmas.List.Sorted.{IsPermutation-map, IsPermutation-sym}
+use Rattle.sqlite_value.specs.declared.value.Value.TheVariants.{Blob}
+use Rattle.sqlite_value.specs.Order.{Row}
+use Rattle.sqlite_trees.specs.Tree.{Trees, rowid}
+use Rattle.sqlite_sql.specs.Term.{Term, op2, col, holds}
+use Rattle.sqlite_sql.specs.declared.ops.BinaryOp.TheVariants.{Compare}
+use Rattle.sqlite_sql.specs.declared.ops.CompareOp.TheVariants.{Eq}
+use Rattle.sqlite_value.specs.declared.keys.Collation.TheVariants.{Binary}
+use Rattle.sqlite_sql.specs.Query.{Output, output, IsAnswer}
+use Rattle.sqlite_sql.specs.Program.{overlay}
+use Rattle.sqlite_schema.specs.declared.schema.Schema.{Schema}
+use Rattle.sqlite_resolve.specs.declared.compiled.Compiled.{Compiled}
+use Rattle.sqlite_resolve.specs.declared.error.CompileError.{CompileError}
+use Rattle.sqlite_resolve.specs.declared.error.CompileError.TheVariants.{NoSuchTable}
+use Rattle.sqlite_resolve.specs.Lowering.{and_then}
+use Rattle.sqlite_resolve.specs.Compile.{first, compiled, planned, meaning, returning, command, with_command, timed, small}
+use Rattle.sqlite_syntax.specs.declared.statement.Parsed.{Parsed}
+use Rattle.sqlite_rules.specs.Lists.{Has}
+use Rattle.sqlite_rules.specs.Edit.{id_in}
+use Rattle.sqlite_rules.specs.Calls.{ids_of}
+use Rattle.sqlite_rules.proofs.ListLemmas.{has_filtered, has_kept}
+use Rattle.sqlite_rules.proofs.ProbeLemmas.{mapped_has}
+use Rattle.sqlite_keyed.proofs.ListLemmas.{map-map, filter_same, along_permutation}
+use Rattle.sqlite.specs.Listing.{understood, reads_listing, listing_schema, if_select, is_select}
+use Rattle.sqlite.specs.State.{State, CommitsShowing}
+use Rattle.sqlite_tied.specs.Compute.{everything}
+use Rattle.csi_tables.proofs.Texts.{read_text, remove_query}
+use Rattle.csi_tables.proofs.Stored.{has_key, has_key-row, AreIdsOf}
+
+-- ---- members
+
+pub has_permuted : {X : Type 0} (x : X) (xs ys : List X) → IsPermutation xs ys → Has xs x → Has ys x
+has_permuted {X} x = along_permutation (λ (xs ys : List X). Has xs x → Has ys x)
+    (λ xs h. h)
+    (λ y xs ys more h. elim h [ inl e ↦ inl e | inr k ↦ inr (more k) ])
+    (λ y z xs h. elim h [ inl e ↦ inr (inl e) | inr k ↦ elim k [ inl e ↦ inl e | inr l ↦ inr (inr l) ] ])
+    (λ xs ys zs f g h. g (f h))
+
+pub unmapped : {X Y : Type 0} (f : X → Y) (xs : List X) (y : Y) → Has (map f xs) y → (x : X) × Has xs x × (y ≡ f x)
+unmapped f [] y h = absurd h
+unmapped f (x ∷ xs) y (inl e) = (x, inl refl, e)
+unmapped f (x ∷ xs) y (inr h) = let later = unmapped f xs y h in (later.0, inr later.1, later.2)
+
+-- ---- the rows that are joined to the parameters
+
+one_match : (params : Row) (test : Term) (rows : List Row)
+    → flat_map (λ r. cond (holds (params ∷ r ∷ []) test && true) ((params ∷ r ∷ []) ∷ []) []) rows ≡ map (λ r. params ∷ r ∷ []) (filter (λ r. holds (params ∷ r ∷ []) test) rows)
+one_match params test [] = refl
+one_match params test (x ∷ rows) = by (holds (params ∷ x ∷ []) test) (one_match params test rows)
+  where
+    by : (b : Bool)
+        → flat_map (λ r. cond (holds (params ∷ r ∷ []) test && true) ((params ∷ r ∷ []) ∷ []) []) rows ≡ map (λ r. params ∷ r ∷ []) (filter (λ r. holds (params ∷ r ∷ []) test) rows)
+        → cond (b && true) ((params ∷ x ∷ []) ∷ []) [] ++ flat_map (λ r. cond (holds (params ∷ r ∷ []) test && true) ((params ∷ r ∷ []) ∷ []) []) rows
+        ≡ map (λ r. params ∷ r ∷ []) (cond b (x ∷ filter (λ r. holds (params ∷ r ∷ []) test) rows) (filter (λ r. holds (params ∷ r ∷ []) test) rows))
+    by true more = ap (λ l. (params ∷ x ∷ []) ∷ l) more
+    by false more = more
+
+pub all_match : (params : Row) (rows : List Row) → flat_map (λ r. (params ∷ r ∷ []) ∷ []) rows ≡ map (λ r. params ∷ r ∷ []) rows
+all_match params [] = refl
+all_match params (x ∷ rows) = ap (λ l. (params ∷ x ∷ []) ∷ l) (all_match params rows)
+
+-- ---- the rows of a key
+
+removed_rows : (db : Trees) (key : List ℕ) (found : List Row) → IsAnswer remove_query (overlay db []) (Blob key ∷ []) found
+    → IsPermutation (map (λ r. rowid r ∷ []) (filter (λ r. has_key key (drop 1 r)) (db 0))) found
+removed_rows db key found a =
+    let params = Blob key ∷ [] in
+    let kept = λ (l : List Row). map (output remove_query) (map (λ r. params ∷ r ∷ []) l) in
+    let staged = a.grouped ∙ one_match params (op2 (Compare Eq Binary) (col 1 1) (col 0 0)) (db 0) ∙ ap (map (λ r. params ∷ r ∷ [])) (filter_same _ _ (has_key-row key) (db 0)) in
+    let shown : map (λ (o : Output). o.1) a.kept ≡ map (λ r. rowid r ∷ []) (filter (λ r. has_key key (drop 1 r)) (db 0)) =
+    ap (map (λ (o : Output). o.1)) (a.distinct ∙ ap (map (output remove_query)) staged)
+    ∙ map-map (λ (o : Output). o.1) (output remove_query) (map (λ r. params ∷ r ∷ []) (filter (λ r. has_key key (drop 1 r)) (db 0)))
+    ∙ map-map (λ e. (output remove_query e).1) (λ r. params ∷ r ∷ []) (filter (λ r. has_key key (drop 1 r)) (db 0)) in
+    subst (IsPermutation (map (λ r. rowid r ∷ []) (filter (λ r. has_key key (drop 1 r)) (db 0)))) (sym a.shown)
+    (subst (λ l. IsPermutation l (map (λ (o : Output). o.1) a.ordered)) shown (IsPermutation-map (λ (o : Output). o.1) _ _ a.same))
+
+pub removed_ids : (db : Trees) (key : List ℕ) (found : List Row) → IsAnswer remove_query (overlay db []) (Blob key ∷ []) found → AreIdsOf (db 0) (λ r. has_key key (drop 1 r)) (ids_of found)
+removed_ids db key found a =
+    let passes = λ (r : Row). has_key key (drop 1 r) in
+    let same = removed_rows db key found a in
+    let id = λ (r : Row). id_in (rowid r) in
+    record {
+      complete = λ r h passing. mapped_has id found (rowid r ∷ []) (has_permuted (rowid r ∷ []) _ _ same (mapped_has (λ x. rowid x ∷ []) (filter passes (db 0)) r (has_kept passes (db 0) r h passing)));
+      sound = λ i h.
+          let x = unmapped id found i h in
+          let r = unmapped (λ (y : Row). rowid y ∷ []) (filter passes (db 0)) x.0 (has_permuted x.0 _ _ (IsPermutation-sym _ _ same) x.1) in
+          let kept = has_filtered passes (db 0) r.0 r.1 in
+          (r.0, kept.0, kept.1, x.2 ∙ ap id r.2);
+    }
+
+-- ---- a text that only reads
+
+abbrev pub ShowsNone : Result Compiled CompileError → Type 0
+ShowsNone (Ok c) = c.returning ≡ None
+ShowsNone (Err e) = Unit {0}
+
+abbrev NeverReturns : Result Parsed CompileError → Type 0
+NeverReturns r = IfOk r (λ p. (schema : Schema) (base : ℕ) → returning schema base p.statement ≡ Ok None)
+
+read_never : NeverReturns (first read_text)
+unfolding everything
+read_never = λ schema base. refl
+
+compiled_none : (text : List ℕ) → NeverReturns (first text) → (schema : Schema) → ShowsNone (compiled schema text)
+unfolding compiled planned meaning
+compiled_none text never schema =
+    elim (first text) as (λ r. NeverReturns r → ShowsNone (and_then r (λ p. and_then (planned schema p) (λ plan. Ok (with_command p plan))))) [
+      | Ok p ↦ λ none.
+          let formats = timed schema p.formats p.statement in
+          let base = small p.names + small formats in
+          rw none (elim (command schema p.formats base p.statement) as (λ r. ShowsNone (and_then (and_then (and_then r (λ c. Ok (c, None))) (λ found. Ok (formats, found))) (λ plan. Ok (with_command p plan)))) [ Ok c ↦ refl | Err e ↦ tt ])
+      | Err e ↦ λ _. tt
+    ] never
+
+select_none : (r : Result Compiled CompileError) → ShowsNone r → ShowsNone (if_select r)
+select_none (Ok c) none = elim (is_select c.command) as (λ b. ShowsNone (cond b (Ok c) (Err NoSuchTable))) [ true ↦ none | false ↦ tt ]
+select_none (Err e) none = tt
+
+read_none : (schema : Schema) → ShowsNone (understood schema read_text)
+unfolding understood
+read_none schema =
+    elim (reads_listing schema read_text) as (λ b. ShowsNone (cond b (if_select (compiled listing_schema read_text)) (compiled schema read_text))) [
+      | true ↦ select_none (compiled listing_schema read_text) (compiled_none read_text read_never listing_schema)
+      | false ↦ compiled_none read_text read_never schema
+    ]
+
+-- whatever the database has
+pub reading_commits_nothing : (s : State) (params : Row) (db : Trees) → ¬ CommitsShowing read_text params s db
+unfolding CommitsShowing
+reading_commits_nothing s params db h = absurd (let none = rw (subst ShowsNone h.1.is (read_none s.now.schema)) at h.2 in cc)

@@ -1,0 +1,105 @@
+-- What the four texts mean, and that none of them shows rows but the one that reads.
+use Rattle.std.proofs.Common.{◌≡◌, ℕ, pos, negsuc, List, [], ◌∷◌, codes, false, None, Ok, refl}
+use Rattle.sqlite.specs.declared.types.Value.TheVariants.{Null, Int}
+use Rattle.sqlite.specs.Collation.TheVariants.{Binary}
+use Rattle.sqlite.specs.Term.{Term, lit, col, op2}
+use Rattle.sqlite.specs.Query.{Query, inner, end}
+use Rattle.sqlite_sql.specs.declared.ops.BinaryOp.TheVariants.{Compare}
+use Rattle.sqlite_sql.specs.declared.ops.CompareOp.TheVariants.{Eq}
+use Rattle.sqlite.specs.Source.TheVariants.{Values}
+use Rattle.sqlite.specs.Command.TheVariants.{InsertOr, Delete, Select, CreateTable, Nothing}
+use Rattle.sqlite_schema.specs.declared.command.Conflict.TheVariants.{Replace}
+use Rattle.sqlite.specs.Compile.{table_defined_by}
+use Rattle.sqlite.specs.Change.{created}
+use Rattle.sqlite_tied.specs.Compute.{everything}
+use Rattle.sqlite.specs.Listing.{understood, reads_listing}
+use Rattle.sqlite.proofs.Callers.{IsPlain, command_of, statement_of}
+use Rattle.csi_tables.specs.Declared.{parts_table, parts_schema, no_schema}
+
+abbrev pub make_text : List ℕ
+make_text = codes "CREATE TABLE IF NOT EXISTS parts (key BLOB NOT NULL PRIMARY KEY, value BLOB NOT NULL)"
+
+abbrev pub read_text : List ℕ
+read_text = codes "SELECT key, value FROM parts ORDER BY key"
+
+abbrev pub put_text : List ℕ
+put_text = codes "INSERT OR REPLACE INTO parts (key, value) VALUES (?1, ?2)"
+
+abbrev pub remove_text : List ℕ
+remove_text = codes "DELETE FROM parts WHERE key = ?1"
+
+-- the rowid is to be chosen, and then the two parameters
+abbrev pub put_terms : List Term
+put_terms = lit Null ∷ col 0 0 ∷ col 0 1 ∷ []
+
+-- the columns by rising key
+abbrev pub read_query : Query
+read_query = record {
+  from = inner 0 end;
+  filter = [];
+  group = None;
+  project = col 1 1 ∷ col 1 2 ∷ [];
+  distinct = false;
+  collations = [];
+  order = (col 1 1, record { collation = Binary; descending = false }) ∷ [];
+  limit = lit (Int (negsuc 0));
+  offset = lit (Int (pos 0));
+}
+
+-- the rowids of the rows of a key
+abbrev pub remove_query : Query
+remove_query = record {
+  from = inner 0 end;
+  filter = op2 (Compare Eq Binary) (col 1 1) (col 0 0) ∷ [];
+  group = None;
+  project = col 1 0 ∷ [];
+  distinct = false;
+  collations = [];
+  order = [];
+  limit = lit (Int (negsuc 0));
+  offset = lit (Int (pos 0));
+}
+
+pub make_is : (command_of (understood no_schema make_text) ≡ CreateTable) × (statement_of make_text (understood no_schema make_text) ≡ make_text) × (table_defined_by make_text ≡ Ok parts_table)
+unfolding understood everything parts_table
+make_is = (refl, refl, refl)
+
+pub make_plain : IsPlain (understood no_schema make_text)
+unfolding understood everything
+make_plain = (refl, refl)
+
+pub created_is : created no_schema parts_table ≡ parts_schema
+unfolding everything parts_table parts_schema
+created_is = refl
+
+pub found_is : command_of (understood parts_schema make_text) ≡ Nothing
+unfolding understood everything parts_table parts_schema
+found_is = refl
+
+pub found_plain : IsPlain (understood parts_schema make_text)
+unfolding understood everything parts_table parts_schema
+found_plain = (refl, refl)
+
+pub read_is : (command_of (understood parts_schema read_text) ≡ Select (record { lets = []; body = read_query }) (codes "key" ∷ codes "value" ∷ [])) × (reads_listing parts_schema read_text ≡ false)
+unfolding understood everything parts_table parts_schema
+read_is = (refl, refl)
+
+pub read_plain : IsPlain (understood parts_schema read_text)
+unfolding understood everything parts_table parts_schema
+read_plain = (refl, refl)
+
+pub put_is : command_of (understood parts_schema put_text) ≡ InsertOr 0 Replace (Values put_terms 3) []
+unfolding understood everything parts_table parts_schema
+put_is = refl
+
+pub put_plain : IsPlain (understood parts_schema put_text)
+unfolding understood everything parts_table parts_schema
+put_plain = (refl, refl)
+
+pub remove_is : command_of (understood parts_schema remove_text) ≡ Delete 0 (record { lets = []; body = remove_query })
+unfolding understood everything parts_table parts_schema
+remove_is = refl
+
+pub remove_plain : IsPlain (understood parts_schema remove_text)
+unfolding understood everything parts_table parts_schema
+remove_plain = (refl, refl)

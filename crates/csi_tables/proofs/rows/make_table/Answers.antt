@@ -1,0 +1,12 @@
+use Rattle.std.proofs.Common.{Ok}
+use Rattle.sqlite.specs.Held.{state}
+use Rattle.csi_tables.proofs.Made.{makes, finds}
+use Rattle.csi_tables.proofs.rows.make_table.Goals as goal
+
+pub returns-clause-made : goal.returns-clause-made
+returns-clause-made g c clean blank rest =
+    makes (state g.S.Store c.args.connection.now) (state g.S.Store c.execute.new.self) (Ok c.in_ok-execute.field-0) blank rest (c.in_ok-execute.ensures.runs clean)
+
+pub returns-clause-found : goal.returns-clause-found
+returns-clause-found g c clean rows has rest =
+    finds (state g.S.Store c.args.connection.now) (state g.S.Store c.execute.new.self) (Ok c.in_ok-execute.field-0) rows has rest (c.in_ok-execute.ensures.runs clean)

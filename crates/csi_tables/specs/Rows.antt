@@ -1,0 +1,57 @@
+-- The table's rows, as callers see them.
+use Rattle.std.specs.Prelude.{◌≡◌, ℕ, false, not, List, [], ◌∷◌, map, drop, filter, bytes_eq, IsTrue, IsPermutation}
+use Rattle.std.specs.List.{AllByRecursion}
+use Rattle.std.specs.Ordering.{nat_cmp}
+use Rattle.std.specs.declared.cmp.Ordering.TheVariants.{Less}
+use Rattle.std.specs.Cmp.Lexicographic.{slice_cmp}
+use Rattle.sqlite.specs.declared.types.Value.TheVariants.{Blob}
+use Rattle.sqlite.specs.Order.{Row}
+use Rattle.sqlite.specs.Tree.{IsTable, IsAscending, rowid}
+use Rattle.sqlite.specs.View.{is_int}
+use Rattle.sqlite.specs.State.{State}
+use Rattle.sqlite.specs.declared.error.Error.{Error}
+use Rattle.sqlite.specs.declared.error.Error.TheVariants.{SqlInputError}
+use Rattle.sqlite_resolve.specs.declared.error.CompileError.{CompileError}
+use Rattle.csi_tables.specs.Declared.{parts_schema, no_schema}
+
+pub record KeyedRow : Type 0 where
+  pub key : List ℕ
+  pub value : List ℕ
+
+-- the row's columns: two BLOBs
+abbrev pub cells : KeyedRow → Row
+cells row = Blob row.key ∷ Blob row.value ∷ []
+
+-- SQLite's rows are these, in any order, each under a rowid of its own
+pub record AreRows (stored : List Row) (rows : List KeyedRow) : Type 0 where
+  pub ordered : IsTable stored
+  pub numbered : AllByRecursion (λ r. IsTrue (is_int (rowid r))) stored
+  pub same : IsPermutation (map (drop 1) stored) (map cells rows)
+
+-- the connection is open, the table is the only one, and it has these rows
+pub record HasRows (s : State) (shown : List KeyedRow) : Type 0 where
+  pub is_open : IsTrue s.is_open
+  pub declared : s.now.schema ≡ parts_schema
+  pub rows : AreRows (s.now.trees 0) shown
+
+-- the database has no table yet
+pub record IsBlank (s : State) : Type 0 where
+  pub is_open : IsTrue s.is_open
+  pub empty : s.now.schema ≡ no_schema
+
+-- no transaction is open, and what is seen is committed
+pub record IsAtRest (s : State) : Type 0 where
+  pub autocommit : s.in_transaction ≡ false
+  pub committed : s.now ≡ s.committed
+
+-- the rows of other keys
+abbrev pub without : List ℕ → List KeyedRow → List KeyedRow
+without key rows = filter (λ row. not (bytes_eq row.key key)) rows
+
+-- each key is below the later ones, byte by byte
+abbrev pub AreRising : List KeyedRow → Type 0
+AreRising = IsAscending (λ a b. slice_cmp nat_cmp a.key b.key ≡ Less)
+
+-- SQLite doesn't understand the text, as where a table or a column is missing
+abbrev pub IsInputError : Error → Type 0
+IsInputError error = (fault : CompileError) × (error ≡ SqlInputError fault)

@@ -1,0 +1,6 @@
+//! A table of values under keys in a SQLite database: one function for each statement, whose contract speaks of rows.
+#![tactic(auto)]
+
+mod rows;
+
+pub use rows::{all_rows, make_table, put_row, remove_row};

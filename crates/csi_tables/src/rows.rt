@@ -1,0 +1,63 @@
+//! The statements on the table `parts`.
+ghost use Rattle.std.specs.Prelude.{◌≡◌, ◌∷◌, [], List, IsTrue, map, false, IfOk, IfErr, OnOk};
+ghost use Rattle.sqlite.specs.State.{HasCleanDisk, IsUnchanged, Survives};
+ghost use Rattle.sqlite.specs.Held.{state};
+ghost use Rattle.csi_tables.specs.Rows.{KeyedRow, cells, without, AreRising, HasRows, IsAtRest, IsBlank, IsInputError};
+
+use sqlite::{Alter, Connection, Error, Row, Transaction, params};
+
+/// Makes the table where the database has no table of this name. The statement is its own transaction.
+pub fn make_table<S: Alter>(connection: &mut Connection<S>) -> Result<(), Error>
+    ensures made { HasCleanDisk (state S.Store connection.new) → IsBlank (state S.Store connection.old) → IsAtRest (state S.Store connection.old)
+        → OnOk result (HasRows (state S.Store connection.new) [] × IsAtRest (state S.Store connection.new)) }
+    ensures found { HasCleanDisk (state S.Store connection.new) → (rows : List KeyedRow) → HasRows (state S.Store connection.old) rows → IsAtRest (state S.Store connection.old)
+        → OnOk result (HasRows (state S.Store connection.new) rows × IsAtRest (state S.Store connection.new)) }
+    ensures clean { HasCleanDisk (state S.Store connection.new) → HasCleanDisk (state S.Store connection.old) }
+{
+    connection.execute(
+        "CREATE TABLE IF NOT EXISTS parts (key BLOB NOT NULL PRIMARY KEY, value BLOB NOT NULL)",
+        &[],
+    )?;
+    Ok(())
+}
+
+/// All rows, by rising key. Whatever the database has, nothing is written.
+pub fn all_rows<S: Alter>(connection: &mut Connection<S>) -> Result<Vec<Row>, Error>
+    ensures rows { HasCleanDisk (state S.Store connection.new) → (rows : List KeyedRow) → HasRows (state S.Store connection.old) rows → AreRising rows
+        → IfOk result (λ all. all.items ≡ map cells rows) }
+    ensures same { HasCleanDisk (state S.Store connection.new) → (rows : List KeyedRow) → HasRows (state S.Store connection.old) rows
+        → OnOk result (IsUnchanged (state S.Store connection.old) (state S.Store connection.new)) }
+    ensures known { HasCleanDisk (state S.Store connection.new) → (rows : List KeyedRow) → HasRows (state S.Store connection.old) rows → IfErr result (λ error. ¬ IsInputError error) }
+    ensures survives { Survives (state S.Store connection.old) (state S.Store connection.new) (λ _. ⊥) }
+{
+    connection.query_all("SELECT key, value FROM parts ORDER BY key", &[])
+}
+
+/// Puts a row in, in place of the one of its key if there is one.
+pub fn put_row<S: Alter>(
+    transaction: &mut Transaction<'_, S>,
+    key: &[u8],
+    value: &[u8],
+) -> Result<(), Error>
+    ensures same_reference { transaction.new.conn.ghost_name ≡ transaction.old.conn.ghost_name }
+    ensures put { HasCleanDisk (state S.Store transaction.new.conn.now) → (rows : List KeyedRow) → HasRows (state S.Store transaction.old.conn.now) rows
+        → OnOk result (HasRows (state S.Store transaction.new.conn.now) ((record { key = key.now; value = value.now }) ∷ without key.now rows)) }
+    ensures survives { Survives (state S.Store transaction.old.conn.now) (state S.Store transaction.new.conn.now) (λ _. ⊥) }
+{
+    transaction.execute(
+        "INSERT OR REPLACE INTO parts (key, value) VALUES (?1, ?2)",
+        params![key, value],
+    )?;
+    Ok(())
+}
+
+/// Takes out the row of a key, if there is one.
+pub fn remove_row<S: Alter>(transaction: &mut Transaction<'_, S>, key: &[u8]) -> Result<(), Error>
+    ensures same_reference { transaction.new.conn.ghost_name ≡ transaction.old.conn.ghost_name }
+    ensures removed { HasCleanDisk (state S.Store transaction.new.conn.now) → (rows : List KeyedRow) → HasRows (state S.Store transaction.old.conn.now) rows
+        → OnOk result (HasRows (state S.Store transaction.new.conn.now) (without key.now rows)) }
+    ensures survives { Survives (state S.Store transaction.old.conn.now) (state S.Store transaction.new.conn.now) (λ _. ⊥) }
+{
+    transaction.execute("DELETE FROM parts WHERE key = ?1", params![key])?;
+    Ok(())
+}
