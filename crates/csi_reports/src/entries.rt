@@ -8,7 +8,7 @@ use serde_json::{Value, json};
 use std::alloc::{AllocError, Global};
 
 /// A volume that is staged at a node, and in which mode.
-#[derive(Clone, Debug, PartialEq, Eq, Drop)]
+#[derive(Drop)]
 pub struct StagedAt {
     pub id: VolumeId,
     pub node: NodeId,
@@ -16,7 +16,7 @@ pub struct StagedAt {
 }
 
 /// A volume that is published at a target of a node.
-#[derive(Clone, Debug, PartialEq, Eq, Drop)]
+#[derive(Drop)]
 pub struct PublishedAt {
     pub id: VolumeId,
     pub node: NodeId,

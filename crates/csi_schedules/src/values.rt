@@ -8,7 +8,7 @@ use serde_json::Value;
 use std::alloc::{AllocError, AllocFailed};
 
 /// Why a value was not read.
-#[derive(Clone, Copy, Debug, PartialEq, Eq)]
+#[derive(Clone, Copy)]
 pub enum Flaw {
     /// It isn't as the format says.
     Bad,
