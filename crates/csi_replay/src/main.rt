@@ -1,6 +1,10 @@
 //! Answers the frames of a file as a new controller plugin does, or shows them, or runs a schedule.
 #![tactic(auto)]
 
+ghost use Rattle.std.specs.Prelude.{◌≡◌};
+ghost use Rattle.std.specs.Process.{exit_status as process_status};
+ghost use Rattle.csi_commands.specs.Ending.{exit_status};
+
 mod command_line;
 
 use csi_commands::{Ending, file};
@@ -23,10 +27,25 @@ fn run(rt: &(impl Env + Files + Print + AllocGlobal)) -> Result<Ending, Ending> 
     Ok(ending)
 }
 
-fn main(rt: HostRuntime) -> ExitCode {
-    let ending = run(&rt).unwrap_or_else(|ending| ending);
+// What a process that ends so ends with.
+fn code_of(ending: Ending) -> ExitCode
+    ensures { process_status result ≡ exit_status ending }
+{
+    ExitCode::from(ending.status())
+}
+
+// Does what the words say, and says how it ended.
+fn ended(rt: &(impl Env + Files + Print + Eprint + AllocGlobal)) -> ExitCode {
+    let ending = run(rt).unwrap_or_else(|ending| ending);
     if ending != Ending::Done {
         let _ = eprintln!(rt; "{ending}");
     }
-    ExitCode::from(ending.status())
+    code_of(ending)
 }
+
+fn main(rt: HostRuntime) -> ExitCode {
+    ended(&rt)
+}
+
+#[cfg(test)]
+mod tests;

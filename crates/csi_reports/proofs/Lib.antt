@@ -1,2 +1,4 @@
 pub mod Places
 pub mod NoFloats
+pub mod OneOrder
+pub mod OneReport

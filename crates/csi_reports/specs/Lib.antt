@@ -5,3 +5,4 @@ pub mod Gathered
 pub mod Report
 pub mod Found
 pub mod Laid
+pub mod Laws

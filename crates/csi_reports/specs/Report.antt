@@ -1,5 +1,5 @@
 -- The report of a world: one object of JSON, in compact form, with its keys in order. This profile's own.
-use Rattle.std.specs.Prelude.{◌≡◌, ℕ, List, map, filter, length, codes, Bool, not, Option, is_some}
+use Rattle.std.specs.Prelude.{◌≡◌, ℕ, List, map, filter, length, codes, not, is_some}
 use Rattle.serde_json.specs.Data.{Data, boolean, array, object, no_members, member}
 use Rattle.serde_json.specs.View.{items_of}
 use Rattle.serde_json.specs.Written.{compact_text}
@@ -58,3 +58,7 @@ pub record IsReport (world : WorldShown) (text : List ℕ) : Type 0 where
   pub gathered : Gathered
   pub of : IsGathered world gathered
   pub written : text ≡ compact_text (report_of world gathered)
+
+-- two texts that are the report of this world are the same
+abbrev pub HasOneReport : WorldShown → Type 0
+HasOneReport world = (a b : List ℕ) → IsReport world a → IsReport world b → a ≡ b

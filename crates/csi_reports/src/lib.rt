@@ -4,6 +4,7 @@
 mod document;
 mod entries;
 mod gathering;
+mod laws;
 mod lists;
 mod order;
 mod outcomes;
@@ -11,3 +12,4 @@ mod things;
 mod volumes;
 
 pub use document::report;
+pub use laws::report_law;

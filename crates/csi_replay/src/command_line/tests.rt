@@ -13,12 +13,26 @@ fn words(alloc: Global, texts: &[&str]) -> Result<Vec<String>, AllocError> {
     Ok(words)
 }
 
+const COMMANDS: &[(&str, FileCommand)] = &[
+    ("answer", FileCommand::Answer),
+    ("show", FileCommand::Show),
+    ("run", FileCommand::Run),
+];
+
+// The word is read as this command.
+fn is_read(rt: &(impl Abort + AllocGlobal), word: &str, wanted: FileCommand) -> Result<(), Fail> {
+    let words = words(rt.alloc(), &["csi-replay", word, "a.file"])?;
+    let (command, path) = parse(rt.alloc(), words.as_slice()).ok().ok_or("a command")?;
+    assert_eq!(rt; command, wanted);
+    assert_eq!(rt; path, "a.file");
+    Ok(())
+}
+
 #[test]
 fn a_command_and_its_file_are_read(rt: HostRuntime) -> Result<(), Fail> {
-    let words = words(rt.alloc(), &["csi-replay", "show", "a.frames"])?;
-    let (command, path) = parse(rt.alloc(), words.as_slice()).ok().ok_or("a command")?;
-    assert_eq!(rt; command, FileCommand::Show);
-    assert_eq!(rt; path, "a.frames");
+    for (word, command) in COMMANDS {
+        is_read(&rt, word, *command)?;
+    }
     Ok(())
 }
 

@@ -1,0 +1,24 @@
+//! What holds of reports.
+ghost use Rattle.std.specs.List.{AllByRecursion};
+ghost use Rattle.csi_reports.specs.Laws.{ShowsAState};
+ghost use Rattle.csi_reports.specs.Report.{HasOneReport};
+
+use csi_node::Node;
+use csi_world::World;
+
+// Nothing that runs: each node shows a state.
+fn nodes_show(nodes: &[Node])
+    ensures { AllByRecursion ShowsAState nodes.now }
+{
+    for node in nodes {
+        csi_node::showing_law(node);
+    }
+}
+
+/// A law, and nothing that runs: a world has one report. Two texts that are its report are the same text. This profile's own.
+pub fn report_law(world: &World)
+    ensures { HasOneReport world.now }
+{
+    csi_controller::showing_law(world.controller());
+    nodes_show(world.nodes());
+}
