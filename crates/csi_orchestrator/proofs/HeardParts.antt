@@ -28,7 +28,7 @@ use Rattle.csi_orchestrator.specs.Commands.{next_number}
 use Rattle.csi_orchestrator.specs.Moves.{Answer, Hears, hears}
 use Rattle.csi_orchestrator.specs.Shown.{RowShown, Parts, row_shown, due_in, issued_as, open_in_row}
 use Rattle.csi_orchestrator.specs.RowChanges.{sent, succeeded, wanted}
-use Rattle.csi_orchestrator.specs.RowMoves.{Told, told, put, sends_as, goes_on, is_issued_as, stops_after, hears_refusal, hears_reply, row_replied, IsRefusal}
+use Rattle.csi_orchestrator.specs.RowMoves.{Told, told, put, sends_as, goes_on, is_issued_as, stops_after, hears_refusal, hears_reply, row_replied, IsRefusal, IsToldAs}
 use Rattle.csi_orchestrator.specs.Found.{kind_due}
 use Rattle.csi_orchestrator.specs.CoreMoves.{outgoing_by, gone_on, frame_in, last_after}
 use Rattle.csi_orchestrator.specs.Hearing.{next_refused, next_heard, row_refused, row_heard}
@@ -249,3 +249,19 @@ ignored-none parts ignored number party kind reply e = by (row_replied parts.row
     by (Some row) found e =
         let passes = find-passes (λ (r : RowShown). is_issued_as number party kind (open_in_row r)) parts.rows row found in
         absurd (answer-taken parts (row_heard kind reply row) (next_heard kind reply (next_number parts.last) row) ignored (sym (reply-heard parts row kind reply (replied-kind row number party kind passes)) ∙ e))
+
+-- where a reply is told to send nothing, nothing is due
+taken-quiet : (parts : Parts) (row : Option Outgoing → RowShown) (next : Result (Option Outgoing) OrchFault) → IsToldAs (hears None) (heard_by parts row next) → next ≡ Ok None
+taken-quiet parts row (Ok None) told = refl
+taken-quiet parts row (Ok (Some outgoing)) told = absurd (clash outgoing.frame told)
+  where
+    clash : (frame : Frame) → hears (Some frame) ≡ hears None → ⊥
+    clash frame e = cc
+taken-quiet parts row (Err fault) told = absurd told
+
+pub quiet-there : (parts : Parts) (rows : List Row) (i : ℕ) (row : Row) (number : Number) (party : Party) (kind : Kind) (reply : Reply)
+    → position (λ (row : Row). is_issued_as number party kind (open_in_row (row_shown row))) rows ≡ Some i → row ≡ get_or rows i row
+    → IsToldAs (hears None) (hears_reply parts kind reply (row_replied (map row_shown rows) number party kind)) → next_heard kind reply (next_number parts.last) (row_shown row) ≡ Ok None
+quiet-there parts rows i row number party kind reply at there told =
+    taken-quiet parts (row_heard kind reply (row_shown row)) (next_heard kind reply (next_number parts.last) (row_shown row))
+    (subst (IsToldAs (hears None)) (ap (hears_reply parts kind reply) (found-there rows i row number party kind at there) ∙ reply-heard parts (row_shown row) kind reply (kind-there rows i row number party kind at there)) told)

@@ -32,6 +32,7 @@ pub mod PlacedRows
 pub mod ThingOrder
 pub mod Joined
 pub mod ThingsNoted
+pub mod NothingNoted
 pub mod CalledRows
 pub mod GivenUp
 pub mod HeardRows

@@ -96,3 +96,9 @@ goes-on-refused last row due fault is refused =
 -- want of memory is a refusal where nothing else refuses
 pub wants-memory : {X : Type 0} (r : Result X OrchFault) (x : X) (fault : OrchFault) → r ≡ Ok x → fault ≡ faults.NoMemory → IsRefusal r fault
 wants-memory r x fault is memory = subst (λ r. IsRefusal r fault) (sym is) memory
+
+-- where nothing is sent, nothing is due
+pub none-due : (due : Option Due) (number : Option Number) → outgoing_by due number ≡ Ok None → due ≡ None
+none-due None number e = refl
+none-due (Some due) None e = cc
+none-due (Some due) (Some number) e = cc

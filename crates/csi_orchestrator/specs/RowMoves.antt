@@ -231,3 +231,8 @@ row_moves parts Restarts = starts_again parts
 abbrev pub IsRefusal : {X : Type 0} → Result X OrchFault → OrchFault → Type 0
 IsRefusal (Ok told) fault = fault ≡ faults.NoMemory
 IsRefusal (Err other) fault = fault ≡ other
+
+-- this is answered, and nothing is refused
+abbrev pub IsToldAs : Answer → Result Told OrchFault → Type 0
+IsToldAs answer (Ok told) = told.answer ≡ answer
+IsToldAs answer (Err fault) = ⊥

@@ -121,11 +121,12 @@ impl Core {
         }
     }
 
-    /// Wants the volume not to be there.
+    /// Wants the volume not to be there. It takes no memory.
     pub fn delete(&mut self, name: &Name) -> Result<Option<Frame>, OrchFault>
         ensures ok { IfOk result (λ sent. row_moves (parts_of self.old) (ToDelete name.now) ≡ Ok (record { answer = Sends sent; parts = parts_of self.new })) }
         ensures err { IfErr result (IsRefusal (row_moves (parts_of self.old) (ToDelete name.now))) }
         ensures stays { OnErr result (parts_of self.new ≡ parts_of self.old) }
+        ensures memory { IfErr result (λ fault. fault ≡ OrchFault.NoMemory → ⊥) }
     {
         match row_index(&self.rows, name) {
             Some(index) => {

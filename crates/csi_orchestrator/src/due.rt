@@ -1,5 +1,5 @@
 //! The call that is due.
-ghost use Rattle.std.specs.Prelude.{◌≡◌, ℕ, List, IfOk, IfErr, IfSome, IsTrue, is_some, option_map};
+ghost use Rattle.std.specs.Prelude.{◌≡◌, ℕ, List, IfOk, IfErr, IsOk, IfSome, IsTrue, is_some, option_map};
 ghost use Rattle.csi_types.specs.declared.call.Call.{Call as CallShown};
 ghost use Rattle.csi_types.specs.Call.{kind_of, is_party_of};
 ghost use Rattle.csi_orchestrator.specs.declared.fault.OrchFault.{OrchFault as Fault};
@@ -117,7 +117,8 @@ fn delete_due(id: VolumeId, marks: Marks) -> Option<Due>
     Some(to_controller(Call::DeleteVolume { id }))
 }
 
-/// The call that is due for a goal of a volume of this name, these arguments and this id, by what is known of it.
+/// The call that is due for a goal of a volume of this name, these arguments and this id, by what is known of it. For a
+/// delete it takes no memory.
 pub(crate) fn due_for(
     name: &Name,
     arguments: &Arguments,
@@ -128,6 +129,7 @@ pub(crate) fn due_for(
     ensures ok { IfOk result (λ due. option_map due_shown due ≡ due_with name.now (arguments_shown arguments.now) id marks goal.now) }
     ensures party { IfOk result (λ due. IfSome due (λ due. IsTrue (is_party_of (kind_of due.call) due.party))) }
     ensures err { IfErr result (λ fault. fault ≡ Fault.NoMemory) }
+    ensures delete { goal.now ≡ Goal.Delete → IsOk result }
 {
     match (goal, id) {
         (Goal::Create, _) => create_due(name, arguments, marks),

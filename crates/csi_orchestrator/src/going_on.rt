@@ -1,5 +1,5 @@
 //! What goes on for a row: the call that is sent next, or that nothing is wanted any more.
-ghost use Rattle.std.specs.Prelude.{◌≡◌, Some, Ok, IsTrue, IfOk, IfErr, OnOk, OnErr};
+ghost use Rattle.std.specs.Prelude.{◌≡◌, Some, None, Ok, IsTrue, IfOk, IfErr, IsOk, OnOk, OnErr};
 ghost use Rattle.csi_types.specs.Call.{kind_of, is_party_of};
 ghost use Rattle.csi_types.specs.Replies.{call_frame};
 ghost use Rattle.csi_orchestrator.specs.History.{Arguments as ArgumentsShown};
@@ -39,7 +39,8 @@ fn outgoing_of(number: Number, due: Due) -> Outgoing
     }
 }
 
-/// The call to send for a goal of a volume of this name, these arguments and this id, by what is known of it.
+/// The call to send for a goal of a volume of this name, these arguments and this id, by what is known of it. Where none is
+/// due, and for a delete, it takes no memory.
 pub(crate) fn outgoing_as_known(
     last: Number,
     name: &Name,
@@ -50,6 +51,8 @@ pub(crate) fn outgoing_as_known(
 ) -> Result<Option<Outgoing>, OrchFault>
     ensures ok { IfOk result (λ next. outgoing_by (due_with name.now (arguments_shown arguments.now) id marks goal.now) (number_after last) ≡ Ok next) }
     ensures err { IfErr result (IsRefusal (outgoing_by (due_with name.now (arguments_shown arguments.now) id marks goal.now) (number_after last))) }
+    ensures quiet { due_with name.now (arguments_shown arguments.now) id marks goal.now ≡ None → IsOk result }
+    ensures delete { goal.now ≡ Goal.Delete → IfErr result (λ fault. fault ≡ OrchFault.NoMemory → ⊥) }
 {
     let known = marks;
     let own = id;
@@ -72,7 +75,7 @@ pub(crate) fn kind_for(row: &Row, goal: &Goal) -> Option<Kind>
     due_kind(row.id, known_for(row, goal), goal)
 }
 
-/// The call to send for this goal of the row, by these arguments.
+/// The call to send for this goal of the row, by these arguments. For a delete it takes no memory.
 pub(crate) fn outgoing_for(
     last: Number,
     row: &Row,
@@ -81,12 +84,13 @@ pub(crate) fn outgoing_for(
 ) -> Result<Option<Outgoing>, OrchFault>
     ensures ok { IfOk result (λ next. outgoing_by (due_for (row_shown row.now) (arguments_shown arguments.now) goal.now) (number_after last) ≡ Ok next) }
     ensures err { IfErr result (IsRefusal (outgoing_by (due_for (row_shown row.now) (arguments_shown arguments.now) goal.now) (number_after last))) }
+    ensures delete { goal.now ≡ Goal.Delete → IfErr result (λ fault. fault ≡ OrchFault.NoMemory → ⊥) }
 {
     let marks = known_for(row, goal);
     outgoing_as_known(last, &row.name, arguments, row.id, marks, goal)
 }
 
-/// The call to send for a stop of the row's use at this node and target.
+/// The call to send for a stop of the row's use at this node and target. Where none is due it takes no memory.
 pub(crate) fn outgoing_to_stop(
     last: Number,
     row: &Row,
@@ -95,6 +99,7 @@ pub(crate) fn outgoing_to_stop(
 ) -> Result<Option<Outgoing>, OrchFault>
     ensures ok { IfOk result (λ next. outgoing_by (due_by (row_shown row.now) (Some (Goal.Stop node.now target.now))) (number_after last) ≡ Ok next) }
     ensures err { IfErr result (IsRefusal (outgoing_by (due_by (row_shown row.now) (Some (Goal.Stop node.now target.now))) (number_after last))) }
+    ensures quiet { due_by (row_shown row.now) (Some (Goal.Stop node.now target.now)) ≡ None → IsOk result }
 {
     let Some(id) = row.id else {
         return Ok(None);
@@ -122,11 +127,12 @@ pub(crate) fn go_on(row: &mut Row, next: &Option<Outgoing>)
     }
 }
 
-// Adds the entries that a goal needs. A refusal changes nothing.
+// Adds the entries that a goal needs. A refusal changes nothing. For a delete it takes no memory.
 fn add_entry_for(alloc: Global, row: &mut Row, goal: &Goal) -> Result<(), OrchFault>
     ensures ok { OnOk result (row_shown row.new ≡ with_entry_for goal.now (row_shown row.old)) }
     ensures memory { IfErr result (λ fault. fault ≡ OrchFault.NoMemory) }
     ensures err { OnErr result (row_shown row.new ≡ row_shown row.old) }
+    ensures delete { goal.now ≡ Goal.Delete → IsOk result }
 {
     match goal {
         Goal::Use(usage) => add_entry(alloc, row, usage),
@@ -134,7 +140,7 @@ fn add_entry_for(alloc: Global, row: &mut Row, goal: &Goal) -> Result<(), OrchFa
     }
 }
 
-/// Wants something of the row's volume, and goes on. A refusal changes nothing.
+/// Wants something of the row's volume, and goes on. A refusal changes nothing. For a delete it takes no memory.
 pub(crate) fn pursue(
     alloc: Global,
     row: &mut Row,
@@ -144,6 +150,7 @@ pub(crate) fn pursue(
     ensures ok { IfOk result (λ next. row_wants last goal (row_shown row.old) ≡ Ok (record { outgoing = next; row = row_shown row.new })) }
     ensures err { IfErr result (IsRefusal (row_wants last goal (row_shown row.old))) }
     ensures stays { OnErr result (row_shown row.new ≡ row_shown row.old) }
+    ensures delete { goal ≡ Goal.Delete → IfErr result (λ fault. fault ≡ OrchFault.NoMemory → ⊥) }
 {
     let next = outgoing_for(last, row, &row.arguments, &goal)?;
     add_entry_for(alloc, row, &goal)?;

@@ -1,5 +1,5 @@
 //! What an orchestrator knows, as a list of things.
-ghost use Rattle.std.specs.Prelude.{◌≡◌, ◌++◌, map, IfOk, OnOk, IfErr};
+ghost use Rattle.std.specs.Prelude.{◌≡◌, ◌++◌, [], map, IfOk, IsOk, OnOk, IfErr};
 ghost use Rattle.std.specs.List.{flat_map};
 ghost use Rattle.csi_orchestrator.specs.declared.fault.OrchFault.{OrchFault as Fault};
 ghost use Rattle.csi_orchestrator.specs.Shown.{place_shown, row_shown};
@@ -13,10 +13,11 @@ use crate::thing::{Known, Thing};
 use csi_types::{Name, NodeId};
 use std::alloc::Global;
 
-// Adds that the volume is made, where it may be.
+// Adds that the volume is made, where it may be. Where nothing is added, here and below, no memory is taken.
 fn add_exists(things: &mut Vec<(Thing, Known)>, row: &Row) -> Result<(), OrchFault>
     ensures ok { OnOk result (things.new.items ≡ things.old.items ++ noted (Thing.Exists row.now.name) row.now.exists) }
     ensures err { IfErr result (λ fault. fault ≡ Fault.NoMemory) }
+    ensures empty { noted (Thing.Exists row.now.name) row.now.exists ≡ [] → IsOk result }
 {
     if !row.exists.is_no() {
         let name = row.name.clone()?;
@@ -33,6 +34,7 @@ fn add_attached(
 ) -> Result<(), OrchFault>
     ensures ok { OnOk result (things.new.items ≡ things.old.items ++ noted (Thing.Attached name.now place.now.node) place.now.attached) }
     ensures err { IfErr result (λ fault. fault ≡ Fault.NoMemory) }
+    ensures empty { noted (Thing.Attached name.now place.now.node) place.now.attached ≡ [] → IsOk result }
 {
     if !place.attached.is_no() {
         let name = name.clone()?;
@@ -46,6 +48,7 @@ fn add_attached(
 fn add_staged(things: &mut Vec<(Thing, Known)>, name: &Name, place: &Place) -> Result<(), OrchFault>
     ensures ok { OnOk result (things.new.items ≡ things.old.items ++ noted (Thing.Staged name.now place.now.node) place.now.staged) }
     ensures err { IfErr result (λ fault. fault ≡ Fault.NoMemory) }
+    ensures empty { noted (Thing.Staged name.now place.now.node) place.now.staged ≡ [] → IsOk result }
 {
     if !place.staged.is_no() {
         let name = name.clone()?;
@@ -64,6 +67,7 @@ fn add_aim(
 ) -> Result<(), OrchFault>
     ensures ok { OnOk result (things.new.items ≡ things.old.items ++ noted_of_aim name.now node.now aim.now) }
     ensures err { IfErr result (λ fault. fault ≡ Fault.NoMemory) }
+    ensures empty { noted_of_aim name.now node.now aim.now ≡ [] → IsOk result }
 {
     if !aim.published.is_no() {
         let name = name.clone()?;
@@ -83,6 +87,7 @@ fn add_aims(
 ) -> Result<(), OrchFault>
     ensures ok { OnOk result (things.new.items ≡ things.old.items ++ flat_map (noted_of_aim name.now node.now) aims.now) }
     ensures err { IfErr result (λ fault. fault ≡ Fault.NoMemory) }
+    ensures empty { flat_map (noted_of_aim name.now node.now) aims.now ≡ [] → IsOk result }
 {
     for aim in aims {
         add_aim(things, name, node, aim)?;
@@ -94,6 +99,7 @@ fn add_aims(
 fn add_place(things: &mut Vec<(Thing, Known)>, name: &Name, place: &Place) -> Result<(), OrchFault>
     ensures ok { OnOk result (things.new.items ≡ things.old.items ++ noted_of_place name.now (place_shown place.now)) }
     ensures err { IfErr result (λ fault. fault ≡ Fault.NoMemory) }
+    ensures empty { noted_of_place name.now (place_shown place.now) ≡ [] → IsOk result }
 {
     add_attached(things, name, place)?;
     add_staged(things, name, place)?;
@@ -108,6 +114,7 @@ fn add_places(
 ) -> Result<(), OrchFault>
     ensures ok { OnOk result (things.new.items ≡ things.old.items ++ flat_map (noted_of_place name.now) (map place_shown places.now)) }
     ensures err { IfErr result (λ fault. fault ≡ Fault.NoMemory) }
+    ensures empty { flat_map (noted_of_place name.now) (map place_shown places.now) ≡ [] → IsOk result }
 {
     for place in places {
         add_place(things, name, place)?;
@@ -119,6 +126,7 @@ fn add_places(
 fn add_row(things: &mut Vec<(Thing, Known)>, row: &Row) -> Result<(), OrchFault>
     ensures ok { OnOk result (things.new.items ≡ things.old.items ++ noted_of_row (row_shown row.now)) }
     ensures err { IfErr result (λ fault. fault ≡ Fault.NoMemory) }
+    ensures empty { noted_of_row (row_shown row.now) ≡ [] → IsOk result }
 {
     add_exists(things, row)?;
     add_places(things, &row.name, &row.places)
@@ -128,6 +136,7 @@ fn add_row(things: &mut Vec<(Thing, Known)>, row: &Row) -> Result<(), OrchFault>
 fn things_by_rows(alloc: Global, rows: &[Row]) -> Result<Vec<(Thing, Known)>, OrchFault>
     ensures ok { IfOk result (λ things. things.items ≡ noted_in (map row_shown rows.now)) }
     ensures err { IfErr result (λ fault. fault ≡ Fault.NoMemory) }
+    ensures empty { noted_in (map row_shown rows.now) ≡ [] → IsOk result }
 {
     let mut things = Vec::new(alloc);
     for row in rows {
@@ -138,11 +147,12 @@ fn things_by_rows(alloc: Global, rows: &[Row]) -> Result<Vec<(Thing, Known)>, Or
 
 /// Each thing that these rows don't know as `No`, with what they know of it: by name; of one name `Exists` and then
 /// node by node `Attached`, `Staged` and `Published` by target; texts by their bytes. An `Err` is an allocation that
-/// was refused.
+/// was refused; where there is nothing to list none is asked for.
 pub(crate) fn things_in(alloc: Global, rows: &[Row]) -> Result<Vec<(Thing, Known)>, OrchFault>
     ensures known { AreKept (map row_shown rows.now) → IfOk result (λ things. ListsKnown (known_by_rows (map row_shown rows.now)) things.items) }
     ensures order { AreKept (map row_shown rows.now) → IfOk result (λ things. IsInOrder things.items) }
     ensures err { IfErr result (λ fault. fault ≡ Fault.NoMemory) }
+    ensures empty { noted_in (map row_shown rows.now) ≡ [] → IsOk result }
 {
     let mut things = things_by_rows(alloc, rows)?;
     put_in_order(&mut things);

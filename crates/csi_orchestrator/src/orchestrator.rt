@@ -1,7 +1,9 @@
 //! The orchestrator.
-ghost use Rattle.std.specs.Prelude.{◌≡◌, IfOk, OnErr, IfErr, IsOk};
+ghost use Rattle.std.specs.Prelude.{◌≡◌, None, IfOk, OnErr, IfErr, IsOk};
 ghost use Rattle.csi_orchestrator.specs.declared.fault.OrchFault.{OrchFault as Fault};
 ghost use Rattle.csi_orchestrator.specs.declared.fault.Heard.{Heard as HeardShown};
+ghost use Rattle.csi_orchestrator.specs.declared.thing.Known.TheVariants.{No};
+ghost use Rattle.csi_orchestrator.specs.declared.thing.Thing.{Thing as ThingShown};
 
 use crate::fault::{Heard, OrchFault};
 use crate::inner::{Core, known_in};
@@ -147,10 +149,11 @@ impl Orchestrator {
 
     /// Wants the volume not to be there (CSI's spec.md, "DeleteVolume"): the DeleteVolume to send, or `None` where it isn't.
     /// Refused with the first that holds of `NoSuchVolume`, `NotCreated` (no id was heard) and `InUse`, and, where it may be
-    /// there, of `Busy`, `NumbersSpent` and `NoMemory`. A refusal changes nothing.
+    /// there, of `Busy` and `NumbersSpent`. A refusal changes nothing. It takes no memory.
     pub fn delete(&mut self, name: &Name) -> Result<Option<Frame>, OrchFault>
         ensures ok { (history : History) → IsWellFormed history → AgreesWith self.old history → IfOk result (λ sent. IsDone history (moves self.old.nodes history (ToDelete name.now)) (Sends sent) self.new) }
         ensures err { (history : History) → IsWellFormed history → AgreesWith self.old history → IfErr result (IsRefusal (moves self.old.nodes history (ToDelete name.now))) }
+        ensures memory { IfErr result (λ fault. fault ≡ Fault.NoMemory → ⊥) }
         ensures stays { OnErr result (self.new ≡ self.old) }
         ensures nodes { self.new.nodes ≡ self.old.nodes }
     {
@@ -173,12 +176,13 @@ impl Orchestrator {
     /// A frame came. The reply to an open call, by its number, party and kind, closes that call: what a success says is known
     /// then, and the next call is sent; a refused ControllerPublishVolume, NodeStageVolume or NodePublishVolume is undone, a
     /// refused CreateVolume is given up, and another refused call waits for its timeout. Any other frame is `Ignored`, which
-    /// changes nothing and takes no memory. Refused with `NumbersSpent`, where there is a next call and no number for it, and
-    /// then `NoMemory`. A refusal changes nothing.
+    /// changes nothing and takes no memory; nor does a reply after which nothing is sent. Refused with `NumbersSpent`, where there
+    /// is a next call and no number for it, and then `NoMemory`. A refusal changes nothing.
     pub fn deliver(&mut self, frame: &Frame) -> Result<Heard, OrchFault>
         ensures ok { (history : History) → IsWellFormed history → AgreesWith self.old history → IfOk result (λ heard. IsDone history (moves self.old.nodes history (Comes frame.now)) (Hears heard) self.new) }
         ensures err { (history : History) → IsWellFormed history → AgreesWith self.old history → IfErr result (IsRefusal (moves self.old.nodes history (Comes frame.now))) }
         ensures ignored { (history : History) → IsWellFormed history → AgreesWith self.old history → IsHeardAs HeardShown.Ignored (moves self.old.nodes history (Comes frame.now)) → IsOk result }
+        ensures quiet { (history : History) → IsWellFormed history → AgreesWith self.old history → IsHeardAs (HeardShown.Taken None) (moves self.old.nodes history (Comes frame.now)) → IsOk result }
         ensures stays { OnErr result (self.new ≡ self.old) }
         ensures nodes { self.new.nodes ≡ self.old.nodes }
     {
@@ -187,12 +191,13 @@ impl Orchestrator {
 
     /// Each thing that it doesn't know as `No`, with what it knows of it, each once: by name; of one name first
     /// `Exists`, and then node by node `Attached`, `Staged` and `Published` by target; texts by their bytes. An `Err` is
-    /// an allocation that was refused.
+    /// an allocation that was refused; where each thing is known as `No` none is asked for.
     pub fn things(&self) -> Result<Vec<(Thing, Known)>, OrchFault>
         ensures agrees { (history : History) → AgreesWith self.now history → IfOk result (λ things. ListsKnown (known history) things.items) }
         ensures marks { IfOk result (λ things. ListsKnown (view_of self.now).marks things.items) }
         ensures order { IfOk result (λ things. IsInOrder things.items) }
         ensures err { IfErr result (λ fault. fault ≡ Fault.NoMemory) }
+        ensures empty { ((thing : ThingShown) → (view_of self.now).marks thing ≡ No) → IsOk result }
     {
         things_in(self.core.alloc, &self.core.rows)
     }

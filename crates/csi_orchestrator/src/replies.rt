@@ -4,9 +4,9 @@ ghost use Rattle.csi_types.specs.Same.{same_number as is_same_number, same_kind 
 ghost use Rattle.csi_orchestrator.specs.declared.fault.OrchFault.{OrchFault as Fault};
 ghost use Rattle.csi_orchestrator.specs.declared.fault.Heard.TheVariants.{Ignored as IsIgnored};
 ghost use Rattle.csi_orchestrator.specs.Commands.{next_number as number_after};
-ghost use Rattle.csi_orchestrator.specs.Moves.{Comes, Hears};
+ghost use Rattle.csi_orchestrator.specs.Moves.{Comes, Hears, hears};
 ghost use Rattle.csi_orchestrator.specs.Shown.{row_shown, due_in, due_by, open_in_row};
-ghost use Rattle.csi_orchestrator.specs.RowMoves.{is_issued_as, hears_reply, row_replied, row_moves, IsRefusal};
+ghost use Rattle.csi_orchestrator.specs.RowMoves.{is_issued_as, hears_reply, row_replied, row_moves, IsRefusal, IsToldAs};
 ghost use Rattle.csi_orchestrator.specs.Found.{kind_due};
 ghost use Rattle.csi_orchestrator.specs.Hearing.{is_node_of, is_to as is_to_told, is_due_as as is_told_as, next_refused, next_heard as next_told, row_refused, row_heard};
 ghost use Rattle.csi_orchestrator.specs.Kept.{IsKept, AreKept};
@@ -95,10 +95,11 @@ fn index_replied(rows: &[Row], number: Number, party: &Party, kind: Kind) -> Opt
         .position(|row| is_replied(row, number, party, kind))
 }
 
-// The next call for the row once its due call had another status than `Ok`.
+// The next call for the row once its due call had another status than `Ok`. Where none is sent it takes no memory.
 fn next_otherwise(last: Number, row: &Row) -> Result<Option<Outgoing>, OrchFault>
     ensures ok { IfOk result (λ next. next_refused (number_after last) (row_shown row.now) row.now.goal ≡ Ok next) }
     ensures err { IfErr result (IsRefusal (next_refused (number_after last) (row_shown row.now) row.now.goal)) }
+    ensures quiet { next_refused (number_after last) (row_shown row.now) row.now.goal ≡ Ok None → IsOk result }
 {
     match &row.goal {
         Some(Goal::Use(usage)) => outgoing_to_stop(last, row, &usage.node, &usage.target),
@@ -106,7 +107,7 @@ fn next_otherwise(last: Number, row: &Row) -> Result<Option<Outgoing>, OrchFault
     }
 }
 
-// The next call for the row after this reply to its due call.
+// The next call for the row after this reply to its due call. Where none is sent it takes no memory.
 fn next_heard(
     last: Number,
     row: &Row,
@@ -117,6 +118,7 @@ fn next_heard(
     requires due { kind_due (due_in (row_shown row.now)) ≡ Some kind }
     ensures ok { IfOk result (λ next. next_told kind reply.now (number_after last) (row_shown row.now) ≡ Ok next) }
     ensures err { IfErr result (IsRefusal (next_told kind reply.now (number_after last) (row_shown row.now))) }
+    ensures quiet { next_told kind reply.now (number_after last) (row_shown row.now) ≡ Ok None → IsOk result }
 {
     match reply.status {
         Status::Ok => next_after(last, row, kind, reply),
@@ -169,6 +171,7 @@ impl Core {
         ensures err { IfErr result (IsRefusal (hears_reply (parts_of self.old) kind reply.now (row_replied (map row_shown self.old.rows.items) number party.now kind))) }
         ensures stays { OnErr result (parts_of self.new ≡ parts_of self.old) }
         ensures ignored { row_replied (map row_shown self.old.rows.items) number party.now kind ≡ None → IsOk result }
+        ensures quiet { IsToldAs (hears None) (hears_reply (parts_of self.old) kind reply.now (row_replied (map row_shown self.old.rows.items) number party.now kind)) → IsOk result }
     {
         match index_replied(&self.rows, number, party, kind) {
             Some(index) => {
@@ -181,13 +184,14 @@ impl Core {
     }
 
     /// What becomes of a frame: the reply to an open call tells what the call did, and the next call is
-    /// sent. Whatever else comes is ignored, which takes no memory. A refusal changes nothing.
+    /// sent; where none is sent it takes no memory. Whatever else comes is ignored, which takes none. A refusal changes nothing.
     pub fn deliver(&mut self, frame: &Frame) -> Result<Heard, OrchFault>
         requires { AreKept (map row_shown self.old.rows.items) }
         ensures ok { IfOk result (λ heard. row_moves (parts_of self.old) (Comes frame.now) ≡ Ok (record { answer = Hears heard; parts = parts_of self.new })) }
         ensures err { IfErr result (IsRefusal (row_moves (parts_of self.old) (Comes frame.now))) }
         ensures stays { OnErr result (parts_of self.new ≡ parts_of self.old) }
         ensures ignored { row_moves (parts_of self.old) (Comes frame.now) ≡ Ok (record { answer = Hears IsIgnored; parts = parts_of self.old }) → IsOk result }
+        ensures quiet { IsToldAs (hears None) (row_moves (parts_of self.old) (Comes frame.now)) → IsOk result }
     {
         match frame.body() {
             Body::Reply(kind, reply) => self.hear(frame.number(), frame.party(), *kind, reply),

@@ -137,11 +137,12 @@ pub(crate) fn stop_row(
     pursue(alloc, row, last, Goal::Stop { node, target })
 }
 
-// A delete, where nothing refuses it. It may be so already.
+// A delete, where nothing refuses it. It may be so already. It takes no memory.
 fn delete_or_met(alloc: Global, row: &mut Row, last: Number) -> Result<Option<Outgoing>, OrchFault>
     ensures ok { IfOk result (λ next. row_delete_or_met (with_last last) (row_shown row.old) ≡ Ok (record { outgoing = next; row = row_shown row.new })) }
     ensures err { IfErr result (IsRefusal (row_delete_or_met (with_last last) (row_shown row.old))) }
     ensures stays { OnErr result (row_shown row.new ≡ row_shown row.old) }
+    ensures memory { IfErr result (λ fault. fault ≡ OrchFault.NoMemory → ⊥) }
 {
     if row.exists.is_no() {
         return Ok(None);
@@ -152,7 +153,7 @@ fn delete_or_met(alloc: Global, row: &mut Row, last: Number) -> Result<Option<Ou
     pursue(alloc, row, last, Goal::Delete)
 }
 
-/// A delete of the row's volume.
+/// A delete of the row's volume. It takes no memory.
 pub(crate) fn delete_row(
     alloc: Global,
     row: &mut Row,
@@ -161,6 +162,7 @@ pub(crate) fn delete_row(
     ensures ok { IfOk result (λ next. row_deletes (with_last last) (row_shown row.old) ≡ Ok (record { outgoing = next; row = row_shown row.new })) }
     ensures err { IfErr result (IsRefusal (row_deletes (with_last last) (row_shown row.old))) }
     ensures stays { OnErr result (row_shown row.new ≡ row_shown row.old) }
+    ensures memory { IfErr result (λ fault. fault ≡ OrchFault.NoMemory → ⊥) }
 {
     if let Some(fault) = delete_fault(row) {
         return Err(fault);

@@ -1,5 +1,5 @@
 //! Which call is sent after a success.
-ghost use Rattle.std.specs.Prelude.{◌≡◌, Ok, Some, IfOk, IfErr};
+ghost use Rattle.std.specs.Prelude.{◌≡◌, Ok, Some, None, IfOk, IfErr, IsOk};
 ghost use Rattle.std.specs.Option.{option_or};
 ghost use Rattle.csi_orchestrator.specs.Commands.{next_number as number_after};
 ghost use Rattle.csi_orchestrator.specs.Shown.{row_shown, due_in};
@@ -67,7 +67,7 @@ fn id_heard(row: &Row, kind: Kind, reply: &Reply) -> Option<VolumeId>
     }
 }
 
-/// The next call for the row, once its due call of this kind succeeded with this reply.
+/// The next call for the row, once its due call of this kind succeeded with this reply. Where none is due it takes no memory.
 pub(crate) fn next_after(
     last: Number,
     row: &Row,
@@ -78,6 +78,7 @@ pub(crate) fn next_after(
     requires due { kind_due (due_in (row_shown row.now)) ≡ Some kind }
     ensures ok { IfOk result (λ next. outgoing_by (due_in (succeeded kind reply.now.id (row_shown row.now))) (number_after last) ≡ Ok next) }
     ensures err { IfErr result (IsRefusal (outgoing_by (due_in (succeeded kind reply.now.id (row_shown row.now))) (number_after last))) }
+    ensures quiet { outgoing_by (due_in (succeeded kind reply.now.id (row_shown row.now))) (number_after last) ≡ Ok None → IsOk result }
 {
     match &row.goal {
         Some(goal) => {

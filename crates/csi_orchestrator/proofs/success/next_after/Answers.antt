@@ -11,6 +11,7 @@ use Rattle.csi_orchestrator.specs.RowChanges.{id_told}
 use Rattle.csi_orchestrator.specs.RowMoves.{IsRefusal}
 use Rattle.csi_orchestrator.specs.Shown.{row_shown, arguments_shown, due_with}
 use Rattle.csi_orchestrator.proofs.HeardRows.{due-after}
+use Rattle.csi_orchestrator.proofs.RowsGoOn.{none-due}
 use Rattle.csi_orchestrator.proofs.success.next_after.Goals as goal
 
 pub returns-in-Some-clause-ok : goal.returns-in-Some-clause-ok
@@ -32,3 +33,13 @@ returns-in-Some-clause-err c =
     ∙ ap (λ (marks : Marks). due_with row.name (arguments_shown row.arguments) (option_or (id_told c.args.kind c.args.reply.now.id) row.id) marks c.in-Some.goal) (c.heard-marks.ensures ∙ ap (marks_heard c.args.kind) c.known_for.ensures)
     ∙ sym (due-after shown c.args.kind c.args.reply.now.id c.in-Some.goal c.requires.kept c.requires.due c.in-Some.is))
     c.outgoing_as_known.ensures.err
+
+pub returns-in-Some-clause-quiet : goal.returns-in-Some-clause-quiet
+returns-in-Some-clause-quiet c = λ quiet.
+    let row = c.args.row.now in
+    let shown = row_shown row in
+    c.outgoing_as_known.ensures.quiet
+    (ap (λ (id : Option ℕ). due_with row.name (arguments_shown row.arguments) id c.heard-marks.result c.in-Some.goal) c.id_heard-id.ensures
+    ∙ ap (λ (marks : Marks). due_with row.name (arguments_shown row.arguments) (option_or (id_told c.args.kind c.args.reply.now.id) row.id) marks c.in-Some.goal) (c.heard-marks.ensures ∙ ap (marks_heard c.args.kind) c.known_for.ensures)
+    ∙ sym (due-after shown c.args.kind c.args.reply.now.id c.in-Some.goal c.requires.kept c.requires.due c.in-Some.is)
+    ∙ none-due _ (next_number c.args.last) quiet)

@@ -8,7 +8,7 @@ use Rattle.csi_orchestrator.specs.CoreMoves.{last_after}
 use Rattle.csi_orchestrator.specs.Moves.{hears}
 use Rattle.csi_orchestrator.specs.Shown.{Parts, row_shown, open_in_row}
 use Rattle.csi_orchestrator.specs.RowMoves.{told, is_issued_as, hears_reply}
-use Rattle.csi_orchestrator.proofs.HeardParts.{kept-there, kind-there, heard-there, refused-there, found-differs, unfound}
+use Rattle.csi_orchestrator.proofs.HeardParts.{kept-there, kind-there, heard-there, quiet-there, refused-there, found-differs, unfound}
 use Rattle.csi_orchestrator.proofs.inner.Core.hear.Goals as goal
 
 pub next_heard-requires-clause-kept : goal.next_heard-requires-clause-kept
@@ -39,3 +39,11 @@ returns-in_ok-next-in-Some-clause-ok c =
 pub returns-in-None-clause-ok : goal.returns-in-None-clause-ok
 returns-in-None-clause-ok c =
     ap (hears_reply (parts_of c.args.self.now) c.args.kind c.args.reply.now) (unfound c.args.self.now.rows.items c.args.number c.args.party.now c.args.kind (cc))
+
+pub returns-in_err-next-in-Some-clause-quiet : goal.returns-in_err-next-in-Some-clause-quiet
+returns-in_err-next-in-Some-clause-quiet c = λ told.
+    let at : position (λ (row : Row). is_issued_as c.args.number c.args.party.now c.args.kind (open_in_row (row_shown row))) c.args.self.now.rows.items ≡ Some c.in-Some.index = cc in
+    let there : c.index.result.now ≡ get_or c.args.self.now.rows.items c.in-Some.index c.index.result.now = cc in
+    let quiet = quiet-there (parts_of c.args.self.now) c.args.self.now.rows.items c.in-Some.index c.index.result.now c.args.number c.args.party.now c.args.kind c.args.reply.now at there told in
+    let ok = c.in_err-next-in-Some.ensures.quiet quiet in
+    cc

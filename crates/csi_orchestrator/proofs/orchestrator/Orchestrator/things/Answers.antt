@@ -4,7 +4,8 @@ use Rattle.std.specs.Prelude.{IfOk}
 use Rattle.std.proofs.lemmas.Result.{IfOk-weaker}
 use Rattle.csi_orchestrator.specs.Shown.{RowShown, Parts, row_shown}
 use Rattle.csi_orchestrator.specs.Kept.{AreKept}
-use Rattle.csi_orchestrator.specs.Listing.{known_by_rows, ListsKnown}
+use Rattle.csi_orchestrator.specs.Listing.{known_by_rows, ListsKnown, noted_in}
+use Rattle.csi_orchestrator.proofs.NothingNoted.{nothing-noted}
 use Rattle.csi_orchestrator.proofs.ThingsNoted.{lists-told}
 use Rattle.csi_orchestrator.proofs.orchestrator.Orchestrator.things.Goals as goal
 
@@ -19,3 +20,8 @@ returns-clause-agrees c history agrees =
 
 pub returns-clause-order : goal.returns-clause-order
 returns-clause-order c = c.things_in.ensures.order (subst (λ rows. AreKept (map row_shown rows)) (sym c.deref.ensures.value) c.self.invariant)
+
+pub returns-clause-empty : goal.returns-clause-empty
+returns-clause-empty c = λ unknown.
+    let same : map row_shown c.deref.result.now ≡ c.args.self.now.rows = ap (map row_shown) c.deref.ensures.value ∙ ap (λ (p : Parts). p.rows) c.self.view_is in
+    c.things_in.ensures.empty (ap noted_in same ∙ nothing-noted c.args.self.now.rows (subst (λ (p : Parts). AreKept p.rows) c.self.view_is c.self.invariant) unknown)

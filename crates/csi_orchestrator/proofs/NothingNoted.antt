@@ -1,0 +1,39 @@
+-- Where rows note nothing, no part of them does.
+use Rattle.std.proofs.Common.{◌≡◌, ◌<◌, ℕ, zero, suc, List, [], ◌∷◌, ◌++◌, length, get_or, map, refl, sym, ◌∙◌, inl, arith}
+use Rattle.std.specs.List.{flat_map}
+use Rattle.csi_types.specs.Lists.{IsAmong}
+use Rattle.csi_orchestrator.specs.declared.thing.Known.TheVariants.{No}
+use Rattle.csi_orchestrator.specs.declared.thing.Thing.{Thing}
+use Rattle.csi_orchestrator.specs.declared.thing.Known.{Known}
+use Rattle.csi_orchestrator.specs.Kept.{AreKept}
+use Rattle.csi_orchestrator.specs.Listing.{known_by_rows, noted_in}
+use Rattle.csi_orchestrator.specs.Shown.{RowShown}
+use Rattle.csi_orchestrator.proofs.ThingsNoted.{noted-is-known}
+
+pub no-left : {X : Type 0} (xs ys : List X) → xs ++ ys ≡ [] → xs ≡ []
+no-left [] ys e = refl
+no-left (x ∷ xs) ys e = cc
+
+pub no-right : {X : Type 0} (xs ys : List X) → xs ++ ys ≡ [] → ys ≡ []
+no-right [] ys e = e
+no-right (x ∷ xs) ys e = cc
+
+-- of a list for each, none has any
+pub no-flat : {X Y : Type 0} (f : X → List Y) (xs : List X) (i : ℕ) (d : X) → flat_map f xs ≡ [] → i < length xs → f (get_or xs i d) ≡ []
+no-flat f [] i d e inside = absurd (omega arith)
+no-flat f (x ∷ xs) zero d e inside = no-left (f x) (flat_map f xs) e
+no-flat f (x ∷ xs) (suc i) d e inside = no-flat f xs i d (no-right (f x) (flat_map f xs) e) (omega arith)
+
+-- the same of a list that is seen through a function
+pub no-flat_shown : {W X Y : Type 0} (f : X → List Y) (view : W → X) (ws : List W) (i : ℕ) (d : W) → flat_map f (map view ws) ≡ [] → i < length ws → f (view (get_or ws i d)) ≡ []
+no-flat_shown f view [] i d e inside = absurd (omega arith)
+no-flat_shown f view (w ∷ ws) zero d e inside = no-left (f (view w)) (flat_map f (map view ws)) e
+no-flat_shown f view (w ∷ ws) (suc i) d e inside = no-flat_shown f view ws i d (no-right (f (view w)) (flat_map f (map view ws)) e) (omega arith)
+
+none-among : {X : Type 0} (xs : List X) → ((x : X) → IsAmong x xs → ⊥) → xs ≡ []
+none-among [] none = refl
+none-among (x ∷ xs) none = absurd (none x (inl refl))
+
+-- where each thing is known as No, nothing is noted
+pub nothing-noted : (rows : List RowShown) → AreKept rows → ((thing : Thing) → known_by_rows rows thing ≡ No) → noted_in rows ≡ []
+nothing-noted rows kept unknown = none-among (noted_in rows) (λ (entry : Thing × Known) among. let told = noted-is-known rows entry kept among in told.1 (sym told.0 ∙ unknown entry.0))
