@@ -12,3 +12,4 @@ pub mod Stopping
 pub mod Ending
 pub mod RecordSpelling
 pub mod Rows
+pub mod Tables

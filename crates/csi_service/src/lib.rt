@@ -10,6 +10,7 @@ mod part;
 mod plugin_core;
 mod rows;
 mod serving;
+mod sqlite_keep;
 
 pub use counted::Counted;
 pub use keep::{Keep, KeepFault};
@@ -17,3 +18,4 @@ pub use memory_keep::MemoryKeep;
 pub use part::Part;
 pub use plugin_core::Core;
 pub use serving::{ServeFault, ServeFaultKind, Served, serve};
+pub use sqlite_keep::SqliteKeep;

@@ -1,0 +1,28 @@
+use Rattle.std.proofs.Common.{◌<◌, ◌^◌, sym, subst, map, arith}
+use Rattle.std.specs.Option.{option_map}
+use Rattle.std.proofs.lemmas.Result.{on_ok_weaker}
+use Rattle.sqlite.specs.Held.{state}
+use Rattle.csi_service.specs.Content.{StoredPart, changed_to}
+use Rattle.csi_service.specs.Part.{bytes_in}
+use Rattle.csi_service.specs.Tables.{row_of, HasParts}
+use Rattle.csi_service.proofs.Tabled.{put_has, removed_has}
+use Rattle.csi_service.proofs.sqlite_keep.changing.change.Goals as goal
+
+pub returns-in-Some-clause-changed : goal.returns-in-Some-clause-changed
+returns-in-Some-clause-changed g c clean content has =
+    let new = state g.S.Store c.put_row.new.transaction.conn.now in
+    let part : StoredPart = record { key = c.args.part.now.key; value = c.in-Some.value.items } in
+    let fits : part.key < 2 ^ 64 = omega arith in
+    on_ok_weaker c.put_row.result
+    (λ h. subst (λ v. HasParts new (changed_to part.key (option_map bytes_in v) content)) (sym c.in-Some.is)
+    (put_has new part content fits has.rising has.keys (rw (c.to_be_bytes-key.ensures, c.deref.ensures.value) at h)))
+    (c.put_row.ensures.put clean (map row_of content) has.rows)
+
+pub returns-in-None-clause-changed : goal.returns-in-None-clause-changed
+returns-in-None-clause-changed g c clean content has =
+    let new = state g.S.Store c.remove_row.new.transaction.conn.now in
+    let key = c.args.part.now.key in
+    let fits : key < 2 ^ 64 = omega arith in
+    on_ok_weaker c.remove_row.result
+    (λ h. subst (λ v. HasParts new (changed_to key (option_map bytes_in v) content)) (sym c.in-None.is) (removed_has new key content fits has.rising has.keys (rw c.to_be_bytes-key.ensures at h)))
+    (c.remove_row.ensures.removed clean (map row_of content) has.rows)

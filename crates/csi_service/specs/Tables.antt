@@ -1,0 +1,49 @@
+-- A store in a SQLite database, as contracts see it. This profile's own.
+use Rattle.std.specs.Prelude.{ℕ, ◌<◌, ◌^◌, ⊤, List, map}
+use Rattle.std.specs.List.{AllByRecursion}
+use Rattle.byteorder.specs.Endian.{big_bytes}
+use Rattle.sqlite.specs.Order.{Row}
+use Rattle.sqlite.specs.Tree.{Trees}
+use Rattle.sqlite.specs.State.{State}
+use Rattle.csi_tables.specs.Rows.{KeyedRow, AreRows, HasRows, IsAtRest}
+use Rattle.csi_service.specs.declared.keep.KeepFault.{KeepFault}
+use Rattle.csi_service.specs.declared.keep.KeepFault.TheVariants.{Device, NoMemory, BadRecord, Full}
+use Rattle.csi_service.specs.Content.{StoredPart, IsRising}
+use Rattle.csi_service.specs.Keeping.{HasRisen}
+
+-- a part as a row: its key in eight bytes, the greatest first
+abbrev pub row_of : StoredPart → KeyedRow
+row_of part = record { key = big_bytes 8 part.key; value = part.value }
+
+-- each key has 64 bits
+abbrev pub AreKeys : List StoredPart → Type 0
+AreKeys = AllByRecursion (λ (part : StoredPart). part.key < 2 ^ 64)
+
+-- SQLite has these parts as its rows
+pub record AreParts (stored : List Row) (content : List StoredPart) : Type 0 where
+  pub rows : AreRows stored (map row_of content)
+  pub rising : IsRising content
+  pub keys : AreKeys content
+
+-- the table has these parts, in a transaction or outside
+pub record HasParts (s : State) (content : List StoredPart) : Type 0 where
+  pub rows : HasRows s (map row_of content)
+  pub rising : IsRising content
+  pub keys : AreKeys content
+
+-- it has these parts, and all is committed
+abbrev pub HoldsParts : State → List StoredPart → Type 0
+HoldsParts s content = HasParts s content × IsAtRest s
+
+-- a database that a crash leaves has these parts
+pub record LeavesParts (s : State) (content : List StoredPart) : Type 0 where
+  pub db : Trees
+  pub may : s.may_leave db
+  pub parts : AreParts (db 0) content
+
+-- what a refusal by SQLite is to a keeper: want of memory, or a failure, which is counted
+abbrev pub IsCounted : ℕ → ℕ → KeepFault → Type 0
+IsCounted before after Device = HasRisen before after
+IsCounted before after NoMemory = ⊤
+IsCounted before after (BadRecord place) = ⊥
+IsCounted before after Full = ⊥
