@@ -1,14 +1,2 @@
-pub mod Places
-pub mod Sizes
-pub mod Rising
-pub mod Known
-pub mod Commits
-pub mod Spelled
-pub mod FaultPlaces
-pub mod Streams
-pub mod Taken
-pub mod Runs
-pub mod Progress
-pub mod Ends
 pub mod KeyOrder
 pub mod Tabled

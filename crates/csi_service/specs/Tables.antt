@@ -6,10 +6,10 @@ use Rattle.sqlite.specs.Order.{Row}
 use Rattle.sqlite.specs.Tree.{Trees}
 use Rattle.sqlite.specs.State.{State}
 use Rattle.csi_tables.specs.Rows.{KeyedRow, AreRows, HasRows, IsAtRest}
-use Rattle.csi_service.specs.declared.keep.KeepFault.{KeepFault}
-use Rattle.csi_service.specs.declared.keep.KeepFault.TheVariants.{Device, NoMemory, BadRecord, Full}
-use Rattle.csi_service.specs.Content.{StoredPart, IsRising}
-use Rattle.csi_service.specs.Keeping.{HasRisen}
+use Rattle.csi_serving.specs.declared.keep.KeepFault.{KeepFault}
+use Rattle.csi_serving.specs.declared.keep.KeepFault.TheVariants.{Device, NoMemory, BadRecord, Full}
+use Rattle.csi_serving.specs.Content.{StoredPart, IsRising}
+use Rattle.csi_serving.specs.Keeping.{HasRisen}
 
 -- a part as a row: its key in eight bytes, the greatest first
 abbrev pub row_of : StoredPart → KeyedRow

@@ -3,11 +3,10 @@ ghost use Rattle.std.specs.Prelude.{◌≡◌, ◌≤◌, ◌⊎◌, ℕ, List, 
 ghost use Rattle.sqlite.specs.Held.{state};
 ghost use Rattle.sqlite.specs.State.{HasCleanDisk};
 ghost use Rattle.csi_tables.specs.Rows.{IsBlank, HasRows};
-ghost use Rattle.csi_service.specs.Content.{StoredPart};
+ghost use Rattle.csi_serving.specs.Content.{StoredPart};
 ghost use Rattle.csi_service.specs.Tables.{HasParts, HoldsParts, LeavesParts, IsCounted};
 
-use crate::keep::{Keep, KeepFault};
-use crate::part::Part;
+use csi_serving::{Keep, KeepFault, Part};
 use csi_tables::{all_rows, make_table};
 use sqlite::{Alter, Connection, Error, ErrorCode};
 use std::alloc::Global;

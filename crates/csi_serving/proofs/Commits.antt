@@ -1,0 +1,56 @@
+-- Stores, one call after another.
+use Rattle.std.proofs.Common.{◌≡◌, ◌∙◌, inl, inr, sym, subst, ℕ, ◌≤◌, List, arith}
+use Rattle.std.specs.Prelude.{◌⊎◌}
+use Rattle.csi_serving.specs.declared.keep.KeepFault.{KeepFault}
+use Rattle.csi_serving.specs.declared.keep.KeepFault.TheVariants.{Device, NoMemory, BadRecord, Full}
+use Rattle.csi_serving.specs.Content.{StoredPart}
+use Rattle.csi_serving.specs.Keeping.{HasRisen, IsCommitFault}
+use Rattle.csi_serving.specs.Stores.{Store, Follows, Rests, LeavesEither, IsRefusal}
+
+-- ---- a commit that was refused
+pub refused-left : (before after : Store) (first next : List StoredPart) (change : List StoredPart → List StoredPart) → change first ≡ next
+    → (after.honest → (content : List StoredPart) → before.holds content → (other : List StoredPart) → after.leaves other → before.leaves other ⊎ (other ≡ change content))
+    → LeavesEither before after first first next
+refused-left before after first next change leads refused = λ honest only other leaves.
+    elim (refused honest first only.there other leaves) [
+      | inl old ↦ inl (only.alone other old)
+      | inr new ↦ inr (new ∙ leads)
+    ]
+
+pub refused-cause : (before after : Store) (first next : List StoredPart) (change : List StoredPart → List StoredPart) (fault : KeepFault) → change first ≡ next
+    → IsCommitFault after.honest before.holds before.fits change before.faults after.faults fault → IsRefusal before after first next fault
+refused-cause before after first next change Device leads cause = cause
+refused-cause before after first next change NoMemory leads cause = tt
+refused-cause before after first next change (BadRecord place) leads cause = cause
+refused-cause before after first next change Full leads cause = λ honest only fits. cause honest first only.there (subst before.fits (sym leads) fits)
+
+-- ---- one call after another
+pub follows-same : (now : Store) → Follows now now
+follows-same now = record { honest = λ h. h; room = λ content h. h; no_more_room = λ content h. h; faults = omega arith }
+
+pub follows-more : (a b c : Store) → Follows a b → Follows b c → Follows a c
+follows-more a b c first second = record {
+  honest = λ h. first.honest (second.honest h);
+  room = λ content h. second.room content (first.room content h);
+  no_more_room = λ content h. first.no_more_room content (second.no_more_room content h);
+  faults = omega (arith, first.faults, second.faults);
+}
+
+pub rests-same : (now : Store) (content : List StoredPart) → Rests now now content content
+rests-same now content = λ honest only. only
+
+pub rests-more : (a b c : Store) (x y z : List StoredPart) → Follows b c → Rests a b x y → Rests b c y z → Rests a c x z
+rests-more a b c x y z follows first second = λ honest only. second honest (first (follows.honest honest) only)
+
+pub left-more : (a b c : Store) (x y p q : List StoredPart) → Follows b c → Rests a b x y → LeavesEither b c y p q → LeavesEither a c x p q
+left-more a b c x y p q follows first second = λ honest only. second honest (first (follows.honest honest) only)
+
+pub risen-more : (a b c : ℕ) → a ≤ b → HasRisen b c → HasRisen a c
+risen-more a b c least (inl less) = inl (omega arith)
+risen-more a b c least (inr top) = inr top
+
+pub refusal-more : (a b c : Store) (x y next : List StoredPart) (fault : KeepFault) → Follows a b → Follows b c → Rests a b x y → IsRefusal b c y next fault → IsRefusal a c x next fault
+refusal-more a b c x y next Device before after first cause = risen-more a.faults b.faults c.faults before.faults cause
+refusal-more a b c x y next NoMemory before after first cause = tt
+refusal-more a b c x y next (BadRecord place) before after first cause = cause
+refusal-more a b c x y next Full before after first cause = λ honest only fits. cause honest (first (after.honest honest) only) (before.room next fits)

@@ -1,0 +1,7 @@
+use Rattle.std.proofs.Common.{◌≡◌, ◌+◌, take}
+use Rattle.csi_serving.specs.Content.{size_of}
+use Rattle.csi_serving.specs.Memory.{all_stored}
+use Rattle.csi_serving.proofs.entries.fit.Given as goal
+
+abbrev pub invariant-loop-entry : goal.invariant-loop-entry
+invariant-loop-entry l = size_of (all_stored (take l.entry-index l.entries)) + l.left ≡ l.limit

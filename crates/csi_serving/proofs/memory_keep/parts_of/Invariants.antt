@@ -1,0 +1,8 @@
+use Rattle.std.proofs.Common.{◌≡◌, take, map}
+use Rattle.csi_serving.specs.Content.{put_all}
+use Rattle.csi_serving.specs.Part.{change_of}
+use Rattle.csi_serving.specs.Memory.{all_stored}
+use Rattle.csi_serving.proofs.memory_keep.parts_of.Given as goal
+
+abbrev pub invariant-loop-entry : goal.invariant-loop-entry
+invariant-loop-entry l = map change_of l.parts.items ≡ put_all (all_stored (take l.entry-index l.entries))

@@ -1,0 +1,22 @@
+-- A refused commit leaves the parts before the step, or those after it.
+use Rattle.std.proofs.Common.{◌≡◌, ◌∙◌, ap, sym, map, List}
+use Rattle.csi_serving.specs.Content.{StoredPart, Change, all_changed}
+use Rattle.csi_serving.specs.Part.{change_of}
+use Rattle.csi_serving.specs.Stores.{store}
+use Rattle.csi_serving.proofs.Commits.{refused-left, refused-cause}
+use Rattle.csi_serving.proofs.serving.answering.carry_out.Goals as goal
+
+pub returns-clause-err : goal.returns-clause-err
+returns-clause-err g c =
+    let first = g.C.Core.parts_of c.args.core.now in
+    let next = g.C.Core.parts_of c.step.new.self in
+    let change : List StoredPart → List StoredPart = all_changed (map change_of c.deref.result.now) in
+    let leads : change first ≡ next = ap (λ (changes : List Change). all_changed changes first) (ap (map change_of) c.deref.ensures.value ∙ c.in_ok-parts.ensures) ∙ sym c.in_ok-reply.ensures.parts in
+    let before = store g.K.Keep.is_honest g.K.Keep.holds g.K.Keep.leaves g.K.Keep.fits g.K.Keep.fault_count c.args.keep.now in
+    let after = store g.K.Keep.is_honest g.K.Keep.holds g.K.Keep.leaves g.K.Keep.fits g.K.Keep.fault_count c.commit.new.self in
+    record {
+      reply = c.in_ok-reply.reply;
+      answered = c.in_ok-reply.ensures.answered;
+      left = refused-left before after first next change leads c.in-Err.ensures.refused;
+      cause = refused-cause before after first next change c.in-Err.fault leads c.in-Err.ensures.cause;
+    }

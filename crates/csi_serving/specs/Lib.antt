@@ -1,0 +1,14 @@
+pub mod Content
+pub mod Part
+pub mod Keeping
+pub mod Memory
+pub mod Counting
+pub mod Reading
+pub mod Writing
+pub mod Stores
+pub mod Serving
+pub mod Answering
+pub mod Stopping
+pub mod Ending
+pub mod RecordSpelling
+pub mod Rows

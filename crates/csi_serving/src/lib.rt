@@ -1,0 +1,18 @@
+//! Serving a plugin over a store: each frame is answered, what it changed is committed, and only then the reply is written.
+#![tactic(auto)]
+
+mod counted;
+mod entries;
+mod keep;
+mod memory_keep;
+mod part;
+mod plugin_core;
+mod rows;
+mod serving;
+
+pub use counted::Counted;
+pub use keep::{Keep, KeepFault};
+pub use memory_keep::MemoryKeep;
+pub use part::Part;
+pub use plugin_core::Core;
+pub use serving::{ServeFault, ServeFaultKind, Served, serve};

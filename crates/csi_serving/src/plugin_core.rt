@@ -1,0 +1,30 @@
+//! What is served: a plugin with its record.
+ghost use Rattle.std.specs.Prelude.{◌≡◌, List, Option, map, IfOk, OnOk, OnErr};
+ghost use Rattle.csi_types.specs.Frame.{Frame as FrameParts};
+ghost use Rattle.csi_serving.specs.Content.{StoredPart, Change, all_changed};
+ghost use Rattle.csi_serving.specs.Part.{change_of};
+
+use crate::part::Part;
+use csi_types::{Frame, NoMemory};
+
+/// A plugin whose record is kept as parts. This profile's own.
+pub trait Core: Drop {
+    /// The parts of its record, by rising key.
+    ghost parts_of: { Self → List StoredPart };
+
+    /// What the last step that answered changed of them; nothing before any step.
+    ghost changes: { Self → List Change };
+
+    /// A frame gets this reply, or none, and leads from one core to another.
+    ghost answers: { Self → FrameParts → Option FrameParts → Self → Type 0 };
+
+    /// Answers a frame. A refusal leaves the record as it was.
+    fn step(&mut self, frame: &Frame) -> Result<Option<Frame>, NoMemory>
+        ensures answered { IfOk result (λ reply. answers self.old frame.now reply self.new) }
+        ensures parts { OnOk result (parts_of self.new ≡ all_changed (changes self.new) (parts_of self.old)) }
+        ensures err { OnErr result (parts_of self.new ≡ parts_of self.old) };
+
+    /// What the last step that answered changed: the parts to be put in or taken out.
+    fn parts(&self) -> Result<Vec<Part>, NoMemory>
+        ensures { IfOk result (λ parts. map change_of parts.items ≡ changes self.now) };
+}

@@ -1,0 +1,44 @@
+//! A reply, written.
+ghost use Rattle.std.specs.Prelude.{◌≡◌, ◌≤◌, ◌++◌, List, OnOk, OnErr};
+ghost use Rattle.std.specs.Io.KnownBytes.{Appends};
+ghost use Rattle.csi_serving.specs.Keeping.{HasRisen};
+ghost use Rattle.csi_serving.specs.Writing.{WritesFront};
+
+use crate::counted::Counted;
+use std::io::Write;
+
+/// The writer failed.
+#[derive(Clone, Copy, Debug)]
+pub(crate) struct WriteFailed;
+
+// Writes all bytes.
+fn write_all<W: Write>(writer: &mut Counted<W>, bytes: &[u8]) -> Result<(), WriteFailed>
+    ensures ok { OnOk result (Appends (W.contents writer.old.inner) (W.contents writer.new.inner) bytes.now) }
+    ensures err { OnErr result (WritesFront (W.contents writer.old.inner) (W.contents writer.new.inner) bytes.now) }
+    ensures risen { OnErr result (HasRisen writer.old.faults writer.new.faults) }
+    ensures faults { writer.old.faults ≤ writer.new.faults }
+{
+    let mut rest = bytes;
+    while !rest.is_empty() {
+        match writer.write(rest) {
+            Ok(0) => return Err(WriteFailed),
+            Ok(n) => rest = rest.split_at(n).1,
+            Err(_) => return Err(WriteFailed),
+        }
+    }
+    Ok(())
+}
+
+/// Writes all bytes and flushes. At an `Err` some front of them was written, or all.
+pub(crate) fn write_out<W: Write>(writer: &mut Counted<W>, bytes: &[u8]) -> Result<(), WriteFailed>
+    ensures ok { OnOk result (Appends (W.contents writer.old.inner) (W.contents writer.new.inner) bytes.now) }
+    ensures err { OnErr result (WritesFront (W.contents writer.old.inner) (W.contents writer.new.inner) bytes.now) }
+    ensures risen { OnErr result (HasRisen writer.old.faults writer.new.faults) }
+    ensures faults { writer.old.faults ≤ writer.new.faults }
+{
+    write_all(writer, bytes)?;
+    match writer.flush() {
+        Ok(()) => Ok(()),
+        Err(_) => Err(WriteFailed),
+    }
+}
