@@ -27,12 +27,11 @@ use Rattle.csi_node.specs.State.{StagedVolume}
 use Rattle.csi_node.specs.declared.entries.Staged.{Staged as StagedEntry}
 use Rattle.csi_node.specs.Views.{staged_shown}
 use Rattle.csi_world.specs.declared.auditing.lists.NodeLists.{NodeLists}
-use Rattle.csi_world.specs.declared.auditing.lists.Lists.{Lists}
 use Rattle.csi_world.specs.World.{NodeAt, World}
 use Rattle.csi_world.specs.Safe.{IsExclusive, IsAttachedAs, IsStagedWhereAttached, IsAttachedWhileLive}
 use Rattle.csi_world.specs.Simulated.{AreNodesShown}
 use Rattle.csi_world.specs.Audited.{ArePlugins}
-use Rattle.csi_world.specs.Listed.{node_listed, IsNodeAlike, IsListed, IsPublishing, ArePluginsSafe, is_held_as, is_row_held, row_with_id, is_staged_right, is_node_attached}
+use Rattle.csi_world.specs.Listed.{Lists, node_listed, IsNodeAlike, IsListed, IsPublishing, ArePluginsSafe, is_held_as, is_row_held, row_with_id, is_staged_right, is_node_attached}
 use Rattle.csi_world.proofs.PluginSafety.{staged_there}
 use Rattle.csi_world.proofs.Likeness.{listed-of, node-of}
 
@@ -113,10 +112,10 @@ abbrev held_of : ControllerRow → NodeHolding → Holding
 held_of row held = record { volume = row.id; node = held.node; capability = held.capability; readonly = held.readonly }
 
 -- a row's volume that is held so is attached so, and the other way round
-row_attached : (lists : Lists) (world : World) → IsListed lists world → (id : ℕ) (node : List ℕ) (capability : Capability) → is_row_held node capability (row_with_id id (lists.kept).rows) ≡ true → IsAttachedAs world id node capability
-row_attached lists world is id node capability = by (row_with_id id (lists.kept).rows) refl
+row_attached : (lists : Lists) (world : World) → IsListed lists world → (id : ℕ) (node : List ℕ) (capability : Capability) → is_row_held node capability (row_with_id id lists.rows) ≡ true → IsAttachedAs world id node capability
+row_attached lists world is id node capability = by (row_with_id id lists.rows) refl
   where
-    by : (o : Option ControllerRow) → row_with_id id (lists.kept).rows ≡ o → is_row_held node capability o ≡ true → IsAttachedAs world id node capability
+    by : (o : Option ControllerRow) → row_with_id id lists.rows ≡ o → is_row_held node capability o ≡ true → IsAttachedAs world id node capability
     by None e h = absurd (false≢true h)
     by (Some row) e h =
         let found = any-then (is_held_as node capability) row.holdings.items h in
@@ -127,14 +126,14 @@ row_attached lists world is id node capability = by (row_with_id id (lists.kept)
         record {
           holding = holding;
           is_held = among-filter (λ (x : Holding). x.volume == id) world.controller.holdings holding there;
-          of_volume = eqb-true row.id id (find-passes (λ (r : ControllerRow). r.id == id) (lists.kept).rows row e);
+          of_volume = eqb-true row.id id (find-passes (λ (r : ControllerRow). r.id == id) lists.rows row e);
           at_node = parts.0;
           same_capability = parts.1;
         }
 
-attached_row : (lists : Lists) (world : World) → IsListed lists world → (id : ℕ) (node : List ℕ) (capability : Capability) → IsAttachedAs world id node capability → is_row_held node capability (row_with_id id (lists.kept).rows) ≡ true
+attached_row : (lists : Lists) (world : World) → IsListed lists world → (id : ℕ) (node : List ℕ) (capability : Capability) → IsAttachedAs world id node capability → is_row_held node capability (row_with_id id lists.rows) ≡ true
 attached_row lists world is id node capability at =
-    by (row_with_id id (lists.kept).rows)
+    by (row_with_id id lists.rows)
     (subst (IsAmong at.holding) (sym (is.holdings id))
     (in_filter (λ (x : Holding). x.volume == id) world.controller.holdings at.holding at.is_held (eq-eqb (at.holding).volume id at.of_volume)))
   where
@@ -147,17 +146,17 @@ attached_row lists world is id node capability at =
         then-any (is_held_as node capability) row.holdings.items entry.0 entry.1
         (and_from _ _ ((same_text-tells (entry.0).node node).1 place) ((same_capability-tells (entry.0).capability capability).1 same))
 
-to_attached : (lists : Lists) (world : World) → IsListed lists world → list_all (is_node_attached (lists.kept).rows) lists.nodes.items ≡ true → IsStagedWhereAttached world
+to_attached : (lists : Lists) (world : World) → IsListed lists world → list_all (is_node_attached lists.rows) lists.nodes ≡ true → IsStagedWhereAttached world
 to_attached lists world is h n s at staged =
-    let found = listed-of (map node_listed lists.nodes.items) world.nodes is.nodes n at in
+    let found = listed-of (map node_listed lists.nodes) world.nodes is.nodes n at in
     let same : IsNodeAlike found.0 n = found.2 in
-    let entry = among-map node_listed lists.nodes.items found.0 found.1 in
+    let entry = among-map node_listed lists.nodes found.0 found.1 in
     let k : NodeLists = entry.0 in
     let alike_k : IsNodeAlike (node_listed k) n = subst (λ (l : NodeAt). IsNodeAlike l n) entry.2 same in
     let own = among-by_key (λ (x : StagedVolume). x.volume) (n.state).staged (map staged_shown k.staged.items) (λ id. sym (alike_k.staged id)) s staged in
     let kept = among-map staged_shown k.staged.items s own in
     let x : StagedEntry = kept.0 in
-    let test = all-then (is_staged_right (lists.kept).rows k.id) k.staged.items (all-then (is_node_attached (lists.kept).rows) lists.nodes.items h k entry.1) x kept.1 in
+    let test = all-then (is_staged_right lists.rows k.id) k.staged.items (all-then (is_node_attached lists.rows) lists.nodes h k entry.1) x kept.1 in
     let attached : IsAttachedAs world x.id k.id x.capability = row_attached lists world is x.id k.id x.capability test in
     let place : k.id ≡ n.id = alike_k.id in
     let shown : staged_shown x ≡ s = sym kept.2 in
@@ -173,18 +172,18 @@ to_attached lists world is h n s at staged =
           same_capability = attached.same_capability ∙ ap (λ (y : StagedVolume). y.capability) shown;
         }
 
-from_attached : (lists : Lists) (world : World) → IsListed lists world → IsStagedWhereAttached world → list_all (is_node_attached (lists.kept).rows) lists.nodes.items ≡ true
+from_attached : (lists : Lists) (world : World) → IsListed lists world → IsStagedWhereAttached world → list_all (is_node_attached lists.rows) lists.nodes ≡ true
 from_attached lists world listed is =
-    then-all (is_node_attached (lists.kept).rows) lists.nodes.items (λ k at. then-all (is_staged_right (lists.kept).rows k.id) k.staged.items (λ x staged. here k at x staged))
+    then-all (is_node_attached lists.rows) lists.nodes (λ k at. then-all (is_staged_right lists.rows k.id) k.staged.items (λ x staged. here k at x staged))
   where
-    here : (k : NodeLists) → IsAmong k lists.nodes.items → (x : StagedEntry) → IsAmong x k.staged.items → is_staged_right (lists.kept).rows k.id x ≡ true
+    here : (k : NodeLists) → IsAmong k lists.nodes → (x : StagedEntry) → IsAmong x k.staged.items → is_staged_right lists.rows k.id x ≡ true
     here k at x staged =
-        let found = node-of (map node_listed lists.nodes.items) world.nodes listed.nodes (node_listed k) (in-map node_listed lists.nodes.items k at) in
+        let found = node-of (map node_listed lists.nodes) world.nodes listed.nodes (node_listed k) (in-map node_listed lists.nodes k at) in
         let n : NodeAt = found.0 in
         let same : IsNodeAlike (node_listed k) n = found.2 in
         let there = among-by_key (λ (y : StagedVolume). y.volume) (map staged_shown k.staged.items) (n.state).staged same.staged (staged_shown x) (in-map staged_shown k.staged.items x staged) in
         let held : IsAttachedAs world x.id n.id x.capability = is n (staged_shown x) found.1 there in
         attached_row lists world listed x.id k.id x.capability (subst (λ (id : List ℕ). IsAttachedAs world x.id id x.capability) (sym same.id) held)
 
-pub staged-told : (lists : Lists) (world : World) → IsListed lists world → (b : Bool) → b ≡ list_all (is_node_attached (lists.kept).rows) lists.nodes.items → IsTrue b ↔ IsStagedWhereAttached world
+pub staged-told : (lists : Lists) (world : World) → IsListed lists world → (b : Bool) → b ≡ list_all (is_node_attached lists.rows) lists.nodes → IsTrue b ↔ IsStagedWhereAttached world
 staged-told lists world is b e = (λ h. to_attached lists world is (sym e ∙ h), λ staged. e ∙ from_attached lists world is staged)

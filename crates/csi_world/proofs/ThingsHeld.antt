@@ -25,10 +25,9 @@ use Rattle.csi_node.specs.Views.{staged_shown, published_shown}
 use Rattle.csi_orchestrator.specs.declared.thing.Thing.{Thing}
 use Rattle.csi_orchestrator.specs.declared.thing.Thing.TheVariants.{Exists, Attached, Staged, Published}
 use Rattle.csi_world.specs.declared.auditing.lists.NodeLists.{NodeLists}
-use Rattle.csi_world.specs.declared.auditing.lists.Lists.{Lists}
 use Rattle.csi_world.specs.World.{NodeAt, World, node_state}
 use Rattle.csi_world.specs.Safe.{holds, holds_attached, holds_staged, holds_published}
-use Rattle.csi_world.specs.Listed.{node_listed, IsNodeAlike, IsListed, row_with_id, exists_thing, attached_thing, things_of, staged_by, staged_thing, published_by, published_thing, things_at, things_listed}
+use Rattle.csi_world.specs.Listed.{AreKept, Lists, node_listed, IsNodeAlike, IsListed, row_with_id, exists_thing, attached_thing, things_of, staged_by, staged_thing, published_by, published_thing, things_at, things_listed}
 use Rattle.csi_world.proofs.Likeness.{listed-of, node-of, node-found-by-id}
 
 -- ---- rows, of which at most one has a name, and one an id
@@ -43,11 +42,6 @@ only-found p (y ∷ ys) x one (inr there) passes = by (p y) refl (only-found p y
     by true e found = let none : None ≡ Some x = sym (one.0 e) ∙ found in absurd (let clash : None ≡ Some x → ⊥ = λ h. cc in clash none)
     by false e found = found
 
--- the rows of a controller's record
-pub record AreKept (rows : List ControllerRow) : Type 0 where
-  pub rising : IsRising rows
-  pub names : (name : List ℕ) → AtMostOne (λ (row : ControllerRow). same_text row.name name) rows
-
 row-by-id : (rows : List ControllerRow) → AreKept rows → (row : ControllerRow) → IsAmong row rows → (id : ℕ) → row.id ≡ id → row_with_id id rows ≡ Some row
 row-by-id rows kept row among id same = only-found (λ (r : ControllerRow). r.id == id) rows row (rising-one rows kept.rising id) among (eq-eqb row.id id same)
 
@@ -57,21 +51,21 @@ row-by-name rows kept row among name same =
 
 -- the volume of a name is that of the row of the name
 volume-by-name : (lists : Lists) (world : World) → IsListed lists world → (name : List ℕ)
-    → volume_named name world.controller ≡ option_map volume_of_row (find (λ (r : ControllerRow). same_text r.name name) (lists.kept).rows)
+    → volume_named name world.controller ≡ option_map volume_of_row (find (λ (r : ControllerRow). same_text r.name name) lists.rows)
 volume-by-name lists world is name =
-    ap (find (λ (v : Volume). same_text v.name name)) (sym is.volumes) ∙ find-of_map (λ (v : Volume). same_text v.name name) volume_of_row (lists.kept).rows
+    ap (find (λ (v : Volume). same_text v.name name)) (sym is.volumes) ∙ find-of_map (λ (v : Volume). same_text v.name name) volume_of_row lists.rows
 
-volume-of : (lists : Lists) (world : World) → IsListed lists world → AreKept (lists.kept).rows → (row : ControllerRow) → IsAmong row (lists.kept).rows → volume_named row.name world.controller ≡ Some (volume_of_row row)
+volume-of : (lists : Lists) (world : World) → IsListed lists world → AreKept lists.rows → (row : ControllerRow) → IsAmong row lists.rows → volume_named row.name world.controller ≡ Some (volume_of_row row)
 volume-of lists world is kept row among =
-    volume-by-name lists world is row.name ∙ ap (option_map volume_of_row) (row-by-name (lists.kept).rows kept row among row.name refl)
+    volume-by-name lists world is row.name ∙ ap (option_map volume_of_row) (row-by-name lists.rows kept row among row.name refl)
 
 -- a volume that is there has a row
 row-of-volume : (lists : Lists) (world : World) → IsListed lists world → (name : List ℕ) (v : Volume) → volume_named name world.controller ≡ Some v
-    → (row : ControllerRow) × IsAmong row (lists.kept).rows × (row.name ≡ name) × (volume_of_row row ≡ v)
+    → (row : ControllerRow) × IsAmong row lists.rows × (row.name ≡ name) × (volume_of_row row ≡ v)
 row-of-volume lists world is name v e = by (find p rows) refl (sym (volume-by-name lists world is name) ∙ e)
   where
     rows : List ControllerRow
-    rows = (lists.kept).rows
+    rows = lists.rows
 
     p : ControllerRow → Bool
     p row = same_text row.name name
@@ -88,19 +82,19 @@ row-of-volume lists world is name v e = by (find p rows) refl (sym (volume-by-na
 abbrev held_of : ControllerRow → NodeHolding → Holding
 held_of row held = record { volume = row.id; node = held.node; capability = held.capability; readonly = held.readonly }
 
-holdings-of-row : (lists : Lists) (world : World) → IsListed lists world → AreKept (lists.kept).rows → (row : ControllerRow) → IsAmong row (lists.kept).rows
+holdings-of-row : (lists : Lists) (world : World) → IsListed lists world → AreKept lists.rows → (row : ControllerRow) → IsAmong row lists.rows
     → holdings_in_row row ≡ filter (λ (h : Holding). h.volume == row.id) world.controller.holdings
-holdings-of-row lists world is kept row among = ap holdings_in (sym (row-by-id (lists.kept).rows kept row among row.id refl)) ∙ is.holdings row.id
+holdings-of-row lists world is kept row among = ap holdings_in (sym (row-by-id lists.rows kept row among row.id refl)) ∙ is.holdings row.id
 
 -- ---- each that is listed holds
 
-exists-holds : (lists : Lists) (world : World) → IsListed lists world → (row : ControllerRow) → IsAmong row (lists.kept).rows → row.live ≡ true → holds world (Exists row.name) ≡ true
+exists-holds : (lists : Lists) (world : World) → IsListed lists world → (row : ControllerRow) → IsAmong row lists.rows → row.live ≡ true → holds world (Exists row.name) ≡ true
 exists-holds lists world is row among live =
     let p : Volume → Bool = λ volume. same_text volume.name row.name && volume.is_live in
-    ap (λ (vs : List Volume). is_some (find p vs)) (sym is.volumes) ∙ sym (any-find p (map volume_of_row (lists.kept).rows)) ∙ any-of_map p volume_of_row (lists.kept).rows
-    ∙ then-any (λ (r : ControllerRow). p (volume_of_row r)) (lists.kept).rows row among (and_from _ _ ((same_text-tells row.name row.name).1 refl) live)
+    ap (λ (vs : List Volume). is_some (find p vs)) (sym is.volumes) ∙ sym (any-find p (map volume_of_row lists.rows)) ∙ any-of_map p volume_of_row lists.rows
+    ∙ then-any (λ (r : ControllerRow). p (volume_of_row r)) lists.rows row among (and_from _ _ ((same_text-tells row.name row.name).1 refl) live)
 
-attached-holds : (lists : Lists) (world : World) → IsListed lists world → AreKept (lists.kept).rows → (row : ControllerRow) → IsAmong row (lists.kept).rows → (held : NodeHolding) → IsAmong held row.holdings.items
+attached-holds : (lists : Lists) (world : World) → IsListed lists world → AreKept lists.rows → (row : ControllerRow) → IsAmong row lists.rows → (held : NodeHolding) → IsAmong held row.holdings.items
     → holds world (Attached row.name held.node) ≡ true
 attached-holds lists world is kept row among held here =
     let own : IsAmong (held_of row held) (holdings_in_row row) = in-map (λ (h : NodeHolding). let one : Holding = record { volume = row.id; node = h.node; capability = h.capability; readonly = h.readonly } in one) row.holdings.items held here in
@@ -118,9 +112,9 @@ record IsNodeOf (world : World) (n : NodeLists) : Type 0 where
   alike : IsNodeAlike (node_listed n) node
   state : node_state n.id world ≡ Some node.state
 
-node-of-list : (lists : Lists) (world : World) → IsListed lists world → (n : NodeLists) → IsAmong n lists.nodes.items → IsNodeOf world n
+node-of-list : (lists : Lists) (world : World) → IsListed lists world → (n : NodeLists) → IsAmong n lists.nodes → IsNodeOf world n
 node-of-list lists world is n at =
-    let found = node-of (map node_listed lists.nodes.items) world.nodes is.nodes (node_listed n) (in-map node_listed lists.nodes.items n at) in
+    let found = node-of (map node_listed lists.nodes) world.nodes is.nodes (node_listed n) (in-map node_listed lists.nodes n at) in
     let m : NodeAt = found.0 in
     let alike : IsNodeAlike (node_listed n) m = found.2 in
     let by_id : find (λ (k : NodeAt). same_text k.id n.id) world.nodes ≡ Some m
@@ -132,10 +126,10 @@ id-of-row : (rows : List ControllerRow) (id : ℕ) (row : ControllerRow) → row
 id-of-row rows id row e =
     (among-find (λ (r : ControllerRow). r.id == id) rows row e, sym (eqb-true row.id id (find-passes (λ (r : ControllerRow). r.id == id) rows row e)))
 
-staged-holds : (lists : Lists) (world : World) → IsListed lists world → AreKept (lists.kept).rows → (n : NodeLists) → IsAmong n lists.nodes.items → (s : StagedEntry) → IsAmong s n.staged.items
-    → (row : ControllerRow) → row_with_id s.id (lists.kept).rows ≡ Some row → holds world (Staged row.name n.id) ≡ true
+staged-holds : (lists : Lists) (world : World) → IsListed lists world → AreKept lists.rows → (n : NodeLists) → IsAmong n lists.nodes → (s : StagedEntry) → IsAmong s n.staged.items
+    → (row : ControllerRow) → row_with_id s.id lists.rows ≡ Some row → holds world (Staged row.name n.id) ≡ true
 staged-holds lists world is kept n at s here row e =
-    let own = id-of-row (lists.kept).rows s.id row e in
+    let own = id-of-row lists.rows s.id row e in
     let m : IsNodeOf world n = node-of-list lists world is n at in
     let p : StagedVolume → Bool = λ x. x.volume == row.id in
     let there : IsAmong (staged_shown s) (m.node).state.staged
@@ -147,10 +141,10 @@ staged-holds lists world is kept n at s here row e =
     ∙ is_some-map (λ (x : StagedVolume). x.capability) (find p (m.node).state.staged) ∙ sym (any-find p (m.node).state.staged)
     ∙ then-any p (m.node).state.staged (staged_shown s) there (eq-eqb s.id row.id own.1)
 
-published-holds : (lists : Lists) (world : World) → IsListed lists world → AreKept (lists.kept).rows → (n : NodeLists) → IsAmong n lists.nodes.items → (s : PublishedEntry) → IsAmong s n.published.items
-    → (row : ControllerRow) → row_with_id s.id (lists.kept).rows ≡ Some row → holds world (Published row.name n.id s.target) ≡ true
+published-holds : (lists : Lists) (world : World) → IsListed lists world → AreKept lists.rows → (n : NodeLists) → IsAmong n lists.nodes → (s : PublishedEntry) → IsAmong s n.published.items
+    → (row : ControllerRow) → row_with_id s.id lists.rows ≡ Some row → holds world (Published row.name n.id s.target) ≡ true
 published-holds lists world is kept n at s here row e =
-    let own = id-of-row (lists.kept).rows s.id row e in
+    let own = id-of-row lists.rows s.id row e in
     let m : IsNodeOf world n = node-of-list lists world is n at in
     let p : PublishedVolume → Bool = is_published_at row.id s.target in
     let there : IsAmong (published_shown s) (m.node).state.published
@@ -167,11 +161,11 @@ one_if true x y (inl e) = (refl, e)
 one_if true x y (inr none) = absurd none
 one_if false x y among = absurd among
 
-pub listed-then-holds : (lists : Lists) (world : World) → IsListed lists world → AreKept (lists.kept).rows → (thing : Thing) → IsAmong thing (things_listed (lists.kept).rows lists.nodes.items) → holds world thing ≡ true
-listed-then-holds lists world is kept thing among = either (among-joined (flat_map things_of rows) (flat_map (things_at rows) lists.nodes.items) thing among)
+pub listed-then-holds : (lists : Lists) (world : World) → IsListed lists world → AreKept lists.rows → (thing : Thing) → IsAmong thing (things_listed lists.rows lists.nodes) → holds world thing ≡ true
+listed-then-holds lists world is kept thing among = either (among-joined (flat_map things_of rows) (flat_map (things_at rows) lists.nodes) thing among)
   where
     rows : List ControllerRow
-    rows = (lists.kept).rows
+    rows = lists.rows
 
     Holds : Thing → Type 0
     Holds t = holds world t ≡ true
@@ -184,26 +178,26 @@ listed-then-holds lists world is kept thing among = either (among-joined (flat_m
         let found = among-map (attached_thing row.name) row.holdings.items thing here in
         subst Holds (sym found.2) (attached-holds lists world is kept row own found.0 found.1)
 
-    staged_at : (n : NodeLists) → IsAmong n lists.nodes.items → (s : StagedEntry) → IsAmong s n.staged.items → (o : Option ControllerRow) → row_with_id s.id rows ≡ o → IsAmong thing (staged_by n.id o) → Holds thing
+    staged_at : (n : NodeLists) → IsAmong n lists.nodes → (s : StagedEntry) → IsAmong s n.staged.items → (o : Option ControllerRow) → row_with_id s.id rows ≡ o → IsAmong thing (staged_by n.id o) → Holds thing
     staged_at n at s own None e here = absurd here
     staged_at n at s own (Some row) e (inl same) = subst Holds (sym same) (staged-holds lists world is kept n at s own row e)
     staged_at n at s own (Some row) e (inr none) = absurd none
 
-    published_at : (n : NodeLists) → IsAmong n lists.nodes.items → (s : PublishedEntry) → IsAmong s n.published.items → (o : Option ControllerRow) → row_with_id s.id rows ≡ o → IsAmong thing (published_by n.id s.target o) → Holds thing
+    published_at : (n : NodeLists) → IsAmong n lists.nodes → (s : PublishedEntry) → IsAmong s n.published.items → (o : Option ControllerRow) → row_with_id s.id rows ≡ o → IsAmong thing (published_by n.id s.target o) → Holds thing
     published_at n at s own None e here = absurd here
     published_at n at s own (Some row) e (inl same) = subst Holds (sym same) (published-holds lists world is kept n at s own row e)
     published_at n at s own (Some row) e (inr none) = absurd none
 
-    of_node : (n : NodeLists) → IsAmong n lists.nodes.items → IsAmong thing (flat_map (staged_thing rows n.id) n.staged.items) ⊎ IsAmong thing (flat_map (published_thing rows n.id) n.published.items) → Holds thing
+    of_node : (n : NodeLists) → IsAmong n lists.nodes → IsAmong thing (flat_map (staged_thing rows n.id) n.staged.items) ⊎ IsAmong thing (flat_map (published_thing rows n.id) n.published.items) → Holds thing
     of_node n at (inl here) = let found = among-flat (staged_thing rows n.id) n.staged.items thing here in staged_at n at found.0 found.1 (row_with_id (found.0).id rows) refl found.2
     of_node n at (inr here) = let found = among-flat (published_thing rows n.id) n.published.items thing here in published_at n at found.0 found.1 (row_with_id (found.0).id rows) refl found.2
 
-    either : IsAmong thing (flat_map things_of rows) ⊎ IsAmong thing (flat_map (things_at rows) lists.nodes.items) → Holds thing
+    either : IsAmong thing (flat_map things_of rows) ⊎ IsAmong thing (flat_map (things_at rows) lists.nodes) → Holds thing
     either (inl here) =
         let found = among-flat things_of rows thing here in
         of_row found.0 found.1 (among-joined (exists_thing found.0) (map (attached_thing (found.0).name) (found.0).holdings.items) thing found.2)
     either (inr here) =
-        let found = among-flat (things_at rows) lists.nodes.items thing here in
+        let found = among-flat (things_at rows) lists.nodes thing here in
         of_node found.0 found.1 (among-joined (flat_map (staged_thing rows (found.0).id) (found.0).staged.items) (flat_map (published_thing rows (found.0).id) (found.0).published.items) thing found.2)
 
 -- ---- what holds is listed
@@ -218,9 +212,9 @@ at-controller rows nodes row thing among here = among-append (flat_map things_of
 at-node : (rows : List ControllerRow) (nodes : List NodeLists) (n : NodeLists) (thing : Thing) → IsAmong n nodes → IsAmong thing (things_at rows n) → IsAmong thing (things_listed rows nodes)
 at-node rows nodes n thing at here = among-right (flat_map things_of rows) (flat_map (things_at rows) nodes) thing (in-flat (things_at rows) nodes n thing at here)
 
-exists-listed : (lists : Lists) (world : World) → IsListed lists world → (name : List ℕ) → holds world (Exists name) ≡ true → IsAmong (Exists name) (things_listed (lists.kept).rows lists.nodes.items)
+exists-listed : (lists : Lists) (world : World) → IsListed lists world → (name : List ℕ) → holds world (Exists name) ≡ true → IsAmong (Exists name) (things_listed lists.rows lists.nodes)
 exists-listed lists world is name h =
-    let rows : List ControllerRow = (lists.kept).rows in
+    let rows : List ControllerRow = lists.rows in
     let p : Volume → Bool = λ volume. same_text volume.name name && volume.is_live in
     let any : list_any (λ (r : ControllerRow). p (volume_of_row r)) rows ≡ true
     = sym (ap (λ (vs : List Volume). is_some (find p vs)) (sym is.volumes) ∙ sym (any-find p (map volume_of_row rows)) ∙ any-of_map p volume_of_row rows) ∙ h
@@ -229,14 +223,14 @@ exists-listed lists world is name h =
     let row : ControllerRow = found.0 in
     let parts = and_parts (same_text row.name name) row.live found.2 in
     let same : row.name ≡ name = (same_text-tells row.name name).0 parts.0 in
-    subst (λ (n : List ℕ). IsAmong (Exists n) (things_listed rows lists.nodes.items)) same
-    (at-controller rows lists.nodes.items row (Exists row.name) found.1
+    subst (λ (n : List ℕ). IsAmong (Exists n) (things_listed rows lists.nodes)) same
+    (at-controller rows lists.nodes row (Exists row.name) found.1
     (among-append (exists_thing row) (map (attached_thing row.name) row.holdings.items) (Exists row.name) (in_one row.live (Exists row.name) parts.1)))
 
-attached-listed : (lists : Lists) (world : World) → IsListed lists world → AreKept (lists.kept).rows → (name node : List ℕ) → holds world (Attached name node) ≡ true → IsAmong (Attached name node) (things_listed (lists.kept).rows lists.nodes.items)
+attached-listed : (lists : Lists) (world : World) → IsListed lists world → AreKept lists.rows → (name node : List ℕ) → holds world (Attached name node) ≡ true → IsAmong (Attached name node) (things_listed lists.rows lists.nodes)
 attached-listed lists world is kept name node = by (volume_named name world.controller) refl
   where
-    by : (o : Option Volume) → volume_named name world.controller ≡ o → holds_attached world.controller node o ≡ true → IsAmong (Attached name node) (things_listed (lists.kept).rows lists.nodes.items)
+    by : (o : Option Volume) → volume_named name world.controller ≡ o → holds_attached world.controller node o ≡ true → IsAmong (Attached name node) (things_listed lists.rows lists.nodes)
     by None e h = absurd (false≢true h)
     by (Some v) e h =
         let found = row-of-volume lists world is name v e in
@@ -253,14 +247,14 @@ attached-listed lists world is kept name node = by (volume_named name world.cont
         let place : (entry.0).node ≡ node = sym (ap (λ (x : Holding). x.node) entry.2) ∙ (same_text-tells holding.node node).0 parts.1 in
         let called : row.name ≡ name = found.2 in
         let equal : Attached row.name (entry.0).node ≡ Attached name node = λ i. Attached (called i) (place i) in
-        subst (λ (t : Thing). IsAmong t (things_listed (lists.kept).rows lists.nodes.items)) equal
-        (at-controller (lists.kept).rows lists.nodes.items row (Attached row.name (entry.0).node) found.1
+        subst (λ (t : Thing). IsAmong t (things_listed lists.rows lists.nodes)) equal
+        (at-controller lists.rows lists.nodes row (Attached row.name (entry.0).node) found.1
         (among-right (exists_thing row) (map (attached_thing row.name) row.holdings.items) (Attached row.name (entry.0).node) (in-map (attached_thing row.name) row.holdings.items entry.0 entry.1)))
 
 -- the list of a node of the world
 record IsListOfId (lists : Lists) (world : World) (id : List ℕ) (state : NodeState) : Type 0 where
   list : NodeLists
-  is_there : IsAmong list lists.nodes.items
+  is_there : IsAmong list lists.nodes
   own_id : list.id ≡ id
   node : NodeAt
   alike : IsNodeAlike (node_listed list) node
@@ -275,21 +269,21 @@ list-of-id lists world is id state = by (find p world.nodes) refl
     by : (o : Option NodeAt) → find p world.nodes ≡ o → option_map (λ (n : NodeAt). n.state) o ≡ Some state → IsListOfId lists world id state
     by None e h = absurd (let clash : None ≡ Some state → ⊥ = λ k. cc in clash h)
     by (Some n) e h =
-        let found = listed-of (map node_listed lists.nodes.items) world.nodes is.nodes n (among-find p world.nodes n e) in
+        let found = listed-of (map node_listed lists.nodes) world.nodes is.nodes n (among-find p world.nodes n e) in
         let alike : IsNodeAlike found.0 n = found.2 in
-        let entry = among-map node_listed lists.nodes.items found.0 found.1 in
+        let entry = among-map node_listed lists.nodes found.0 found.1 in
         let own : IsNodeAlike (node_listed entry.0) n = subst (λ (l : NodeAt). IsNodeAlike l n) entry.2 alike in
         let same : Some n.state ≡ Some state = h in
         let state_is : n.state ≡ state = cc in
         record { list = entry.0; is_there = entry.1; own_id = own.id ∙ (same_text-tells n.id id).0 (find-passes p world.nodes n e); node = n; alike = own; own_state = state_is }
 
-staged-listed : (lists : Lists) (world : World) → IsListed lists world → AreKept (lists.kept).rows → (name node : List ℕ) → holds world (Staged name node) ≡ true → IsAmong (Staged name node) (things_listed (lists.kept).rows lists.nodes.items)
+staged-listed : (lists : Lists) (world : World) → IsListed lists world → AreKept lists.rows → (name node : List ℕ) → holds world (Staged name node) ≡ true → IsAmong (Staged name node) (things_listed lists.rows lists.nodes)
 staged-listed lists world is kept name node = by (volume_named name world.controller) (node_state node world) refl refl
   where
     rows : List ControllerRow
-    rows = (lists.kept).rows
+    rows = lists.rows
 
-    by : (o : Option Volume) (q : Option NodeState) → volume_named name world.controller ≡ o → node_state node world ≡ q → holds_staged o q ≡ true → IsAmong (Staged name node) (things_listed rows lists.nodes.items)
+    by : (o : Option Volume) (q : Option NodeState) → volume_named name world.controller ≡ o → node_state node world ≡ q → holds_staged o q ≡ true → IsAmong (Staged name node) (things_listed rows lists.nodes)
     by None q e f h = absurd (false≢true h)
     by (Some v) None e f h = absurd (false≢true h)
     by (Some v) (Some state) e f h =
@@ -312,19 +306,19 @@ staged-listed lists world is kept name node = by (volume_named name world.contro
         let called : row.name ≡ name = found.2 in
         let place : n.id ≡ node = l.own_id in
         let equal : Staged row.name n.id ≡ Staged name node = λ i. Staged (called i) (place i) in
-        subst (λ (t : Thing). IsAmong t (things_listed rows lists.nodes.items)) equal
-        (at-node rows lists.nodes.items n (Staged row.name n.id) l.is_there
+        subst (λ (t : Thing). IsAmong t (things_listed rows lists.nodes)) equal
+        (at-node rows lists.nodes n (Staged row.name n.id) l.is_there
         (among-append (flat_map (staged_thing rows n.id) n.staged.items) (flat_map (published_thing rows n.id) n.published.items) (Staged row.name n.id)
         (in-flat (staged_thing rows n.id) n.staged.items s (Staged row.name n.id) entry.1 here)))
 
-published-listed : (lists : Lists) (world : World) → IsListed lists world → AreKept (lists.kept).rows → (name node target : List ℕ) → holds world (Published name node target) ≡ true
-    → IsAmong (Published name node target) (things_listed (lists.kept).rows lists.nodes.items)
+published-listed : (lists : Lists) (world : World) → IsListed lists world → AreKept lists.rows → (name node target : List ℕ) → holds world (Published name node target) ≡ true
+    → IsAmong (Published name node target) (things_listed lists.rows lists.nodes)
 published-listed lists world is kept name node target = by (volume_named name world.controller) (node_state node world) refl refl
   where
     rows : List ControllerRow
-    rows = (lists.kept).rows
+    rows = lists.rows
 
-    by : (o : Option Volume) (q : Option NodeState) → volume_named name world.controller ≡ o → node_state node world ≡ q → holds_published target o q ≡ true → IsAmong (Published name node target) (things_listed rows lists.nodes.items)
+    by : (o : Option Volume) (q : Option NodeState) → volume_named name world.controller ≡ o → node_state node world ≡ q → holds_published target o q ≡ true → IsAmong (Published name node target) (things_listed rows lists.nodes)
     by None q e f h = absurd (false≢true h)
     by (Some v) None e f h = absurd (false≢true h)
     by (Some v) (Some state) e f h =
@@ -348,12 +342,12 @@ published-listed lists world is kept name node target = by (volume_named name wo
         let place : n.id ≡ node = l.own_id in
         let aim : s.target ≡ target = sym (ap (λ (x : PublishedVolume). x.target) entry.2) ∙ (same_text-tells (one.0).target target).0 parts.1 in
         let equal : thing ≡ Published name node target = λ i. Published (called i) (place i) (aim i) in
-        subst (λ (t : Thing). IsAmong t (things_listed rows lists.nodes.items)) equal
-        (at-node rows lists.nodes.items n thing l.is_there
+        subst (λ (t : Thing). IsAmong t (things_listed rows lists.nodes)) equal
+        (at-node rows lists.nodes n thing l.is_there
         (among-right (flat_map (staged_thing rows n.id) n.staged.items) (flat_map (published_thing rows n.id) n.published.items) thing
         (in-flat (published_thing rows n.id) n.published.items s thing entry.1 here)))
 
-pub holds-then-listed : (lists : Lists) (world : World) → IsListed lists world → AreKept (lists.kept).rows → (thing : Thing) → holds world thing ≡ true → IsAmong thing (things_listed (lists.kept).rows lists.nodes.items)
+pub holds-then-listed : (lists : Lists) (world : World) → IsListed lists world → AreKept lists.rows → (thing : Thing) → holds world thing ≡ true → IsAmong thing (things_listed lists.rows lists.nodes)
 holds-then-listed lists world is kept (Exists name) h = exists-listed lists world is name h
 holds-then-listed lists world is kept (Attached name node) h = attached-listed lists world is kept name node h
 holds-then-listed lists world is kept (Staged name node) h = staged-listed lists world is kept name node h

@@ -3,10 +3,12 @@ use Rattle.std.specs.Prelude.{◌≡◌, ℕ, ◌==◌, List, [], ◌∷◌, ◌
 use Rattle.std.specs.List.{list_any, list_all, flat_map}
 use Rattle.std.specs.List.Sorted.{IsSortedBy}
 use Rattle.std.specs.Ordering.{is_lt}
+use Rattle.csi_lists.specs.Places.{AtMostOne}
 use Rattle.csi_types.specs.declared.capability.Capability.{Capability}
 use Rattle.csi_types.specs.Same.{same_text, same_capability}
 use Rattle.csi_controller.specs.declared.row.ControllerRow.{ControllerRow}
 use Rattle.csi_controller.specs.declared.row.NodeHolding.{NodeHolding}
+use Rattle.csi_controller.specs.Core.{IsRising}
 use Rattle.csi_controller.specs.Shown.{volume_of_row, holdings_in}
 use Rattle.csi_controller.specs.State.{holdings_of}
 use Rattle.csi_node.specs.declared.entries.Staged.{Staged}
@@ -22,7 +24,6 @@ use Rattle.csi_orchestrator.specs.declared.thing.Thing.TheVariants.{Exists, Atta
 use Rattle.csi_orchestrator.specs.declared.thing.Known.{Known}
 use Rattle.csi_orchestrator.specs.Thing.{is_yes, same_thing}
 use Rattle.csi_world.specs.declared.auditing.lists.NodeLists.{NodeLists}
-use Rattle.csi_world.specs.declared.auditing.lists.Lists.{Lists}
 use Rattle.csi_world.specs.World.{NodeAt, World}
 use Rattle.csi_world.specs.Safe.{IsExclusive, IsPublishedWhereStaged, IsAttachedWhileLive}
 
@@ -52,11 +53,21 @@ abbrev pub AreDistinct : List (List ℕ) → Type 0
 AreDistinct [] = Unit {0}
 AreDistinct (x ∷ xs) = (list_any (same_text x) xs ≡ false) × AreDistinct xs
 
+-- rows by rising id, of which at most one has a name
+pub record AreKept (rows : List ControllerRow) : Type 0 where
+  pub rising : IsRising rows
+  pub names : (name : List ℕ) → AtMostOne (λ (row : ControllerRow). same_text row.name name) rows
+
+-- what an audit lists of the plugins: the controller's rows, and each node
+pub record Lists : Type 0 where
+  pub rows : List ControllerRow
+  pub nodes : List NodeLists
+
 -- it is the list of this world: the same volumes, each with its holdings, and the same nodes, whose ids differ
 pub record IsListed (lists : Lists) (world : World) : Type 0 where
-  pub volumes : map volume_of_row (lists.kept).rows ≡ world.controller.volumes
-  pub holdings : (id : ℕ) → holdings_in (find (λ row. row.id == id) (lists.kept).rows) ≡ holdings_of id world.controller
-  pub nodes : AreNodesAlike (map node_listed lists.nodes.items) world.nodes
+  pub volumes : map volume_of_row lists.rows ≡ world.controller.volumes
+  pub holdings : (id : ℕ) → holdings_in (find (λ row. row.id == id) lists.rows) ≡ holdings_of id world.controller
+  pub nodes : AreNodesAlike (map node_listed lists.nodes) world.nodes
   pub apart : AreDistinct (map (λ node. node.id) world.nodes)
 
 -- the list is of this node

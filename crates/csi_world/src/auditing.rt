@@ -3,7 +3,7 @@ ghost use Rattle.std.specs.Prelude.{map, IfOk};
 ghost use Rattle.csi_orchestrator.specs.Shown.{view_of};
 ghost use Rattle.csi_world.specs.World.{World as Shown};
 ghost use Rattle.csi_world.specs.Audited.{ArePlugins, Finds};
-ghost use Rattle.csi_world.specs.Listed.{AreDistinct, IsListed, ArePluginsSafe};
+ghost use Rattle.csi_world.specs.Listed.{AreDistinct, AreKept, IsListed, ArePluginsSafe};
 
 mod gathering;
 mod halving;
@@ -15,12 +15,12 @@ mod things;
 
 use crate::violation::Violation;
 use crate::world::World;
-use csi_controller::Controller;
+use csi_controller::{Controller, ControllerRow};
 use csi_node::Node;
 use csi_orchestrator::Orchestrator;
 use csi_types::NoMemory;
 use gathering::list_plugins;
-use lists::Lists;
+use lists::NodeLists;
 use marks::is_marked_right;
 use safety::plugins_are_safe;
 use staging::is_staged_where_attached;
@@ -29,15 +29,17 @@ use std::alloc::Global;
 // What is wrong by what is listed, where the plugins keep what their own contracts keep.
 fn audit_lists(
     alloc: Global,
-    lists: &Lists,
+    rows: &[ControllerRow],
+    nodes: &[NodeLists],
     orchestrator: &Orchestrator,
 ) -> Result<Option<Violation>, NoMemory>
-    ensures { (world : Shown) → IsListed lists.now world → ArePluginsSafe world → IfOk result (Finds (view_of orchestrator.now).marks world) }
+    requires { AreKept rows.now }
+    ensures { (world : Shown) → IsListed (record { rows = rows.now; nodes = nodes.now }) world → ArePluginsSafe world → IfOk result (Finds (view_of orchestrator.now).marks world) }
 {
-    if !is_staged_where_attached(lists) {
+    if !is_staged_where_attached(rows, nodes) {
         return Ok(Some(Violation::StagedUnattached));
     }
-    if is_marked_right(alloc, orchestrator, lists)? {
+    if is_marked_right(alloc, orchestrator, rows, nodes)? {
         Ok(None)
     } else {
         Ok(Some(Violation::RecordedWrong))
@@ -58,7 +60,7 @@ pub(crate) fn audit_parts(
 {
     plugins_are_safe(controller, nodes);
     let lists = list_plugins(alloc, controller, nodes)?;
-    audit_lists(alloc, &lists, orchestrator)
+    audit_lists(alloc, controller.rows(), &lists, orchestrator)
 }
 
 /// The first clause of safety that fails in this world, by what its plugins show and what its orchestrator knows, or `None`

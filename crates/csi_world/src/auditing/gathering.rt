@@ -1,7 +1,5 @@
 //! How an audit reads the plugins.
 ghost use Rattle.std.specs.Prelude.{◌≡◌, map, IfOk};
-ghost use Rattle.csi_controller.specs.Core.{IsShown};
-ghost use Rattle.csi_controller.specs.State.{ControllerState};
 ghost use Rattle.csi_node.specs.Shown.{Shows};
 ghost use Rattle.csi_node.specs.State.{NodeState};
 ghost use Rattle.csi_node.specs.Views.{staged_shown, published_shown, ListsStaged, ListsPublished};
@@ -9,8 +7,8 @@ ghost use Rattle.csi_world.specs.World.{World};
 ghost use Rattle.csi_world.specs.Audited.{ArePlugins};
 ghost use Rattle.csi_world.specs.Listed.{node_listed, AreDistinct, IsListed, IsListOf, AreListsOf};
 
-use super::lists::{Lists, NodeLists};
-use csi_controller::{Controller, ControllerRecord};
+use super::lists::NodeLists;
+use csi_controller::Controller;
 use csi_node::{Node, Published, Staged};
 use csi_types::{NoMemory, NodeId};
 use std::alloc::Global;
@@ -68,27 +66,16 @@ fn list_nodes(alloc: Global, nodes: &[Node]) -> Result<Vec<NodeLists>, NoMemory>
     Ok(lists)
 }
 
-// What the controller has recorded.
-fn record_of(alloc: Global, controller: &Controller) -> Result<ControllerRecord, NoMemory>
-    ensures { (state : ControllerState) → IsShown controller.now state →
-        IfOk result (λ kept. IsShown (record { config = controller.now.config; next_id = kept.next_id; rows = kept.rows }) state) }
-{
-    match controller.record(alloc) {
-        Ok(kept) => Ok(kept),
-        Err(_) => Err(NoMemory),
-    }
-}
-
-/// What the plugins' readers give. It is the list of every world that the plugins show.
+/// What the nodes' readers give. With the controller's rows it is the list of every world that the plugins show.
 pub(crate) fn list_plugins(
     alloc: Global,
     controller: &Controller,
     nodes: &[Node],
-) -> Result<Lists, NoMemory>
+) -> Result<Vec<NodeLists>, NoMemory>
     requires { AreDistinct (map (λ node. node.id) nodes.now) }
-    ensures { (world : World) → ArePlugins controller.now nodes.now world → IfOk result (λ lists. IsListed lists world) }
+    ensures { (world : World) → ArePlugins controller.now nodes.now world → IfOk result (λ lists. IsListed (record { rows = controller.now.rows; nodes = lists.items }) world) }
 {
-    let kept = record_of(alloc, controller)?;
-    let nodes = list_nodes(alloc, nodes)?;
-    Ok(Lists { kept, nodes })
+    let _rows = controller.rows();
+    let lists = list_nodes(alloc, nodes)?;
+    Ok(lists)
 }

@@ -1,5 +1,4 @@
-//! What an audit reads of the plugins.
-use csi_controller::ControllerRecord;
+//! What an audit reads of a node.
 use csi_node::{Published, Staged};
 use csi_types::NodeId;
 
@@ -9,11 +8,4 @@ pub(crate) struct NodeLists {
     pub id: NodeId,
     pub staged: Vec<Staged>,
     pub published: Vec<Published>,
-}
-
-/// What a controller has recorded, and what each node has.
-#[derive(Drop)]
-pub(crate) struct Lists {
-    pub kept: ControllerRecord,
-    pub nodes: Vec<NodeLists>,
 }

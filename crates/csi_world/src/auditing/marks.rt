@@ -6,11 +6,12 @@ ghost use Rattle.csi_orchestrator.specs.Shown.{view_of};
 ghost use Rattle.csi_orchestrator.specs.Thing.{is_yes as is_known_yes};
 ghost use Rattle.csi_world.specs.World.{World};
 ghost use Rattle.csi_world.specs.Audited.{AreMarkedRight};
-ghost use Rattle.csi_world.specs.Listed.{AreSorted, IsListed, is_affirmed as is_affirmed_so, is_noted as is_noted_so};
+ghost use Rattle.csi_world.specs.Listed.{AreKept, AreSorted, IsListed, is_affirmed as is_affirmed_so, is_noted as is_noted_so};
 
 use super::halving::{has_thing, is_noted};
-use super::lists::Lists;
+use super::lists::NodeLists;
 use super::things::list_things;
+use csi_controller::ControllerRow;
 use csi_orchestrator::{Known, Orchestrator, Thing};
 use csi_types::NoMemory;
 use std::alloc::Global;
@@ -70,11 +71,13 @@ fn known_by(orchestrator: &Orchestrator) -> Result<Vec<(Thing, Known)>, NoMemory
 pub(crate) fn is_marked_right(
     alloc: Global,
     orchestrator: &Orchestrator,
-    lists: &Lists,
+    rows: &[ControllerRow],
+    nodes: &[NodeLists],
 ) -> Result<bool, NoMemory>
-    ensures { (world : World) → IsListed lists.now world → IfOk result (λ right. IsTrue right ↔ AreMarkedRight (view_of orchestrator.now).marks world) }
+    requires { AreKept rows.now }
+    ensures { (world : World) → IsListed (record { rows = rows.now; nodes = nodes.now }) world → IfOk result (λ right. IsTrue right ↔ AreMarkedRight (view_of orchestrator.now).marks world) }
 {
     let noted = known_by(orchestrator)?;
-    let things = list_things(alloc, lists)?;
+    let things = list_things(alloc, rows, nodes)?;
     Ok(are_right(&things, &noted))
 }

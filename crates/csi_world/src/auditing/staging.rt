@@ -8,7 +8,7 @@ ghost use Rattle.csi_world.specs.Safe.{IsStagedWhereAttached};
 ghost use Rattle.csi_world.specs.Listed.{IsListed, is_held_as as is_held_so, is_row_held, is_staged_right, is_node_attached};
 
 use super::halving::find_row;
-use super::lists::{Lists, NodeLists};
+use super::lists::NodeLists;
 use csi_controller::{ControllerRow, NodeHolding};
 use csi_node::Staged;
 use csi_types::{Capability, NodeId};
@@ -65,8 +65,9 @@ fn are_attached(nodes: &[NodeLists], rows: &[ControllerRow]) -> bool
 
 /// Whether what is staged at a node is attached there, with the same capability, in every world of which this is the list.
 /// It takes no memory.
-pub(crate) fn is_staged_where_attached(lists: &Lists) -> bool
-    ensures { (world : World) → IsListed lists.now world → IsTrue result ↔ IsStagedWhereAttached world }
+pub(crate) fn is_staged_where_attached(rows: &[ControllerRow], nodes: &[NodeLists]) -> bool
+    requires { IsRising rows.now }
+    ensures { (world : World) → IsListed (record { rows = rows.now; nodes = nodes.now }) world → IsTrue result ↔ IsStagedWhereAttached world }
 {
-    are_attached(&lists.nodes, lists.kept.rows())
+    are_attached(nodes, rows)
 }

@@ -7,10 +7,10 @@ ghost use Rattle.csi_controller.specs.Core.{IsRising};
 ghost use Rattle.csi_orchestrator.specs.declared.thing.Thing.{Thing as ThingParts};
 ghost use Rattle.csi_world.specs.World.{World};
 ghost use Rattle.csi_world.specs.Safe.{holds};
-ghost use Rattle.csi_world.specs.Listed.{AreSorted, IsListed, exists_thing, attached_thing, things_of, staged_thing, published_thing, things_at, things_listed};
+ghost use Rattle.csi_world.specs.Listed.{AreKept, AreSorted, IsListed, exists_thing, attached_thing, things_of, staged_thing, published_thing, things_at, things_listed};
 
 use super::halving::find_row;
-use super::lists::{Lists, NodeLists};
+use super::lists::NodeLists;
 use csi_controller::{ControllerRow, NodeHolding};
 use csi_node::{Published, Staged};
 use csi_orchestrator::Thing;
@@ -211,11 +211,16 @@ fn put_in_order(things: &mut Vec<Thing>)
 }
 
 /// Everything that holds in the worlds of which this is the list, in order.
-pub(crate) fn list_things(alloc: Global, lists: &Lists) -> Result<Vec<Thing>, NoMemory>
-    ensures all { (world : World) → IsListed lists.now world → IfOk result (λ things. (thing : ThingParts) → IsAmong thing things.items ↔ (holds world thing ≡ true)) }
+pub(crate) fn list_things(
+    alloc: Global,
+    rows: &[ControllerRow],
+    nodes: &[NodeLists],
+) -> Result<Vec<Thing>, NoMemory>
+    requires { AreKept rows.now }
+    ensures all { (world : World) → IsListed (record { rows = rows.now; nodes = nodes.now }) world → IfOk result (λ things. (thing : ThingParts) → IsAmong thing things.items ↔ (holds world thing ≡ true)) }
     ensures order { IfOk result (λ things. AreSorted things.items) }
 {
-    let mut things = gathered(alloc, lists.kept.rows(), &lists.nodes)?;
+    let mut things = gathered(alloc, rows, nodes)?;
     put_in_order(&mut things);
     Ok(things)
 }

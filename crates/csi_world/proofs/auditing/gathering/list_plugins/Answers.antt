@@ -6,10 +6,10 @@ use Rattle.csi_world.proofs.auditing.gathering.list_plugins.Goals as goal
 
 pub returns : goal.returns
 returns c world plugins =
-    let shows = (c.in_ok-kept.ensures world.controller plugins.controller).shows in
+    let shows = (plugins.controller).shows in
     record {
       volumes = shows.volumes;
       holdings = shows.holdings;
-      nodes = lists-alike c.args.nodes.now (map node_listed c.in_ok-nodes.nodes.items) world.nodes c.in_ok-nodes.ensures plugins.nodes;
+      nodes = lists-alike c.args.nodes.now (map node_listed c.in_ok-lists.lists.items) world.nodes c.in_ok-lists.ensures plugins.nodes;
       apart = subst AreDistinct (shown-ids c.args.nodes.now world.nodes plugins.nodes) c.requires;
     }
