@@ -1,33 +1,14 @@
 -- What is written where an entry is found, and at the end where none is.
-use Rattle.std.proofs.Common.{◌≡◌, ◌<◌, ◌≤◌, ◌+◌, ℕ, zero, suc, Bool, true, false, cond, List, [], ◌∷◌, ◌++◌, length, get_or, map, filter, take, drop, set, refl, sym, ◌∙◌, ap, subst, arith}
-use Rattle.std.specs.Prelude.{Option, Some, None, is_some, find, not, ◌||◌, nat_lt, position}
+use Rattle.std.proofs.Common.{◌≡◌, ◌<◌, ℕ, zero, suc, Bool, true, false, cond, List, [], ◌∷◌, ◌++◌, length, get_or, map, set, refl, sym, ◌∙◌, ap, subst, arith}
+use Rattle.std.specs.Prelude.{Option, Some, None, is_some, option_map, find, position}
 use Rattle.std.proofs.lemmas.List.Folds.{list_any_at}
-use Rattle.std.specs.List.{position_or_len, list_any}
-use Rattle.std.proofs.lemmas.Bool.Decides.{nat_tests}
-use Rattle.std.proofs.lemmas.List.{length-map, map-id, map-set, map-append}
-use Rattle.std.proofs.lemmas.List.Edits.{map_over_more}
+use Rattle.std.proofs.lemmas.List.{map-id, map-append}
 use Rattle.std.proofs.lemmas.List.Quantifiers.{position-Some}
+use Rattle.csi_lists.proofs.Searches.{find-no_place, find-of_map}
+use Rattle.csi_lists.proofs.Options.{some_is_not_none}
+use Rattle.csi_lists.proofs.Tests.{any-find}
 use Rattle.csi_types.specs.Same.{same_text}
 use Rattle.csi_orchestrator.specs.Keyed.{change_by, put_by}
-
-some_isnt_none : {X : Type 0} (x : X) → Some x ≡ None → ⊥
-some_isnt_none x h = cc
-
--- a search that finds no place finds nothing
-find-beyond : {X : Type 0} (p : X → Bool) (xs : List X) → length xs ≤ position_or_len p xs → find p xs ≡ None
-find-beyond p [] h = refl
-find-beyond p (x ∷ xs) h = by (p x) (find-beyond p xs) h
-  where
-    by : (b : Bool) → (length xs ≤ position_or_len p xs → find p xs ≡ None) → suc (length xs) ≤ cond (not b) (1 + position_or_len p xs) 0 → cond b (Some x) (find p xs) ≡ None
-    by true rest k = absurd (omega arith)
-    by false rest k = rest (omega arith)
-
-beyond : (place size : ℕ) (b : Bool) → nat_lt place size ≡ b → cond b (Some place) None ≡ None → size ≤ place
-beyond place size true e h = absurd (some_isnt_none place h)
-beyond place size false e h = grind (arith, nat_tests)
-
-pub find-no_place : {X : Type 0} (p : X → Bool) (xs : List X) → position p xs ≡ None → find p xs ≡ None
-find-no_place p xs none = find-beyond p xs (beyond (position_or_len p xs) (length xs) (nat_lt (position_or_len p xs) (length xs)) refl none)
 
 -- the entry of a place, and what is written there
 find-there : {R X : Type 0} (view : R → X) (p : X → Bool) (rs : List R) (i : ℕ) (r : R) → i < length rs → p (view (get_or rs i r)) ≡ true
@@ -75,22 +56,13 @@ put-place view key entry text rs i r s own at is =
     let found = position-Some (λ x. same_text (key (view x)) (key entry)) rs i r by_key in
     put-there view key entry rs i r s found.0 found.1 found.2 is
 
--- where none is found
-find-none_shown : {R X : Type 0} (view : R → X) (p : X → Bool) (rs : List R) → find (λ x. p (view x)) rs ≡ None → find p (map view rs) ≡ None
-find-none_shown view p [] none = refl
-find-none_shown view p (x ∷ rs) none = by (p (view x)) (find-none_shown view p rs) none
-  where
-    by : (b : Bool) → (find (λ x. p (view x)) rs ≡ None → find p (map view rs) ≡ None) → cond b (Some x) (find (λ x. p (view x)) rs) ≡ None → cond b (Some (view x)) (find p (map view rs)) ≡ None
-    by true rest h = absurd (some_isnt_none x h)
-    by false rest h = rest h
-
 change-none_found : {X : Type 0} (key : X → List ℕ) (text : List ℕ) (change : X → X) (xs : List X) → find (λ x. same_text (key x) text) xs ≡ None → xs ≡ change_by key text change xs
 change-none_found key text change [] none = refl
 change-none_found key text change (x ∷ xs) none = by (same_text (key x) text) (change-none_found key text change xs) none
   where
     by : (b : Bool) → (find (λ x. same_text (key x) text) xs ≡ None → xs ≡ change_by key text change xs) → cond b (Some x) (find (λ x. same_text (key x) text) xs) ≡ None
         → x ∷ xs ≡ cond b (change x ∷ xs) (x ∷ change_by key text change xs)
-    by true rest h = absurd (some_isnt_none x h)
+    by true rest h = absurd (some_is_not_none x h)
     by false rest h = ap (λ ys. x ∷ ys) (rest h)
 
 put-none_found : {X : Type 0} (key : X → List ℕ) (entry : X) (xs : List X) → find (λ x. same_text (key x) (key entry)) xs ≡ None → xs ++ entry ∷ [] ≡ put_by key entry xs
@@ -99,11 +71,11 @@ put-none_found key entry (x ∷ xs) none = by (same_text (key x) (key entry)) (p
   where
     by : (b : Bool) → (find (λ x. same_text (key x) (key entry)) xs ≡ None → xs ++ entry ∷ [] ≡ put_by key entry xs) → cond b (Some x) (find (λ x. same_text (key x) (key entry)) xs) ≡ None
         → x ∷ (xs ++ entry ∷ []) ≡ cond b (entry ∷ xs) (x ∷ put_by key entry xs)
-    by true rest h = absurd (some_isnt_none x h)
+    by true rest h = absurd (some_is_not_none x h)
     by false rest h = ap (λ ys. x ∷ ys) (rest h)
 
 pub find-none_placed : {R X : Type 0} (view : R → X) (p : X → Bool) (rs : List R) → position (λ x. p (view x)) rs ≡ None → find p (map view rs) ≡ None
-find-none_placed view p rs none = find-none_shown view p rs (find-no_place (λ x. p (view x)) rs none)
+find-none_placed view p rs none = find-of_map p view rs ∙ ap (option_map view) (find-no_place (λ x. p (view x)) rs none)
 
 pub change-none_placed : {R X : Type 0} (view : R → X) (key : X → List ℕ) (text : List ℕ) (change : X → X) (rs : List R) → position (λ x. same_text (key (view x)) text) rs ≡ None
     → map view rs ≡ change_by key text change (map view rs)
@@ -116,43 +88,13 @@ put-none_placed view key entry text rs s own none is =
     let by_key = subst (λ t. position (λ x. same_text (key (view x)) t) rs ≡ None) (sym own) none in
     map-append view rs (s ∷ []) ∙ ap (λ y. map view rs ++ y ∷ []) is ∙ put-none_found key entry (map view rs) (find-none_placed view (λ x. same_text (key x) (key entry)) rs by_key)
 
--- what passes, as it is shown
-pub filter-shown : {R X : Type 0} (view : R → X) (p : X → Bool) (rs : List R) → map view (filter (λ x. p (view x)) rs) ≡ filter p (map view rs)
-filter-shown view p [] = refl
-filter-shown view p (x ∷ rs) = by (p (view x)) (filter-shown view p rs)
-  where
-    by : (b : Bool) → map view (filter (λ x. p (view x)) rs) ≡ filter p (map view rs) → map view (cond b (x ∷ filter (λ x. p (view x)) rs) (filter (λ x. p (view x)) rs)) ≡ cond b (view x ∷ filter p (map view rs)) (filter p (map view rs))
-    by true h = ap (λ ys. view x ∷ ys) h
-    by false h = h
-
-get_or-map_shown : {R X : Type 0} (view : R → X) (rs : List R) (i : ℕ) (r : R) → i < length rs → view (get_or rs i r) ≡ get_or (map view rs) i (view r)
-get_or-map_shown view [] i r inside = refl
-get_or-map_shown view (x ∷ rs) zero r inside = refl
-get_or-map_shown view (x ∷ rs) (suc i) r inside = get_or-map_shown view rs i r (omega arith)
-
--- one more is changed, as it is shown
-pub map_over_more-shown : {R X : Type 0} (view : R → X) (f : X → X) (rs ss : List R) (i : ℕ) (r s : R) → i < length rs → map view ss ≡ map f (take i (map view rs)) ++ drop i (map view rs)
-    → i < length ss → r ≡ get_or ss i r → view s ≡ f (view r) → map view (set ss i s) ≡ map f (take (i + 1) (map view rs)) ++ drop (i + 1) (map view rs)
-map_over_more-shown view f rs ss i r s inside so_far within there is =
-    map-set view ss i s ∙ ap (λ y. set (map view ss) i y) is
-    ∙ map_over_more f (map view rs) (map view ss) i (view r) (subst (λ n. i < n) (sym (length-map rs view)) inside) so_far (ap view there ∙ get_or-map_shown view ss i r within)
-
--- where one passes, one is found
-pub any-found : {X : Type 0} (p : X → Bool) (xs : List X) → list_any p xs ≡ is_some (find p xs)
-any-found p [] = refl
-any-found p (x ∷ xs) = by (p x) (any-found p xs)
-  where
-    by : (b : Bool) → list_any p xs ≡ is_some (find p xs) → b || list_any p xs ≡ is_some (cond b (Some x) (find p xs))
-    by true h = refl
-    by false h = h
-
 -- one is found where it has a place
 pub placed-found : {X : Type 0} (p : X → Bool) (xs : List X) (d : X) → is_some (find p xs) ≡ is_some (position p xs)
 placed-found p xs d = by (position p xs) refl
   where
     by : (o : Option ℕ) → position p xs ≡ o → is_some (find p xs) ≡ is_some o
     by None none = ap is_some (find-no_place p xs none)
-    by (Some i) at = let there = position-Some p xs i d at in sym (any-found p xs) ∙ list_any_at p xs i d there.0 there.1
+    by (Some i) at = let there = position-Some p xs i d at in sym (any-find p xs) ∙ list_any_at p xs i d there.0 there.1
 
 -- the entry of a place is the one that is found
 pub find-placed : {X : Type 0} (p : X → Bool) (xs : List X) (i : ℕ) (x : X) → position p xs ≡ Some i → x ≡ get_or xs i x → find p xs ≡ Some x

@@ -1,8 +1,10 @@
 -- Why the call that is due is read from the row.
-use Rattle.std.proofs.Common.{◌≡◌, ◌⊎◌, ℕ, List, [], ◌∷◌, Bool, true, false, cond, not, map, refl, sym, ◌∙◌, ap, subst, inl, inr}
+use Rattle.std.proofs.Common.{◌≡◌, ◌⊎◌, ℕ, List, [], ◌∷◌, Bool, true, false, cond, not, refl, sym, ◌∙◌, ap, subst, inl, inr}
 use Rattle.std.specs.Prelude.{Option, Some, None, option_map, option_and_then, find, filter_map, ◌&&◌, ◌||◌}
-use Rattle.std.specs.List.{AllByRecursion, list_any, cons_option}
-use Rattle.std.proofs.lemmas.Bool.{false≢true}
+use Rattle.std.specs.List.{AllByRecursion, list_any}
+use Rattle.std.proofs.lemmas.Bool.{false≢true, not-true}
+use Rattle.csi_lists.proofs.Tests.{then-any, any-none}
+use Rattle.csi_lists.proofs.Members.{among-kept, in-filter_map, among-empty, empty-where}
 use Rattle.csi_types.specs.declared.call.Call.{Call}
 use Rattle.csi_types.specs.declared.call.Call.TheVariants as calls
 use Rattle.csi_types.specs.declared.call.Party.{Party}
@@ -25,7 +27,7 @@ use Rattle.csi_orchestrator.specs.History.{History}
 use Rattle.csi_orchestrator.specs.Readings.{known, known_by, id_of, goal_of, issued_in, issued_of, distinct}
 use Rattle.csi_orchestrator.specs.Due.{Due, published_target, targets_in_use, due_use, due_leave, due_stop, due_delete, due_for, due_call}
 use Rattle.csi_orchestrator.specs.Shown.{PlaceShown, RowShown, row_of, place_of, aim_of, mark_in, published_in, mark_of, usage_shown, goal_shown, goal_in, others_in, marks_for, use_due, stop_due, delete_due, due_by, due_in, AreTargetsApart, DueIsTold}
-use Rattle.csi_orchestrator.proofs.Following.{any-among, any-none, and-false, passes, touches-name}
+use Rattle.csi_orchestrator.proofs.Following.{and-false, touches-name}
 use Rattle.csi_orchestrator.proofs.Joined.{own-entry}
 
 pub text-same : (name : List ℕ) → same_text name name ≡ true
@@ -49,15 +51,6 @@ among-distinct (first ∷ others) text among = by (list_any (same_text first) ot
     by true e (inr there) rest = rest there
     by false e (inl is) rest = inl is
     by false e (inr there) rest = inr (rest there)
-
-pub among-filter_map : {X Y : Type 0} (f : X → Option Y) (xs : List X) (x : X) (y : Y) → IsAmong x xs → f x ≡ Some y → IsAmong y (filter_map f xs)
-among-filter_map f [] x y among e = absurd among
-among-filter_map f (z ∷ zs) x y (inl is) e = subst (λ o. IsAmong y (cons_option o (filter_map f zs))) (sym (ap f (sym is) ∙ e)) (inl refl)
-among-filter_map f (z ∷ zs) x y (inr there) e = by (f z) (among-filter_map f zs x y there e)
-  where
-    by : (o : Option _) → IsAmong y (filter_map f zs) → IsAmong y (cons_option o (filter_map f zs))
-    by None rest = rest
-    by (Some w) rest = inr rest
 
 -- the call that does or undoes a publication has its target
 target-of : (name node target : List ℕ) (own : List ℕ) (party : Party) (call : Call) → is_thing (Published name node target) (thing_at own party call) ≡ true → published_target node (thing_at own party call) ≡ Some target
@@ -100,39 +93,14 @@ in-use history name node target maybe =
     by (Some issued) e f =
         let among = among-find (touches (Published name node target)) (issued_in history.items) issued e in
         let of = find-passes (touches (Published name node target)) (issued_in history.items) issued e in
-        among-filter_map (λ (i : Issued). published_target node (thing_of i)) (issued_of history name) issued target
+        in-filter_map (λ (i : Issued). published_target node (thing_of i)) (issued_of history name) issued target
         (in_filter (λ (i : Issued). same_text i.name name) (issued_in history.items) issued among (touches-name (Published name node target) issued of))
         (target-of name node target issued.name issued.party issued.call of)
-
-pub among-map : {X Y : Type 0} (f : X → Y) (xs : List X) (x : X) → IsAmong x xs → IsAmong (f x) (map f xs)
-among-map f [] x among = among
-among-map f (y ∷ ys) x (inl is) = inl (ap f is)
-among-map f (y ∷ ys) x (inr there) = inr (among-map f ys x there)
-
-pub mapped : {X Y : Type 0} (f : X → Y) (xs : List X) (y : Y) → IsAmong y (map f xs) → (x : X) × IsAmong x xs × (f x ≡ y)
-mapped f [] y among = absurd among
-mapped f (x ∷ xs) y (inl is) = (x, inl refl, sym is)
-mapped f (x ∷ xs) y (inr there) = let found = mapped f xs y there in (found.0, inr found.1, found.2)
-
-pub none-left : {X : Type 0} (x : X) (xs : List X) → xs ≡ [] → IsAmong x xs → ⊥
-none-left x [] e among = among
-none-left x (y ∷ ys) e among = clash e
-  where
-    clash : y ∷ ys ≡ [] → ⊥
-    clash h = cc
-
-pub first-of : {X : Type 0} (xs : List X) → ((x : X) → IsAmong x xs → ⊥) → xs ≡ []
-first-of [] none = refl
-first-of (x ∷ xs) none = absurd (none x (inl refl))
 
 pub no_is_no : (k : Known) → is_no k ≡ true → k ≡ No
 no_is_no Yes e = absurd (false≢true e)
 no_is_no No e = refl
 no_is_no Maybe e = absurd (false≢true e)
-
-pub not_true : (b : Bool) → not b ≡ true → b ≡ false
-not_true true e = absurd (false≢true e)
-not_true false e = refl
 
 -- of a row and a history that agree
 pub record Tells (row : RowShown) (history : History) : Type 0 where
@@ -155,15 +123,15 @@ others-then row history node target tells none = by (place_of row node) refl
             let own = own-entry (λ (a : Aim). a.target) place.aims aim (each_of AreTargetsApart row.places place tells.apart (among-find (λ (p : PlaceShown). same_text p.node node) row.places place e)) among in
             let mark : mark_of (Published row.name node aim.target) row ≡ aim.published = ap (mark_in (published_in aim.target)) e ∙ ap (mark_in (λ (a : Aim). a.published)) own in
             let maybe : is_no (known history (Published row.name node aim.target)) ≡ false = ap is_no (sym (tells.marks (Published row.name node aim.target) refl) ∙ mark) ∙ f in
-            absurd (none-left aim.target (targets_in_use history row.name node) none (in-use history row.name node aim.target maybe))
+            absurd (among-empty aim.target (targets_in_use history row.name node) none (in-use history row.name node aim.target maybe))
 
 -- where neither this entry nor another is in use, no target is
 targets-then : (row : RowShown) (history : History) (node target : List ℕ) → Tells row history → is_no (mark_in (published_in target) (place_of row node)) ≡ true → others_in target (place_of row node) ≡ false → targets_in_use history row.name node ≡ []
 targets-then row history node target tells this others =
-    first-of (targets_in_use history row.name node)
+    empty-where (targets_in_use history row.name node)
     (λ t among.
-    let there = passes (λ (t : List ℕ). not (is_no (known history (Published row.name node t)))) _ t among in
-    let maybe : is_no (mark_of (Published row.name node t) row) ≡ false = ap is_no (tells.marks (Published row.name node t) refl) ∙ not_true (is_no (known history (Published row.name node t))) there.1 in
+    let there = among-kept (λ (t : List ℕ). not (is_no (known history (Published row.name node t)))) _ t among in
+    let maybe : is_no (mark_of (Published row.name node t) row) ≡ false = ap is_no (tells.marks (Published row.name node t) refl) ∙ not-true (is_no (known history (Published row.name node t))) there.1 in
     by t (place_of row node) refl maybe)
   where
     aimed : (t : List ℕ) (place : PlaceShown) → place_of row node ≡ Some place → (o : Option Aim) → aim_of place t ≡ o → is_no (mark_in (λ (a : Aim). a.published) o) ≡ false → ⊥
@@ -182,7 +150,7 @@ targets-then row history node target tells this others =
             let mark : mark_in (published_in target) (place_of row node) ≡ aim.published = ap (mark_in (published_in target)) e ∙ ap (λ u. mark_in (λ (a : Aim). a.published) (aim_of place u)) (sym same) ∙ ap (mark_in (λ (a : Aim). a.published)) f in
             false≢true (sym maybe ∙ ap is_no (sym mark) ∙ this)
         own false g =
-            false≢true (sym others ∙ ap (others_in target) e ∙ any-among (λ (a : Aim). not (same_text a.target target) && not (is_no a.published)) place.aims aim among (ap (λ b. not b && not (is_no aim.published)) g ∙ ap not maybe))
+            false≢true (sym others ∙ ap (others_in target) e ∙ then-any (λ (a : Aim). not (same_text a.target target) && not (is_no a.published)) place.aims aim among (ap (λ b. not b && not (is_no aim.published)) g ∙ ap not maybe))
 
     by : (t : List ℕ) (o : Option PlaceShown) → place_of row node ≡ o → is_no (mark_in (published_in t) o) ≡ false → ⊥
     by t None e maybe = false≢true (sym maybe)

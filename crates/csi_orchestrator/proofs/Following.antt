@@ -1,10 +1,12 @@
 -- Why what an orchestrator shows can be kept up item by item.
-use Rattle.std.proofs.Common.{◌≡◌, ◌≢◌, ◌⊎◌, ◌+◌, ℕ, List, [], ◌∷◌, Bool, true, false, cond, refl, sym, ◌∙◌, ap, subst, inl, inr, arith}
+use Rattle.std.proofs.Common.{◌≡◌, ◌≢◌, ◌+◌, ℕ, List, [], ◌∷◌, Bool, true, false, cond, refl, sym, ◌∙◌, ap, subst, inl, inr, arith}
 use Rattle.std.specs.Prelude.{Option, Some, None, min, find, filter, filter_map, option_and_then, ◌&&◌, ◌||◌}
 use Rattle.std.specs.List.{list_any, cons_option}
 use Rattle.std.specs.Option.{option_or}
 use Rattle.std.proofs.lemmas.Bool.{false≢true}
 use Rattle.std.proofs.lemmas.Bool.Decides.{nat_tests}
+use Rattle.csi_lists.proofs.Members.{among-kept}
+use Rattle.csi_lists.proofs.Tests.{then-any, any-none}
 use Rattle.csi_types.specs.declared.call.Call.{Call}
 use Rattle.csi_types.specs.declared.call.Call.TheVariants as calls
 use Rattle.csi_types.specs.declared.call.Party.{Party}
@@ -326,28 +328,6 @@ noted-follows view history name goal agrees =
     count true k n e = refl
     count false k n e = e
 
-pub passes : {X : Type 0} (p : X → Bool) (xs : List X) (x : X) → IsAmong x (filter p xs) → IsAmong x xs × (p x ≡ true)
-passes p [] x among = absurd among
-passes p (y ∷ ys) x among = by (p y) refl among (passes p ys x)
-  where
-    by : (b : Bool) → p y ≡ b → IsAmong x (cond b (y ∷ filter p ys) (filter p ys)) → (IsAmong x (filter p ys) → IsAmong x ys × (p x ≡ true)) → ((x ≡ y) ⊎ IsAmong x ys) × (p x ≡ true)
-    by true e (inl is) rest = (inl is, ap p is ∙ e)
-    by true e (inr there) rest = let found = rest there in (inr found.0, found.1)
-    by false e there rest = let found = rest there in (inr found.0, found.1)
-
-pub any-among : {X : Type 0} (p : X → Bool) (xs : List X) (x : X) → IsAmong x xs → p x ≡ true → list_any p xs ≡ true
-any-among p [] x among e = absurd among
-any-among p (y ∷ ys) x (inl is) e = ap (λ b. b || list_any p ys) (ap p (sym is) ∙ e)
-any-among p (y ∷ ys) x (inr there) e = by (p y) (any-among p ys x there e)
-  where
-    by : (b : Bool) → list_any p ys ≡ true → (b || list_any p ys) ≡ true
-    by true h = refl
-    by false h = h
-
-pub any-none : {X : Type 0} (p : X → Bool) (xs : List X) → ((x : X) → IsAmong x xs → p x ≡ false) → list_any p xs ≡ false
-any-none p [] none = refl
-any-none p (y ∷ ys) none = rw (none y (inl refl)) (any-none p ys (λ x among. none x (inr among)))
-
 pub and-false : (b : Bool) → (b && false) ≡ false
 and-false true = refl
 and-false false = refl
@@ -381,7 +361,7 @@ open-latest began name (Sent issued ∷ older) call form e =
     differs : (other : Issued) → IsAmong other (filter (λ (i : Issued). same_text i.name name) (issued_in older)) → same_number issued.number other.number ≡ false
     differs other among =
         same_number-flip issued.number other.number
-        ∙ other-number other.number issued.number (sent-before began older issued.number other form.1 form.0.0.later (passes (λ (i : Issued). same_text i.name name) (issued_in older) other among).0)
+        ∙ other-number other.number issued.number (sent-before began older issued.number other form.1 form.0.0.later (among-kept (λ (i : Issued). same_text i.name name) (issued_in older) other among).0)
 
     by : (b : Bool) → cond b (Some issued) (open_in name older) ≡ Some call → (open_in name older ≡ Some call → IsLatest name older call)
         → (others : List Issued) × (cond b (issued ∷ filter (λ (i : Issued). same_text i.name name) (issued_in older)) (filter (λ (i : Issued). same_text i.name name) (issued_in older)) ≡ call ∷ others)
@@ -513,7 +493,7 @@ accepted-follows view history issued status id form agrees is_open =
     was_there name node there false e of f = λ was. there (refused (Attached name node) e ∙ was)
 
     own_number : (name : List ℕ) (b : Bool) → same_text issued.name name ≡ b → is_number_of name history.items issued.number ≡ b
-    own_number name true e = any-among (λ (i : Issued). same_text i.name name && same_number i.number issued.number) (issued_in history.items) issued sent (ap (λ b. b && same_number issued.number issued.number) e ∙ number-same issued.number)
+    own_number name true e = then-any (λ (i : Issued). same_text i.name name && same_number i.number issued.number) (issued_in history.items) issued sent (ap (λ b. b && same_number issued.number issued.number) e ∙ number-same issued.number)
     own_number name false e = any-none (λ (i : Issued). same_text i.name name && same_number i.number issued.number) (issued_in history.items) (λ call among. by call among (same_text call.name name) refl)
       where
         by : (call : Issued) → IsAmong call (issued_in history.items) → (b : Bool) → same_text call.name name ≡ b → (b && same_number call.number issued.number) ≡ false
@@ -545,7 +525,7 @@ accepted-follows view history issued status id form agrees is_open =
             ∙ newest-cons (id_brought issued.call id) rest
     an_id name true e false f =
         agrees.same_ids name ∙ sym (ap newest (ids-quiet (Accepted issued.number status id) history.items (issued_of history name)
-        (λ other among. let there = passes (λ (i : Issued). same_text i.name name) (issued_in history.items) other among in
+        (λ other among. let there = among-kept (λ (i : Issued). same_text i.name name) (issued_in history.items) other among in
         ap (λ b. cond (b && is_ok_status status) id None) (differs other there.0 (λ is. false≢true (sym f ∙ ap (λ (c : Issued). same_text c.name name) (sym is) ∙ there.1))))))
     an_id name false e own f =
         agrees.same_ids name ∙ sym (ap newest (ids-quiet (Accepted issued.number status id) history.items (issued_of history name)

@@ -1,7 +1,8 @@
 -- Why what an orchestrator does keeps its history well-formed.
 use Rattle.std.proofs.Common.{◌≡◌, ℕ, ◌+◌, ◌<◌, List, [], ◌∷◌, Bool, true, false, cond, not, refl, sym, subst, arith}
-use Rattle.std.specs.Prelude.{Option, Some, None, Result, Ok, Err, find, ◌==◌, ◌&&◌, nat_lt, option_and_then}
+use Rattle.std.specs.Prelude.{Option, Some, None, Result, Ok, Err, ◌==◌, ◌&&◌, nat_lt, option_and_then}
 use Rattle.std.proofs.lemmas.Bool.{and_parts, eqb-true, eq-eqb, lt-ltb, le-ltb, false≢true}
+use Rattle.csi_lists.proofs.Searches.{find-passes}
 use Rattle.csi_types.specs.declared.number.Number.{Number}
 use Rattle.csi_types.specs.declared.call.Call.{Call}
 use Rattle.csi_types.specs.declared.call.Call.TheVariants as calls
@@ -181,17 +182,6 @@ taken-keeps history reply issued is_open form =
     refused (calls.NodeUnstageVolume id) = keeping history _ (is_open, form)
     refused (calls.NodePublishVolume id target capability readonly) = stop
     refused (calls.NodeUnpublishVolume id target) = keeping history _ (is_open, form)
-
-not_none : {X : Type 0} (x : X) → None ≡ Some x → ⊥
-not_none x h = cc
-
-passes_first : {X : Type 0} (p : X → Bool) (y x : X) (rest : Option X) (b : Bool) → p y ≡ b → (rest ≡ Some x → p x ≡ true) → cond b (Some y) rest ≡ Some x → p x ≡ true
-passes_first p y x rest true e later h = let same : y ≡ x = cc in subst (λ z. p z ≡ true) same e
-passes_first p y x rest false e later h = later h
-
-find-passes : {X : Type 0} (p : X → Bool) (xs : List X) (x : X) → find p xs ≡ Some x → p x ≡ true
-find-passes p [] x h = absurd (not_none x h)
-find-passes p (y ∷ ys) x h = passes_first p y x (find p ys) (p y) refl (find-passes p ys x) h
 
 same_number-then : (a b : Number) → same_number a b ≡ true → a ≡ b
 same_number-then a b h =

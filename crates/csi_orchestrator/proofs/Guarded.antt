@@ -3,6 +3,7 @@ use Rattle.std.proofs.Common.{◌≡◌, ◌≢◌, ℕ, List, Bool, true, false
 use Rattle.std.specs.Prelude.{Option, Some, None, option_map, option_and_then, ◌&&◌, ◌||◌}
 use Rattle.std.specs.List.{AllByRecursion}
 use Rattle.std.proofs.lemmas.Bool.{false≢true}
+use Rattle.csi_lists.proofs.Tests.{then-any}
 use Rattle.csi_types.specs.declared.call.Call.TheVariants as calls
 use Rattle.csi_types.specs.declared.call.Party.TheVariants.{Controller, Node}
 use Rattle.csi_types.specs.Holding.{CanHoldBoth}
@@ -30,7 +31,6 @@ use Rattle.csi_orchestrator.specs.Shown.{PlaceShown, RowShown, Parts, row_of, pl
 use Rattle.csi_orchestrator.specs.RowMoves.{is_so_elsewhere, has_elsewhere}
 use Rattle.csi_orchestrator.specs.Kept.{ArePlacesApart, IsUsable, MayBeWanted}
 use Rattle.csi_orchestrator.proofs.Numbers.{some-one, none-some}
-use Rattle.csi_orchestrator.proofs.Following.{any-among}
 use Rattle.csi_orchestrator.proofs.DueCalls.{no_is_no}
 
 yes_is_yes : (k : Known) → is_yes k ≡ true → k ≡ Yes
@@ -102,7 +102,7 @@ not-so row so node other place none e apart maybe = by (so (held_at place)) refl
 
     by : (b : Bool) → so (held_at place) ≡ b → b ≡ false
     by true f =
-        absurd (false≢true (sym none ∙ any-among (is_so_elsewhere so node) row.places place there.0
+        absurd (false≢true (sym none ∙ then-any (is_so_elsewhere so node) row.places place there.0
         (ap (λ b. not b && not (is_no place.attached) && so (held_at place)) elsewhere ∙ ap (λ b. not b && so (held_at place)) (is_not_no place.attached maybe) ∙ f)))
     by false f = refl
 
@@ -260,7 +260,7 @@ quiet-targets row node target other this others = by (place_of row node) this ot
         noted : (b : Bool) → is_no aim.published ≡ b → same_text aim.target target ≡ false → aim.published ≡ No
         noted true g h = no_is_no aim.published g
         noted false g h =
-            absurd (false≢true (sym rest ∙ any-among (λ (a : Aim). not (same_text a.target target) && not (is_no a.published)) place.aims aim among
+            absurd (false≢true (sym rest ∙ then-any (λ (a : Aim). not (same_text a.target target) && not (is_no a.published)) place.aims aim among
             (ap (λ b. not b && not (is_no aim.published)) h ∙ ap not g)))
 
         pick : (b : Bool) → same_text aim.target target ≡ b → aim.published ≡ No

@@ -3,6 +3,8 @@ use Rattle.std.proofs.Common.{◌≡◌, ℕ, ◌+◌, ◌^◌, List, [], ◌∷
 use Rattle.std.specs.Prelude.{◌==◌, find, nat_lt, ◌&&◌, Option, Some, None, is_some, is_none, Result, Ok, Err}
 use Rattle.std.specs.List.{AllByRecursion, list_any}
 use Rattle.std.proofs.lemmas.Bool.{false≢true, and_parts, or_parts}
+use Rattle.csi_lists.proofs.Each.{each-map}
+use Rattle.csi_lists.proofs.Options.{none-from_is_some}
 use Rattle.csi_types.specs.declared.call.Kind.{Kind}
 use Rattle.csi_types.specs.declared.call.Kind.TheVariants as kinds
 use Rattle.csi_types.specs.declared.call.Party.{Party}
@@ -32,7 +34,7 @@ use Rattle.csi_orchestrator.specs.Shown.{PlaceShown, RowShown, Parts, row_of, pl
 use Rattle.csi_orchestrator.specs.RowChanges.{succeeded, told_of, wanted, dropped, stopped_goal, new_row, wanted_anew, with_entry}
 use Rattle.csi_orchestrator.specs.RowMoves.{Told, told, put, sends_as, goes_on, unless_refused, first_fault, again_fault, creates, has_elsewhere, is_place_otherwise, use_refusal, room_refusal, kept_usage, due_for_use, uses, stop_refusal, stops, is_attached_somewhere, delete_refusal, busy_refusal, deletes, times_out_with, times_out, is_issued_as, row_replied, stops_after, hears_refusal, hears_reply, receives, starts_again, row_moves}
 use Rattle.csi_orchestrator.specs.Kept.{MayBeWanted, IsKept, AreKept, RowsStayKept}
-use Rattle.csi_orchestrator.proofs.KeptEntries.{by_if, each-put, apart-put, each-map, apart-map}
+use Rattle.csi_orchestrator.proofs.KeptEntries.{by_if, each-put, apart-put, apart-map}
 use Rattle.csi_orchestrator.proofs.KeptRows.{AreDistinct, kept-distinct, FitsGoal, due-fits-goal, marked-distinct, marked-goal, kept-sent, kept-closed, kept-dropped, wanted-stopped, wanted-succeeded}
 use Rattle.csi_orchestrator.proofs.KeptUses.{distinct-entry, usable-entry}
 
@@ -76,10 +78,6 @@ is-made Yes e = refl
 is-made No e = absurd (false≢true (sym e))
 is-made Maybe e = absurd (false≢true (sym e))
 
-pub none-there : {X : Type 0} (o : Option X) → is_some o ≡ false → o ≡ None
-none-there None e = refl
-none-there (Some x) e = absurd (false≢true (sym e))
-
 -- a create
 creates-kept : (parts : Parts) (name : List ℕ) (arguments : Arguments) → AreKept parts.rows → (o : Option RowShown) → row_of parts.rows name ≡ o → KeptAfter parts (creates parts name arguments o)
 creates-kept parts name arguments kept None e =
@@ -90,7 +88,7 @@ creates-kept parts name arguments kept (Some row) e =
     (λ free.
     let own = found-kept (λ (r : RowShown). same_text r.name name) parts.rows row kept e in
     let unused = or_parts (is_some row.id) (is_some row.goal) (first-held _ _ _ free).0 in
-    goes-on-kept parts Sends (wanted_anew arguments row) kept (kept-distinct row own) (λ due f. none-there row.id unused.0))
+    goes-on-kept parts Sends (wanted_anew arguments row) kept (kept-distinct row own) (λ due f. none-from_is_some row.id unused.0))
 
 -- a use
 uses-kept : (parts : Parts) (name : List ℕ) (usage : Usage) → AreKept parts.rows → (o : Option RowShown) → row_of parts.rows name ≡ o → KeptAfter parts (uses parts usage o)

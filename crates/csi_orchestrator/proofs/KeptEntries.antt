@@ -1,10 +1,10 @@
 -- What holds of entries with keys, after one was changed or put in, and after some were taken out.
 use Rattle.std.proofs.Common.{◌≡◌, ℕ, List, [], ◌∷◌, Bool, true, false, cond, map, refl, sym, ◌∙◌, ap, subst}
-use Rattle.std.specs.Prelude.{filter, ◌||◌}
+use Rattle.std.specs.Prelude.{◌||◌}
 use Rattle.std.specs.List.{AllByRecursion, list_any}
+use Rattle.csi_lists.proofs.Each.{each-map}
 use Rattle.csi_types.specs.Lists.{EachTwo}
 use Rattle.csi_types.specs.Same.{same_text}
-use Rattle.csi_types.proofs.Among.{each_of, all_of, among-filter}
 use Rattle.csi_types.proofs.Equality.{same_text-tells}
 use Rattle.csi_orchestrator.specs.Keyed.{change_by, put_by}
 
@@ -70,15 +70,6 @@ any-put q key entry (x ∷ xs) fails = by (same_text (key x) (key entry)) refl (
     by : (b : Bool) → same_text (key x) (key entry) ≡ b → list_any q (put_by key entry xs) ≡ list_any q xs → list_any q (cond b (entry ∷ xs) (x ∷ put_by key entry xs)) ≡ (q x || list_any q xs)
     by true e rest = ap (λ b. b || list_any q xs) (fails entry refl ∙ sym (fails x ((same_text-tells (key x) (key entry)).0 e)))
     by false e rest = ap (λ b. q x || b) rest
-
--- some are taken out
-pub each-filter : {X : Type 0} (P : X → Type 0) (p : X → Bool) (xs : List X) → AllByRecursion P xs → AllByRecursion P (filter p xs)
-each-filter P p xs all = all_of P (filter p xs) (λ x among. each_of P xs x all (among-filter p xs x among))
-
--- each is changed
-pub each-map : {X : Type 0} (P Q : X → Type 0) (f : X → X) (xs : List X) → ((x : X) → P x → Q (f x)) → AllByRecursion P xs → AllByRecursion Q (map f xs)
-each-map P Q f [] keeps all = tt
-each-map P Q f (x ∷ xs) keeps all = (keeps x all.0, each-map P Q f xs keeps all.1)
 
 pub apart-map : {X : Type 0} (key : X → List ℕ) (f : X → X) (xs : List X) → ((x : X) → key (f x) ≡ key x) → AreApart key xs → AreApart key (map f xs)
 apart-map key f [] same apart = tt

@@ -2,6 +2,7 @@
 use Rattle.std.proofs.Common.{◌≡◌, ℕ, List, Bool, false, cond, not, map, refl, sym, ◌∙◌, ap, subst}
 use Rattle.std.specs.Prelude.{Option, Some, None, option_map, option_and_then, find, ◌&&◌}
 use Rattle.std.specs.List.{AllByRecursion, list_any}
+use Rattle.csi_lists.proofs.Each.{each-filter, each-map}
 use Rattle.csi_types.specs.declared.call.Kind.{Kind}
 use Rattle.csi_types.specs.declared.call.Kind.TheVariants as kinds
 use Rattle.csi_types.specs.declared.number.Number.{Number}
@@ -26,7 +27,7 @@ use Rattle.csi_orchestrator.specs.Keyed.{change_by}
 use Rattle.csi_orchestrator.specs.Kept.{ArePlacesApart, IsUsable, MayBeWanted, IsKept}
 use Rattle.csi_orchestrator.proofs.DueCalls.{text-same}
 use Rattle.csi_orchestrator.proofs.Keyed.{find-change}
-use Rattle.csi_orchestrator.proofs.KeptEntries.{by_if, each-change, apart-change, any-change, each-filter, each-map, apart-map}
+use Rattle.csi_orchestrator.proofs.KeptEntries.{by_if, each-change, apart-change, any-change, apart-map}
 
 -- a node has one entry, and so has each target there
 pub record AreDistinct (places : List PlaceShown) : Type 0 where

@@ -2,9 +2,13 @@
 use Rattle.std.proofs.Common.{◌≡◌, ℕ, List, Bool, true, false, cond, not, map, length, refl, sym, ◌∙◌, ap, subst}
 use Rattle.std.specs.Prelude.{Option, Some, None, is_some, is_none, option_map, option_and_then, find, filter, filter_map, nat_lt, ◌&&◌}
 use Rattle.std.specs.List.{list_any}
-use Rattle.std.proofs.lemmas.Bool.{false≢true}
+use Rattle.std.proofs.lemmas.Bool.{false≢true, not-true, and_parts}
 use Rattle.std.proofs.lemmas.List.{length-map}
 use Rattle.std.proofs.lemmas.List.Sums.{length-filter}
+use Rattle.csi_lists.proofs.Tests.{then-any, alike, any-then}
+use Rattle.csi_lists.proofs.Members.{among-kept, in-filter_map, in-map, among-map, empty-where, among-filter_map, some-found, has-some, some-has}
+use Rattle.csi_lists.proofs.Counts.{any-counted}
+use Rattle.csi_lists.proofs.Pairs.{two-map}
 use Rattle.csi_types.specs.declared.call.Call.{Call}
 use Rattle.csi_types.specs.declared.call.Call.TheVariants as calls
 use Rattle.csi_types.specs.declared.call.Party.{Party}
@@ -27,10 +31,10 @@ use Rattle.csi_orchestrator.specs.Commands.{next_number, is_spent, create_fault,
 use Rattle.csi_orchestrator.specs.Shown.{PlaceShown, RowShown, Parts, row_of, place_of, aim_of, mark_in, published_in, mark_of, goal_shown, goal_in, marks_for, use_due, held_at, held_in, others_in, AreTargetsApart, AgreesWith}
 use Rattle.csi_orchestrator.specs.Kept.{IsKept, AreKept}
 use Rattle.csi_orchestrator.specs.RowMoves.{is_last, first_fault, again_fault, is_so_elsewhere, has_elsewhere, is_place_otherwise, others_count, use_refusal, room_refusal, kept_usage, due_for_use, stop_refusal, is_attached_somewhere, delete_refusal, busy_refusal}
-use Rattle.csi_orchestrator.proofs.Following.{any-among, passes, touches-name}
-use Rattle.csi_orchestrator.proofs.DueCalls.{text-same, among-distinct, among-filter_map, in-use, among-map, mapped, first-of, not_true}
+use Rattle.csi_orchestrator.proofs.Following.{touches-name}
+use Rattle.csi_orchestrator.proofs.DueCalls.{text-same, among-distinct, in-use}
 use Rattle.csi_orchestrator.proofs.Joined.{own-entry}
-use Rattle.csi_orchestrator.proofs.Counts.{alike, both-pass, any-found, filter_map-among, some-found, has-some, some-has, any-counted, AreOnce, distinct-once, two-map, as-many}
+use Rattle.csi_orchestrator.proofs.Counts.{AreOnce, distinct-once, as-many}
 
 -- what a row tells of the name that a history speaks of
 pub record IsRowOf (row : RowShown) (history : History) (name : List ℕ) : Type 0 where
@@ -67,9 +71,9 @@ node-of : (name node : List ℕ) (own : List ℕ) (party : Party) (call : Call) 
 node-of name node own party (calls.CreateVolume create required limit capabilities) of = absurd (false≢true of)
 node-of name node own party (calls.DeleteVolume id) of = absurd (false≢true of)
 node-of name node own party (calls.ControllerPublishVolume id other capability readonly) of =
-    ap Some (sym ((same_text-tells node other).0 (both-pass (same_text name own) (same_text node other) of).1))
+    ap Some (sym ((same_text-tells node other).0 (and_parts (same_text name own) (same_text node other) of).1))
 node-of name node own party (calls.ControllerUnpublishVolume id other) of =
-    ap Some (sym ((same_text-tells node other).0 (both-pass (same_text name own) (same_text node other) of).1))
+    ap Some (sym ((same_text-tells node other).0 (and_parts (same_text name own) (same_text node other) of).1))
 node-of name node own Controller (calls.NodeStageVolume id capability) of = absurd (false≢true of)
 node-of name node own (Node there) (calls.NodeStageVolume id capability) of = absurd (false≢true of)
 node-of name node own Controller (calls.NodeUnstageVolume id) of = absurd (false≢true of)
@@ -90,14 +94,14 @@ node-in-use history name node maybe =
     by (Some issued) e f =
         let among = among-find (touches (Attached name node)) (issued_in history.items) issued e in
         let of = find-passes (touches (Attached name node)) (issued_in history.items) issued e in
-        among-filter_map (λ (i : Issued). attached_node (thing_of i)) (issued_of history name) issued node
+        in-filter_map (λ (i : Issued). attached_node (thing_of i)) (issued_of history name) issued node
         (in_filter (λ (i : Issued). same_text i.name name) (issued_in history.items) issued among (touches-name (Attached name node) issued of))
         (node-of name node issued.name issued.party issued.call of)
 
 -- and only such a one is
 pub node-may : (history : History) (name node : List ℕ) → IsAmong node (nodes_in_use history name) → is_no (known history (Attached name node)) ≡ false
 node-may history name node among =
-    not_true (is_no (known history (Attached name node))) (passes (λ (n : List ℕ). not (is_no (known history (Attached name n)))) _ node among).1
+    not-true (is_no (known history (Attached name node))) (among-kept (λ (n : List ℕ). not (is_no (known history (Attached name n)))) _ node among).1
 
 -- an entry that may be attached is of a node in use
 place-in-use : (row : RowShown) (history : History) (name : List ℕ) (place : PlaceShown) → IsRowOf row history name → IsAmong place row.places → is_no place.attached ≡ false
@@ -138,22 +142,22 @@ elsewhere-alike so row history name node own = alike (list_any so (held_elsewher
 
     there : list_any so (held_elsewhere history name node) ≡ true → has_elsewhere so node row ≡ true
     there e =
-        let holding = any-found so (held_elsewhere history name node) e in
-        let other = filter_map-among (held history name) others holding.0 holding.1 in
-        let is_in = passes (λ other. not (same_text other node)) (nodes_in_use history name) other.0 other.1 in
+        let holding = any-then so (held_elsewhere history name node) e in
+        let other = among-filter_map (held history name) others holding.0 holding.1 in
+        let is_in = among-kept (λ other. not (same_text other node)) (nodes_in_use history name) other.0 other.1 in
         let place = node-place row history name other.0 own is_in.0 in
         let differs : not (same_text place.0.node node) ≡ true = ap (λ n. not (same_text n node)) place.2 ∙ is_in.1 in
         let it : so (held_at place.0) ≡ true = ap so (some-one (held_at place.0) holding.0 (sym place.4 ∙ other.2)) ∙ holding.2 in
-        any-among (is_so_elsewhere so node) row.places place.0 place.1 (ap (λ b. b && not (is_no place.0.attached) && so (held_at place.0)) differs ∙ ap (λ b. not b && so (held_at place.0)) place.3 ∙ it)
+        then-any (is_so_elsewhere so node) row.places place.0 place.1 (ap (λ b. b && not (is_no place.0.attached) && so (held_at place.0)) differs ∙ ap (λ b. not b && so (held_at place.0)) place.3 ∙ it)
 
     back : has_elsewhere so node row ≡ true → list_any so (held_elsewhere history name node) ≡ true
     back e =
-        let place = any-found (is_so_elsewhere so node) row.places e in
-        let tests = both-pass (not (same_text place.0.node node) && not (is_no place.0.attached)) (so (held_at place.0)) place.2 in
-        let first = both-pass (not (same_text place.0.node node)) (not (is_no place.0.attached)) tests.0 in
-        let used = place-in-use row history name place.0 own place.1 (not_true (is_no place.0.attached) first.1) in
-        any-among so (held_elsewhere history name node) (held_at place.0)
-        (among-filter_map (held history name) others place.0.node (held_at place.0) (in_filter (λ other. not (same_text other node)) (nodes_in_use history name) place.0.node used.0 first.0) used.1)
+        let place = any-then (is_so_elsewhere so node) row.places e in
+        let tests = and_parts (not (same_text place.0.node node) && not (is_no place.0.attached)) (so (held_at place.0)) place.2 in
+        let first = and_parts (not (same_text place.0.node node)) (not (is_no place.0.attached)) tests.0 in
+        let used = place-in-use row history name place.0 own place.1 (not-true (is_no place.0.attached) first.1) in
+        then-any so (held_elsewhere history name node) (held_at place.0)
+        (in-filter_map (held history name) others place.0.node (held_at place.0) (in_filter (λ other. not (same_text other node)) (nodes_in_use history name) place.0.node used.0 first.0) used.1)
         tests.1
 
 -- the volume may be attached somewhere
@@ -164,12 +168,12 @@ attached-alike row history name own = alike (nat_lt 0 (length (nodes_in_use hist
     there e =
         let node = has-some (nodes_in_use history name) e in
         let place = node-place row history name node.0 own node.1 in
-        any-among (λ (p : PlaceShown). not (is_no p.attached)) row.places place.0 place.1 (ap not place.3)
+        then-any (λ (p : PlaceShown). not (is_no p.attached)) row.places place.0 place.1 (ap not place.3)
 
     back : is_attached_somewhere row ≡ true → nat_lt 0 (length (nodes_in_use history name)) ≡ true
     back e =
-        let place = any-found (λ (p : PlaceShown). not (is_no p.attached)) row.places e in
-        some-has (nodes_in_use history name) place.0.node (place-in-use row history name place.0 own place.1 (not_true (is_no place.0.attached) place.2)).0
+        let place = any-then (λ (p : PlaceShown). not (is_no p.attached)) row.places e in
+        some-has (nodes_in_use history name) place.0.node (place-in-use row history name place.0 own place.1 (not-true (is_no place.0.attached) place.2)).0
 
 -- it may be attached at this node otherwise
 pub otherwise-alike : (row : RowShown) (history : History) (name : List ℕ) (usage : Usage) → IsRowOf row history name → is_held_otherwise history name usage ≡ is_place_otherwise usage (place_of row usage.node)
@@ -204,13 +208,13 @@ others-alike row history name usage own = by (place_of row usage.node) refl
     -- a target among them is another one, and may be published
     may : (t : List ℕ) → IsAmong t targets → (not (same_text t usage.target) ≡ true) × (is_no (mark_in (published_in t) (place_of row usage.node)) ≡ false)
     may t among =
-        let other = passes (λ target. not (same_text target usage.target)) (targets_in_use history name usage.node) t among in
-        let used = passes (λ (t : List ℕ). not (is_no (known history (Published name usage.node t)))) _ t other.0 in
-        (other.1, ap is_no (sym (own.marks (Published name usage.node t) refl)) ∙ not_true (is_no (known history (Published name usage.node t))) used.1)
+        let other = among-kept (λ target. not (same_text target usage.target)) (targets_in_use history name usage.node) t among in
+        let used = among-kept (λ (t : List ℕ). not (is_no (known history (Published name usage.node t)))) _ t other.0 in
+        (other.1, ap is_no (sym (own.marks (Published name usage.node t) refl)) ∙ not-true (is_no (known history (Published name usage.node t))) used.1)
 
     by : (o : Option PlaceShown) → place_of row usage.node ≡ o → length targets ≡ others_count usage.target o
     by None e =
-        ap length (first-of targets (λ t among. false≢true (sym (may t among).1 ∙ ap (λ o. is_no (mark_in (published_in t) o)) e)))
+        ap length (empty-where targets (λ t among. false≢true (sym (may t among).1 ∙ ap (λ o. is_no (mark_in (published_in t) o)) e)))
     by (Some place) e =
         as-many targets (map (λ (a : Aim). a.target) aims) once
         (two-map (λ (a b : List ℕ). same_text a b ≡ false) (λ (a : Aim). a.target) aims (two-filter (λ (a b : Aim). same_text a.target b.target ≡ false) is_other place.aims apart)) to from
@@ -231,7 +235,7 @@ others-alike row history name usage own = by (place_of row usage.node) refl
             let is : aim.target ≡ t = (same_text-tells aim.target t).0 (find-passes (λ (a : Aim). same_text a.target t) place.aims aim f) in
             let other : not (same_text aim.target usage.target) ≡ true = ap (λ u. not (same_text u usage.target)) is ∙ differs in
             subst (λ u. IsAmong u (map (λ (a : Aim). a.target) aims)) is
-            (among-map (λ (a : Aim). a.target) aims aim
+            (in-map (λ (a : Aim). a.target) aims aim
             (in_filter is_other place.aims aim (among-find (λ (a : Aim). same_text a.target t) place.aims aim f) (ap (λ b. b && not (is_no aim.published)) other ∙ ap not maybe)))
 
         to : (t : List ℕ) → IsAmong t targets → IsAmong t (map (λ (a : Aim). a.target) aims)
@@ -239,14 +243,14 @@ others-alike row history name usage own = by (place_of row usage.node) refl
 
         from : (t : List ℕ) → IsAmong t (map (λ (a : Aim). a.target) aims) → IsAmong t targets
         from t among =
-            let aim = mapped (λ (a : Aim). a.target) aims t among in
-            let kept = passes is_other place.aims aim.0 aim.1 in
-            let parts = both-pass (not (same_text aim.0.target usage.target)) (not (is_no aim.0.published)) kept.1 in
+            let aim = among-map (λ (a : Aim). a.target) aims t among in
+            let kept = among-kept is_other place.aims aim.0 aim.1 in
+            let parts = and_parts (not (same_text aim.0.target usage.target)) (not (is_no aim.0.published)) kept.1 in
             let mark : known history (Published name usage.node aim.0.target) ≡ aim.0.published =
             own.marks (Published name usage.node aim.0.target) refl ∙ ap (mark_in (published_in aim.0.target)) e ∙ ap (mark_in (λ (a : Aim). a.published)) (own-entry (λ (a : Aim). a.target) place.aims aim.0 apart kept.0) in
-            subst (λ u. IsAmong u targets) aim.2
+            subst (λ u. IsAmong u targets) (sym aim.2)
             (in_filter (λ target. not (same_text target usage.target)) (targets_in_use history name usage.node) aim.0.target
-            (in-use history name usage.node aim.0.target (ap is_no mark ∙ not_true (is_no aim.0.published) parts.1)) parts.0)
+            (in-use history name usage.node aim.0.target (ap is_no mark ∙ not-true (is_no aim.0.published) parts.1)) parts.0)
 
 -- another target may be published
 taken-alike : (row : RowShown) (history : History) (name : List ℕ) (usage : Usage) → IsRowOf row history name → nat_lt 0 (length (other_targets history name usage)) ≡ others_in usage.target (place_of row usage.node)
@@ -269,20 +273,20 @@ names-alike parts history are agrees =
   where
     to : (name : List ℕ) → IsAmong name (names_of history) → IsAmong name (map (λ (r : RowShown). r.name) parts.rows)
     to name among =
-        by (row_of parts.rows name) refl (agrees.same_rows name ∙ any-among (same_text name) (names_of history) name among (text-same name))
+        by (row_of parts.rows name) refl (agrees.same_rows name ∙ then-any (same_text name) (names_of history) name among (text-same name))
       where
         by : (o : Option RowShown) → row_of parts.rows name ≡ o → is_some o ≡ true → IsAmong name (map (λ (r : RowShown). r.name) parts.rows)
         by None e f = absurd (false≢true f)
         by (Some row) e f =
             subst (λ n. IsAmong n (map (λ (r : RowShown). r.name) parts.rows)) ((same_text-tells row.name name).0 (find-passes (λ (r : RowShown). same_text r.name name) parts.rows row e))
-            (among-map (λ (r : RowShown). r.name) parts.rows row (among-find (λ (r : RowShown). same_text r.name name) parts.rows row e))
+            (in-map (λ (r : RowShown). r.name) parts.rows row (among-find (λ (r : RowShown). same_text r.name name) parts.rows row e))
 
     from : (name : List ℕ) → IsAmong name (map (λ (r : RowShown). r.name) parts.rows) → IsAmong name (names_of history)
     from name among =
-        let row = mapped (λ (r : RowShown). r.name) parts.rows name among in
-        let own : same_text row.0.name name ≡ true = (same_text-tells row.0.name name).1 row.2 in
+        let row = among-map (λ (r : RowShown). r.name) parts.rows name among in
+        let own : same_text row.0.name name ≡ true = (same_text-tells row.0.name name).1 (sym row.2) in
         let found = some-found (λ (r : RowShown). same_text r.name name) parts.rows row.0 row.1 own in
-        let noted = any-found (same_text name) (names_of history) (sym (agrees.same_rows name) ∙ ap is_some found.1) in
+        let noted = any-then (same_text name) (names_of history) (sym (agrees.same_rows name) ∙ ap is_some found.1) in
         subst (λ n. IsAmong n (names_of history)) (sym ((same_text-tells name noted.0).0 noted.2)) noted.1
 
 -- a create

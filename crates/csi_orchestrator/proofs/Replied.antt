@@ -1,7 +1,8 @@
 -- Why the row whose open call a reply is to is found by its number, plugin and kind.
-use Rattle.std.proofs.Common.{◌≡◌, ◌⊎◌, List, [], ◌∷◌, Bool, true, false, cond, refl, sym, ◌∙◌, ap, inl, inr}
+use Rattle.std.proofs.Common.{◌≡◌, List, [], ◌∷◌, Bool, true, false, cond, refl, sym, ◌∙◌, ap, inl, inr}
 use Rattle.std.specs.Prelude.{Option, Some, None, option_and_then, find, ◌&&◌}
 use Rattle.std.proofs.lemmas.Bool.{and_parts, and_from, false≢true}
+use Rattle.csi_lists.proofs.Searches.{find-one}
 use Rattle.csi_types.specs.declared.call.Kind.{Kind}
 use Rattle.csi_types.specs.declared.call.Party.{Party}
 use Rattle.csi_types.specs.declared.number.Number.{Number}
@@ -21,16 +22,6 @@ use Rattle.csi_orchestrator.specs.RowMoves.{is_issued_as, row_replied}
 use Rattle.csi_orchestrator.specs.Kept.{AreKept}
 use Rattle.csi_orchestrator.proofs.Numbers.{one-call, open-sent, none-some}
 use Rattle.csi_orchestrator.proofs.Joined.{own-entry}
-
--- the only one that passes is found
-find-one : {X : Type 0} (p : X → Bool) (xs : List X) (x : X) → IsAmong x xs → p x ≡ true → ((y : X) → IsAmong y xs → p y ≡ true → y ≡ x) → find p xs ≡ Some x
-find-one p [] x among passes only = absurd among
-find-one p (y ∷ ys) x among passes only = by (p y) refl among (λ there. find-one p ys x there passes (λ z among. only z (inr among)))
-  where
-    by : (b : Bool) → p y ≡ b → (x ≡ y) ⊎ IsAmong x ys → (IsAmong x ys → find p ys ≡ Some x) → cond b (Some y) (find p ys) ≡ Some x
-    by true e there rest = ap Some (only y (inl refl) e)
-    by false e (inl is) rest = absurd (false≢true (sym e ∙ ap p (sym is) ∙ passes))
-    by false e (inr there) rest = rest there
 
 -- nothing is found where none passes
 find-none : {X : Type 0} (p : X → Bool) (xs : List X) → ((y : X) → IsAmong y xs → p y ≡ true → ⊥) → find p xs ≡ None

@@ -3,6 +3,7 @@ use Rattle.std.proofs.Common.{◌≡◌, ℕ, List, [], ◌∷◌, Bool, true, f
 use Rattle.std.specs.Prelude.{Option, Some, None, is_some, is_none, option_and_then, Result, Ok, Err}
 use Rattle.std.specs.List.{AllByRecursion, list_any}
 use Rattle.std.proofs.lemmas.Bool.{or_parts}
+use Rattle.csi_lists.proofs.Options.{none-from_is_some}
 use Rattle.csi_types.specs.Same.{same_text, has_capability}
 use Rattle.csi_types.proofs.Equality.{same_text-tells}
 use Rattle.csi_types.proofs.Lists.{find-passes}
@@ -26,7 +27,7 @@ use Rattle.csi_orchestrator.specs.RowMoves.{Told, goes_on, unless_refused, first
 use Rattle.csi_orchestrator.specs.Kept.{MayBeWanted, IsKept, AreKept}
 use Rattle.csi_orchestrator.proofs.Following.{noted-follows}
 use Rattle.csi_orchestrator.proofs.GoingOn.{Tells, IsReady, goes-on-tells}
-use Rattle.csi_orchestrator.proofs.Keeping.{first-held, is-made, none-there, found-kept, all-detached}
+use Rattle.csi_orchestrator.proofs.Keeping.{first-held, is-made, found-kept, all-detached}
 use Rattle.csi_orchestrator.proofs.KeptRows.{AreDistinct, kept-distinct}
 use Rattle.csi_orchestrator.proofs.KeptUses.{distinct-entry, usable-entry}
 use Rattle.csi_orchestrator.proofs.NotedRow.{no-call, reads-wanted, reads-anew, reads-new, reads-with-entry}
@@ -90,10 +91,10 @@ creates-tell parts history name arguments form kept agrees (Some row) e =
     (command-tells history name (wishes.Create arguments) (again_fault parts row) (goes_on parts Sends (wanted_anew arguments row))
     (λ free.
     let unused = or_parts (is_some row.id) (is_some row.goal) (first-held _ _ _ free).0 in
-    let quiet = idle-quiet parts name row e (none-there row.goal unused.1) in
+    let quiet = idle-quiet parts name row e (none-from_is_some row.goal unused.1) in
     goes-on-tells parts history name (wanted_anew arguments row) _ _
     (noted-ready parts history name (Some (wishes.Create arguments)) (wanted_anew arguments row) form kept agrees quiet
-    (reads-anew arguments row (view_of parts) name (row-reads parts name row (own-name parts name row e) e) quiet) (kept-distinct row (own-kept parts name row kept e)) (λ due f. none-there row.id unused.0)) Sends))
+    (reads-anew arguments row (view_of parts) name (row-reads parts name row (own-name parts name row e) e) quiet) (kept-distinct row (own-kept parts name row kept e)) (λ due f. none-from_is_some row.id unused.0)) Sends))
 
 -- a use that isn't refused
 record IsFree (nodes : List (List ℕ)) (usage : Usage) (row : RowShown) : Type 0 where
@@ -112,7 +113,7 @@ use-free nodes usage row free =
     let one_node = first-held (has_elsewhere (is_for_one_node usage) usage.node row) faults.HeldElsewhere _ capable.1 in
     let one_writer = first-held (has_elsewhere (is_second_writer usage) usage.node row) faults.WriterElsewhere _ one_node.1 in
     let alike = first-held (is_place_otherwise usage (place_of row usage.node)) faults.HeldOtherwise _ one_writer.1 in
-    record { made = is-made row.exists made.0; idle = none-there row.goal busy.0; one_node = one_node.0; one_writer = one_writer.0; alike = alike.0 }
+    record { made = is-made row.exists made.0; idle = none-from_is_some row.goal busy.0; one_node = one_node.0; one_writer = one_writer.0; alike = alike.0 }
 
 -- a use
 use-when-tells : (parts : Parts) (history : History) (name : List ℕ) (usage : Usage) (row : RowShown) → IsWellFormed history → AreKept parts.rows → AgreesWith parts history → row_of parts.rows name ≡ Some row
@@ -154,7 +155,7 @@ stops-tell parts history name node target form kept agrees (Some row) e =
     (command-tells history name (wishes.Stop node target) (stop_refusal parts node target row) _
     (λ free.
     let busy = first-held (is_some row.goal) faults.Busy _ (first-held (not (is_yes row.exists)) faults.NotCreated _ free).1 in
-    let quiet = idle-quiet parts name row e (none-there row.goal busy.0) in
+    let quiet = idle-quiet parts name row e (none-from_is_some row.goal busy.0) in
     goes-on-tells parts history name (wanted (Stop node target) row) _ _
     (noted-ready parts history name (Some (wishes.Stop node target)) (wanted (Stop node target) row) form kept agrees quiet
     (reads-wanted (Stop node target) row (view_of parts) name (row-reads parts name row (own-name parts name row e) e) quiet) (kept-distinct row (own-kept parts name row kept e)) (λ due f. tt)) Sends))
@@ -172,7 +173,7 @@ delete-when-tells parts history name row form kept agrees e None free =
     subst (λ f. Tells history (unless_refused (busy_refusal parts row) (goes_on parts Sends (wanted Delete row))) (command history name wishes.Delete f)) (sym (busy-refused parts history name row kept agrees e))
     (command-tells history name wishes.Delete (busy_refusal parts row) _
     (λ free'.
-    let quiet = idle-quiet parts name row e (none-there row.goal (first-held (is_some row.goal) faults.Busy _ free').0) in
+    let quiet = idle-quiet parts name row e (none-from_is_some row.goal (first-held (is_some row.goal) faults.Busy _ free').0) in
     goes-on-tells parts history name (wanted Delete row) _ _
     (noted-ready parts history name (Some wishes.Delete) (wanted Delete row) form kept agrees quiet (reads-wanted Delete row (view_of parts) name (row-reads parts name row (own-name parts name row e) e) quiet)
     (kept-distinct row (own-kept parts name row kept e)) (λ due f. all-detached row.places unused.0)) Sends))))

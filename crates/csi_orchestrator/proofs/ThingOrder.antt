@@ -11,12 +11,12 @@ use Rattle.std.proofs.lemmas.Map.Keys.{IsDistinct-IsPermutation, apart_from_dist
 use Rattle.std.proofs.lemmas.Bool.{false≢true}
 use Rattle.std.specs.declared.cmp.Ordering.{Ordering}
 use Rattle.std.specs.declared.cmp.Ordering.TheVariants.{Less, Equal, Greater}
+use Rattle.csi_lists.proofs.Pairs.{two-by_places, two-more}
 use Rattle.csi_orchestrator.specs.declared.thing.Thing.{Thing}
 use Rattle.csi_orchestrator.specs.declared.thing.Thing.TheVariants.{Exists, Attached, Staged, Published}
 use Rattle.csi_orchestrator.specs.declared.thing.Known.{Known}
 use Rattle.csi_types.specs.Lists.{EachTwo}
 use Rattle.csi_orchestrator.specs.Listing.{text_order, thing_order, IsInOrder}
-use Rattle.csi_orchestrator.proofs.Joined.{two-by-places, two-more}
 use Rattle.csi_orchestrator.proofs.ThingsNoted.{AreTwoThings}
 
 -- what tells things apart: one text for each of the name, the node, being more than attached, and the target
@@ -112,7 +112,7 @@ pub sorted-in-order : (from things : List (Thing × Known)) → EachTwo AreTwoTh
 sorted-in-order from things once moved sorted =
     let apart = IsDistinct-IsPermutation has_one_place place-flips from things moved
     (distinct-things from (two-more AreTwoThings (λ a b. has_one_place a b ≡ false) from places-differ once)) in
-    two-by-places (λ (a b : Thing × Known). thing_order a.0 b.0 ≡ Less) things (λ i j d before inside.
+    two-by_places (λ (a b : Thing × Known). thing_order a.0 b.0 ≡ Less) things (λ i j d before inside.
     let first = get_or things i d in
     let second = get_or things j d in
     let at_most : i ≤ j = omega arith in

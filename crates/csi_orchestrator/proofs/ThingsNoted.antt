@@ -3,6 +3,8 @@ use Rattle.std.proofs.Common.{◌≡◌, ◌⊎◌, ℕ, List, ◌++◌, false, 
 use Rattle.std.specs.Prelude.{Option, Some, None}
 use Rattle.std.specs.List.{flat_map}
 use Rattle.std.proofs.lemmas.Bool.{false≢true}
+use Rattle.csi_lists.proofs.Members.{among-right, among-joined, among-flat, in-flat}
+use Rattle.csi_lists.proofs.Pairs.{two-joined, two-flat, two-more}
 use Rattle.csi_types.specs.Lists.{IsAmong, EachTwo}
 use Rattle.csi_types.specs.Same.{same_text}
 use Rattle.csi_types.proofs.Among.{each_of, all_of, among-append, among-find}
@@ -19,7 +21,7 @@ use Rattle.csi_orchestrator.specs.Kept.{IsKept, AreKept}
 use Rattle.csi_orchestrator.specs.History.{History}
 use Rattle.csi_orchestrator.specs.Readings.{known}
 use Rattle.csi_orchestrator.specs.Listing.{known_by_rows, ListsKnown, node_in, target_in, noted, noted_of_aim, noted_of_place, noted_of_row, noted_in}
-use Rattle.csi_orchestrator.proofs.Joined.{among-right, among-joined, two-joined, among-flat, in-flat, two-flat, two-more, own-entry}
+use Rattle.csi_orchestrator.proofs.Joined.{own-entry}
 
 -- ---- one thing
 

@@ -1,8 +1,9 @@
 -- By where it stands.
 use Rattle.std.proofs.Common.{sym}
+use Rattle.csi_lists.proofs.Searches.{find-no_place}
 use Rattle.csi_types.specs.Same.{same_text}
 use Rattle.csi_orchestrator.specs.declared.row.Aim.{Aim}
-use Rattle.csi_orchestrator.proofs.ChangedEntries.{find-placed, find-no_place}
+use Rattle.csi_orchestrator.proofs.ChangedEntries.{find-placed}
 use Rattle.csi_orchestrator.proofs.inner.aim_at.Goals as goal
 
 pub returns-in-Some : goal.returns-in-Some

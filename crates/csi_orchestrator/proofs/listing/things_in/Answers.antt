@@ -1,11 +1,11 @@
 -- The sorted list has what the rows note, which is what they know, each thing once.
 use Rattle.std.proofs.Common.{List, map, subst}
 use Rattle.std.specs.List.Sorted.{IsPermutation}
+use Rattle.csi_lists.proofs.Members.{among-moved, among-back}
 use Rattle.csi_orchestrator.specs.declared.thing.Thing.{Thing}
 use Rattle.csi_orchestrator.specs.declared.thing.Known.{Known}
 use Rattle.csi_orchestrator.specs.Shown.{row_shown}
 use Rattle.csi_orchestrator.specs.Listing.{noted_in}
-use Rattle.csi_orchestrator.proofs.Joined.{among-moved, among-back}
 use Rattle.csi_orchestrator.proofs.ThingsNoted.{noted-is-known, known-is-noted, noted-once}
 use Rattle.csi_orchestrator.proofs.ThingOrder.{sorted-in-order}
 use Rattle.csi_orchestrator.proofs.listing.things_in.Goals as goal

@@ -1,10 +1,10 @@
 -- One entry more is tidied.
 use Rattle.std.proofs.Common.{◌<◌, ◌∙◌, List, length, get_or, subst, ap, sym, arith}
+use Rattle.csi_lists.proofs.Places.{map_over_more-shown}
 use Rattle.csi_orchestrator.specs.declared.row.Aim.{Aim}
 use Rattle.csi_orchestrator.specs.declared.row.Place.{Place}
 use Rattle.csi_orchestrator.specs.Shown.{PlaceShown, place_shown}
 use Rattle.csi_orchestrator.specs.RowChanges.{with_kept_aims}
-use Rattle.csi_orchestrator.proofs.ChangedEntries.{map_over_more-shown}
 use Rattle.csi_orchestrator.proofs.places.keep_aims_of_all.Goals as goal
 
 pub loop-place-preserved : goal.loop-place-preserved
