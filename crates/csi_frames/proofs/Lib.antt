@@ -13,6 +13,8 @@ pub mod Judge
 pub mod Lengths
 pub mod Whole
 pub mod Front
-pub mod Items
 pub mod Verdicts
 pub mod Written
+pub mod NeverShort
+pub mod Splitting
+pub mod Streams

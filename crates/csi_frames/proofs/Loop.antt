@@ -1,8 +1,11 @@
 -- Reading capabilities one after another, as a loop does.
-use Rattle.std.proofs.Common.{◌≡◌, ℕ, suc, ◌-◌, ◌+◌, ◌≤◌, ◌<◌, List, [], ◌∷◌, ◌++◌, Result, Ok, Err, refl, sym, ap, ◌∙◌, append_assoc, arith}
+use Rattle.std.proofs.Common.{◌≡◌, ℕ, suc, ◌-◌, ◌+◌, ◌≤◌, ◌<◌, true, List, [], ◌∷◌, ◌++◌, Result, Ok, Err, is_ok, refl, sym, ap, subst, ◌∙◌, append_assoc, arith}
+use Rattle.std.specs.List.{AllByRecursion}
 use Rattle.std.proofs.lemmas.List.{append-nil}
 use Rattle.csi_types.specs.declared.capability.Capability.{Capability}
+use Rattle.csi_types.specs.Limits.{IsCapability}
 use Rattle.csi_frames.specs.declared.fields.Stop.{Stop}
+use Rattle.csi_frames.specs.Borrowed.{list_in}
 use Rattle.csi_frames.specs.Reading.{go_on, give, capability_at, capabilities_at}
 
 -- what was read before, and what is still read
@@ -35,3 +38,25 @@ is_done front count i bytes total le so_far =
     let k : count - i ≡ 0 = omega arith in
     let one : with_front front (capabilities_at (count - i) bytes) ≡ Ok (front, bytes) = rw k (ap (λ (cs : List Capability). Ok (cs, bytes)) (append-nil front)) in
     sym so_far ∙ one
+
+-- ---- a list that was read is read again
+
+pub never_ends : (stop : Stop) (front : List Capability) (count i : ℕ) (bytes : List ℕ) (total : Result (List Capability × List ℕ) Stop) → i < count → capability_at bytes ≡ Err stop
+    → with_front front (capabilities_at (count - i) bytes) ≡ total → is_ok total ≡ true → ⊥
+never_ends stop front count i bytes total lt h so_far read =
+    let none : is_ok total ≡ is_ok {T = List Capability × List ℕ} {E = Stop} (Err stop) = ap is_ok (ends stop front count i bytes total lt h so_far) in
+    cc
+
+among : (front others : List Capability) (c : Capability) → AllByRecursion IsCapability ((front ++ c ∷ []) ++ others) → IsCapability c
+among [] others c fits = fits.0
+among (f ∷ front) others c fits = among front others c fits.1
+
+among_read : (front : List Capability) (c : Capability) (read : Result (List Capability × List ℕ) Stop) → AllByRecursion IsCapability (list_in (with_front (front ++ c ∷ []) read)) → is_ok (with_front (front ++ c ∷ []) read) ≡ true → IsCapability c
+among_read front c (Ok x) fits read = among front x.0 c fits
+among_read front c (Err stop) fits read = absurd cc
+
+pub one_fits : (front : List Capability) (count i : ℕ) (bytes : List ℕ) (c : Capability) (after : List ℕ) (total : Result (List Capability × List ℕ) Stop) → i < count → capability_at bytes ≡ Ok (c, after)
+    → with_front front (capabilities_at (count - i) bytes) ≡ total → is_ok total ≡ true → AllByRecursion IsCapability (list_in total) → IsCapability c
+one_fits front count i bytes c after total lt h so_far read fits =
+    let next = goes_on front count i bytes c after total lt h so_far in
+    among_read front c (capabilities_at (count - (i + 1)) after) (subst (λ (r : Result (List Capability × List ℕ) Stop). AllByRecursion IsCapability (list_in r)) (sym next) fits) (ap is_ok next ∙ read)

@@ -1,5 +1,5 @@
 -- What a frame that borrows its texts stands for: the frame that has copies of them.
-use Rattle.std.specs.Prelude.{List, map}
+use Rattle.std.specs.Prelude.{ℕ, List, [], Result, Ok, Err}
 use Rattle.csi_types.specs.declared.capability.Access.{Access}
 use Rattle.csi_types.specs.declared.capability.Access.TheVariants as accesses
 use Rattle.csi_types.specs.declared.capability.Capability.{Capability}
@@ -14,6 +14,9 @@ use Rattle.csi_types.specs.Frame.{Frame}
 use Rattle.csi_frames.specs.declared.borrowed.AccessRef.{AccessRef}
 use Rattle.csi_frames.specs.declared.borrowed.AccessRef.TheVariants.{Block, Mount}
 use Rattle.csi_frames.specs.declared.borrowed.CapabilityRef.{CapabilityRef}
+use Rattle.csi_frames.specs.declared.borrowed.CapabilitiesRef.{CapabilitiesRef}
+use Rattle.csi_frames.specs.declared.fields.Stop.{Stop}
+use Rattle.csi_frames.specs.Reading.{capabilities_at}
 use Rattle.csi_frames.specs.declared.borrowed.PartyRef.{PartyRef}
 use Rattle.csi_frames.specs.declared.borrowed.PartyRef.TheVariants.{Controller, Node}
 use Rattle.csi_frames.specs.declared.borrowed.CallRef.{CallRef}
@@ -21,7 +24,7 @@ use Rattle.csi_frames.specs.declared.borrowed.CallRef.TheVariants.{CreateVolume,
 use Rattle.csi_frames.specs.declared.borrowed.ReplyRef.{ReplyRef}
 use Rattle.csi_frames.specs.declared.borrowed.BodyRef.{BodyRef}
 use Rattle.csi_frames.specs.declared.borrowed.BodyRef.TheVariants as refs
-use Rattle.csi_frames.specs.declared.borrowed.FrameRef.{FrameRef}
+use Rattle.csi_frames.specs.declared.borrowed.BorrowedFrame.{BorrowedFrame}
 
 abbrev pub owned_access : AccessRef → Access
 owned_access Block = accesses.Block
@@ -30,15 +33,20 @@ owned_access (Mount fs_type) = accesses.Mount fs_type.now
 abbrev pub owned_capability : CapabilityRef → Capability
 owned_capability c = record { access = owned_access c.access; mode = c.mode }
 
-abbrev pub owned_capabilities : List CapabilityRef → List Capability
-owned_capabilities cs = map owned_capability cs
+-- the capabilities that are read from their bytes
+abbrev pub list_in : Result (List Capability × List ℕ) Stop → List Capability
+list_in (Ok read) = read.0
+list_in (Err stop) = []
+
+abbrev pub owned_capabilities : CapabilitiesRef → List Capability
+owned_capabilities cs = list_in (capabilities_at cs.count cs.bytes.now)
 
 abbrev pub owned_party : PartyRef → Party
 owned_party Controller = parties.Controller
 owned_party (Node id) = parties.Node id.now
 
 abbrev pub owned_call : CallRef → Call
-owned_call (CreateVolume name required limit capabilities) = calls.CreateVolume name.now required limit (owned_capabilities capabilities.items)
+owned_call (CreateVolume name required limit capabilities) = calls.CreateVolume name.now required limit (owned_capabilities capabilities)
 owned_call (DeleteVolume id) = calls.DeleteVolume id
 owned_call (ControllerPublishVolume id node c readonly) = calls.ControllerPublishVolume id node.now (owned_capability c) readonly
 owned_call (ControllerUnpublishVolume id node) = calls.ControllerUnpublishVolume id node.now
@@ -54,5 +62,5 @@ abbrev pub owned_body : BodyRef → Body
 owned_body (refs.Call call) = bodies.Call (owned_call call)
 owned_body (refs.Reply kind reply) = bodies.Reply kind (owned_reply reply)
 
-abbrev pub owned : FrameRef → Frame
+abbrev pub owned : BorrowedFrame → Frame
 owned frame = record { number = frame.number; party = owned_party frame.party; body = owned_body frame.body }

@@ -11,3 +11,7 @@ pub mod Texts
 pub mod Decoding
 pub mod Appends
 pub mod Bytes
+pub mod Splitting
+pub mod Lent
+pub mod Progress
+pub mod Cutting

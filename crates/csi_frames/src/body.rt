@@ -5,7 +5,7 @@ ghost use Rattle.csi_frames.specs.Gives.{Gives, Answers};
 ghost use Rattle.csi_frames.specs.Reading.{party_at, number_at, head_at, fields_at, frame_at, all_of, first_frame};
 
 use crate::body_kind::BodyKind;
-use crate::borrowed::{BodyRef, FrameRef, PartyRef};
+use crate::borrowed::{BodyRef, BorrowedFrame, PartyRef};
 use crate::calls::{call_at, reply_at};
 use crate::fault::{FaultKind, FrameFault};
 use crate::fields::{Fields, Stop};
@@ -69,14 +69,14 @@ fn fields_at<'a>(fields: &mut Fields<'a>, kind: BodyKind) -> Result<BodyRef<'a>,
 }
 
 #[tactic(auto, unfolding(crate::specs::Reading::frame_at))]
-fn frame_at<'a>(fields: &mut Fields<'a>) -> Result<FrameRef<'a>, Stop>
+fn frame_at<'a>(fields: &mut Fields<'a>) -> Result<BorrowedFrame<'a>, Stop>
     ensures { Gives owned result fields.new (frame_at fields.old.bytes.now) }
 {
     let kind = head_at(fields)?;
     let number = number_at(fields)?;
     let party = party_at(fields, kind)?;
     match fields_at(fields, kind) {
-        Ok(body) => Ok(FrameRef {
+        Ok(body) => Ok(BorrowedFrame {
             number,
             party,
             body,
@@ -86,7 +86,7 @@ fn frame_at<'a>(fields: &mut Fields<'a>) -> Result<FrameRef<'a>, Stop>
 }
 
 /// The frame whose body these bytes are, all of them.
-fn whole_body(bytes: &[u8]) -> Result<FrameRef<'_>, Stop>
+fn whole_body(bytes: &[u8]) -> Result<BorrowedFrame<'_>, Stop>
     ensures read { Answers owned result (all_of (frame_at bytes.now)) }
     ensures within { IfErr result (λ stop. stop.left ≤ length bytes.now) }
 {
@@ -103,7 +103,7 @@ const MAX_BODY: usize = 1280;
 
 /// The frame at the front of the bytes and how many bytes it takes, or the first fault. It takes no memory.
 #[tactic(auto, unfolding(crate::specs::Reading::first_frame))]
-pub(crate) fn first_frame(bytes: &[u8]) -> Result<(FrameRef<'_>, usize), FrameFault>
+pub(crate) fn first_frame(bytes: &[u8]) -> Result<(BorrowedFrame<'_>, usize), FrameFault>
     ensures { Answers (λ x. (owned x.0, x.1)) result (first_frame bytes.now) }
 {
     let short = FrameFault {

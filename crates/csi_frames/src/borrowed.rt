@@ -1,7 +1,9 @@
-//! A frame that borrows its texts from the bytes that it was read from.
+//! A frame that borrows its texts from the bytes that it was read from. No type in it has a model, since what is lent by a
+//! `&mut` may have none. So an id is a number here, which a call has only from 1 on.
+ghost use Rattle.std.specs.Prelude.{◌≡◌, true, is_ok};
+ghost use Rattle.csi_frames.specs.Reading.{capabilities_at};
 
-use arrayvec::ArrayVec;
-use csi_types::{Kind, Mode, Number, Status, VolumeId};
+use csi_types::{Kind, Mode, Number, Status};
 
 #[derive(Clone, Copy)]
 pub(crate) enum AccessRef<'a> {
@@ -15,14 +17,12 @@ pub(crate) struct CapabilityRef<'a> {
     pub mode: Mode,
 }
 
-// For the places of an `ArrayVec` that no capability has been put in; nothing reads one.
-impl Default for CapabilityRef<'_> {
-    fn default() -> Self {
-        CapabilityRef {
-            access: AccessRef::Block,
-            mode: Mode::SingleNodeWriter,
-        }
-    }
+/// Capabilities one after another, at the front of these bytes.
+#[derive(Clone, Copy)]
+pub(crate) struct CapabilitiesRef<'a> {
+    pub bytes: &'a [u8],
+    pub count: u8,
+    ghost read: { is_ok (capabilities_at count bytes.now) ≡ true },
 }
 
 #[derive(Clone, Copy)]
@@ -37,36 +37,36 @@ pub(crate) enum CallRef<'a> {
         name: &'a str,
         required: u64,
         limit: u64,
-        capabilities: ArrayVec<CapabilityRef<'a>, 8>,
+        capabilities: CapabilitiesRef<'a>,
     },
     DeleteVolume {
-        id: VolumeId,
+        id: u64,
     },
     ControllerPublishVolume {
-        id: VolumeId,
+        id: u64,
         node: &'a str,
         capability: CapabilityRef<'a>,
         readonly: bool,
     },
     ControllerUnpublishVolume {
-        id: VolumeId,
+        id: u64,
         node: &'a str,
     },
     NodeStageVolume {
-        id: VolumeId,
+        id: u64,
         capability: CapabilityRef<'a>,
     },
     NodeUnstageVolume {
-        id: VolumeId,
+        id: u64,
     },
     NodePublishVolume {
-        id: VolumeId,
+        id: u64,
         target: &'a str,
         capability: CapabilityRef<'a>,
         readonly: bool,
     },
     NodeUnpublishVolume {
-        id: VolumeId,
+        id: u64,
         target: &'a str,
     },
 }
@@ -74,7 +74,7 @@ pub(crate) enum CallRef<'a> {
 #[derive(Clone, Copy)]
 pub(crate) struct ReplyRef<'a> {
     pub status: Status,
-    pub id: Option<VolumeId>,
+    pub id: Option<u64>,
     pub detail: &'a str,
 }
 
@@ -86,7 +86,7 @@ pub(crate) enum BodyRef<'a> {
 
 /// A frame whose texts are slices of the bytes that it was read from.
 #[derive(Drop)]
-pub(crate) struct FrameRef<'a> {
+pub(crate) struct BorrowedFrame<'a> {
     pub number: Number,
     pub party: PartyRef<'a>,
     pub body: BodyRef<'a>,

@@ -1,15 +1,14 @@
 //! Capabilities, calls and replies, read from the bytes of a body.
-ghost use Rattle.std.specs.Prelude.{◌≡◌, ◌≤◌, ◌&&◌};
+ghost use Rattle.std.specs.Prelude.{◌≡◌, ◌&&◌};
 ghost use Rattle.csi_types.specs.Reply.{is_create, is_ok_status};
 ghost use Rattle.csi_frames.specs.Borrowed.{owned_access, owned_capability, owned_capabilities, owned_call, owned_reply};
 ghost use Rattle.csi_frames.specs.Gives.{Gives};
 ghost use Rattle.csi_frames.specs.Reading.{access_at, mode_at, capability_at, capabilities_at, create_at, call_at, status_at, reply_id_at, reply_at};
 
-use crate::borrowed::{AccessRef, CallRef, CapabilityRef, ReplyRef};
+use crate::borrowed::{AccessRef, CallRef, CapabilitiesRef, CapabilityRef, ReplyRef};
 use crate::fault::FaultKind;
 use crate::fields::{Fields, Stop};
-use arrayvec::ArrayVec;
-use csi_types::{Detail, FsType, Kind, Mode, Name, NodeId, Status, Target, VolumeId};
+use csi_types::{Detail, FsType, Kind, Mode, Name, NodeId, Status, Target};
 
 #[tactic(auto, unfolding(crate::specs::Reading::access_at))]
 fn access_at<'a>(fields: &mut Fields<'a>) -> Result<AccessRef<'a>, Stop>
@@ -33,7 +32,7 @@ fn mode_at(fields: &mut Fields<'_>) -> Result<Mode, Stop>
 }
 
 #[tactic(auto, unfolding(crate::specs::Reading::capability_at))]
-fn capability_at<'a>(fields: &mut Fields<'a>) -> Result<CapabilityRef<'a>, Stop>
+pub(crate) fn capability_at<'a>(fields: &mut Fields<'a>) -> Result<CapabilityRef<'a>, Stop>
     ensures { Gives owned_capability result fields.new (capability_at fields.old.bytes.now) }
 {
     let access = access_at(fields)?;
@@ -42,19 +41,14 @@ fn capability_at<'a>(fields: &mut Fields<'a>) -> Result<CapabilityRef<'a>, Stop>
 }
 
 // As many capabilities as `count` says.
-fn capabilities_at<'a>(
-    fields: &mut Fields<'a>,
-    count: u8,
-) -> Result<ArrayVec<CapabilityRef<'a>, 8>, Stop>
-    requires { count ≤ 8 }
-    ensures { Gives (λ list. owned_capabilities list.items) result fields.new (capabilities_at count fields.old.bytes.now) }
+fn capabilities_at<'a>(fields: &mut Fields<'a>, count: u8) -> Result<CapabilitiesRef<'a>, Stop>
+    ensures { Gives owned_capabilities result fields.new (capabilities_at count fields.old.bytes.now) }
 {
-    let mut list = ArrayVec::new();
+    let bytes = fields.bytes;
     for _ in 0..count {
-        let capability = capability_at(fields)?;
-        list.push(capability);
+        capability_at(fields)?;
     }
-    Ok(list)
+    Ok(CapabilitiesRef { bytes, count })
 }
 
 #[tactic(auto, unfolding(crate::specs::Reading::create_at))]
@@ -158,20 +152,15 @@ fn has_id(kind: Kind, status: Status) -> bool
 
 // The id of a reply: 0, for none, but in an `Ok` to CreateVolume, where it isn't 0.
 #[tactic(auto, unfolding(crate::specs::Reading::word_at, crate::specs::Reading::reply_id_at))]
-fn reply_id_at(
-    fields: &mut Fields<'_>,
-    kind: Kind,
-    status: Status,
-) -> Result<Option<VolumeId>, Stop>
+fn reply_id_at(fields: &mut Fields<'_>, kind: Kind, status: Status) -> Result<Option<u64>, Stop>
     ensures { Gives (λ id. id) result fields.new (reply_id_at kind status fields.old.bytes.now) }
 {
     let bad = fields.stop(FaultKind::BadId);
     let number = fields.word()?;
-    let id = VolumeId::try_new(number);
-    if id.is_some() != has_id(kind, status) {
+    if (number != 0) != has_id(kind, status) {
         return Err(bad);
     }
-    Ok(id)
+    Ok(if number == 0 { None } else { Some(number) })
 }
 
 #[tactic(auto, unfolding(crate::specs::Reading::reply_at))]

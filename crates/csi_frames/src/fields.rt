@@ -4,7 +4,6 @@ ghost use Rattle.std.specs.Str.{is_utf8};
 
 use crate::fault::FaultKind;
 use byteorder::{BigEndian, ByteOrder};
-use csi_types::VolumeId;
 use std::str;
 
 /// Where reading stopped: the fault, and how many bytes were left from the field at fault on.
@@ -79,12 +78,15 @@ impl<'a> Fields<'a> {
 
     /// An id, which isn't 0.
     #[tactic(auto, unfolding(crate::specs::Reading::word_at, crate::specs::Reading::id_at))]
-    pub fn id(&mut self) -> Result<VolumeId, Stop>
+    pub fn id(&mut self) -> Result<u64, Stop>
         ensures { Gives (λ n. n) result self.new (id_at self.old.bytes.now) }
     {
         let bad = self.stop(FaultKind::BadId);
         let number = self.word()?;
-        VolumeId::try_new(number).ok_or(bad)
+        if number == 0 {
+            return Err(bad);
+        }
+        Ok(number)
     }
 
     /// A flag: 0, or 1 for true.

@@ -1,14 +1,19 @@
 //! Copies of what a borrowed frame stands for.
-ghost use Rattle.std.specs.Prelude.{◌≡◌, ◌≤◌, [], length, IfOk, IsOk};
+ghost use Rattle.std.specs.Prelude.{◌≡◌, ◌≤◌, [], length, IfOk, IsOk, IfSome};
 ghost use Rattle.csi_types.specs.Text.{IsName, IsFsType, IsNodeId, IsTarget, IsDetail};
+ghost use Rattle.csi_types.specs.VolumeId.{IsVolumeId};
 ghost use Rattle.csi_types.specs.Limits.{IsAccess, IsCapability, IsCapabilityList, IsParty, IsCall, IsReply, IsBody, IsFrame};
 ghost use Rattle.csi_frames.specs.Borrowed.{owned_access, owned_capability, owned_capabilities, owned_party, owned_call, owned_reply, owned_body, owned};
 ghost use Rattle.csi_frames.specs.Texts.{AreEmpty, access_texts, capability_texts, party_texts, call_texts, body_texts, IsTextless};
 
-use crate::borrowed::{AccessRef, BodyRef, CallRef, CapabilityRef, FrameRef, PartyRef, ReplyRef};
+use crate::borrowed::{
+    AccessRef, BodyRef, BorrowedFrame, CallRef, CapabilitiesRef, CapabilityRef, PartyRef, ReplyRef,
+};
+use crate::calls::capability_at;
+use crate::fields::Fields;
 use csi_types::{
     Access, Body, Call, Capability, CapabilityList, Detail, Frame, FsType, Name, NoMemory, NodeId,
-    Party, Reply, Target, TextFault,
+    Party, Reply, Target, TextFault, VolumeId,
 };
 use std::alloc::Global;
 
@@ -19,6 +24,23 @@ fn only_memory(fault: TextFault) -> NoMemory
     match fault {
         TextFault::NoMemory => NoMemory,
         TextFault::Empty | TextFault::TooLong => unreachable!(),
+    }
+}
+
+fn volume_id(number: u64) -> VolumeId
+    requires { IsVolumeId number }
+    ensures { result ≡ number }
+{
+    VolumeId::try_new(number).unwrap()
+}
+
+fn reply_id(id: Option<u64>) -> Option<VolumeId>
+    requires { IfSome id IsVolumeId }
+    ensures { result ≡ id }
+{
+    match id {
+        Some(number) => Some(volume_id(number)),
+        None => None,
     }
 }
 
@@ -81,13 +103,18 @@ fn capability(alloc: Global, from: &CapabilityRef<'_>) -> Result<Capability, NoM
     })
 }
 
-fn capabilities(alloc: Global, from: &[CapabilityRef<'_>]) -> Result<CapabilityList, NoMemory>
+// They were read before, so that reading them again stops nowhere.
+fn capabilities(alloc: Global, from: &CapabilitiesRef<'_>) -> Result<CapabilityList, NoMemory>
     requires { IsCapabilityList (owned_capabilities from.now) }
     ensures { IfOk result (λ list. list ≡ owned_capabilities from.now) }
 {
-    let mut items = Vec::with_capacity(alloc, from.len())?;
-    for one in from {
-        items.push(capability(alloc, one)?)?;
+    let mut items = Vec::with_capacity(alloc, from.count as usize)?;
+    let mut fields = Fields { bytes: from.bytes };
+    for _ in 0..from.count {
+        let Ok(one) = capability_at(&mut fields) else {
+            unreachable!();
+        };
+        items.push(capability(alloc, &one)?)?;
     }
     Ok(CapabilityList::try_new(items).unwrap())
 }
@@ -120,43 +147,43 @@ fn call(alloc: Global, from: &CallRef<'_>) -> Result<Call, NoMemory>
             limit: *limit,
             capabilities: capabilities(alloc, list)?,
         },
-        CallRef::DeleteVolume { id } => Call::DeleteVolume { id: *id },
+        CallRef::DeleteVolume { id } => Call::DeleteVolume { id: volume_id(*id) },
         CallRef::ControllerPublishVolume {
             id,
             node,
             capability: usage,
             readonly,
         } => Call::ControllerPublishVolume {
-            id: *id,
+            id: volume_id(*id),
             node: node_id(alloc, node)?,
             capability: capability(alloc, usage)?,
             readonly: *readonly,
         },
         CallRef::ControllerUnpublishVolume { id, node } => Call::ControllerUnpublishVolume {
-            id: *id,
+            id: volume_id(*id),
             node: node_id(alloc, node)?,
         },
         CallRef::NodeStageVolume {
             id,
             capability: usage,
         } => Call::NodeStageVolume {
-            id: *id,
+            id: volume_id(*id),
             capability: capability(alloc, usage)?,
         },
-        CallRef::NodeUnstageVolume { id } => Call::NodeUnstageVolume { id: *id },
+        CallRef::NodeUnstageVolume { id } => Call::NodeUnstageVolume { id: volume_id(*id) },
         CallRef::NodePublishVolume {
             id,
             target: text,
             capability: usage,
             readonly,
         } => Call::NodePublishVolume {
-            id: *id,
+            id: volume_id(*id),
             target: target(alloc, text)?,
             capability: capability(alloc, usage)?,
             readonly: *readonly,
         },
         CallRef::NodeUnpublishVolume { id, target: text } => Call::NodeUnpublishVolume {
-            id: *id,
+            id: volume_id(*id),
             target: target(alloc, text)?,
         },
     })
@@ -173,7 +200,7 @@ fn body(alloc: Global, from: &BodyRef<'_>) -> Result<Body, NoMemory>
             let detail = detail(alloc, from.detail)?;
             let reply = Reply {
                 status: from.status,
-                id: from.id,
+                id: reply_id(from.id),
                 detail,
             };
             Ok(Body::Reply(*kind, reply))
@@ -182,7 +209,7 @@ fn body(alloc: Global, from: &BodyRef<'_>) -> Result<Body, NoMemory>
 }
 
 /// The frame that this one stands for, with texts of its own. Where there are none it takes no memory.
-pub(crate) fn frame(alloc: Global, from: &FrameRef<'_>) -> Result<Frame, NoMemory>
+pub(crate) fn frame(alloc: Global, from: &BorrowedFrame<'_>) -> Result<Frame, NoMemory>
     requires { IsFrame (owned from.now) }
     ensures value { IfOk result (λ frame. frame ≡ owned from.now) }
     ensures textless { IsTextless (owned from.now) → IsOk result }

@@ -1,6 +1,9 @@
-use Rattle.std.proofs.Common.{◌≡◌, take}
-use Rattle.csi_frames.specs.Borrowed.{owned_capabilities}
+use Rattle.std.proofs.Common.{◌≡◌, ◌-◌}
+use Rattle.csi_frames.specs.Reading.{capabilities_at}
+use Rattle.csi_frames.proofs.Loop.{with_front}
 use Rattle.csi_frames.proofs.owned.capabilities.Given as goal
 
-abbrev pub invariant-loop-one : goal.invariant-loop-one
-invariant-loop-one l = l.items.items ≡ owned_capabilities (take l.one-index l.from)
+-- with those still to be read they are what reading gives
+abbrev pub invariant-loop : goal.invariant-loop
+invariant-loop l =
+    with_front l.items.items (capabilities_at (l.from.count - l.counter) l.fields.bytes.now) ≡ capabilities_at l.from.count l.from.bytes.now

@@ -1,0 +1,119 @@
+-- No fault of a body is Short, whose bytes are all there. So bytes at fault with Short wait for more.
+use Rattle.std.proofs.Common.{◌≡◌, ◌≢◌, ℕ, zero, suc, ◌≤◌, ◌==◌, Bool, true, false, cond, not, ◌&&◌, ltb, leb, List, [], ◌∷◌, length, take, drop, Some, None, refl, ◌∙◌, arith}
+use Rattle.std.specs.Str.{is_utf8}
+use Rattle.byteorder.specs.Endian.{big_number}
+use Rattle.csi_types.specs.declared.call.Kind.{Kind}
+use Rattle.csi_types.specs.declared.call.Kind.TheVariants as kinds
+use Rattle.csi_frames.specs.declared.body_kind.BodyKind.{BodyKind}
+use Rattle.csi_frames.specs.declared.body_kind.BodyKind.TheVariants.{Call, Reply}
+use Rattle.csi_frames.specs.declared.fault.FaultKind.{FaultKind}
+use Rattle.csi_frames.specs.declared.fault.FaultKind.TheVariants.{Short, BadText, BadId, LengthDiffers}
+use Rattle.csi_frames.specs.Codes.{body_kind_of}
+use Rattle.csi_frames.specs.Grammar.{Grammar, End, Byte, Word, Text, Leads, nothing, byte, word, text, refusal, mode_grammar, capability_grammar, capabilities_grammar, flag_grammar, call_grammar, reply_grammar, fields_grammar, party_grammar, body_grammar}
+use Rattle.csi_frames.specs.Fault.{IsStuck, IsFaulty, no_length, too_long, short, in_body}
+
+-- no byte of the grammar has Short for its fault
+abbrev NeverShort : Grammar → Type 0
+NeverShort End = Unit {0}
+NeverShort (Byte allowed fault next) = (fault ≢ Short) × ((b : ℕ) → NeverShort (next b))
+NeverShort (Word allowed next) = (n : ℕ) → NeverShort (next n)
+NeverShort (Text least most next) = (t : List ℕ) → NeverShort (next t)
+
+-- ---- it holds of a body
+
+choice : (t : Bool) (g h : Grammar) → NeverShort g → NeverShort h → NeverShort (cond t g h)
+choice true g h first second = first
+choice false g h first second = second
+
+mode : (next : Grammar) → NeverShort next → NeverShort (mode_grammar next)
+mode next never = (λ e. cc, λ m. never)
+
+capability : (next : Grammar) → NeverShort next → NeverShort (capability_grammar next)
+capability next never = (λ e. cc, λ access. choice (access == 0) (mode_grammar next) (Text 0 128 (λ _. mode_grammar next)) (mode next never) (λ fs. mode next never))
+
+capabilities : (n : ℕ) → NeverShort (capabilities_grammar n)
+capabilities zero = tt
+capabilities (suc n) = capability (capabilities_grammar n) (capabilities n)
+
+flag : NeverShort flag_grammar
+flag = (λ e. cc, λ b. tt)
+
+call : (kind : Kind) → NeverShort (call_grammar kind)
+unfolding call_grammar
+call kinds.CreateVolume = λ name required limit. (λ e. cc, capabilities)
+call kinds.DeleteVolume = λ id. tt
+call kinds.ControllerPublishVolume = λ id node. capability flag_grammar flag
+call kinds.ControllerUnpublishVolume = λ id node. tt
+call kinds.NodeStageVolume = λ id. capability End tt
+call kinds.NodeUnstageVolume = λ id. tt
+call kinds.NodePublishVolume = λ id target. capability flag_grammar flag
+call kinds.NodeUnpublishVolume = λ id target. tt
+
+reply : (kind : Kind) → NeverShort (reply_grammar kind)
+unfolding reply_grammar
+reply kind = (λ e. cc, λ status id detail. tt)
+
+fields : (kind : BodyKind) → NeverShort (fields_grammar kind)
+fields (Call kind) = call kind
+fields (Reply kind) = reply kind
+
+party : (kind : BodyKind) → NeverShort (party_grammar kind)
+party kind = (λ e. cc, λ n. choice (n == 0) (fields_grammar kind) (Text 1 255 (λ _. fields_grammar kind)) (fields kind) (λ id. fields kind))
+
+body : NeverShort body_grammar
+unfolding body_grammar
+body = (λ e. cc, λ version. (λ e. cc, λ kind session number. party (body_kind_of kind)))
+
+-- ---- so nothing in it is refused with Short
+
+after : (g : Grammar) (front : List ℕ) (h : Grammar) → Leads g front h → NeverShort g → NeverShort h
+after g front h (nothing _) never = never
+after g front h (byte allowed fault next b more _ is_allowed rest) never = after (next b) more h rest (never.1 b)
+after g front h (word allowed next eight more _ long is_allowed rest) never = after (next (big_number 8 eight)) more h rest (never (big_number 8 eight))
+after g front h (text least most next value more _ low high utf8 rest) never = after (next value) more h rest (never value)
+
+told : (fault kind : FaultKind) → fault ≢ Short → Some fault ≡ Some kind → kind ≢ Short
+told fault kind never e s = let same : fault ≡ kind = cc in never (same ∙ s)
+
+differs : LengthDiffers ≢ Short
+differs e = cc
+
+bad_id : BadId ≢ Short
+bad_id e = cc
+
+bad_text : BadText ≢ Short
+bad_text e = cc
+
+told-byte : (t : Bool) (fault kind : FaultKind) → fault ≢ Short → cond t None (Some fault) ≡ Some kind → kind ≢ Short
+told-byte true fault kind never e = absurd cc
+told-byte false fault kind never e = told fault kind never e
+
+told-word : (few t : Bool) (kind : FaultKind) → cond few (Some LengthDiffers) (cond t None (Some BadId)) ≡ Some kind → kind ≢ Short
+told-word true t kind e = told LengthDiffers kind differs e
+told-word false true kind e = absurd cc
+told-word false false kind e = told BadId kind bad_id e
+
+told-text : (out few utf8 : Bool) (kind : FaultKind) → cond out (Some BadText) (cond few (Some LengthDiffers) (cond utf8 None (Some BadText))) ≡ Some kind → kind ≢ Short
+told-text true few utf8 kind e = told BadText kind bad_text e
+told-text false true utf8 kind e = told LengthDiffers kind differs e
+told-text false false true kind e = absurd cc
+told-text false false false kind e = told BadText kind bad_text e
+
+refused : (g : Grammar) (bytes : List ℕ) (kind : FaultKind) → NeverShort g → refusal g bytes ≡ Some kind → kind ≢ Short
+refused End [] kind never e = absurd cc
+refused End (b ∷ bytes) kind never e = told LengthDiffers kind differs e
+refused (Byte allowed fault next) [] kind never e = told LengthDiffers kind differs e
+refused (Byte allowed fault next) (b ∷ bytes) kind never e = told-byte (allowed b) fault kind never.0 e
+refused (Word allowed next) bytes kind never e = told-word (ltb (length bytes) 8) (allowed (big_number 8 bytes)) kind e
+refused (Text least most next) [] kind never e = told LengthDiffers kind differs e
+refused (Text least most next) (n ∷ bytes) kind never e = told-text (not (leb least n && leb n most)) (ltb (length bytes) n) (is_utf8 (take n bytes)) kind e
+
+stuck : (bytes : List ℕ) (kind : FaultKind) (place : ℕ) → IsStuck body_grammar bytes kind place → kind ≢ Short
+stuck bytes kind place s = refused s.next s.back kind (after body_grammar s.front s.next s.leads body) s.refused
+
+-- bytes at fault with Short are few, and the place is their count
+pub waiting : (bytes : List ℕ) (kind : FaultKind) (place : ℕ) → IsFaulty bytes kind place → kind ≡ Short → (length bytes ≤ 1283) × (place ≡ length bytes)
+waiting bytes kind place (no_length few) is_short = (omega arith, refl)
+waiting bytes kind place (too_long long much) is_short = absurd cc
+waiting bytes kind place (short long few less) is_short = (omega arith, refl)
+waiting bytes kind place (in_body k p whole few s) is_short = absurd (stuck (take (big_number 4 bytes) (drop 4 bytes)) k p s is_short)

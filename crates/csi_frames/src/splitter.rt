@@ -1,0 +1,134 @@
+//! A stream that comes in pieces, split into its frames.
+ghost use Rattle.std.specs.Prelude.{◌≡◌, ◌≤◌, Option, Result, length, drop, IfOk, IfNone, OnOk, OnErr, IsOk, IsSome, vec_len};
+ghost use Rattle.std.specs.Borrow.{sem};
+ghost use Rattle.std.specs.Io.BufRead.{Rests};
+ghost use Rattle.csi_types.specs.Frame.{Frame as Parts};
+ghost use Rattle.csi_frames.specs.declared.fault.FrameFault.{FrameFault as Fault};
+ghost use Rattle.csi_frames.specs.Splitting.{new_splitting, after_feed, after_next, end_of, IsNext};
+
+use crate::fault::{FaultKind, FrameFault};
+use crate::frame_ref::FrameRef;
+use crate::progress::Progress;
+use csi_types::NoMemory;
+use std::alloc::Global;
+use std::marker::Model;
+
+/// The frames of a stream that comes in pieces: fed any pieces, it gives the frames of all of them together, wherever they
+/// were cut. A contract sees the bytes that it keeps, the count of those that frames took, and the fault that it answered.
+/// This profile's own.
+#[derive(Drop)]
+pub struct Splitter {
+    buffer: Vec<u8>,
+    progress: Progress,
+}
+
+impl Model for Splitter {
+    ghost use Rattle.std.specs.Prelude.{◌≤◌, vec_len};
+    ghost use Rattle.csi_frames.specs.Splitting.{Splitting};
+    ghost use Rattle.csi_frames.specs.Progress.{shown};
+
+    ghost Value = { Splitting };
+
+    ghost view = { λ splitter. shown splitter.progress splitter.buffer.items };
+
+    ghost invariant = { λ splitter. splitter.progress.start ≤ vec_len splitter.buffer };
+}
+
+// Takes the first bytes off, and moves those behind them to the front.
+fn take_off(buffer: &mut Vec<u8>, count: usize)
+    requires { count ≤ vec_len buffer.old }
+    ensures { buffer.new.items ≡ drop count buffer.old.items }
+{
+    let left = buffer.len() - count;
+    buffer.copy_within(count.., 0);
+    buffer.truncate(left);
+}
+
+impl Splitter {
+    ghost use Rattle.csi_frames.specs.contracts.splitter.Splitter.{the_row};
+    ghost use Rattle.csi_frames.specs.Lent.{lent_in};
+
+    /// Nothing was fed yet. It takes no memory.
+    pub fn new(alloc: Global) -> Splitter
+        ensures { result ≡ new_splitting }
+    {
+        Splitter {
+            buffer: Vec::new(alloc),
+            progress: Progress {
+                start: 0,
+                taken: 0,
+                fault: None,
+            },
+        }
+    }
+
+    // Moves what is kept to the front once the frames before it took no fewer bytes. So all moves together move no more
+    // bytes than frames took.
+    fn compact(&mut self)
+        ensures { self.new ≡ self.old }
+    {
+        let start = self.progress.start;
+        if self.buffer.len() - start <= start {
+            take_off(&mut self.buffer, start);
+            self.progress.start = 0;
+        }
+    }
+
+    /// Puts a piece of the stream, of any length, behind the bytes that are kept. Once `next` answered a fault it succeeds, keeps
+    /// nothing of the piece and takes no memory. A refusal leaves the splitter as it was.
+    pub fn feed(&mut self, piece: &[u8]) -> Result<(), NoMemory>
+        ensures ok { OnOk result (self.new ≡ after_feed self.old piece.now) }
+        ensures err { OnErr result (self.new ≡ self.old) }
+        ensures faulty { IsSome self.old.fault → IsOk result }
+    {
+        if self.progress.fault.is_some() {
+            return Ok(());
+        }
+        self.compact();
+        self.buffer.extend_from_slice(piece)?;
+        Ok(())
+    }
+
+    /// The frame that the kept bytes begin with, which it takes off their front; `None` where they are fewer than a length
+    /// and its body take, of which only a length above 1280 is judged before they are whole, and then at most 1,283 are
+    /// kept; or their first fault, never `Short`, with its place counted from the first of them, and that fault
+    /// from then on. It takes no memory.
+    pub fn next(&mut self) -> Result<Option<FrameRef<'_>>, FrameFault>
+        ensures* rests { sem 𝓛 (Rests the_row self.entry (λ new. new ≡ after_next self.old (lent_in result))) }
+        ensures next { IsNext self.old.fault self.old.kept (lent_in result) }
+        ensures only { (other : Result (Option Parts) Fault) → IsNext self.old.fault self.old.kept other → lent_in result ≡ other }
+        ensures few { IfOk result (λ next. IfNone next (length self.old.kept ≤ 1283)) }
+    {
+        let buffer = self.buffer.as_slice();
+        self.progress.next(buffer)
+    }
+
+    /// Whether the stream may end here: `Short` where bytes are kept, with their count as its place, also once `next` answered a
+    /// fault. It takes no memory.
+    pub fn end(&self) -> Result<(), FrameFault>
+        ensures { result ≡ end_of self.now.kept }
+    {
+        match self.kept() {
+            0 => Ok(()),
+            place => Err(FrameFault {
+                kind: FaultKind::Short,
+                place,
+            }),
+        }
+    }
+
+    /// How many bytes the frames took that were given, up to 2^64 - 1. It takes no memory.
+    pub fn taken(&self) -> u64
+        ensures { result ≡ self.now.taken }
+    {
+        self.progress.taken
+    }
+
+    /// How many bytes are kept: those that no frame took, without those that were fed once `next` had answered a fault. It takes
+    /// no memory.
+    pub fn kept(&self) -> usize
+        ensures { result ≡ length self.now.kept }
+    {
+        self.buffer.len() - self.progress.start
+    }
+}
