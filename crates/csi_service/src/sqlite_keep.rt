@@ -90,10 +90,10 @@ impl<S: Alter> SqliteKeep<S> {
     {
         let SqliteKeep {
             alloc: _,
-            connection,
+            connection: back,
             faults: _,
         } = self;
-        connection
+        back
     }
 }
 
