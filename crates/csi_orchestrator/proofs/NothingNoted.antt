@@ -1,7 +1,7 @@
 -- Where rows note nothing, no part of them does.
 use Rattle.std.proofs.Common.{◌≡◌, ◌<◌, ℕ, zero, suc, List, [], ◌∷◌, ◌++◌, length, get_or, map, refl, sym, ◌∙◌, inl, arith}
 use Rattle.std.specs.List.{flat_map}
-use Rattle.csi_types.specs.Lists.{IsAmong}
+use Rattle.csi_lists.specs.Members.{IsAmong}
 use Rattle.csi_orchestrator.specs.declared.thing.Known.TheVariants.{No}
 use Rattle.csi_orchestrator.specs.declared.thing.Thing.{Thing}
 use Rattle.csi_orchestrator.specs.declared.thing.Known.{Known}

@@ -18,7 +18,7 @@ use Rattle.sqlite_keyed.proofs.SortLemmas.{sorted_unique}
 use Rattle.sqlite.specs.State.{State}
 use Rattle.csi_tables.specs.Rows.{KeyedRow, cells, without, AreRising, HasRows}
 use Rattle.csi_serving.specs.Content.{StoredPart, put_in, take_out, put_all, IsRising}
-use Rattle.csi_service.specs.Tables.{row_of, AreKeys, AreParts, HasParts, HoldsParts, LeavesParts}
+use Rattle.csi_service.specs.Tables.{row_of, AreKeys, StoresParts, HasParts, HoldsParts, LeavesParts}
 use Rattle.csi_serving.proofs.Rising.{AreAbove, rising-all}
 use Rattle.csi_service.proofs.KeyOrder.{key_below, key_back, same_key}
 
@@ -62,18 +62,21 @@ parts_back : (content : List StoredPart) → AreKeys content → map part_in (ma
 parts_back [] keys = refl
 parts_back (part ∷ parts) keys = ap₂ (λ (k : ℕ) (l : List StoredPart). record { key = k; value = part.value } ∷ l) (key_back part.key keys.0) (parts_back parts keys.1)
 
-pub one_content : (stored : List Row) (a b : List StoredPart) → AreParts stored a → AreParts stored b → b ≡ a
-one_content stored a b are also =
-    let same = IsPermutation-trans _ _ _ (IsPermutation-sym _ _ are.rows.same) also.rows.same in
+pub one_content : (db : Trees) (a b : List StoredPart) → StoresParts db a → StoresParts db b → b ≡ a
+one_content db a b are also =
+    let same = IsPermutation-trans _ _ _ (IsPermutation-sym _ _ are.rows.stored.same) also.rows.stored.same in
     let strict = strict_cells (map row_of a) (rising_rows a are.rising are.keys) in
     let sorted = sorted_from by_key by_key_total _ (strict_cells (map row_of b) (rising_rows b also.rising also.keys)) in
     sym (parts_back b also.keys) ∙ ap (map part_in) (sorted_unique by_key by_key_total _ _ strict same sorted) ∙ parts_back a are.keys
 
+pub stores : (s : State) (content : List StoredPart) → HasParts s content → StoresParts s.now.trees content
+stores s content has = record { rows = has.rows.stores; rising = has.rising; keys = has.keys }
+
 -- while the database is open, a crash leaves what it holds
 pub only_left : (s : State) (content other : List StoredPart) → ((db : Trees) → s.may_leave db → db ≡ s.committed.trees) → HoldsParts s content → LeavesParts s other → other ≡ content
 only_left s content other settled has left =
-    let is : left.db 0 ≡ s.now.trees 0 = ap (λ (t : Trees). t 0) (settled left.db left.may) ∙ ap (λ (d : Database). d.trees 0) (sym has.1.committed) in
-    one_content (s.now.trees 0) content other (record { rows = has.0.rows.rows; rising = has.0.rising; keys = has.0.keys }) (subst (λ l. AreParts l other) is left.parts)
+    let is : left.db ≡ s.now.trees = settled left.db left.may ∙ ap (λ (d : Database). d.trees) (sym has.1.committed) in
+    one_content s.now.trees content other (stores s content has.0) (subst (λ db. StoresParts db other) is left.parts)
 
 -- ---- changes
 
@@ -129,7 +132,10 @@ pub moved_rows : (s : State) (a b : List StoredPart) → IsPermutation a b → H
 moved_rows s a b moves h = record {
   is_open = h.is_open;
   declared = h.declared;
-  rows = record { ordered = h.rows.ordered; numbered = h.rows.numbered; same = IsPermutation-trans _ _ _ h.rows.same (IsPermutation-map cells _ _ (IsPermutation-map row_of a b moves)) };
+  stores = record {
+    listed = h.stores.listed;
+    stored = record { ordered = h.stores.stored.ordered; numbered = h.stores.stored.numbered; same = IsPermutation-trans _ _ _ h.stores.stored.same (IsPermutation-map cells _ _ (IsPermutation-map row_of a b moves)) };
+  };
 }
 
 pub put_has : (s : State) (part : StoredPart) (content : List StoredPart) → part.key < 2 ^ 64 → IsRising content → AreKeys content

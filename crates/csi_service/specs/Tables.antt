@@ -2,10 +2,9 @@
 use Rattle.std.specs.Prelude.{ℕ, ◌<◌, ◌^◌, ⊤, List, map}
 use Rattle.std.specs.List.{AllByRecursion}
 use Rattle.byteorder.specs.Endian.{big_bytes}
-use Rattle.sqlite.specs.Order.{Row}
 use Rattle.sqlite.specs.Tree.{Trees}
 use Rattle.sqlite.specs.State.{State}
-use Rattle.csi_tables.specs.Rows.{KeyedRow, AreRows, HasRows, IsAtRest}
+use Rattle.csi_tables.specs.Rows.{KeyedRow, StoresRows, HasRows, IsAtRest}
 use Rattle.csi_serving.specs.declared.keep.KeepFault.{KeepFault}
 use Rattle.csi_serving.specs.declared.keep.KeepFault.TheVariants.{Device, NoMemory, BadRecord, Full}
 use Rattle.csi_serving.specs.Content.{StoredPart, IsRising}
@@ -19,27 +18,27 @@ row_of part = record { key = big_bytes 8 part.key; value = part.value }
 abbrev pub AreKeys : List StoredPart → Type 0
 AreKeys = AllByRecursion (λ (part : StoredPart). part.key < 2 ^ 64)
 
--- SQLite has these parts as its rows
-pub record AreParts (stored : List Row) (content : List StoredPart) : Type 0 where
-  pub rows : AreRows stored (map row_of content)
+-- a database whose one table has these parts
+pub record StoresParts (db : Trees) (content : List StoredPart) : Type 0 where
+  pub rows : StoresRows db (map row_of content)
   pub rising : IsRising content
   pub keys : AreKeys content
 
--- the table has these parts, in a transaction or outside
+-- the connection sees such a database, in a transaction or outside
 pub record HasParts (s : State) (content : List StoredPart) : Type 0 where
   pub rows : HasRows s (map row_of content)
   pub rising : IsRising content
   pub keys : AreKeys content
 
--- it has these parts, and all is committed
+-- the same, and all is committed
 abbrev pub HoldsParts : State → List StoredPart → Type 0
 HoldsParts s content = HasParts s content × IsAtRest s
 
--- a database that a crash leaves has these parts
+-- a crash may leave such a database
 pub record LeavesParts (s : State) (content : List StoredPart) : Type 0 where
   pub db : Trees
   pub may : s.may_leave db
-  pub parts : AreParts (db 0) content
+  pub parts : StoresParts db content
 
 -- what a refusal by SQLite is to a keeper: want of memory, or a failure, which is counted
 abbrev pub IsCounted : ℕ → ℕ → KeepFault → Type 0

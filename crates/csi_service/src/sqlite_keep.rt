@@ -1,10 +1,10 @@
 //! A store in a SQLite database.
-ghost use Rattle.std.specs.Prelude.{◌≡◌, ◌≤◌, ◌⊎◌, ℕ, List, [], map, ⊤, IfOk, IfErr, OnOk, OnErr};
+ghost use Rattle.std.specs.Prelude.{◌≡◌, ◌≤◌, ◌⊎◌, ℕ, List, [], map, ⊤, IsTrue, IfOk, IfErr, OnOk, OnErr};
 ghost use Rattle.sqlite.specs.Held.{state};
 ghost use Rattle.sqlite.specs.State.{HasCleanDisk};
-ghost use Rattle.csi_tables.specs.Rows.{IsBlank, HasRows};
+ghost use Rattle.csi_tables.specs.Rows.{IsBlank};
 ghost use Rattle.csi_serving.specs.Content.{StoredPart};
-ghost use Rattle.csi_service.specs.Tables.{HasParts, HoldsParts, LeavesParts, IsCounted};
+ghost use Rattle.csi_service.specs.Tables.{StoresParts, HoldsParts, LeavesParts, IsCounted};
 
 use csi_serving::{Keep, KeepFault, Part};
 use csi_tables::{all_rows, make_table};
@@ -63,7 +63,7 @@ impl<S: Alter> SqliteKeep<S> {
         mut connection: Connection<S>,
     ) -> Result<SqliteKeep<S>, (KeepFault, Connection<S>)>
         ensures blank { IfOk result (λ keep. HasCleanDisk (state S.Store keep.connection) → IsBlank (state S.Store connection) → HoldsParts (state S.Store keep.connection) []) }
-        ensures found { IfOk result (λ keep. HasCleanDisk (state S.Store keep.connection) → (content : List StoredPart) → HasParts (state S.Store connection) content → HoldsParts (state S.Store keep.connection) content) }
+        ensures found { IfOk result (λ keep. HasCleanDisk (state S.Store keep.connection) → (content : List StoredPart) → IsTrue (state S.Store connection).is_open → StoresParts (state S.Store connection).now.trees content → HoldsParts (state S.Store keep.connection) content) }
         ensures honest { IfOk result (λ keep. HasCleanDisk (state S.Store keep.connection) → HasCleanDisk (state S.Store connection)) }
         ensures faults { IfOk result (λ keep. keep.faults ≡ 0) }
         ensures back { IfErr result (λ refusal. HasCleanDisk (state S.Store refusal.1) → HasCleanDisk (state S.Store connection)) }
@@ -89,10 +89,10 @@ impl<S: Alter> SqliteKeep<S> {
     {
         let SqliteKeep {
             alloc: _,
-            connection,
+            connection: back,
             faults: _,
         } = self;
-        connection
+        back
     }
 }
 

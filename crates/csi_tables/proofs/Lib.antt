@@ -2,6 +2,7 @@ mod Lists
 mod Stored
 mod Texts
 mod Answers
+mod Schemas
 mod Made
 mod Read
 mod Removed

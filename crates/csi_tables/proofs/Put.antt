@@ -33,11 +33,11 @@ use Rattle.sqlite.specs.Effect.{Database}
 use Rattle.sqlite.specs.State.{State, mode_of, Executes}
 use Rattle.sqlite.proofs.Callers.{statement_of, runs_as, one_step}
 use Rattle.csi_tables.specs.Declared.{parts_table, parts_schema}
-use Rattle.csi_tables.specs.Rows.{KeyedRow, AreRows, HasRows, without}
+use Rattle.csi_tables.specs.Rows.{KeyedRow, HasRows, without}
 use Rattle.csi_tables.proofs.Texts.{put_text, put_terms, put_is, put_plain}
 use Rattle.csi_tables.proofs.Stored.{has_key, has_key-row, id_of, AreInts, AreIdsOf, keyed, taken_out, are_kept, are_more}
 use Rattle.csi_tables.proofs.Answers.{unmapped}
-use Rattle.csi_tables.proofs.Made.{went, same_value}
+use Rattle.csi_tables.proofs.Made.{went, same_value, now_has}
 
 either : (b : Bool) (x : Value) → cond b x x ≡ x
 either true x = refl
@@ -156,13 +156,9 @@ puts old new key value rows count h ran =
     let one = tried old.step_limit params (Int id ∷ Blob key ∷ Blob value ∷ []) db (count_of counter.0) source all.0 each (ap (λ v. with_rowid Chosen stored (v ∷ Blob key ∷ Blob value ∷ [])) cast_null) in
     let gone = cleared old.step_limit params (Int id ∷ Blob key ∷ Blob value ∷ []) db one.2.0 one.0 one.2.2 in
     let there = placed old.step_limit params id key value gone.0 one.0 gone.2 in
-    let ids = conflicting_ids key value stored h.rows.ordered h.rows.numbered one.2.0 one.2.1 in
-    let left : gone.0 0 ≡ filter (λ r. not (has_key key (drop 1 r))) stored = gone.1 ∙ taken_out stored h.rows.ordered h.rows.numbered (λ r. has_key key (drop 1 r)) (ids_of one.2.0) ids in
+    let ids = conflicting_ids key value stored h.stores.stored.ordered h.stores.stored.numbered one.2.0 one.2.1 in
+    let left : gone.0 0 ≡ filter (λ r. not (has_key key (drop 1 r))) stored = gone.1 ∙ taken_out stored h.stores.stored.ordered h.stores.stored.numbered (λ r. has_key key (drop 1 r)) (ids_of one.2.0) ids in
     let is : new.now.trees 0 ≡ put_row (Int id ∷ Blob key ∷ Blob value ∷ []) (filter (λ r. not (has_key key (drop 1 r))) stored) =
     ap (λ (d : Database). d.trees 0) now ∙ ap (λ (t : Trees). t 0) trees ∙ one.1 ∙ there.0 ∙ ap (put_row (Int id ∷ Blob key ∷ Blob value ∷ [])) left in
-    record {
-      is_open = w.shown.is_open;
-      declared = ap (λ (d : Database). d.schema) now;
-      rows = subst (λ l. AreRows l (row ∷ without key rows)) (sym is)
-          (are_more (Int id ∷ Blob key ∷ Blob value ∷ []) _ row (without key rows) refl refl (subst (λ l. is_taken l (Int id ∷ Blob key ∷ Blob value ∷ []) ≡ false) left there.1) (are_kept key stored rows h.rows));
-    }
+    now_has new (row ∷ without key rows) _ w.shown.is_open w.sound (ap (λ (d : Database). d.schema) now) is
+    (are_more (Int id ∷ Blob key ∷ Blob value ∷ []) _ row (without key rows) refl refl (subst (λ l. is_taken l (Int id ∷ Blob key ∷ Blob value ∷ []) ≡ false) left there.1) (are_kept key stored rows h.stores.stored))

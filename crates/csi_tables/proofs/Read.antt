@@ -48,7 +48,7 @@ answers db rows found are rising a =
 pub reads : (old new : State) (rows : List KeyedRow) (found : List Row) → HasRows old rows → AreRising rows → Shown read_text [] old new found → found ≡ map cells rows
 reads old new rows found h rising shown =
     let got = reads_as read_text [] old new parts_schema h.declared (Select (record { lets = []; body = read_query }) (codes "key" ∷ codes "value" ∷ [])) read_is.0 read_plain read_is.1 found shown in
-    answers old.now.trees rows found h.rows rising (got.answer Null)
+    answers old.now.trees rows found h.stores.stored rising (got.answer Null)
 
 -- reading changes nothing
 pub leaves : (old new : State) (rows : List KeyedRow) (found : List Row) → HasRows old rows → Shown read_text [] old new found → IsUnchanged old new

@@ -1,5 +1,5 @@
 -- What the statement that takes a row out does.
-use Rattle.std.proofs.Common.{◌≡◌, ℕ, List, [], ◌∷◌, drop, filter, not, None, Ok, refl, sym, ap, subst, ◌∙◌}
+use Rattle.std.proofs.Common.{◌≡◌, ℕ, List, [], ◌∷◌, drop, filter, not, None, Ok, refl, ap, subst, ◌∙◌}
 use Rattle.sqlite.specs.declared.types.Value.TheVariants.{Null, Blob}
 use Rattle.sqlite.specs.Command.TheVariants.{Delete}
 use Rattle.sqlite.specs.Edit.{edit_of}
@@ -13,11 +13,11 @@ use Rattle.sqlite.specs.Effect.{Database}
 use Rattle.sqlite.specs.State.{State, mode_of, Executes}
 use Rattle.sqlite.proofs.Callers.{statement_of, runs_as, one_step}
 use Rattle.csi_tables.specs.Declared.{parts_table, parts_schema}
-use Rattle.csi_tables.specs.Rows.{KeyedRow, AreRows, HasRows, without}
+use Rattle.csi_tables.specs.Rows.{KeyedRow, HasRows, without}
 use Rattle.csi_tables.proofs.Texts.{remove_text, remove_query, remove_is, remove_plain}
 use Rattle.csi_tables.proofs.Stored.{has_key, taken_out, are_kept}
 use Rattle.csi_tables.proofs.Answers.{removed_ids}
-use Rattle.csi_tables.proofs.Made.{went, same_value}
+use Rattle.csi_tables.proofs.Made.{went, same_value, now_has}
 
 pub removes : (old new : State) (key : List ℕ) (rows : List KeyedRow) (count : ℕ) → HasRows old rows → Executes remove_text (Blob key ∷ []) old new (Ok count) → HasRows new (without key rows)
 unfolding parts_schema parts_table
@@ -34,9 +34,5 @@ removes old new key rows count h ran =
     let trees : done.0.trees ≡ wrote.0 = ap (λ (it : Written). it.trees) (same_value wrote.2) in
     let applied = one_step parts_schema _ db wrote.0 (edit_of db parts_table (ids_of read.0) Given 0 []) refl wrote.1 in
     let left : wrote.0 0 ≡ filter (λ r. not (has_key key (drop 1 r))) (db 0) =
-    applied.rows ∙ taken_out (db 0) h.rows.ordered h.rows.numbered (λ r. has_key key (drop 1 r)) (ids_of read.0) (removed_ids db key read.0 (read.1.answer Null)) in
-    record {
-      is_open = w.shown.is_open;
-      declared = ap (λ (d : Database). d.schema) now;
-      rows = subst (λ l. AreRows l (without key rows)) (sym (ap (λ (d : Database). d.trees 0) now ∙ ap (λ (t : Trees). t 0) trees ∙ left)) (are_kept key (db 0) rows h.rows);
-    }
+    applied.rows ∙ taken_out (db 0) h.stores.stored.ordered h.stores.stored.numbered (λ r. has_key key (drop 1 r)) (ids_of read.0) (removed_ids db key read.0 (read.1.answer Null)) in
+    now_has new (without key rows) _ w.shown.is_open w.sound (ap (λ (d : Database). d.schema) now) (ap (λ (d : Database). d.trees 0) now ∙ ap (λ (t : Trees). t 0) trees ∙ left) (are_kept key (db 0) rows h.stores.stored)

@@ -6,7 +6,8 @@ use Rattle.std.specs.declared.cmp.Ordering.TheVariants.{Less}
 use Rattle.std.specs.Cmp.Lexicographic.{slice_cmp}
 use Rattle.sqlite.specs.declared.types.Value.TheVariants.{Blob}
 use Rattle.sqlite.specs.Order.{Row}
-use Rattle.sqlite.specs.Tree.{IsTable, IsAscending, rowid}
+use Rattle.sqlite.specs.Tree.{Trees, IsTable, IsAscending, rowid}
+use Rattle.sqlite_catalog.specs.Listing.{IsSound}
 use Rattle.sqlite.specs.View.{is_int}
 use Rattle.sqlite.specs.State.{State}
 use Rattle.sqlite.specs.declared.error.Error.{Error}
@@ -28,16 +29,21 @@ pub record AreRows (stored : List Row) (rows : List KeyedRow) : Type 0 where
   pub numbered : AllByRecursion (λ r. IsTrue (is_int (rowid r))) stored
   pub same : IsPermutation (map (drop 1) stored) (map cells rows)
 
--- the connection is open, the table is the only one, and it has these rows
-pub record HasRows (s : State) (shown : List KeyedRow) : Type 0 where
+-- a database whose one table is this one, with these rows
+pub record StoresRows (db : Trees) (rows : List KeyedRow) : Type 0 where
+  pub listed : IsSound parts_schema db
+  pub stored : AreRows (db 0) rows
+
+-- the connection is open, and sees such a database
+pub record HasRows (s : State) (rows : List KeyedRow) : Type 0 where
   pub is_open : IsTrue s.is_open
   pub declared : s.now.schema ≡ parts_schema
-  pub rows : AreRows (s.now.trees 0) shown
+  pub stores : StoresRows s.now.trees rows
 
--- the database has no table yet
+-- the connection is open, and the database has no table, index or view
 pub record IsBlank (s : State) : Type 0 where
   pub is_open : IsTrue s.is_open
-  pub empty : s.now.schema ≡ no_schema
+  pub empty : IsSound no_schema s.now.trees
 
 -- no transaction is open, and what is seen is committed
 pub record IsAtRest (s : State) : Type 0 where

@@ -2,7 +2,7 @@
 ghost use Rattle.std.specs.Prelude.{◌≡◌, ◌∷◌, [], List, IsTrue, map, false, IfOk, IfErr, OnOk};
 ghost use Rattle.sqlite.specs.State.{HasCleanDisk, IsUnchanged, Survives};
 ghost use Rattle.sqlite.specs.Held.{state};
-ghost use Rattle.csi_tables.specs.Rows.{KeyedRow, cells, without, AreRising, HasRows, IsAtRest, IsBlank, IsInputError};
+ghost use Rattle.csi_tables.specs.Rows.{KeyedRow, cells, without, AreRising, StoresRows, HasRows, IsAtRest, IsBlank, IsInputError};
 
 use sqlite::{Alter, Connection, Error, Row, Transaction, params};
 
@@ -10,10 +10,11 @@ use sqlite::{Alter, Connection, Error, Row, Transaction, params};
 pub fn make_table<S: Alter>(connection: &mut Connection<S>) -> Result<(), Error>
     ensures made { HasCleanDisk (state S.Store connection.new) → IsBlank (state S.Store connection.old) → IsAtRest (state S.Store connection.old)
         → OnOk result (HasRows (state S.Store connection.new) [] × IsAtRest (state S.Store connection.new)) }
-    ensures found { HasCleanDisk (state S.Store connection.new) → (rows : List KeyedRow) → HasRows (state S.Store connection.old) rows → IsAtRest (state S.Store connection.old)
+    ensures found { HasCleanDisk (state S.Store connection.new) → (rows : List KeyedRow) → IsTrue (state S.Store connection.old).is_open → StoresRows (state S.Store connection.old).now.trees rows → IsAtRest (state S.Store connection.old)
         → OnOk result (HasRows (state S.Store connection.new) rows × IsAtRest (state S.Store connection.new)) }
     ensures clean { HasCleanDisk (state S.Store connection.new) → HasCleanDisk (state S.Store connection.old) }
 {
+    let _schema = connection.schema();
     connection.execute(
         "CREATE TABLE IF NOT EXISTS parts (key BLOB NOT NULL PRIMARY KEY, value BLOB NOT NULL)",
         &[],

@@ -5,7 +5,7 @@ ghost use Rattle.sqlite.specs.State.{HasCleanDisk, Survives};
 ghost use Rattle.sqlite.specs.Tree.{Trees};
 ghost use Rattle.csi_serving.specs.Content.{StoredPart, changed_to, all_changed};
 ghost use Rattle.csi_serving.specs.Part.{change_of};
-ghost use Rattle.csi_service.specs.Tables.{AreParts, HasParts, HoldsParts};
+ghost use Rattle.csi_service.specs.Tables.{StoresParts, HasParts, HoldsParts};
 
 use csi_serving::Part;
 use csi_tables::{put_row, remove_row};
@@ -48,7 +48,7 @@ pub(crate) fn change_at_once<S: Alter>(
         → OnOk result (HoldsParts (state S.Store connection.new) (all_changed (map change_of parts.now) content)) }
     ensures crash { HasCleanDisk (state S.Store connection.new) → (content : List StoredPart) → HoldsParts (state S.Store connection.old) content
         → (db : Trees) → (state S.Store connection.new).may_leave db
-        → (state S.Store connection.old).may_leave db ⊎ AreParts (db 0) (all_changed (map change_of parts.now) content) }
+        → (state S.Store connection.old).may_leave db ⊎ StoresParts db (all_changed (map change_of parts.now) content) }
 {
     if !connection.is_autocommit() {
         return Err(Error::SqliteFailure(ErrorCode::TransactionState));

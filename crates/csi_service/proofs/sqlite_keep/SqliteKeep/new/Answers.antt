@@ -16,8 +16,8 @@ returns-in-Ok-clause-blank g c clean blank =
     (record { rows = made.0; rising = tt; keys = tt }, made.1)
 
 pub returns-in-Ok-clause-found : goal.returns-in-Ok-clause-found
-returns-in-Ok-clause-found g c clean content has =
+returns-in-Ok-clause-found g c clean content is_open parts =
     let rest : IsAtRest (state g.S.Store c.args.connection) =
-    record { autocommit = off _ _ c.is_autocommit.ensures.value c.if-not-is_autocommit.false; committed = c.is_autocommit.ensures.settled c.if-not-is_autocommit.false has.rows.is_open } in
-    let made = c.in-Ok.ensures.found clean (map row_of content) has.rows rest in
-    (record { rows = made.0; rising = has.rising; keys = has.keys }, made.1)
+    record { autocommit = off _ _ c.is_autocommit.ensures.value c.if-not-is_autocommit.false; committed = c.is_autocommit.ensures.settled c.if-not-is_autocommit.false is_open } in
+    let found = c.in-Ok.ensures.found clean (map row_of content) is_open parts.rows rest in
+    (record { rows = found.0; rising = parts.rising; keys = parts.keys }, found.1)

@@ -22,5 +22,5 @@ pub returns-in-Err-clause-refused : goal.returns-in-Err-clause-refused
 returns-in-Err-clause-refused g c clean content has other left =
     elim (c.change_at_once.ensures.crash clean content has left.db left.may) [
       | inl before ↦ inl (record { db = left.db; may = before; parts = left.parts })
-      | inr made ↦ inr (one_content (left.db 0) _ other made left.parts)
+      | inr made ↦ inr (one_content left.db _ other made left.parts)
     ]
