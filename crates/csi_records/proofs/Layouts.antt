@@ -1,0 +1,140 @@
+-- Records by their layout: how far the parts of one were read, and which is the first that is refused.
+use Rattle.std.proofs.Common.{◌≡◌, ℕ, zero, suc, ◌+◌, ◌-◌, ◌≤◌, ◌<◌, List, [], ◌∷◌, ◌++◌, length, take, drop, map, get_or, refl, sym, ap, subst, ◌∙◌, inl, inr, append_assoc, arith}
+use Rattle.std.specs.Prelude.{false}
+use Rattle.std.specs.List.{AllByRecursion}
+use Rattle.std.proofs.lemmas.List.{length-map, length-take, take-append-drop, take-map, drop_more, map-append}
+use Rattle.csi_records.specs.Part.{StoredPart}
+use Rattle.csi_records.specs.Records.{Layout, AreParts, IsRecordOf, IsRefusedAt}
+use Rattle.csi_records.specs.Stopping.{AreRead}
+
+-- parts are spelled by one value each, and a front of a record is one
+pub record IsOneToOne {H R : Type 0} (layout : Layout H R) : Type 0 where
+  pub heads : (a b : H) → layout.is_head a → layout.is_head b → layout.head a ≡ layout.head b → a ≡ b
+  pub rows : (a b : R) → layout.is_row a → layout.is_row b → layout.row a ≡ layout.row b → a ≡ b
+  pub fronts : (first : H) (rs : List R) (k : ℕ) → layout.are_rows first rs → layout.are_rows first (take k rs)
+
+each-take : {X : Type 0} (P : X → Type 0) (xs : List X) (k : ℕ) → AllByRecursion P xs → AllByRecursion P (take k xs)
+each-take P xs zero all = tt
+each-take P [] (suc k) all = tt
+each-take P (x ∷ xs) (suc k) all = (all.0, each-take P xs k all.1)
+
+pub rows-same : {H R : Type 0} (layout : Layout H R) → IsOneToOne layout → (rs ss : List R) → AllByRecursion layout.is_row rs → AllByRecursion layout.is_row ss → map layout.row rs ≡ map layout.row ss → rs ≡ ss
+rows-same layout one [] [] fit fits e = refl
+rows-same layout one [] (s ∷ ss) fit fits e = absurd cc
+rows-same layout one (r ∷ rs) [] fit fits e = absurd cc
+rows-same layout one (r ∷ rs) (s ∷ ss) fit fits e =
+    let heads : layout.row r ≡ layout.row s = cc in
+    let tails : map layout.row rs ≡ map layout.row ss = cc in
+    let first = one.rows r s (fit.0) (fits.0) heads in
+    let rest = rows-same layout one rs ss (fit.1) (fits.1) tails in
+    λ i. first i ∷ rest i
+
+-- equal parts mean equal records
+pub parts-same : {H R : Type 0} (layout : Layout H R) → IsOneToOne layout → (a b : H) (rs ss : List R) (parts : List StoredPart) → AreParts layout a rs parts → AreParts layout b ss parts → (a ≡ b) × (rs ≡ ss)
+parts-same layout one a b rs ss parts p q =
+    let both : layout.head a ∷ map layout.row rs ≡ layout.head b ∷ map layout.row ss = sym (p.are) ∙ q.are in
+    let heads : layout.head a ≡ layout.head b = cc in
+    let rest : map layout.row rs ≡ map layout.row ss = cc in
+    (one.heads a b (p.head_fits) (q.head_fits) heads, rows-same layout one rs ss (p.rows_fit) (q.rows_fit) rest)
+
+-- no head stands first
+pub head-refused : {H R : Type 0} (layout : Layout H R) (part : StoredPart) (rest : List StoredPart) → ((first : H) → layout.is_head first → layout.head first ≡ part → ⊥) → IsRefusedAt (IsRecordOf layout) (part ∷ rest) 0
+head-refused layout part rest none =
+    record {
+      before = [];
+      part = part;
+      after = rest;
+      are = refl;
+      here = refl;
+      begins = inl refl;
+      refused = λ is.
+          let both : part ∷ [] ≡ layout.head is.first ∷ map layout.row is.rows = is.spelled.are in
+          let same : layout.head is.first ≡ part = cc in
+          none is.first is.spelled.head_fits same;
+    }
+
+-- all rows were read, and keep the rules
+pub is-record : {H R : Type 0} (layout : Layout H R) (first : H) (rs : List R) (parts : List StoredPart) → layout.is_head first → AllByRecursion layout.is_row rs → layout.are_rows first rs → parts ≡ map layout.row rs
+    → IsRecordOf layout (layout.head first ∷ parts)
+is-record layout first rs parts fits each rules are =
+    record { first = first; rows = rs; spelled = record { head_fits = fits; rows_fit = each; rules = rules; are = ap (λ (ps : List StoredPart). layout.head first ∷ ps) are } }
+
+-- the rows so far keep the rules, and the next part is no row
+pub row-unread : {H R : Type 0} (layout : Layout H R) (first : H) (rs : List R) (part : StoredPart) (rest parts : List StoredPart) → layout.is_head first → AllByRecursion layout.is_row rs → layout.are_rows first rs
+    → parts ≡ map layout.row rs ++ part ∷ rest → ((row : R) → layout.is_row row → layout.row row ≡ part → ⊥) → IsRefusedAt (IsRecordOf layout) (layout.head first ∷ parts) (length rs + 1)
+row-unread {H} {R} layout first rs part rest parts fits each rules are none =
+    record {
+      before = layout.head first ∷ map layout.row rs;
+      part = part;
+      after = rest;
+      are = ap (λ (ps : List StoredPart). layout.head first ∷ ps) are;
+      here = omega (arith, length-map rs layout.row);
+      begins = inr (is-record layout first rs (map layout.row rs) fits each rules refl);
+      refused = λ is. last is.first is.rows (map layout.row rs) is.spelled.rows_fit (tail (layout.head first) (layout.head is.first) (map layout.row rs ++ part ∷ []) (map layout.row is.rows) is.spelled.are);
+    }
+  where
+    tail : (a b : StoredPart) (ps qs : List StoredPart) → a ∷ ps ≡ b ∷ qs → ps ≡ qs
+    tail a b ps qs e = cc
+
+    -- the last of the rows is the part
+    last : (f : H) (ss : List R) (front : List StoredPart) → AllByRecursion layout.is_row ss → front ++ part ∷ [] ≡ map layout.row ss → ⊥
+    last f [] [] all e = absurd cc
+    last f [] (p ∷ front) all e = absurd cc
+    last f (s ∷ ss) [] all e = let same : layout.row s ≡ part = cc in none s (all.0) same
+    last f (s ∷ ss) (p ∷ front) all e = let rest : front ++ part ∷ [] ≡ map layout.row ss = cc in last f ss front (all.1) rest
+
+-- the rows are read at least so far, and the first so many break a rule
+pub row-refused : {H R : Type 0} (layout : Layout H R) → IsOneToOne layout → (first : H) (rs : List R) (place : ℕ) (more parts : List StoredPart) → layout.is_head first → AllByRecursion layout.is_row rs
+    → 1 ≤ place → place ≤ length rs → layout.are_rows first (take (place - 1) rs) → (layout.are_rows first (take place rs) → ⊥) → parts ≡ map layout.row rs ++ more
+    → IsRefusedAt (IsRecordOf layout) (layout.head first ∷ parts) place
+row-refused layout one first [] zero more parts fits each from to before refused are = absurd (omega arith)
+row-refused layout one first [] (suc k) more parts fits each from to before refused are = absurd (omega arith)
+row-refused layout one first (r ∷ rs) zero more parts fits each from to before refused are = absurd (omega arith)
+row-refused {H} {R} layout one first (r ∷ rs) (suc k) more parts fits each from to before refused are =
+    let all = r ∷ rs in
+    let d = layout.row r in
+    let inside : k < length (map layout.row all) = omega (arith, length-map all layout.row) in
+    let part = get_or (map layout.row all) k d in
+    let split : map layout.row all ≡ take k (map layout.row all) ++ part ∷ drop (k + 1) (map layout.row all) =
+    sym (take-append-drop k (map layout.row all)) ∙ ap (λ (ps : List StoredPart). take k (map layout.row all) ++ ps) (drop_more (map layout.row all) k d inside) in
+    let front : take k (map layout.row all) ++ part ∷ [] ≡ map layout.row (take (suc k) all) = one_more (map layout.row all) k d inside ∙ take-map layout.row (suc k) all in
+    record {
+      before = layout.head first ∷ take k (map layout.row all);
+      part = part;
+      after = drop (k + 1) (map layout.row all) ++ more;
+      are = ap (λ (ps : List StoredPart). layout.head first ∷ ps) (are ∙ ap (λ (ps : List StoredPart). ps ++ more) split ∙ append_assoc (take k (map layout.row all)) (part ∷ drop (k + 1) (map layout.row all)) more);
+      here = omega (arith, length-take k (map layout.row all), inside);
+      begins = inr (is-record layout first (take k all) (take k (map layout.row all)) fits (each-take layout.is_row all k each) (subst (λ (n : ℕ). layout.are_rows first (take n all)) (omega arith) before) (take-map layout.row k all));
+      refused = λ is. refused (clash is.first is.rows is.spelled front);
+    }
+  where
+    one_more : (ps : List StoredPart) (i : ℕ) (p : StoredPart) → i < length ps → take i ps ++ get_or ps i p ∷ [] ≡ take (suc i) ps
+    one_more [] i p h = absurd (omega arith)
+    one_more (q ∷ ps) zero p h = refl
+    one_more (q ∷ ps) (suc i) p h = ap (λ (qs : List StoredPart). q ∷ qs) (one_more ps i p (omega arith))
+
+    clash : (f : H) (ss : List R) → AreParts layout f ss (layout.head first ∷ take k (map layout.row (r ∷ rs)) ++ get_or (map layout.row (r ∷ rs)) k (layout.row r) ∷ [])
+        → take k (map layout.row (r ∷ rs)) ++ get_or (map layout.row (r ∷ rs)) k (layout.row r) ∷ [] ≡ map layout.row (take (suc k) (r ∷ rs)) → layout.are_rows first (take (suc k) (r ∷ rs))
+    clash f ss spelled front =
+        let both : layout.head first ∷ map layout.row (take (suc k) (r ∷ rs)) ≡ layout.head f ∷ map layout.row ss = ap (λ (ps : List StoredPart). layout.head first ∷ ps) (sym front) ∙ spelled.are in
+        let heads : layout.head first ≡ layout.head f = cc in
+        let rest : map layout.row (take (suc k) (r ∷ rs)) ≡ map layout.row ss = cc in
+        let h : first ≡ f = one.heads first f fits spelled.head_fits heads in
+        let ts : take (suc k) (r ∷ rs) ≡ ss = rows-same layout one (take (suc k) (r ∷ rs)) ss (each-take layout.is_row (r ∷ rs) (suc k) each) spelled.rows_fit rest in
+        subst (λ (x : H). layout.are_rows x (take (suc k) (r ∷ rs))) (sym h) (subst (layout.are_rows f) (sym ts) spelled.rules)
+
+-- ---- reading row after row
+
+-- the part at this place is the first that is no row
+pub stops-here : {H R P : Type 0} (layout : Layout H R) (stored : P → StoredPart) (parts : List P) (i : ℕ) (part : P) (rows : List R) → i < length parts → part ≡ get_or parts i part → AllByRecursion layout.is_row rows
+    → map layout.row rows ≡ map stored (take i parts) → ((row : R) → layout.is_row row → layout.row row ≡ stored part → ⊥) → AreRead layout (map stored parts) rows false
+stops-here layout stored parts i part rows inside is each are none =
+    record {
+      fit = each;
+      stops = (stored part, map stored (drop (i + 1) parts), split, none);
+    }
+  where
+    split : map stored parts ≡ map layout.row rows ++ stored part ∷ map stored (drop (i + 1) parts)
+    split =
+        ap (map stored) (sym (take-append-drop i parts) ∙ ap (λ ps. take i parts ++ ps) (drop_more parts i part inside ∙ ap (λ p. p ∷ drop (i + 1) parts) (sym is)))
+        ∙ map-append stored (take i parts) (part ∷ drop (i + 1) parts) ∙ ap (λ ps. ps ++ stored part ∷ map stored (drop (i + 1) parts)) (sym are)

@@ -1,0 +1,11 @@
+pub mod Loop
+pub mod Readers
+pub mod FieldReaders
+pub mod ValueReaders
+pub mod PartReaders
+pub mod Layouts
+pub mod Wholes
+pub mod OneReading
+pub mod Plugins
+pub mod Sizes
+pub mod Written

@@ -1,0 +1,45 @@
+-- Reading items one after another, as a loop does.
+use Rattle.std.proofs.Common.{◌≡◌, ℕ, suc, ◌-◌, ◌+◌, ◌≤◌, ◌<◌, List, [], ◌∷◌, ◌++◌, Some, None, Err, refl, sym, ap, ◌∙◌, append_assoc, arith}
+use Rattle.std.specs.Prelude.{Option, Result, IsErrOf}
+use Rattle.csi_records.specs.declared.fault.Stop.{Stop}
+use Rattle.std.proofs.lemmas.List.{append-nil}
+use Rattle.csi_records.specs.Reading.{Reader, go_on, give, items_in}
+
+-- what was read before, and what is still read
+abbrev pub with_front : {A : Type 0} → List A → Option (List A × List ℕ) → Option (List A × List ℕ)
+with_front front read = go_on read (λ others. give (front ++ others))
+
+regroup : {A : Type 0} (front : List A) (x : A) (read : Option (List A × List ℕ)) → with_front front (go_on read (λ others. give (x ∷ others))) ≡ with_front (front ++ x ∷ []) read
+regroup front x (Some y) = ap (λ (xs : List _). Some (xs, y.1)) (simp append_assoc)
+regroup front x None = refl
+
+pub goes_on : {A : Type 0} (read : Reader A) (front : List A) (count i : ℕ) (bytes : List ℕ) (x : A) (after : List ℕ) (total : Option (List A × List ℕ)) → i < count → read bytes ≡ Some (x, after)
+    → with_front front (items_in read (count - i) bytes) ≡ total → with_front (front ++ x ∷ []) (items_in read (count - (i + 1)) after) ≡ total
+unfolding items_in
+goes_on read front count i bytes x after total lt h so_far =
+    let k : count - i ≡ suc (count - (i + 1)) = omega arith in
+    let one : with_front front (items_in read (count - i) bytes) ≡ with_front (front ++ x ∷ []) (items_in read (count - (i + 1)) after) = rw (k, h) (regroup front x (items_in read (count - (i + 1)) after)) in
+    sym one ∙ so_far
+
+pub ends : {A : Type 0} (read : Reader A) (front : List A) (count i : ℕ) (bytes : List ℕ) (total : Option (List A × List ℕ)) → i < count → read bytes ≡ None
+    → with_front front (items_in read (count - i) bytes) ≡ total → total ≡ None
+unfolding items_in
+ends read front count i bytes total lt h so_far =
+    let k : count - i ≡ suc (count - (i + 1)) = omega arith in
+    let one : with_front front (items_in read (count - i) bytes) ≡ None = rw (k, h) refl in
+    sym so_far ∙ one
+
+pub is_done : {A : Type 0} (read : Reader A) (front : List A) (count i : ℕ) (bytes : List ℕ) (total : Option (List A × List ℕ)) → count ≤ i
+    → with_front front (items_in read (count - i) bytes) ≡ total → total ≡ Some (front, bytes)
+unfolding items_in
+is_done {A} read front count i bytes total le so_far =
+    let k : count - i ≡ 0 = omega arith in
+    let one : with_front front (items_in read (count - i) bytes) ≡ Some (front, bytes) = rw k (ap (λ (xs : List A). Some (xs, bytes)) (append-nil front)) in
+    sym so_far ∙ one
+
+-- an error that a `?` hands on is the one that was answered
+abbrev pub failed : {Y : Type 0} → Stop → Result Y Stop
+failed stop = Err stop
+
+pub same_error : {X Y : Type 0} (result : Result X Stop) (made was stop : Stop) → result ≡ Err made → made ≡ was → IsErrOf result stop → IsErrOf (failed {Y = Y} was) stop
+same_error {X} {Y} result made was stop p q is = let e : was ≡ stop = cc in ap (λ (s : Stop). failed {Y = Y} s) e

@@ -1,0 +1,230 @@
+-- Bytes are read in one way.
+use Rattle.std.proofs.Common.{◌≡◌, ◌⊎◌, ℕ, zero, suc, ◌≤◌, ◌<◌, ◌^◌, List, [], ◌∷◌, ◌++◌, length, take, map, refl, sym, ap, subst, ◌∙◌, inl, inr, append_assoc, arith}
+use Rattle.std.specs.Prelude.{◌≢◌}
+use Rattle.std.specs.List.{flat_map, AllByRecursion}
+use Rattle.std.proofs.lemmas.Bool.{cases_order}
+use Rattle.std.proofs.lemmas.List.{append-nil, append_cancel_left, length-append, length-map, take-map, take_at}
+use Rattle.csi_lists.proofs.Each.{each-map}
+use Rattle.csi_records.specs.Part.{StoredPart, IsPart}
+use Rattle.csi_records.specs.Spelling.{part_bytes, record_head, record_bytes}
+use Rattle.csi_records.specs.Records.{Layout, IsRecordOf, Begins}
+use Rattle.csi_records.specs.Places.{IsBadAt, no_head, bad_part, more_bytes}
+use Rattle.csi_records.specs.Laws.{PartsTell, HasOneReading}
+use Rattle.csi_records.proofs.Layouts.{IsOneToOne, parts-same}
+use Rattle.csi_records.proofs.Wholes.{part-same, heads-same}
+
+-- what parts are, whatever they spell
+pub record ArePlain {H R : Type 0} (layout : Layout H R) : Type 0 where
+  pub heads : (first : H) → layout.is_head first → IsPart (layout.head first)
+  pub rows : (row : R) → layout.is_row row → IsPart (layout.row row)
+  pub few : (first : H) (rs : List R) → layout.are_rows first rs → length rs ≤ 4096
+
+pub parts-tell : {H R : Type 0} (layout : Layout H R) → IsOneToOne layout → PartsTell layout
+parts-tell layout one first other rows others parts p q = parts-same layout one first other rows others parts p q
+
+-- the parts of a record fit, and are some, and few
+record FitParts (parts : List StoredPart) : Type 0 where
+  fit : AllByRecursion IsPart parts
+  some : 1 ≤ length parts
+  few : length parts < 2 ^ 32
+
+fit-parts : {H R : Type 0} (layout : Layout H R) → ArePlain layout → (parts : List StoredPart) → IsRecordOf layout parts → FitParts parts
+fit-parts layout plain parts is =
+    let s = is.spelled in
+    let few : length is.rows ≤ 4096 = plain.few is.first is.rows s.rules in
+    subst FitParts (sym s.are)
+    (record {
+      fit = (plain.heads is.first s.head_fits, each-map layout.is_row IsPart layout.row is.rows plain.rows s.rows_fit);
+      some = omega arith;
+      few = omega (arith, few, length-map is.rows layout.row);
+    })
+
+-- a front of a record is one, or nothing
+front-of : {H R : Type 0} (layout : Layout H R) → IsOneToOne layout → (before more : List StoredPart) → IsRecordOf layout (before ++ more) → Begins (IsRecordOf layout) before
+front-of layout one [] more is = inl refl
+front-of {H} {R} layout one (p ∷ ps) more is =
+    let s = is.spelled in
+    let head : p ≡ layout.head is.first = cc in
+    let rest : ps ++ more ≡ map layout.row is.rows = cc in
+    let k = length ps in
+    let front : ps ≡ map layout.row (take k is.rows) = sym (take_at ps more k refl) ∙ ap (take k) rest ∙ take-map layout.row k is.rows in
+    inr (record {
+      first = is.first;
+      rows = take k is.rows;
+      spelled = record {
+        head_fits = s.head_fits;
+        rows_fit = each-take layout.is_row is.rows k s.rows_fit;
+        rules = one.fronts is.first is.rows k s.rules;
+        are = ap (λ (q : StoredPart). q ∷ ps) head ∙ ap (λ (qs : List StoredPart). layout.head is.first ∷ qs) front;
+      };
+    })
+  where
+    each-take : {X : Type 0} (P : X → Type 0) (xs : List X) (k : ℕ) → AllByRecursion P xs → AllByRecursion P (take k xs)
+    each-take P xs zero all = tt
+    each-take P [] (suc k) all = tt
+    each-take P (x ∷ xs) (suc k) all = (all.0, each-take P xs k all.1)
+
+abbrev flat : List StoredPart → List ℕ
+flat parts = flat_map part_bytes parts
+
+-- fewer parts are a front of more
+record Goes (few many : List StoredPart) (left right : List ℕ) : Type 0 where
+  more : List StoredPart
+  are : many ≡ few ++ more
+  left_is : left ≡ flat more ++ right
+
+goes : (few many : List StoredPart) (left right : List ℕ) → AllByRecursion IsPart few → AllByRecursion IsPart many → flat few ++ left ≡ flat many ++ right → length few ≤ length many → Goes few many left right
+goes [] many left right fit fits e le = record { more = many; are = refl; left_is = e }
+goes (p ∷ ps) [] left right fit fits e le = absurd (omega arith)
+goes (p ∷ ps) (q ∷ qs) left right fit fits e le =
+    let same = part-same p q (flat ps ++ left) (flat qs ++ right) (fit.0) (fits.0) (sym (append_assoc (part_bytes p) (flat ps) left) ∙ e ∙ append_assoc (part_bytes q) (flat qs) right) in
+    let rest = goes ps qs left right (fit.1) (fits.1) same.1 (omega arith) in
+    record { more = rest.more; are = ap (λ (r : StoredPart). r ∷ qs) (sym same.0) ∙ ap (λ (rs : List StoredPart). p ∷ rs) rest.are; left_is = rest.left_is }
+
+abbrev Refuses : (List StoredPart → Type 0) → List StoredPart → List ℕ → Type 0
+Refuses Is before rest = (part : StoredPart) (more : List ℕ) → IsPart part → rest ≡ part_bytes part ++ more → Is (before ++ part ∷ []) → ⊥
+
+begun-fit : {H R : Type 0} (layout : Layout H R) → ArePlain layout → (before : List StoredPart) → Begins (IsRecordOf layout) before → AllByRecursion IsPart before
+begun-fit layout plain before (inl none) = subst (AllByRecursion IsPart) (sym none) tt
+begun-fit layout plain before (inr is) = (fit-parts layout plain before is).fit
+
+-- what is refused behind a front is no part of a record that goes on
+not-further : {H R : Type 0} (layout : Layout H R) → IsOneToOne layout → ArePlain layout → (before many : List StoredPart) (left right : List ℕ) → Begins (IsRecordOf layout) before → Refuses (IsRecordOf layout) before left
+    → Begins (IsRecordOf layout) many → flat before ++ left ≡ flat many ++ right → length before < length many → ⊥
+not-further {H} {R} layout one plain before many left right begins refuses begun e less =
+    by (goes before many left right (begun-fit layout plain before begins) (begun-fit layout plain many begun) e (omega (arith, less)))
+  where
+    is-many : Begins (IsRecordOf layout) many → IsRecordOf layout many
+    is-many (inl none) = absurd (omega (arith, less, ap length none))
+    is-many (inr is) = is
+
+    with : (more : List StoredPart) → many ≡ before ++ more → left ≡ flat more ++ right → ⊥
+    with [] are here = omega (arith, less, ap length are ∙ ap length (append-nil before))
+    with (p ∷ ps) are here =
+        let whole : IsRecordOf layout ((before ++ p ∷ []) ++ ps) = subst (IsRecordOf layout) (are ∙ sym (append_assoc before (p ∷ []) ps)) (is-many begun) in
+        let fits : AllByRecursion IsPart (before ++ p ∷ ps) = subst (AllByRecursion IsPart) are (begun-fit layout plain many begun) in
+        refuses p (flat ps ++ right) (inside before fits) (here ∙ append_assoc (part_bytes p) (flat ps) right) (some (front-of layout one (before ++ p ∷ []) ps whole))
+      where
+        inside : (qs : List StoredPart) → AllByRecursion IsPart (qs ++ p ∷ ps) → IsPart p
+        inside [] each = each.0
+        inside (q ∷ qs) each = inside qs each.1
+
+        some : Begins (IsRecordOf layout) (before ++ p ∷ []) → IsRecordOf layout (before ++ p ∷ [])
+        some (inl none) = absurd (omega (arith, length-append before (p ∷ []), ap length none))
+        some (inr is) = is
+
+    by : Goes before many left right → ⊥
+    by g = with g.more g.are g.left_is
+
+-- how bytes that have a refused part are seen: no number of parts; or a front, and what is refused behind it, or no more parts
+record Bad {H R : Type 0} (layout : Layout H R) (bytes : List ℕ) (place : ℕ) : Type 0 where
+  count : ℕ
+  before : List StoredPart
+  rest : List ℕ
+  from : 1 ≤ count
+  to : count < 2 ^ 32
+  are : bytes ≡ record_head count ++ (flat before ++ rest)
+  here : length before ≡ place
+  begins : Begins (IsRecordOf layout) before
+  why : ((length before < count) × Refuses (IsRecordOf layout) before rest) ⊎ ((length before ≡ count) × (rest ≢ []) × IsRecordOf layout before)
+
+abbrev HasNone : List ℕ → Type 0
+HasNone bytes = (count : ℕ) (rest : List ℕ) → 1 ≤ count → count < 2 ^ 32 → bytes ≡ record_head count ++ rest → ⊥
+
+seen : {H R : Type 0} (layout : Layout H R) → ArePlain layout → (bytes : List ℕ) (place : ℕ) → IsBadAt (IsRecordOf layout) bytes place → ((place ≡ 0) × HasNone bytes) ⊎ Bad layout bytes place
+seen layout plain bytes _ (no_head none) = inl (refl, none)
+seen layout plain bytes _ (bad_part count before rest to below are begins refuses) =
+    inr (record {
+      count = count;
+      before = before;
+      rest = rest;
+      from = omega (arith, below);
+      to = to;
+      are = are ∙ append_assoc (record_head count) (flat before) rest;
+      here = refl;
+      begins = begins;
+      why = inl (below, refuses);
+    })
+seen layout plain bytes _ (more_bytes parts rest is some are) =
+    let fits = fit-parts layout plain parts is in
+    inr (record {
+      count = length parts;
+      before = parts;
+      rest = rest;
+      from = fits.some;
+      to = fits.few;
+      are = are ∙ append_assoc (record_head (length parts)) (flat parts) rest;
+      here = refl;
+      begins = inr is;
+      why = inr (refl, some, is);
+    })
+
+no-rest : (parts : List StoredPart) (rest : List ℕ) → flat parts ++ [] ≡ flat parts ++ rest → rest ≡ []
+no-rest parts rest e = sym (append_cancel_left (flat parts) [] rest e)
+
+-- a record's bytes have no refused part
+spelled-clash : {H R : Type 0} (layout : Layout H R) → IsOneToOne layout → ArePlain layout → (bytes : List ℕ) (parts : List StoredPart) (place : ℕ) → IsRecordOf layout parts → bytes ≡ record_bytes parts → Bad layout bytes place → ⊥
+spelled-clash {H} {R} layout one plain bytes parts place is are bad =
+    let fits = fit-parts layout plain parts is in
+    let whole : record_head bad.count ++ (flat bad.before ++ bad.rest) ≡ record_head (length parts) ++ flat parts = sym bad.are ∙ are in
+    let same = heads-same bad.count (length parts) (flat bad.before ++ bad.rest) (flat parts) bad.to fits.few whole in
+    by fits.fit same.0 (same.1 ∙ sym (append-nil (flat parts))) bad.why
+  where
+    by : AllByRecursion IsPart parts → bad.count ≡ length parts → flat bad.before ++ bad.rest ≡ flat parts ++ [] → ((length bad.before < bad.count) × Refuses (IsRecordOf layout) bad.before bad.rest) ⊎ ((length bad.before ≡ bad.count) × (bad.rest ≢ []) × IsRecordOf layout bad.before) → ⊥
+    by fit count e (inl w) = not-further layout one plain bad.before parts bad.rest [] bad.begins w.1 (inr is) e (omega (arith, w.0, count))
+    by fit count e (inr w) = w.1 (ends (goes bad.before parts bad.rest [] (begun-fit layout plain bad.before bad.begins) fit e (omega (arith, w.0, count))))
+      where
+        ends : Goes bad.before parts bad.rest [] → bad.rest ≡ []
+        ends g = none g.more g.are g.left_is
+          where
+            none : (more : List StoredPart) → parts ≡ bad.before ++ more → bad.rest ≡ flat more ++ [] → bad.rest ≡ []
+            none [] long here = here
+            none (p ∷ ps) long here = absurd (omega (arith, w.0, count, ap length long ∙ length-append bad.before (p ∷ ps)))
+
+same-place : {H R : Type 0} (layout : Layout H R) → IsOneToOne layout → ArePlain layout → (bytes : List ℕ) (a b : ℕ) → Bad layout bytes a → Bad layout bytes b → a < b → ⊥
+same-place {H} {R} layout one plain bytes a b p q less =
+    let whole : record_head p.count ++ (flat p.before ++ p.rest) ≡ record_head q.count ++ (flat q.before ++ q.rest) = sym p.are ∙ q.are in
+    let same = heads-same p.count q.count (flat p.before ++ p.rest) (flat q.before ++ q.rest) p.to q.to whole in
+    by same.0 same.1 p.why q.why
+  where
+    by : p.count ≡ q.count → flat p.before ++ p.rest ≡ flat q.before ++ q.rest → ((length p.before < p.count) × Refuses (IsRecordOf layout) p.before p.rest) ⊎ ((length p.before ≡ p.count) × (p.rest ≢ []) × IsRecordOf layout p.before)
+        → ((length q.before < q.count) × Refuses (IsRecordOf layout) q.before q.rest) ⊎ ((length q.before ≡ q.count) × (q.rest ≢ []) × IsRecordOf layout q.before) → ⊥
+    by count e (inl w) v = not-further layout one plain p.before q.before p.rest q.rest p.begins w.1 q.begins e (omega (arith, p.here, q.here, less))
+    by count e (inr w) (inl v) = omega (arith, p.here, q.here, less, w.0, count, v.0)
+    by count e (inr w) (inr v) = omega (arith, p.here, q.here, less, w.0, count, v.0)
+
+pub one-reading : {H R : Type 0} (layout : Layout H R) → IsOneToOne layout → ArePlain layout → (bytes : List ℕ) → HasOneReading (IsRecordOf layout) bytes
+one-reading {H} {R} layout one plain bytes = record {
+  spelled = λ parts place is are bad. clash parts place is are (seen layout plain bytes place bad);
+  one_record = λ parts others is other are too. same-records parts others is other (sym are ∙ too);
+  one_place = λ a b first second. places a b (seen layout plain bytes a first) (seen layout plain bytes b second);
+}
+  where
+    clash : (parts : List StoredPart) (place : ℕ) → IsRecordOf layout parts → bytes ≡ record_bytes parts → ((place ≡ 0) × HasNone bytes) ⊎ Bad layout bytes place → ⊥
+    clash parts place is are (inl none) = let fits = fit-parts layout plain parts is in none.1 (length parts) (flat parts) fits.some fits.few are
+    clash parts place is are (inr bad) = spelled-clash layout one plain bytes parts place is are bad
+
+    same-records : (parts others : List StoredPart) → IsRecordOf layout parts → IsRecordOf layout others → record_bytes parts ≡ record_bytes others → parts ≡ others
+    same-records parts others is other e =
+        let fits = fit-parts layout plain parts is in
+        let fit = fit-parts layout plain others other in
+        let same = heads-same (length parts) (length others) (flat parts) (flat others) fits.few fit.few e in
+        all (goes parts others [] [] fits.fit fit.fit (append-nil (flat parts) ∙ same.1 ∙ sym (append-nil (flat others))) (omega (arith, same.0))) same.0
+      where
+        all : Goes parts others [] [] → length parts ≡ length others → parts ≡ others
+        all g count = none g.more g.are
+          where
+            none : (more : List StoredPart) → others ≡ parts ++ more → parts ≡ others
+            none [] are = sym (are ∙ append-nil parts)
+            none (p ∷ ps) are = absurd (omega (arith, count, ap length are ∙ length-append parts (p ∷ ps)))
+
+    places : (a b : ℕ) → ((a ≡ 0) × HasNone bytes) ⊎ Bad layout bytes a → ((b ≡ 0) × HasNone bytes) ⊎ Bad layout bytes b → a ≡ b
+    places a b (inl p) (inl q) = p.0 ∙ sym q.0
+    places a b (inl p) (inr q) = absurd (p.1 q.count (flat q.before ++ q.rest) q.from q.to q.are)
+    places a b (inr p) (inl q) = absurd (q.1 p.count (flat p.before ++ p.rest) p.from p.to p.are)
+    places a b (inr p) (inr q) = by (cases_order a b)
+      where
+        by : (a ≡ b) ⊎ ((a < b) ⊎ (b < a)) → a ≡ b
+        by (inl same) = same
+        by (inr (inl less)) = absurd (same-place layout one plain bytes a b p q less)
+        by (inr (inr more)) = absurd (same-place layout one plain bytes b a q p more)

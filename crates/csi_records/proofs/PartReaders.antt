@@ -1,0 +1,332 @@
+-- The readers of whole parts read what is spelled.
+use Rattle.std.proofs.Common.{◌≡◌, ℕ, Bool, List, [], ◌∷◌, ◌++◌, Some, None, refl, sym, ap, subst, ◌∙◌, append_assoc}
+use Rattle.std.specs.Prelude.{Option}
+use Rattle.std.proofs.lemmas.List.{append-nil}
+use Rattle.csi_types.specs.declared.capability.Capability.{Capability}
+use Rattle.csi_types.specs.Fence.{Kept}
+use Rattle.csi_types.specs.Text.{IsName, IsNodeId}
+use Rattle.csi_types.specs.VolumeId.{IsVolumeId}
+use Rattle.csi_types.specs.Limits.{IsWord, IsCapability}
+use Rattle.csi_frames.specs.Bytes.{AreBytes}
+use Rattle.csi_frames.specs.Spelling as spelling
+use Rattle.csi_controller.specs.declared.row.NodeHolding.{NodeHolding}
+use Rattle.csi_node.specs.declared.row.NodeTarget.{NodeTarget}
+use Rattle.csi_node.specs.OneRow.{RowShown}
+use Rattle.std.specs.Global.{Vec}
+use Rattle.csi_records.specs.declared.part.Part.{Part}
+use Rattle.csi_records.specs.Part.{StoredPart, stored_in, value_in}
+use Rattle.csi_records.specs.Reading.{Reader, go_on, ended, whole, tag_in, volume_in, answered_in, controller_head_in, node_head_in}
+use Rattle.csi_records.specs.Spelling.{VolumeRow, state_byte, counted, holding_bytes, target_bytes, kept_bytes, staged_bytes, volume_bytes, answered_bytes, volume_part, answered_part, controller_head, node_head}
+use Rattle.csi_records.specs.Records.{IsKept, IsHolding, IsVolumeRow, IsTargetRow, IsStagedSo, IsAnsweredRow}
+use Rattle.csi_records.proofs.Readers.{Reads, then, in_words, Spelled, After, Made, after, makes, Always}
+use Rattle.csi_records.proofs.FieldReaders.{live_reads, word_reads, text_reads, tag_reads}
+use Rattle.csi_records.proofs.ValueReaders.{capability_reads, AreFew, counted_reads, holding_reads, target_reads, kept_reads, staged_reads}
+
+-- ---- a volume's row, behind the version
+
+abbrev volume_body : VolumeRow → List ℕ
+volume_body row =
+    state_byte row.volume.is_live ∷ spelling.text row.volume.name ++ spelling.word row.volume.capacity ++ counted spelling.capability row.volume.capabilities
+    ++ counted holding_bytes row.holdings ++ kept_bytes row.volume.kept
+
+abbrev make_volume : ℕ → Bool → List ℕ → ℕ → List Capability → List NodeHolding → Kept → VolumeRow
+make_volume id is_live name capacity capabilities holdings kept =
+    record { volume = record { id = id; name = name; capacity = capacity; capabilities = capabilities; is_live = is_live; kept = kept }; holdings = holdings }
+
+-- a row of this id
+pub record IsVolumeOf (id : ℕ) (row : VolumeRow) : Type 0 where
+  pub has_id : row.volume.id ≡ id
+  pub fits : IsVolumeRow row
+
+abbrev SaysVolume : ℕ → VolumeRow → List ℕ → Type 0
+SaysVolume id =
+    After Always (λ a. state_byte a ∷ []) (λ is_live.
+    After IsName spelling.text (λ name.
+    After IsWord spelling.word (λ capacity.
+    After (AreFew IsCapability 8) (counted spelling.capability) (λ capabilities.
+    After (AreFew IsHolding 64) (counted holding_bytes) (λ holdings.
+    Made IsKept kept_bytes (λ kept. make_volume id is_live name capacity capabilities holdings kept))))))
+
+volume-there : (id : ℕ) → IsVolumeId id → (value : VolumeRow) (bytes : List ℕ) → SaysVolume id value bytes → Spelled (IsVolumeOf id) volume_body value bytes
+volume-there id is_id value bytes s =
+    let s1 = s.second in
+    let s2 = s1.second in
+    let s3 = s2.second in
+    let s4 = s3.second in
+    let s5 = s4.second in
+    let a : List ℕ = state_byte s.before ∷ [] in
+    let b : List ℕ = spelling.text s1.before in
+    let c : List ℕ = spelling.word s2.before in
+    let d : List ℕ = counted spelling.capability s3.before in
+    let e : List ℕ = counted holding_bytes s4.before in
+    let f : List ℕ = kept_bytes s5.before in
+    subst (λ (v : VolumeRow). Spelled (IsVolumeOf id) volume_body v bytes) (sym s5.same)
+    (record {
+      fits = record {
+        has_id = refl;
+        fits = record { id = is_id; name = s1.fits; capacity = s2.fits; capabilities = (s3.fits.few, s3.fits.each); count = s4.fits.few; holdings = s4.fits.each; kept = s5.fits };
+      };
+      are = join6 bytes a b c d e f s.back s1.back s2.back s3.back s4.back s.parts s1.parts s2.parts s3.parts s4.parts s5.are;
+    })
+  where
+    join6 : (all a b c d e f r1 r2 r3 r4 r5 : List ℕ) → all ≡ a ++ r1 → r1 ≡ b ++ r2 → r2 ≡ c ++ r3 → r3 ≡ d ++ r4 → r4 ≡ e ++ r5 → r5 ≡ f → all ≡ a ++ b ++ c ++ d ++ e ++ f
+    join6 all a b c d e f r1 r2 r3 r4 r5 p1 p2 p3 p4 p5 p6 =
+        p1 ∙ ap (λ (t : List ℕ). a ++ t) (p2 ∙ ap (λ (t : List ℕ). b ++ t) (p3 ∙ ap (λ (t : List ℕ). c ++ t) (p4 ∙ ap (λ (t : List ℕ). d ++ t) (p5 ∙ ap (λ (t : List ℕ). e ++ t) p6))))
+        ∙ simp append_assoc
+
+volume-back : (id : ℕ) (value : VolumeRow) (bytes : List ℕ) → Spelled (IsVolumeOf id) volume_body value bytes → SaysVolume id value bytes
+volume-back id value bytes s =
+    let v = value.volume in
+    let fits = s.fits.fits in
+    let a : List ℕ = state_byte v.is_live ∷ [] in
+    let b : List ℕ = spelling.text v.name in
+    let c : List ℕ = spelling.word v.capacity in
+    let d : List ℕ = counted spelling.capability v.capabilities in
+    let e : List ℕ = counted holding_bytes value.holdings in
+    let f : List ℕ = kept_bytes v.kept in
+    record {
+      before = v.is_live;
+      fits = tt;
+      back = b ++ (c ++ (d ++ (e ++ f)));
+      parts = s.are ∙ apart6 a b c d e f;
+      second = record {
+        before = v.name;
+        fits = fits.name;
+        back = c ++ (d ++ (e ++ f));
+        parts = refl;
+        second = record {
+          before = v.capacity;
+          fits = fits.capacity;
+          back = d ++ (e ++ f);
+          parts = refl;
+          second = record {
+            before = v.capabilities;
+            fits = record { few = fits.capabilities.0; each = fits.capabilities.1 };
+            back = e ++ f;
+            parts = refl;
+            second = record {
+              before = value.holdings;
+              fits = record { few = fits.count; each = fits.holdings };
+              back = f;
+              parts = refl;
+              second = record { before = v.kept; fits = fits.kept; same = ap (λ (k : ℕ). make_volume k v.is_live v.name v.capacity v.capabilities value.holdings v.kept) s.fits.has_id; are = refl };
+            };
+          };
+        };
+      };
+    }
+  where
+    apart6 : (a b c d e f : List ℕ) → a ++ b ++ c ++ d ++ e ++ f ≡ a ++ (b ++ (c ++ (d ++ (e ++ f))))
+    apart6 a b c d e f = simp append_assoc
+
+volume_reads : (id : ℕ) → IsVolumeId id → Reads (volume_in id) (Spelled (IsVolumeOf id) volume_body)
+unfolding volume_in
+volume_reads id is_id =
+    in_words (Spelled (IsVolumeOf id) volume_body) (volume-there id is_id) (volume-back id)
+    (after live_reads (λ is_live.
+    after (text_reads 1 128) (λ name.
+    after word_reads (λ capacity.
+    after (counted_reads IsCapability spelling.capability 8 capability_reads) (λ capabilities.
+    after (counted_reads IsHolding holding_bytes 64 holding_reads) (λ holdings.
+    makes (λ kept. make_volume id is_live name capacity capabilities holdings kept) kept_reads))))))
+
+-- ---- a node's row, behind the version
+
+abbrev answered_body : RowShown → List ℕ
+answered_body row = staged_bytes row.staged ++ counted target_bytes row.targets ++ kept_bytes row.kept
+
+abbrev make_answered : ℕ → Option Capability → List NodeTarget → Kept → RowShown
+make_answered id staged targets kept = record { id = id; staged = staged; targets = targets; kept = kept }
+
+-- a row of this id
+pub record IsAnsweredOf (id : ℕ) (row : RowShown) : Type 0 where
+  pub has_id : row.id ≡ id
+  pub fits : IsAnsweredRow row
+
+abbrev SaysAnswered : ℕ → RowShown → List ℕ → Type 0
+SaysAnswered id =
+    After IsStagedSo staged_bytes (λ staged. After (AreFew IsTargetRow 16) (counted target_bytes) (λ targets. Made IsKept kept_bytes (λ kept. make_answered id staged targets kept)))
+
+answered-there : (id : ℕ) → IsVolumeId id → (value : RowShown) (bytes : List ℕ) → SaysAnswered id value bytes → Spelled (IsAnsweredOf id) answered_body value bytes
+answered-there id is_id value bytes s =
+    let s1 = s.second in
+    let s2 = s1.second in
+    subst (λ (v : RowShown). Spelled (IsAnsweredOf id) answered_body v bytes) (sym s2.same)
+    (record {
+      fits = record { has_id = refl; fits = record { id = is_id; staged = s.fits; count = s1.fits.few; targets = s1.fits.each; kept = s2.fits } };
+      are = s.parts ∙ ap (λ (t : List ℕ). staged_bytes s.before ++ t) (s1.parts ∙ ap (λ (t : List ℕ). counted target_bytes s1.before ++ t) s2.are)
+          ∙ sym (append_assoc (staged_bytes s.before) (counted target_bytes s1.before) (kept_bytes s2.before));
+    })
+
+answered-back : (id : ℕ) (value : RowShown) (bytes : List ℕ) → Spelled (IsAnsweredOf id) answered_body value bytes → SaysAnswered id value bytes
+answered-back id value bytes s =
+    let fits = s.fits.fits in
+    record {
+      before = value.staged;
+      fits = fits.staged;
+      back = counted target_bytes value.targets ++ kept_bytes value.kept;
+      parts = s.are ∙ append_assoc (staged_bytes value.staged) (counted target_bytes value.targets) (kept_bytes value.kept);
+      second = record {
+        before = value.targets;
+        fits = record { few = fits.count; each = fits.targets };
+        back = kept_bytes value.kept;
+        parts = refl;
+        second = record { before = value.kept; fits = fits.kept; same = ap (λ (k : ℕ). make_answered k value.staged value.targets value.kept) s.fits.has_id; are = refl };
+      };
+    }
+
+answered_reads : (id : ℕ) → IsVolumeId id → Reads (answered_in id) (Spelled (IsAnsweredOf id) answered_body)
+unfolding answered_in
+answered_reads id is_id =
+    in_words (Spelled (IsAnsweredOf id) answered_body) (answered-there id is_id) (answered-back id)
+    (after staged_reads (λ staged. after (counted_reads IsTargetRow target_bytes 16 target_reads) (λ targets. makes (λ kept. make_answered id staged targets kept) kept_reads)))
+
+-- ---- heads, behind the version
+
+tagged : {A : Type 0} {read : Reader A} (n : ℕ) (Fits : A → Type 0) (spell : A → List ℕ) → Reads read (Spelled Fits spell) → Reads (λ bytes. go_on (tag_in n bytes) (λ _. read)) (Spelled Fits (λ value. n ∷ spell value))
+tagged {A} {read} n Fits spell one =
+    in_words (Spelled Fits (λ (value : A). n ∷ spell value))
+    (λ value bytes s. record { fits = s.second.fits; are = s.parts ∙ ap (λ (t : List ℕ). t ++ s.back) s.first.one ∙ ap (λ (t : List ℕ). n ∷ t) s.second.are })
+    (λ value bytes s. record { before = tt; front = n ∷ []; back = spell value; parts = s.are; first = record { one = refl }; second = record { fits = s.fits; are = refl } })
+    (then (tag_reads n) (λ _. one))
+
+pub controller_head_reads : Reads controller_head_in (Spelled IsWord (λ next_id. 0 ∷ spelling.word next_id))
+unfolding controller_head_in
+controller_head_reads = tagged 0 IsWord spelling.word word_reads
+
+pub node_head_reads : Reads node_head_in (Spelled IsNodeId (λ node. 1 ∷ spelling.text node))
+unfolding node_head_in
+node_head_reads = tagged 1 IsNodeId spelling.text (text_reads 1 255)
+
+-- ---- whole values
+
+ended-some : {A : Type 0} (read : Option (A × List ℕ)) (value : A) → ended read ≡ Some value → read ≡ Some (value, [])
+ended-some (Some (x, [])) value e = let same : x ≡ value = cc in ap (λ y. Some (y, [])) same
+ended-some (Some (x, b ∷ bytes)) value e = absurd cc
+ended-some None value e = absurd cc
+
+pub ended-more : {A : Type 0} (value : A) (bytes : List ℕ) → (bytes ≡ [] → ⊥) → ended (Some (value, bytes)) ≡ None
+ended-more value [] some = absurd (some refl)
+ended-more value (b ∷ bytes) some = refl
+
+whole-takes : {A : Type 0} {read : Reader A} (Fits : A → Type 0) (spell : A → List ℕ) → Reads read (Spelled Fits spell) → (bytes : List ℕ) → AreBytes bytes → (value : A) → whole read bytes ≡ Some value
+    → Fits value × (bytes ≡ 1 ∷ spell value)
+unfolding whole
+whole-takes {A} {read} Fits spell one bytes fits value e =
+    let took = (tagged 1 Fits spell one).takes bytes fits (value, []) (ended-some (go_on (tag_in 1 bytes) (λ _. read)) value e) in
+    (took.says.fits, took.parts ∙ append-nil took.front ∙ took.says.are)
+
+whole-again : {A : Type 0} {read : Reader A} (Fits : A → Type 0) (spell : A → List ℕ) → Reads read (Spelled Fits spell) → (value : A) → Fits value → whole read (1 ∷ spell value) ≡ Some value
+unfolding whole
+whole-again {A} {read} Fits spell one value fits =
+    let again : go_on (tag_in 1 (1 ∷ spell value ++ [])) (λ _. read) ≡ Some (value, []) = (tagged 1 Fits spell one).again value (1 ∷ spell value) [] (record { fits = fits; are = refl }) in
+    ap (λ (t : List ℕ). ended (go_on (tag_in 1 (1 ∷ t)) (λ _. read))) (sym (append-nil (spell value))) ∙ ap ended again
+
+pub volume-read : (id : ℕ) → IsVolumeId id → (bytes : List ℕ) → AreBytes bytes → (row : VolumeRow) → whole (volume_in id) bytes ≡ Some row → IsVolumeOf id row × (bytes ≡ volume_bytes row)
+volume-read id is_id bytes fits row e = whole-takes (IsVolumeOf id) volume_body (volume_reads id is_id) bytes fits row e
+
+pub volume-again : (row : VolumeRow) → IsVolumeRow row → whole (volume_in row.volume.id) (volume_bytes row) ≡ Some row
+volume-again row fits = whole-again (IsVolumeOf row.volume.id) volume_body (volume_reads row.volume.id fits.id) row (record { has_id = refl; fits = fits })
+
+pub answered-read : (id : ℕ) → IsVolumeId id → (bytes : List ℕ) → AreBytes bytes → (row : RowShown) → whole (answered_in id) bytes ≡ Some row → IsAnsweredOf id row × (bytes ≡ answered_bytes row)
+answered-read id is_id bytes fits row e = whole-takes (IsAnsweredOf id) answered_body (answered_reads id is_id) bytes fits row e
+
+pub answered-again : (row : RowShown) → IsAnsweredRow row → whole (answered_in row.id) (answered_bytes row) ≡ Some row
+answered-again row fits = whole-again (IsAnsweredOf row.id) answered_body (answered_reads row.id fits.id) row (record { has_id = refl; fits = fits })
+
+pub controller_head-read : (bytes : List ℕ) → AreBytes bytes → (next_id : ℕ) → whole controller_head_in bytes ≡ Some next_id → IsWord next_id × (bytes ≡ 1 ∷ 0 ∷ spelling.word next_id)
+controller_head-read bytes fits next_id e = whole-takes IsWord (λ n. 0 ∷ spelling.word n) controller_head_reads bytes fits next_id e
+
+pub controller_head-again : (next_id : ℕ) → IsWord next_id → whole controller_head_in (1 ∷ 0 ∷ spelling.word next_id) ≡ Some next_id
+controller_head-again next_id fits = whole-again IsWord (λ n. 0 ∷ spelling.word n) controller_head_reads next_id fits
+
+pub node_head-read : (bytes : List ℕ) → AreBytes bytes → (node : List ℕ) → whole node_head_in bytes ≡ Some node → IsNodeId node × (bytes ≡ 1 ∷ 1 ∷ spelling.text node)
+node_head-read bytes fits node e = whole-takes IsNodeId (λ n. 1 ∷ spelling.text n) node_head_reads bytes fits node e
+
+pub node_head-again : (node : List ℕ) → IsNodeId node → whole node_head_in (1 ∷ 1 ∷ spelling.text node) ≡ Some node
+node_head-again node fits = whole-again IsNodeId (λ n. 1 ∷ spelling.text n) node_head_reads node fits
+
+-- ---- the rows and heads of parts
+
+abbrev pub make_part : ℕ → List ℕ → StoredPart
+make_part key value = record { key = key; value = value }
+
+some_is_none : {A : Type 0} (x : A) → Some x ≡ None → ⊥
+some_is_none x e = cc
+
+pub volume-spelled : (id : ℕ) (value : List ℕ) (row : VolumeRow) → IsVolumeId id → AreBytes value → whole (volume_in id) value ≡ Some row → IsVolumeRow row × (volume_part row ≡ record { key = id; value = value })
+volume-spelled id value row is_id fits e =
+    let read = volume-read id is_id value fits row e in
+    (read.0.fits, ap (λ (k : ℕ). make_part k (volume_bytes row)) read.0.has_id ∙ ap (λ (v : List ℕ). make_part id v) (sym read.1))
+
+pub volume-none : (id : ℕ) (value : List ℕ) → whole (volume_in id) value ≡ None → (row : VolumeRow) → IsVolumeRow row → volume_part row ≡ record { key = id; value = value } → ⊥
+volume-none id value none row fits e =
+    let ids : row.volume.id ≡ id = ap (λ (p : StoredPart). p.key) e in
+    let values : volume_bytes row ≡ value = ap (λ (p : StoredPart). p.value) e in
+    let again : whole (volume_in id) value ≡ Some row = subst (λ (k : ℕ). whole (volume_in k) value ≡ Some row) ids (subst (λ (v : List ℕ). whole (volume_in row.volume.id) v ≡ Some row) values (volume-again row fits)) in
+    some_is_none row (sym again ∙ none)
+
+pub volume-same : (a b : VolumeRow) → IsVolumeRow a → IsVolumeRow b → volume_part a ≡ volume_part b → a ≡ b
+volume-same a b fits fit e =
+    let ids : a.volume.id ≡ b.volume.id = ap (λ (p : StoredPart). p.key) e in
+    let values : volume_bytes a ≡ volume_bytes b = ap (λ (p : StoredPart). p.value) e in
+    let again : whole (volume_in b.volume.id) (volume_bytes b) ≡ Some a = subst (λ (k : ℕ). whole (volume_in k) (volume_bytes b) ≡ Some a) ids (subst (λ (v : List ℕ). whole (volume_in a.volume.id) v ≡ Some a) values (volume-again a fits)) in
+    same_some a b (sym again ∙ volume-again b fit)
+  where
+    same_some : (x y : VolumeRow) → Some x ≡ Some y → x ≡ y
+    same_some x y h = cc
+
+pub answered-spelled : (id : ℕ) (value : List ℕ) (row : RowShown) → IsVolumeId id → AreBytes value → whole (answered_in id) value ≡ Some row → IsAnsweredRow row × (answered_part row ≡ record { key = id; value = value })
+answered-spelled id value row is_id fits e =
+    let read = answered-read id is_id value fits row e in
+    (read.0.fits, ap (λ (k : ℕ). make_part k (answered_bytes row)) read.0.has_id ∙ ap (λ (v : List ℕ). make_part id v) (sym read.1))
+
+pub answered-none : (id : ℕ) (value : List ℕ) → whole (answered_in id) value ≡ None → (row : RowShown) → IsAnsweredRow row → answered_part row ≡ record { key = id; value = value } → ⊥
+answered-none id value none row fits e =
+    let ids : row.id ≡ id = ap (λ (p : StoredPart). p.key) e in
+    let values : answered_bytes row ≡ value = ap (λ (p : StoredPart). p.value) e in
+    let again : whole (answered_in id) value ≡ Some row = subst (λ (k : ℕ). whole (answered_in k) value ≡ Some row) ids (subst (λ (v : List ℕ). whole (answered_in row.id) v ≡ Some row) values (answered-again row fits)) in
+    some_is_none row (sym again ∙ none)
+
+pub answered-same : (a b : RowShown) → IsAnsweredRow a → IsAnsweredRow b → answered_part a ≡ answered_part b → a ≡ b
+answered-same a b fits fit e =
+    let ids : a.id ≡ b.id = ap (λ (p : StoredPart). p.key) e in
+    let values : answered_bytes a ≡ answered_bytes b = ap (λ (p : StoredPart). p.value) e in
+    let again : whole (answered_in b.id) (answered_bytes b) ≡ Some a = subst (λ (k : ℕ). whole (answered_in k) (answered_bytes b) ≡ Some a) ids (subst (λ (v : List ℕ). whole (answered_in a.id) v ≡ Some a) values (answered-again a fits)) in
+    same_some a b (sym again ∙ answered-again b fit)
+  where
+    same_some : (x y : RowShown) → Some x ≡ Some y → x ≡ y
+    same_some x y h = cc
+
+pub controller_head-none : (value : List ℕ) → whole controller_head_in value ≡ None → (next_id : ℕ) → IsWord next_id → controller_head next_id ≡ record { key = 0; value = value } → ⊥
+controller_head-none value none next_id fits e =
+    let values : 1 ∷ 0 ∷ spelling.word next_id ≡ value = ap (λ (p : StoredPart). p.value) e in
+    some_is_none next_id (sym (subst (λ (v : List ℕ). whole controller_head_in v ≡ Some next_id) values (controller_head-again next_id fits)) ∙ none)
+
+pub controller_head-same : (a b : ℕ) → IsWord a → IsWord b → controller_head a ≡ controller_head b → a ≡ b
+controller_head-same a b fits fit e =
+    let values : 1 ∷ 0 ∷ spelling.word a ≡ 1 ∷ 0 ∷ spelling.word b = ap (λ (p : StoredPart). p.value) e in
+    let again : whole controller_head_in (1 ∷ 0 ∷ spelling.word b) ≡ Some a = subst (λ (v : List ℕ). whole controller_head_in v ≡ Some a) values (controller_head-again a fits) in
+    same_some a b (sym again ∙ controller_head-again b fit)
+  where
+    same_some : (x y : ℕ) → Some x ≡ Some y → x ≡ y
+    same_some x y h = cc
+
+pub node_head-none : (value : List ℕ) → whole node_head_in value ≡ None → (node : List ℕ) → IsNodeId node → node_head node ≡ record { key = 0; value = value } → ⊥
+node_head-none value none node fits e =
+    let values : 1 ∷ 1 ∷ spelling.text node ≡ value = ap (λ (p : StoredPart). p.value) e in
+    some_is_none node (sym (subst (λ (v : List ℕ). whole node_head_in v ≡ Some node) values (node_head-again node fits)) ∙ none)
+
+pub node_head-same : (a b : List ℕ) → IsNodeId a → IsNodeId b → node_head a ≡ node_head b → a ≡ b
+node_head-same a b fits fit e =
+    let values : 1 ∷ 1 ∷ spelling.text a ≡ 1 ∷ 1 ∷ spelling.text b = ap (λ (p : StoredPart). p.value) e in
+    let again : whole node_head_in (1 ∷ 1 ∷ spelling.text b) ≡ Some a = subst (λ (v : List ℕ). whole node_head_in v ≡ Some a) values (node_head-again a fits) in
+    same_some a b (sym again ∙ node_head-again b fit)
+  where
+    same_some : (x y : List ℕ) → Some x ≡ Some y → x ≡ y
+    same_some x y h = cc
+
+-- a part with this value
+pub stored-is : (part : Part) (value : Vec ℕ) (key : ℕ) (bytes : List ℕ) → part.value ≡ Some value → key ≡ part.key → bytes ≡ value.items → stored_in part ≡ make_part key bytes
+stored-is part value key bytes is key_is bytes_are =
+    ap (λ (v : Option (Vec ℕ)). make_part part.key (value_in v)) is ∙ ap (λ (bs : List ℕ). make_part part.key bs) (sym bytes_are) ∙ ap (λ (k : ℕ). make_part k bytes) (sym key_is)

@@ -1,0 +1,161 @@
+-- The records of both plugins by their layouts.
+use Rattle.std.proofs.Common.{◌≡◌, ℕ, ◌+◌, ◌-◌, ◌≤◌, ◌<◌, ◌^◌, List, [], ◌∷◌, ◌++◌, length, take, drop, map, get_or, refl, sym, ap, subst, ◌∙◌, arith}
+use Rattle.std.specs.Prelude.{Option, None, Bool, true, false, IfSome}
+use Rattle.std.specs.List.{AllByRecursion}
+use Rattle.std.proofs.lemmas.List.{append-nil, take_rest, take-map, length-take, length-map, get_or-take}
+use Rattle.std.proofs.lemmas.List.Elements.{All-take, recursion_from_All}
+use Rattle.csi_controller.specs.declared.row.ControllerRow.{ControllerRow}
+use Rattle.csi_controller.specs.Core.{IsSound}
+use Rattle.csi_controller.specs.Views.{AreSameRows}
+use Rattle.csi_controller.proofs.Copies.{sound-copies}
+use Rattle.csi_controller.proofs.FirstRefused.{sound-take}
+use Rattle.csi_types.specs.Text.{IsNodeId}
+use Rattle.csi_node.specs.declared.row.NodeRow.{NodeRow}
+use Rattle.csi_node.specs.OneRow.{RowShown, shown, IsRow}
+use Rattle.csi_node.specs.Judging.{IsFirstRefused as IsFirstRefusedRow}
+use Rattle.csi_node.specs.Record.{IsRecord, ids, id_at}
+use Rattle.csi_controller.specs.Judging.{IsFirstRefused}
+use Rattle.csi_records.specs.declared.part.Part.{Part}
+use Rattle.csi_records.specs.Part.{StoredPart, stored_in, all_stored_in}
+use Rattle.csi_records.specs.Stopping.{AreRead}
+use Rattle.csi_records.specs.Writing.{ArePublishedFew}
+use Rattle.csi_records.specs.Spelling.{VolumeRow, volume_row, volume_part, controller_head, node_head}
+use Rattle.csi_records.specs.Records.{Layout, controller_layout, node_layout, IsNodeHead, AreVolumeRows, IsRecordOf, IsRefusedAt}
+use Rattle.csi_records.proofs.PartReaders.{volume-same, answered-same, controller_head-same, node_head-same}
+use Rattle.csi_frames.specs.Spelling as spelling
+use Rattle.csi_records.proofs.Sizes.{volume-size, answered-size}
+use Rattle.csi_records.proofs.OneReading.{ArePlain}
+use Rattle.csi_records.proofs.Layouts.{IsOneToOne, head-refused, row-unread, row-refused}
+
+-- ---- the controller's
+
+same-rows : (rows others : List ControllerRow) → map volume_row rows ≡ map volume_row others → AreSameRows rows others
+same-rows [] [] e = tt
+same-rows [] (b ∷ bs) e = absurd cc
+same-rows (a ∷ rows) [] e = absurd cc
+same-rows (a ∷ rows) (b ∷ bs) e =
+    let one : volume_row a ≡ volume_row b = cc in
+    let rest : map volume_row rows ≡ map volume_row bs = cc in
+    (record { volume = sym (ap (λ (r : VolumeRow). r.volume) one); items = sym (ap (λ (r : VolumeRow). r.holdings) one) }, same-rows rows bs rest)
+
+-- rows that say the same keep the same rules
+pub sound-shown : (next_id : ℕ) (rows : List ControllerRow) → AreVolumeRows next_id (map volume_row rows) → IsSound next_id rows
+sound-shown next_id rows are = sound-copies next_id are.0 rows (same-rows are.0 rows are.1) are.2
+
+pub controller_one : IsOneToOne controller_layout
+controller_one = record {
+  heads = controller_head-same;
+  rows = volume-same;
+  fronts = λ next_id shown k are. (take k are.0, sym (take-map volume_row k are.0) ∙ ap (take k) are.1, sound-take next_id are.0 k are.2);
+}
+
+-- the first row that is refused is the first part that is
+pub controller-refused : (next_id : ℕ) (rows : List ControllerRow) (place : ℕ) (more parts : List StoredPart) → next_id < 2 ^ 64 → AllByRecursion controller_layout.is_row (map volume_row rows)
+    → 1 ≤ place → place ≤ length rows → IsSound next_id (take (place - 1) rows) → (IsSound next_id (take place rows) → ⊥) → parts ≡ map volume_part (map volume_row rows) ++ more
+    → IsRefusedAt (IsRecordOf controller_layout) (controller_layout.head next_id ∷ parts) place
+controller-refused next_id rows place more parts fits each from to before refused are =
+    row-refused controller_layout controller_one next_id (map volume_row rows) place more parts fits each from (omega (arith, to, length-map rows volume_row))
+    (take (place - 1) rows, sym (take-map volume_row (place - 1) rows), before)
+    (λ is. refused (sound-shown next_id (take place rows) (subst (AreVolumeRows next_id) (take-map volume_row place rows) is)))
+    are
+
+-- what was read before the first part that is no row
+abbrev rest_of : {H R : Type 0} → (layout : Layout H R) → (parts : List StoredPart) (rows : List R) (all : Bool) → AreRead layout parts rows all → (more : List StoredPart) × (parts ≡ map layout.row rows ++ more)
+rest_of layout parts rows true read = ([], read.stops ∙ sym (append-nil (map layout.row rows)))
+rest_of layout parts rows false read = (read.stops.0 ∷ read.stops.1, read.stops.2)
+
+pub controller-unread : (next_id : ℕ) (rows : List ControllerRow) (parts : List StoredPart) → next_id < 2 ^ 64 → AreRead controller_layout parts (map volume_row rows) false → IsSound next_id rows
+    → IsRefusedAt (IsRecordOf controller_layout) (controller_head next_id ∷ parts) (length rows + 1)
+controller-unread next_id rows parts fits read sound =
+    subst (λ (n : ℕ). IsRefusedAt (IsRecordOf controller_layout) (controller_head next_id ∷ parts) (n + 1)) (length-map rows volume_row)
+    (row-unread controller_layout next_id (map volume_row rows) read.stops.0 read.stops.1 parts fits read.fit (rows, refl, sound) read.stops.2 read.stops.3)
+
+pub controller-badrow : (next_id : ℕ) (rows : List ControllerRow) (parts : List StoredPart) (all : Bool) (place : ℕ) → next_id < 2 ^ 64 → AreRead controller_layout parts (map volume_row rows) all → IsFirstRefused next_id rows place
+    → IsRefusedAt (IsRecordOf controller_layout) (controller_head next_id ∷ parts) place
+controller-badrow next_id rows parts all place fits read first =
+    let rest = rest_of controller_layout parts (map volume_row rows) all read in
+    controller-refused next_id rows place rest.0 parts fits read.fit first.from first.to first.before first.refused rest.1
+
+-- parts, the first apart
+pub stored-split : (parts : List Part) (head : Part) → 1 ≤ length parts → head ≡ get_or parts 0 head → all_stored_in parts ≡ stored_in head ∷ all_stored_in (take (length parts - 1) (drop 1 parts))
+stored-split [] head some is = absurd (omega arith)
+stored-split (p ∷ ps) head some is =
+    ap (λ (q : Part). stored_in q ∷ all_stored_in ps) (sym is) ∙ ap (λ (qs : List Part). stored_in head ∷ all_stored_in qs) (sym (take_rest (p ∷ ps) 1))
+
+-- ---- a node's
+
+record-take : (rows : List RowShown) (k : ℕ) → IsRecord rows → IsRecord (take k rows)
+record-take rows k is = record {
+  rising = λ i j below inside.
+      let j_below : j < k = omega (arith, inside, length-take k rows) in
+      let j_there : j < length rows = omega (arith, inside, length-take k rows) in
+      let i_below : i < k = omega (arith, below, j_below) in
+      subst (λ (n : ℕ). n < id_at (take k rows) j) (sym (at i i_below)) (subst (λ (n : ℕ). id_at rows i < n) (sym (at j j_below)) (is.rising i j below j_there));
+  limit = omega (arith, is.limit, length-take k rows);
+  each = All-take IsRow k rows is.each;
+}
+  where
+    at : (i : ℕ) → i < k → id_at (take k rows) i ≡ id_at rows i
+    at i below = ap (λ (ns : List ℕ). get_or ns i 0) (sym (take-map (λ (row : RowShown). row.id) k rows)) ∙ get_or-take k (ids rows) i 0 below
+
+pub node_one : (wanted : Option (List ℕ)) → IsOneToOne (node_layout wanted)
+node_one wanted = record {
+  heads = λ a b fits fit e. node_head-same a b fits.0 fit.0 e;
+  rows = answered-same;
+  fronts = λ node rows k are. record-take rows k are;
+}
+
+-- the head that is asked for changes nothing of the rows
+asked : (wanted : Option (List ℕ)) (parts : List StoredPart) (rows : List RowShown) (all : Bool) → AreRead (node_layout None) parts rows all → AreRead (node_layout wanted) parts rows all
+asked wanted parts rows true read = record { fit = read.fit; stops = read.stops }
+asked wanted parts rows false read = record { fit = read.fit; stops = read.stops }
+
+pub node-unread : (wanted : Option (List ℕ)) (node : List ℕ) (rows : List NodeRow) (parts : List StoredPart) → IsNodeHead wanted node → AreRead (node_layout None) parts (map shown rows) false → IsRecord (map shown rows)
+    → IsRefusedAt (IsRecordOf (node_layout wanted)) (node_head node ∷ parts) (length rows + 1)
+node-unread wanted node rows parts fits read rules =
+    let now = asked wanted parts (map shown rows) false read in
+    subst (λ (n : ℕ). IsRefusedAt (IsRecordOf (node_layout wanted)) (node_head node ∷ parts) (n + 1)) (length-map rows shown)
+    (row-unread (node_layout wanted) node (map shown rows) now.stops.0 now.stops.1 parts fits now.fit rules now.stops.2 now.stops.3)
+
+pub node-badrow : (wanted : Option (List ℕ)) (node : List ℕ) (rows : List NodeRow) (parts : List StoredPart) (all : Bool) (place : ℕ) → IsNodeHead wanted node → AreRead (node_layout None) parts (map shown rows) all → IsFirstRefusedRow rows place
+    → IsRefusedAt (IsRecordOf (node_layout wanted)) (node_head node ∷ parts) place
+node-badrow wanted node rows parts all place fits read first =
+    let now = asked wanted parts (map shown rows) all read in
+    let rest = rest_of (node_layout wanted) parts (map shown rows) all now in
+    row-refused (node_layout wanted) (node_one wanted) node (map shown rows) place rest.0 parts fits now.fit first.from (omega (arith, first.to, length-map rows shown))
+    (subst IsRecord (sym (take-map shown (place - 1) rows)) first.before)
+    (λ is. first.refused (subst IsRecord (take-map shown place rows) is))
+    rest.1
+
+-- another node's head
+pub node-unasked : (wanted : Option (List ℕ)) (node : List ℕ) (parts : List StoredPart) → IsNodeId node → (IfSome wanted (λ id. node ≡ id) → ⊥) → IsRefusedAt (IsRecordOf (node_layout wanted)) (node_head node ∷ parts) 0
+node-unasked wanted node parts fits other =
+    head-refused (node_layout wanted) (node_head node) parts
+    (λ first head same. let is : first ≡ node = node_head-same first node head.0 fits same in other (subst (λ (n : List ℕ). IfSome wanted (λ id. n ≡ id)) is head.1))
+
+-- what keeps the rules can be written
+few-each : (rows : List NodeRow) → AllByRecursion IsRow (map shown rows) → AllByRecursion ArePublishedFew rows
+few-each [] each = tt
+few-each (r ∷ rs) each = ((each.0).targets.limit, few-each rs each.1)
+
+pub few-targets : (rows : List NodeRow) → IsRecord (map shown rows) → AllByRecursion ArePublishedFew rows
+few-targets rows is = few-each rows (recursion_from_All IsRow (map shown rows) is.each)
+
+-- ---- what their parts are
+
+word-size : (n : ℕ) → length (spelling.word n) ≡ 8
+word-size n = refl
+
+pub controller_plain : ArePlain controller_layout
+controller_plain = record {
+  heads = λ next_id fits. record { key = omega arith; value = omega arith };
+  rows = λ row fits. record { key = fits.id.in_range; value = volume-size row fits };
+  few = λ next_id rows are. omega (arith, are.2.limit, length-map are.0 volume_row, ap length are.1);
+}
+
+pub node_plain : (wanted : Option (List ℕ)) → ArePlain (node_layout wanted)
+node_plain wanted = record {
+  heads = λ node fits. record { key = omega arith; value = omega (arith, (fits.0).no_longer) };
+  rows = λ row fits. record { key = fits.id.in_range; value = answered-size row fits };
+  few = λ node rows are. are.limit;
+}

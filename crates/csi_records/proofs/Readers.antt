@@ -1,0 +1,124 @@
+-- A reader reads what is spelled: what it takes from the front of bytes is spelled there, and what is spelled there is read again.
+use Rattle.std.proofs.Common.{◌≡◌, ℕ, Bool, true, false, cond, List, [], ◌++◌, Some, None, refl, sym, ap, subst, ◌∙◌, append_assoc}
+use Rattle.std.specs.Prelude.{Option, MatchBool}
+use Rattle.std.proofs.lemmas.List.{append-nil}
+use Rattle.csi_frames.specs.Bytes.{AreBytes}
+use Rattle.csi_frames.proofs.Bytes.{AreBytes-back}
+use Rattle.csi_records.specs.Reading.{Reader, go_on, ◌>>=◌, give}
+
+-- a value, with what spells it
+pub record Took {A : Type 0} (Says : A → List ℕ → Type 0) (bytes : List ℕ) (x : A × List ℕ) : Type 0 where
+  pub front : List ℕ
+  pub parts : bytes ≡ front ++ x.1
+  pub says : Says x.0 front
+
+pub record Reads {A : Type 0} (read : Reader A) (Says : A → List ℕ → Type 0) : Type 0 where
+  pub takes : (bytes : List ℕ) → AreBytes bytes → (x : A × List ℕ) → read bytes ≡ Some x → Took Says bytes x
+  pub again : (value : A) (front rest : List ℕ) → Says value front → read (front ++ rest) ≡ Some (value, rest)
+
+-- ---- one reader after another
+
+pub go_on-some : {A B : Type 0} (r : Option (A × List ℕ)) (k : A → Reader B) (y : B × List ℕ) → go_on r k ≡ Some y → (x : A × List ℕ) × (r ≡ Some x) × (k x.0 x.1 ≡ Some y)
+go_on-some (Some x) k y e = (x, refl, e)
+go_on-some None k y e = absurd cc
+
+-- what spells a value that a second reader made after a first
+pub record Then {A B : Type 0} (First : A → List ℕ → Type 0) (Second : A → B → List ℕ → Type 0) (value : B) (bytes : List ℕ) : Type 0 where
+  pub before : A
+  pub front : List ℕ
+  pub back : List ℕ
+  pub parts : bytes ≡ front ++ back
+  pub first : First before front
+  pub second : Second before value back
+
+pub then : {A B : Type 0} {r : Reader A} {k : A → Reader B} {First : A → List ℕ → Type 0} {Second : A → B → List ℕ → Type 0}
+    → Reads r First → ((a : A) → Reads (k a) (Second a)) → Reads (r >>= k) (Then First Second)
+then {A} {B} {r} {k} {First} {Second} one two = record {
+  takes = λ bytes fits y e.
+      let p = go_on-some (r bytes) k y e in
+      let a = one.takes bytes fits p.0 p.1 in
+      let b = (two p.0.0).takes p.0.1 (AreBytes-back a.front p.0.1 (subst AreBytes a.parts fits)) y p.2 in
+      record {
+        front = a.front ++ b.front;
+        parts = a.parts ∙ ap (λ (t : List ℕ). a.front ++ t) b.parts ∙ sym (append_assoc a.front b.front y.1);
+        says = record { before = p.0.0; front = a.front; back = b.front; parts = refl; first = a.says; second = b.says };
+      };
+  again = λ value bytes rest s.
+      let all : bytes ++ rest ≡ s.front ++ (s.back ++ rest) = ap (λ (t : List ℕ). t ++ rest) s.parts ∙ append_assoc s.front s.back rest in
+      let first : r (s.front ++ (s.back ++ rest)) ≡ Some (s.before, s.back ++ rest) = one.again s.before s.front (s.back ++ rest) s.first in
+      ap (λ (t : List ℕ). go_on (r t) k) all ∙ (ap (λ (x : Option (A × List ℕ)). go_on x k) first ∙ (two s.before).again value s.back rest s.second);
+}
+
+-- a value with no bytes of its own
+pub record Given {A : Type 0} (made value : A) (bytes : List ℕ) : Type 0 where
+  pub same : value ≡ made
+  pub none : bytes ≡ []
+
+abbrev pub done : {A : Type 0} → A → List ℕ → Option (A × List ℕ)
+done x bytes = Some (x, bytes)
+
+pub some_is : {A : Type 0} (x : A) (bytes : List ℕ) (y : A × List ℕ) → done x bytes ≡ Some y → (x, bytes) ≡ y
+some_is x bytes y e = cc
+
+pub gives : {A : Type 0} (made : A) → Reads (give made) (Given made)
+gives {A} made = record {
+  takes = λ bytes fits x e. subst (λ (y : A × List ℕ). Took (Given made) bytes y) (some_is made bytes x e) (record { front = []; parts = refl; says = record { same = refl; none = refl } });
+  again = λ value front rest s. ap (λ (t : List ℕ). done made (t ++ rest)) s.none ∙ ap (λ (v : A). done v rest) (sym s.same);
+}
+
+-- ---- the same in other words, and a choice
+
+pub in_words : {A : Type 0} {r : Reader A} {Says : A → List ℕ → Type 0} (Other : A → List ℕ → Type 0)
+    → ((value : A) (bytes : List ℕ) → Says value bytes → Other value bytes) → ((value : A) (bytes : List ℕ) → Other value bytes → Says value bytes) → Reads r Says → Reads r Other
+in_words Other there back one = record {
+  takes = λ bytes fits x e. let a = one.takes bytes fits x e in record { front = a.front; parts = a.parts; says = there x.0 a.front a.says };
+  again = λ value front rest s. one.again value front rest (back value front s);
+}
+
+-- what spells a value, as a test says
+abbrev pub Either : {A : Type 0} → Bool → (A → List ℕ → Type 0) → (A → List ℕ → Type 0) → A → List ℕ → Type 0
+Either b First Second value bytes = MatchBool b (First value bytes) (Second value bytes)
+
+pub either : {A : Type 0} {r k : Reader A} {First Second : A → List ℕ → Type 0} (b : Bool) → Reads r First → Reads k Second → Reads (cond b r k) (Either b First Second)
+either true one two = one
+either false one two = two
+
+-- ---- values with one spelling each
+
+-- the value is within its limits, and this is its spelling
+pub record Spelled {A : Type 0} (Fits : A → Type 0) (spell : A → List ℕ) (value : A) (bytes : List ℕ) : Type 0 where
+  pub fits : Fits value
+  pub are : bytes ≡ spell value
+
+-- a field with one spelling, and then what a second reader made
+pub record After {A B : Type 0} (Fits : A → Type 0) (spell : A → List ℕ) (Second : A → B → List ℕ → Type 0) (value : B) (bytes : List ℕ) : Type 0 where
+  pub before : A
+  pub fits : Fits before
+  pub back : List ℕ
+  pub parts : bytes ≡ spell before ++ back
+  pub second : Second before value back
+
+-- made of a field with one spelling, the last one
+pub record Made {A B : Type 0} (Fits : A → Type 0) (spell : A → List ℕ) (make : A → B) (value : B) (bytes : List ℕ) : Type 0 where
+  pub before : A
+  pub fits : Fits before
+  pub same : value ≡ make before
+  pub are : bytes ≡ spell before
+
+pub after : {A B : Type 0} {r : Reader A} {k : A → Reader B} {Fits : A → Type 0} {spell : A → List ℕ} {Second : A → B → List ℕ → Type 0}
+    → Reads r (Spelled Fits spell) → ((a : A) → Reads (k a) (Second a)) → Reads (r >>= k) (After Fits spell Second)
+after {A} {B} {r} {k} {Fits} {spell} {Second} one two =
+    in_words (After Fits spell Second)
+    (λ value bytes s. record { before = s.before; fits = s.first.fits; back = s.back; parts = s.parts ∙ ap (λ (t : List ℕ). t ++ s.back) s.first.are; second = s.second })
+    (λ value bytes s. record { before = s.before; front = spell s.before; back = s.back; parts = s.parts; first = record { fits = s.fits; are = refl }; second = s.second })
+    (then one two)
+
+pub makes : {A B : Type 0} {r : Reader A} {Fits : A → Type 0} {spell : A → List ℕ} (make : A → B) → Reads r (Spelled Fits spell) → Reads (r >>= λ a. give (make a)) (Made Fits spell make)
+makes {A} {B} {r} {Fits} {spell} make one =
+    in_words (Made Fits spell make)
+    (λ value bytes s. record { before = s.before; fits = s.first.fits; same = s.second.same; are = s.parts ∙ ap (λ (t : List ℕ). s.front ++ t) s.second.none ∙ append-nil s.front ∙ s.first.are })
+    (λ value bytes s. record { before = s.before; front = bytes; back = []; parts = sym (append-nil bytes); first = record { fits = s.fits; are = s.are }; second = record { same = s.same; none = refl } })
+    (then one (λ a. gives (make a)))
+
+abbrev pub Always : {A : Type 0} → A → Type 0
+Always a = Unit {0}

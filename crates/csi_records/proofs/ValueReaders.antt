@@ -1,0 +1,341 @@
+-- The readers of capabilities, lists, holdings, targets and replies read what is spelled.
+use Rattle.std.proofs.Common.{◌≡◌, ℕ, zero, suc, ◌+◌, ◌≤◌, Bool, true, false, List, [], ◌∷◌, ◌++◌, length, Some, None, refl, sym, ap, subst, ◌∙◌, append_assoc, arith}
+use Rattle.std.specs.Prelude.{Option, IfSome}
+use Rattle.std.specs.List.{flat_map, AllByRecursion}
+use Rattle.std.proofs.lemmas.List.Concat.{flat_map-cons}
+use Rattle.csi_types.specs.declared.capability.Access.{Access}
+use Rattle.csi_types.specs.declared.capability.Access.TheVariants.{Block, Mount}
+use Rattle.csi_types.specs.declared.capability.Capability.{Capability}
+use Rattle.csi_types.specs.declared.number.Number.{Number}
+use Rattle.csi_types.specs.declared.reply.Reply.{Reply}
+use Rattle.csi_types.specs.Fence.{Kept}
+use Rattle.csi_types.specs.Mode.{mode_number}
+use Rattle.csi_types.specs.Status.{status_code}
+use Rattle.csi_types.specs.Same.{kind_number}
+use Rattle.csi_types.specs.Text.{IsText, IsNodeId, IsTarget}
+use Rattle.csi_types.specs.VolumeId.{IsVolumeId}
+use Rattle.csi_types.specs.Limits.{IsWord, IsNumber, IsAccess, IsCapability, IsReply}
+use Rattle.csi_frames.specs.Spelling as spelling
+use Rattle.csi_controller.specs.declared.row.NodeHolding.{NodeHolding}
+use Rattle.csi_node.specs.declared.row.NodeTarget.{NodeTarget}
+use Rattle.csi_records.specs.Reading.{Reader, access_in, capability_in, items_in, counted_in, holding_in, target_in, number_in, reply_id_in, reply_in, kept_in, staged_in, id_from}
+use Rattle.csi_records.specs.Spelling.{counted, holding_bytes, target_bytes, kept_bytes, staged_bytes}
+use Rattle.csi_records.specs.Records.{IsKept, IsHolding, IsTargetRow, IsStagedSo}
+use Rattle.csi_records.proofs.Readers.{Reads, Given, gives, in_words, Either, either, Spelled, After, Made, after, makes, Always}
+use Rattle.csi_records.proofs.FieldReaders.{flag_reads, mode_reads, status_reads, kind_reads, count_reads, word_reads, text_reads, IsCount, one_byte}
+
+-- ---- what is made of fields one after another, as one list
+
+pub join3 : (whole a b c mid : List ℕ) → whole ≡ a ++ mid → mid ≡ b ++ c → whole ≡ a ++ b ++ c
+join3 whole a b c mid one two = one ∙ ap (λ (t : List ℕ). a ++ t) two ∙ sym (append_assoc a b c)
+
+-- ---- capabilities
+
+abbrev WasAccess : Bool → Access → List ℕ → Type 0
+WasAccess b = Either b (Made (IsText 0 128) spelling.text Mount) (Given Block)
+
+abbrev SaysAccess : Access → List ℕ → Type 0
+SaysAccess = After Always spelling.flag WasAccess
+
+access-by : (b : Bool) (value : Access) (bytes back : List ℕ) → bytes ≡ spelling.flag b ++ back → WasAccess b value back → Spelled IsAccess spelling.access value bytes
+access-by true value bytes back parts s =
+    subst (λ (v : Access). Spelled IsAccess spelling.access v bytes) (sym s.same) (record { fits = s.fits; are = parts ∙ ap (λ (t : List ℕ). 1 ∷ t) s.are })
+access-by false value bytes back parts s =
+    subst (λ (v : Access). Spelled IsAccess spelling.access v bytes) (sym s.same) (record { fits = tt; are = parts ∙ ap (λ (t : List ℕ). 0 ∷ t) s.none })
+
+access-back : (value : Access) (bytes : List ℕ) → Spelled IsAccess spelling.access value bytes → SaysAccess value bytes
+access-back Block bytes s = record { before = false; fits = tt; back = []; parts = s.are; second = record { same = refl; none = refl } }
+access-back (Mount fs_type) bytes s = record { before = true; fits = tt; back = spelling.text fs_type; parts = s.are; second = record { before = fs_type; fits = s.fits; same = refl; are = refl } }
+
+access_reads : Reads access_in (Spelled IsAccess spelling.access)
+unfolding access_in
+access_reads =
+    in_words (Spelled IsAccess spelling.access) (λ value bytes s. access-by s.before value bytes s.back s.parts s.second) access-back
+    (after flag_reads (λ b. either b (makes Mount (text_reads 0 128)) (gives Block)))
+
+abbrev SaysCapability : Capability → List ℕ → Type 0
+SaysCapability = After IsAccess spelling.access (λ access. Made Always (λ mode. mode_number mode ∷ []) (λ mode. record { access = access; mode = mode }))
+
+capability-there : (value : Capability) (bytes : List ℕ) → SaysCapability value bytes → Spelled IsCapability spelling.capability value bytes
+capability-there value bytes s =
+    subst (λ (v : Capability). Spelled IsCapability spelling.capability v bytes) (sym s.second.same)
+    (record { fits = s.fits; are = s.parts ∙ ap (λ (t : List ℕ). spelling.access s.before ++ t) s.second.are })
+
+capability-back : (value : Capability) (bytes : List ℕ) → Spelled IsCapability spelling.capability value bytes → SaysCapability value bytes
+capability-back value bytes s =
+    record { before = value.access; fits = s.fits; back = mode_number value.mode ∷ []; parts = s.are; second = record { before = value.mode; fits = tt; same = refl; are = refl } }
+
+pub capability_reads : Reads capability_in (Spelled IsCapability spelling.capability)
+unfolding capability_in
+capability_reads =
+    in_words (Spelled IsCapability spelling.capability) capability-there capability-back
+    (after access_reads (λ access. makes (λ mode. record { access = access; mode = mode }) mode_reads))
+
+-- ---- so many
+
+pub record AreSo {A : Type 0} (Fits : A → Type 0) (count : ℕ) (values : List A) : Type 0 where
+  pub counted : length values ≡ count
+  pub each : AllByRecursion Fits values
+
+abbrev SaysMore : {A : Type 0} → (A → Type 0) → (A → List ℕ) → ℕ → List A → List ℕ → Type 0
+SaysMore Fits spell n = After Fits spell (λ first. Made (AreSo Fits n) (flat_map spell) (λ others. first ∷ others))
+
+abbrev SaysItems : {A : Type 0} → (A → Type 0) → (A → List ℕ) → ℕ → List A → List ℕ → Type 0
+SaysItems Fits spell n = Spelled (AreSo Fits n) (flat_map spell)
+
+more-there : {A : Type 0} (Fits : A → Type 0) (spell : A → List ℕ) (n : ℕ) (value : List A) (bytes : List ℕ) → SaysMore Fits spell n value bytes → SaysItems Fits spell (suc n) value bytes
+more-there {A} Fits spell n value bytes s =
+    subst (λ (v : List A). SaysItems Fits spell (suc n) v bytes) (sym s.second.same)
+    (record {
+      fits = record { counted = ap suc s.second.fits.counted; each = (s.fits, s.second.fits.each) };
+      are = s.parts ∙ ap (λ (t : List ℕ). spell s.before ++ t) s.second.are ∙ sym (flat_map-cons spell s.before s.second.before);
+    })
+
+more-back : {A : Type 0} (Fits : A → Type 0) (spell : A → List ℕ) (n : ℕ) (value : List A) (bytes : List ℕ) → SaysItems Fits spell (suc n) value bytes → SaysMore Fits spell n value bytes
+more-back Fits spell n [] bytes s = absurd (cc s.fits.counted)
+more-back Fits spell n (first ∷ others) bytes s =
+    record {
+      before = first;
+      fits = s.fits.each.0;
+      back = flat_map spell others;
+      parts = s.are ∙ flat_map-cons spell first others;
+      second = record { before = others; fits = record { counted = omega (arith, s.fits.counted); each = s.fits.each.1 }; same = refl; are = refl };
+    }
+
+nil-there : {A : Type 0} (Fits : A → Type 0) (spell : A → List ℕ) (value : List A) (bytes : List ℕ) → Given [] value bytes → SaysItems Fits spell 0 value bytes
+nil-there {A} Fits spell value bytes s = subst (λ (v : List A). SaysItems Fits spell 0 v bytes) (sym s.same) (record { fits = record { counted = refl; each = tt }; are = s.none })
+
+nil-back : {A : Type 0} (Fits : A → Type 0) (spell : A → List ℕ) (value : List A) (bytes : List ℕ) → SaysItems Fits spell 0 value bytes → Given [] value bytes
+nil-back Fits spell [] bytes s = record { same = refl; none = s.are }
+nil-back Fits spell (first ∷ others) bytes s = absurd (cc s.fits.counted)
+
+pub items_read : {A : Type 0} {read : Reader A} (Fits : A → Type 0) (spell : A → List ℕ) (n : ℕ) → Reads read (Spelled Fits spell) → Reads (items_in read n) (SaysItems Fits spell n)
+unfolding items_in
+items_read Fits spell zero one = in_words (SaysItems Fits spell 0) (nil-there Fits spell) (nil-back Fits spell) (gives [])
+items_read Fits spell (suc n) one =
+    in_words (SaysItems Fits spell (suc n)) (more-there Fits spell n) (more-back Fits spell n)
+    (after one (λ first. makes (λ others. first ∷ others) (items_read Fits spell n one)))
+
+-- at most so many
+pub record AreFew {A : Type 0} (Fits : A → Type 0) (most : ℕ) (values : List A) : Type 0 where
+  pub few : length values ≤ most
+  pub each : AllByRecursion Fits values
+
+abbrev SaysCounted : {A : Type 0} → (A → Type 0) → (A → List ℕ) → ℕ → List A → List ℕ → Type 0
+SaysCounted Fits spell most = After (IsCount most) one_byte (λ count. SaysItems Fits spell count)
+
+counted-there : {A : Type 0} (Fits : A → Type 0) (spell : A → List ℕ) (most : ℕ) (value : List A) (bytes : List ℕ) → SaysCounted Fits spell most value bytes → Spelled (AreFew Fits most) (counted spell) value bytes
+counted-there Fits spell most value bytes s =
+    record {
+      fits = record { few = omega (arith, s.second.fits.counted, s.fits.within); each = s.second.fits.each };
+      are = s.parts ∙ ap (λ (t : List ℕ). s.before ∷ t) s.second.are ∙ ap (λ (n : ℕ). n ∷ flat_map spell value) (sym s.second.fits.counted);
+    }
+
+counted-back : {A : Type 0} (Fits : A → Type 0) (spell : A → List ℕ) (most : ℕ) (value : List A) (bytes : List ℕ) → Spelled (AreFew Fits most) (counted spell) value bytes → SaysCounted Fits spell most value bytes
+counted-back Fits spell most value bytes s =
+    record {
+      before = length value;
+      fits = record { within = s.fits.few };
+      back = flat_map spell value;
+      parts = s.are;
+      second = record { fits = record { counted = refl; each = s.fits.each }; are = refl };
+    }
+
+pub counted_reads : {A : Type 0} {read : Reader A} (Fits : A → Type 0) (spell : A → List ℕ) (most : ℕ) → Reads read (Spelled Fits spell) → Reads (counted_in most read) (Spelled (AreFew Fits most) (counted spell))
+unfolding counted_in
+counted_reads Fits spell most one =
+    in_words (Spelled (AreFew Fits most) (counted spell)) (counted-there Fits spell most) (counted-back Fits spell most)
+    (after (count_reads most) (λ count. items_read Fits spell count one))
+
+-- ---- holdings and targets
+
+abbrev SaysHolding : NodeHolding → List ℕ → Type 0
+SaysHolding = After IsNodeId spelling.text (λ node. After IsCapability spelling.capability (λ capability. Made Always spelling.flag (λ readonly. record { node = node; capability = capability; readonly = readonly })))
+
+holding-there : (value : NodeHolding) (bytes : List ℕ) → SaysHolding value bytes → Spelled IsHolding holding_bytes value bytes
+holding-there value bytes s =
+    let s1 = s.second in
+    let s2 = s1.second in
+    subst (λ (v : NodeHolding). Spelled IsHolding holding_bytes v bytes) (sym s2.same)
+    (record {
+      fits = record { node = s.fits; capability = s1.fits };
+      are = join3 bytes (spelling.text s.before) (spelling.capability s1.before) (spelling.flag s2.before) s.back s.parts (s1.parts ∙ ap (λ (t : List ℕ). spelling.capability s1.before ++ t) s2.are);
+    })
+
+holding-back : (value : NodeHolding) (bytes : List ℕ) → Spelled IsHolding holding_bytes value bytes → SaysHolding value bytes
+holding-back value bytes s =
+    record {
+      before = value.node;
+      fits = s.fits.node;
+      back = spelling.capability value.capability ++ spelling.flag value.readonly;
+      parts = s.are ∙ append_assoc (spelling.text value.node) (spelling.capability value.capability) (spelling.flag value.readonly);
+      second = record {
+        before = value.capability;
+        fits = s.fits.capability;
+        back = spelling.flag value.readonly;
+        parts = refl;
+        second = record { before = value.readonly; fits = tt; same = refl; are = refl };
+      };
+    }
+
+pub holding_reads : Reads holding_in (Spelled IsHolding holding_bytes)
+unfolding holding_in
+holding_reads =
+    in_words (Spelled IsHolding holding_bytes) holding-there holding-back
+    (after (text_reads 1 255) (λ node. after capability_reads (λ capability. makes (λ readonly. record { node = node; capability = capability; readonly = readonly }) flag_reads)))
+
+abbrev SaysTarget : NodeTarget → List ℕ → Type 0
+SaysTarget = After IsTarget spelling.text (λ target. Made Always spelling.flag (λ readonly. record { target = target; readonly = readonly }))
+
+target-there : (value : NodeTarget) (bytes : List ℕ) → SaysTarget value bytes → Spelled IsTargetRow target_bytes value bytes
+target-there value bytes s =
+    subst (λ (v : NodeTarget). Spelled IsTargetRow target_bytes v bytes) (sym s.second.same)
+    (record { fits = s.fits; are = s.parts ∙ ap (λ (t : List ℕ). spelling.text s.before ++ t) s.second.are })
+
+target-back : (value : NodeTarget) (bytes : List ℕ) → Spelled IsTargetRow target_bytes value bytes → SaysTarget value bytes
+target-back value bytes s =
+    record { before = value.target; fits = s.fits; back = spelling.flag value.readonly; parts = s.are; second = record { before = value.readonly; fits = tt; same = refl; are = refl } }
+
+pub target_reads : Reads target_in (Spelled IsTargetRow target_bytes)
+unfolding target_in
+target_reads =
+    in_words (Spelled IsTargetRow target_bytes) target-there target-back
+    (after (text_reads 1 255) (λ target. makes (λ readonly. record { target = target; readonly = readonly }) flag_reads))
+
+-- ---- the number of a call, and a reply
+
+abbrev number_bytes : Number → List ℕ
+number_bytes number = spelling.word number.session ++ spelling.word number.call
+
+abbrev SaysNumber : Number → List ℕ → Type 0
+SaysNumber = After IsWord spelling.word (λ session. Made IsWord spelling.word (λ call. record { session = session; call = call }))
+
+number-there : (value : Number) (bytes : List ℕ) → SaysNumber value bytes → Spelled IsNumber number_bytes value bytes
+number-there value bytes s =
+    subst (λ (v : Number). Spelled IsNumber number_bytes v bytes) (sym s.second.same)
+    (record { fits = record { session_fits = s.fits; call_fits = s.second.fits }; are = s.parts ∙ ap (λ (t : List ℕ). spelling.word s.before ++ t) s.second.are })
+
+number-back : (value : Number) (bytes : List ℕ) → Spelled IsNumber number_bytes value bytes → SaysNumber value bytes
+number-back value bytes s =
+    record { before = value.session; fits = s.fits.session_fits; back = spelling.word value.call; parts = s.are; second = record { before = value.call; fits = s.fits.call_fits; same = refl; are = refl } }
+
+number_reads : Reads number_in (Spelled IsNumber number_bytes)
+unfolding number_in
+number_reads =
+    in_words (Spelled IsNumber number_bytes) number-there number-back
+    (after word_reads (λ session. makes (λ call. record { session = session; call = call }) word_reads))
+
+abbrev IsReplyId : Option ℕ → Type 0
+IsReplyId id = IfSome id IsVolumeId
+
+id-there : (n : ℕ) → IsWord n → IfSome (id_from n) IsVolumeId × (spelling.word n ≡ spelling.reply_id (id_from n))
+id-there zero fits = (tt, refl)
+id-there (suc n) fits = (record { from_one = omega arith; in_range = fits }, refl)
+
+id-back : (id : Option ℕ) → IsReplyId id → (n : ℕ) × IsWord n × (spelling.reply_id id ≡ spelling.word n) × (id ≡ id_from n)
+id-back None fits = (0, omega arith, refl, refl)
+id-back (Some zero) fits = absurd (omega (arith, fits.from_one))
+id-back (Some (suc n)) fits = (suc n, fits.in_range, refl, refl)
+
+reply_id_reads : Reads reply_id_in (Spelled IsReplyId spelling.reply_id)
+unfolding reply_id_in
+reply_id_reads =
+    in_words (Spelled IsReplyId spelling.reply_id)
+    (λ value bytes s.
+    let p = id-there s.before s.fits in
+    subst (λ (v : Option ℕ). Spelled IsReplyId spelling.reply_id v bytes) (sym s.same) (record { fits = p.0; are = s.are ∙ p.1 }))
+    (λ value bytes s. let p = id-back value s.fits in record { before = p.0; fits = p.1; same = p.3; are = s.are ∙ p.2 })
+    (makes id_from word_reads)
+
+abbrev SaysReply : Reply → List ℕ → Type 0
+SaysReply =
+    After Always (λ status. status_code status ∷ []) (λ status. After IsReplyId spelling.reply_id (λ id. Made (IsText 0 255) spelling.text (λ detail. record { status = status; id = id; detail = detail })))
+
+reply-there : (value : Reply) (bytes : List ℕ) → SaysReply value bytes → Spelled IsReply spelling.reply_fields value bytes
+reply-there value bytes s =
+    let s1 = s.second in
+    let s2 = s1.second in
+    subst (λ (v : Reply). Spelled IsReply spelling.reply_fields v bytes) (sym s2.same)
+    (record {
+      fits = record { id_fits = s1.fits; detail_fits = s2.fits };
+      are = join3 bytes (status_code s.before ∷ []) (spelling.reply_id s1.before) (spelling.text s2.before) s.back s.parts (s1.parts ∙ ap (λ (t : List ℕ). spelling.reply_id s1.before ++ t) s2.are);
+    })
+
+reply-back : (value : Reply) (bytes : List ℕ) → Spelled IsReply spelling.reply_fields value bytes → SaysReply value bytes
+reply-back value bytes s =
+    record {
+      before = value.status;
+      fits = tt;
+      back = spelling.reply_id value.id ++ spelling.text value.detail;
+      parts = s.are;
+      second = record {
+        before = value.id;
+        fits = s.fits.id_fits;
+        back = spelling.text value.detail;
+        parts = refl;
+        second = record { before = value.detail; fits = s.fits.detail_fits; same = refl; are = refl };
+      };
+    }
+
+reply_reads : Reads reply_in (Spelled IsReply spelling.reply_fields)
+unfolding reply_in
+reply_reads =
+    in_words (Spelled IsReply spelling.reply_fields) reply-there reply-back
+    (after status_reads (λ status. after reply_id_reads (λ id. makes (λ detail. record { status = status; id = id; detail = detail }) (text_reads 0 255))))
+
+abbrev SaysKept : Kept → List ℕ → Type 0
+SaysKept =
+    After IsNumber number_bytes (λ number. After Always (λ kind. (128 + kind_number kind) ∷ []) (λ kind. Made IsReply spelling.reply_fields (λ reply. record { number = number; kind = kind; reply = reply })))
+
+kept-there : (value : Kept) (bytes : List ℕ) → SaysKept value bytes → Spelled IsKept kept_bytes value bytes
+kept-there value bytes s =
+    let s1 = s.second in
+    let s2 = s1.second in
+    subst (λ (v : Kept). Spelled IsKept kept_bytes v bytes) (sym s2.same)
+    (record {
+      fits = record { number = s.fits; reply = s2.fits };
+      are = s.parts ∙ ap (λ (t : List ℕ). number_bytes s.before ++ t) (s1.parts ∙ ap (λ (t : List ℕ). (128 + kind_number s1.before) ∷ t) s2.are);
+    })
+
+kept-back : (value : Kept) (bytes : List ℕ) → Spelled IsKept kept_bytes value bytes → SaysKept value bytes
+kept-back value bytes s =
+    record {
+      before = value.number;
+      fits = s.fits.number;
+      back = (128 + kind_number value.kind) ∷ spelling.reply_fields value.reply;
+      parts = s.are;
+      second = record {
+        before = value.kind;
+        fits = tt;
+        back = spelling.reply_fields value.reply;
+        parts = refl;
+        second = record { before = value.reply; fits = s.fits.reply; same = refl; are = refl };
+      };
+    }
+
+pub kept_reads : Reads kept_in (Spelled IsKept kept_bytes)
+unfolding kept_in
+kept_reads =
+    in_words (Spelled IsKept kept_bytes) kept-there kept-back
+    (after number_reads (λ number. after kind_reads (λ kind. makes (λ reply. record { number = number; kind = kind; reply = reply }) reply_reads)))
+
+-- ---- how a volume is staged
+
+abbrev WasStaged : Bool → Option Capability → List ℕ → Type 0
+WasStaged b = Either b (Made IsCapability spelling.capability (λ c. Some c)) (Given None)
+
+staged-by : (b : Bool) (value : Option Capability) (bytes back : List ℕ) → bytes ≡ spelling.flag b ++ back → WasStaged b value back → Spelled IsStagedSo staged_bytes value bytes
+staged-by true value bytes back parts s =
+    subst (λ (v : Option Capability). Spelled IsStagedSo staged_bytes v bytes) (sym s.same) (record { fits = s.fits; are = parts ∙ ap (λ (t : List ℕ). 1 ∷ t) s.are })
+staged-by false value bytes back parts s =
+    subst (λ (v : Option Capability). Spelled IsStagedSo staged_bytes v bytes) (sym s.same) (record { fits = tt; are = parts ∙ ap (λ (t : List ℕ). 0 ∷ t) s.none })
+
+staged-back : (value : Option Capability) (bytes : List ℕ) → Spelled IsStagedSo staged_bytes value bytes → After Always spelling.flag WasStaged value bytes
+staged-back None bytes s = record { before = false; fits = tt; back = []; parts = s.are; second = record { same = refl; none = refl } }
+staged-back (Some c) bytes s = record { before = true; fits = tt; back = spelling.capability c; parts = s.are; second = record { before = c; fits = s.fits; same = refl; are = refl } }
+
+pub staged_reads : Reads staged_in (Spelled IsStagedSo staged_bytes)
+unfolding staged_in
+staged_reads =
+    in_words (Spelled IsStagedSo staged_bytes) (λ value bytes s. staged-by s.before value bytes s.back s.parts s.second) staged-back
+    (after flag_reads (λ b. either b (makes (λ c. Some c) capability_reads) (gives None)))

@@ -1,0 +1,285 @@
+-- Parts in the bytes of a whole record: they are read as they are spelled, and the first that is refused has its place there.
+use Rattle.std.proofs.Common.{◌≡◌, ℕ, suc, ◌+◌, ◌≤◌, ◌<◌, ◌^◌, Bool, true, false, cond, ltb, eqb, List, [], ◌∷◌, ◌++◌, length, take, drop, Some, None, Err, refl, sym, ap, subst, ◌∙◌, inl, inr, append_assoc, arith}
+use Rattle.std.specs.Prelude.{◌⊎◌}
+use Rattle.std.specs.List.{flat_map, AllByRecursion}
+use Rattle.std.proofs.lemmas.Bool.{ltb-false, le-ltb, eqb-true}
+use Rattle.std.proofs.lemmas.List.{append-nil, length-append, length-take, take_at, drop_at, take-append-drop}
+use Rattle.std.proofs.lemmas.List.Concat.{flat_map-append}
+use Rattle.byteorder.specs.Endian.{big_bytes, big_number}
+use Rattle.byteorder.specs.Numbers.{big_from-lt}
+use Rattle.csi_types.specs.Limits.{IsWord}
+use Rattle.csi_frames.specs.Bytes.{AreBytes}
+use Rattle.csi_frames.specs.Spelling as spelling
+use Rattle.csi_frames.proofs.Bytes.{AreBytes-take, AreBytes-back, four-back, four-again, four-front}
+use Rattle.csi_lists.proofs.Each.{each-append_one}
+use Rattle.csi_records.specs.Part.{StoredPart, IsPart}
+use Rattle.csi_records.specs.Spelling.{part_bytes, record_head, record_bytes}
+use Rattle.csi_records.specs.Records.{Begins, IsRefusedAt}
+use Rattle.csi_records.specs.declared.fault.RecordStop.{RecordStop}
+use Rattle.csi_records.specs.declared.fault.RecordStop.TheVariants.{BadRecord, NoMemory}
+use Rattle.csi_records.specs.Places.{IsBadAt, bad_part, more_bytes, ReadsParts, ReadsBytes}
+use Rattle.csi_records.specs.Stopping.{AreSplit, SplitStops, HasNoHead}
+use Rattle.csi_records.specs.Reading.{long_in, bytes_in, part_in, record_head_in}
+use Rattle.csi_records.proofs.Readers.{Took, Reads, then, in_words, done, some_is, Spelled, After, Made, after, makes}
+use Rattle.csi_records.proofs.FieldReaders.{word_reads, tag_reads}
+use Rattle.csi_records.proofs.ValueReaders.{join3}
+
+-- ---- a number of 32 bits
+
+abbrev pub long : ℕ → List ℕ
+long n = big_bytes 4 n
+
+pub record IsLong (n : ℕ) : Type 0 where
+  pub fits : n < 2 ^ 32
+
+long-takes : (bytes : List ℕ) (short : Bool) (x : ℕ × List ℕ) → AreBytes bytes → ltb (length bytes) 4 ≡ short → cond short None (done (big_number 4 bytes) (drop 4 bytes)) ≡ Some x → Took (Spelled IsLong long) bytes x
+long-takes bytes true x fits is e = absurd cc
+long-takes bytes false x fits is e =
+    let enough : 4 ≤ length bytes = ltb-false _ _ is in
+    let n = big_number 4 bytes in
+    let four : length (take 4 bytes) ≡ 4 = omega (arith, length-take 4 bytes) in
+    let back : take 4 bytes ≡ big_bytes 4 n = sym (four-back (take 4 bytes) four (AreBytes-take 4 bytes fits)) ∙ ap (big_bytes 4) (four-front bytes enough) in
+    let small : n < 2 ^ 32 = big_from-lt 0 4 bytes fits in
+    subst (λ (y : ℕ × List ℕ). Took (Spelled IsLong long) bytes y) (some_is n (drop 4 bytes) x e)
+    (record { front = take 4 bytes; parts = sym (take-append-drop 4 bytes); says = record { fits = record { fits = small }; are = back } })
+
+long_in-takes : (bytes : List ℕ) → AreBytes bytes → (x : ℕ × List ℕ) → long_in bytes ≡ Some x → Took (Spelled IsLong long) bytes x
+unfolding long_in
+long_in-takes bytes fits x e = long-takes bytes (ltb (length bytes) 4) x fits refl e
+
+long_in-four : (n : ℕ) (rest : List ℕ) → n < 2 ^ 32 → long_in (big_bytes 4 n ++ rest) ≡ Some (n, rest)
+unfolding long_in
+long_in-four n rest fits =
+    let enough : ltb (length (big_bytes 4 n ++ rest)) 4 ≡ false = le-ltb _ _ (omega (arith, length-append (big_bytes 4 n) rest)) in
+    rw (enough, four-again n rest fits, drop_at (big_bytes 4 n) rest 4 refl) refl
+
+long_reads : Reads long_in (Spelled IsLong long)
+long_reads = record { takes = long_in-takes; again = λ n front rest s. ap (λ (t : List ℕ). long_in (t ++ rest)) s.are ∙ long_in-four n rest s.fits.fits }
+
+-- ---- so many bytes
+
+pub record IsOfLength (n : ℕ) (value : List ℕ) : Type 0 where
+  pub counted : length value ≡ n
+
+abbrev pub itself : List ℕ → List ℕ
+itself value = value
+
+piece-takes : (n : ℕ) (bytes : List ℕ) (short : Bool) (x : List ℕ × List ℕ) → ltb (length bytes) n ≡ short → cond short None (done (take n bytes) (drop n bytes)) ≡ Some x → Took (Spelled (IsOfLength n) itself) bytes x
+piece-takes n bytes true x is e = absurd cc
+piece-takes n bytes false x is e =
+    let enough : n ≤ length bytes = ltb-false _ _ is in
+    let counted : length (take n bytes) ≡ n = omega (arith, length-take n bytes) in
+    subst (λ (y : List ℕ × List ℕ). Took (Spelled (IsOfLength n) itself) bytes y) (some_is (take n bytes) (drop n bytes) x e)
+    (record { front = take n bytes; parts = sym (take-append-drop n bytes); says = record { fits = record { counted = counted }; are = refl } })
+
+bytes_in-takes : (n : ℕ) (bytes : List ℕ) (x : List ℕ × List ℕ) → bytes_in n bytes ≡ Some x → Took (Spelled (IsOfLength n) itself) bytes x
+unfolding bytes_in
+bytes_in-takes n bytes x e = piece-takes n bytes (ltb (length bytes) n) x refl e
+
+bytes_in-again : (n : ℕ) (value rest : List ℕ) → length value ≡ n → bytes_in n (value ++ rest) ≡ Some (value, rest)
+unfolding bytes_in
+bytes_in-again n value rest counted =
+    let enough : ltb (length (value ++ rest)) n ≡ false = le-ltb _ _ (omega (arith, length-append value rest, counted)) in
+    rw (enough, take_at value rest n counted, drop_at value rest n counted) refl
+
+bytes_read : (n : ℕ) → Reads (bytes_in n) (Spelled (IsOfLength n) itself)
+bytes_read n = record {
+  takes = λ bytes fits x e. bytes_in-takes n bytes x e;
+  again = λ value front rest s. ap (λ (t : List ℕ). bytes_in n (t ++ rest)) s.are ∙ bytes_in-again n value rest s.fits.counted;
+}
+
+-- ---- a part
+
+abbrev make_part : ℕ → List ℕ → StoredPart
+make_part key value = record { key = key; value = value }
+
+abbrev SaysPart : StoredPart → List ℕ → Type 0
+SaysPart = After IsWord spelling.word (λ key. After IsLong long (λ n. Made (IsOfLength n) itself (λ value. make_part key value)))
+
+part-there : (value : StoredPart) (bytes : List ℕ) → SaysPart value bytes → Spelled IsPart part_bytes value bytes
+part-there value bytes s =
+    let s1 = s.second in
+    let s2 = s1.second in
+    subst (λ (v : StoredPart). Spelled IsPart part_bytes v bytes) (sym s2.same)
+    (record {
+      fits = record { key = s.fits; value = subst (λ (n : ℕ). n < 2 ^ 32) (sym s2.fits.counted) s1.fits.fits };
+      are = join3 bytes (spelling.word s.before) (long (length s2.before)) s2.before s.back s.parts (s1.parts ∙ ap (λ (t : List ℕ). long s1.before ++ t) s2.are ∙ ap (λ (n : ℕ). long n ++ s2.before) (sym s2.fits.counted));
+    })
+
+part-back : (value : StoredPart) (bytes : List ℕ) → Spelled IsPart part_bytes value bytes → SaysPart value bytes
+part-back value bytes s =
+    record {
+      before = value.key;
+      fits = s.fits.key;
+      back = long (length value.value) ++ value.value;
+      parts = s.are ∙ append_assoc (spelling.word value.key) (long (length value.value)) value.value;
+      second = record {
+        before = length value.value;
+        fits = record { fits = s.fits.value };
+        back = value.value;
+        parts = refl;
+        second = record { before = value.value; fits = record { counted = refl }; same = refl; are = refl };
+      };
+    }
+
+pub part_reads : Reads part_in (Spelled IsPart part_bytes)
+unfolding part_in
+part_reads =
+    in_words (Spelled IsPart part_bytes) part-there part-back
+    (after word_reads (λ key. after long_reads (λ n. makes (λ value. make_part key value) (bytes_read n))))
+
+-- one part stands in front of bytes
+pub part-same : (a b : StoredPart) (first second : List ℕ) → IsPart a → IsPart b → part_bytes a ++ first ≡ part_bytes b ++ second → (a ≡ b) × (first ≡ second)
+part-same a b first second fits fit e =
+    let one = part_reads.again a (part_bytes a) first (record { fits = fits; are = refl }) in
+    let two = part_reads.again b (part_bytes b) second (record { fits = fit; are = refl }) in
+    both a b first second (sym one ∙ ap part_in e ∙ two)
+  where
+    both : (x y : StoredPart) (xs ys : List ℕ) → done x xs ≡ done y ys → (x ≡ y) × (xs ≡ ys)
+    both x y xs ys h = let same = some_is x xs (y, ys) h in (ap (λ p. p.0) same, ap (λ p. p.1) same)
+
+-- ---- the number of parts
+
+pub record_head_reads : Reads record_head_in (Spelled IsLong record_head)
+unfolding record_head_in
+record_head_reads =
+    in_words (Spelled IsLong record_head)
+    (λ value bytes s. record { fits = s.second.fits; are = s.parts ∙ ap (λ (t : List ℕ). t ++ s.back) s.first.one ∙ ap (λ (t : List ℕ). 1 ∷ t) s.second.are })
+    (λ value bytes s. record { before = tt; front = 1 ∷ []; back = long value; parts = s.are; first = record { one = refl }; second = record { fits = s.fits; are = refl } })
+    (then (tag_reads 1) (λ _. long_reads))
+
+some_is_none : {A : Type 0} (x : A) → Some x ≡ None → ⊥
+some_is_none x e = cc
+
+pub no-head : (bytes : List ℕ) → record_head_in bytes ≡ None → HasNoHead bytes
+no-head bytes none = λ count rest from to are.
+    some_is_none (count, rest) (sym (record_head_reads.again count (record_head count) rest (record { fits = record { fits = to }; are = refl })) ∙ ap record_head_in (sym are) ∙ none)
+
+pub zero-head : (bytes rest : List ℕ) (count : ℕ) → count ≡ 0 → record_head_in bytes ≡ Some (count, rest) → HasNoHead bytes
+zero-head bytes rest count is read = λ other more from to are.
+    let e = sym (record_head_reads.again other (record_head other) more (record { fits = record { fits = to }; are = refl })) ∙ ap record_head_in (sym are) ∙ read in
+    let same : other ≡ count = ap (λ p. p.0) (some_is other more (count, rest) e) in
+    absurd (omega (arith, same, is, from))
+
+-- ---- parts one after another
+
+-- so many parts were read, and these bytes are left
+pub record IsSoFar (bytes : List ℕ) (parts : List StoredPart) (rest : List ℕ) : Type 0 where
+  pub fit : AllByRecursion IsPart parts
+  pub are : bytes ≡ flat_map part_bytes parts ++ rest
+
+flat_map-one_more : (parts : List StoredPart) (part : StoredPart) → flat_map part_bytes (parts ++ part ∷ []) ≡ flat_map part_bytes parts ++ part_bytes part
+flat_map-one_more [] part = append-nil (part_bytes part)
+flat_map-one_more (p ∷ ps) part = ap (λ (t : List ℕ). part_bytes p ++ t) (flat_map-one_more ps part) ∙ sym (append_assoc (part_bytes p) (flat_map part_bytes ps) (part_bytes part))
+
+pub one-more : (bytes : List ℕ) (parts : List StoredPart) (rest after : List ℕ) (part : StoredPart) → AreBytes bytes → IsSoFar bytes parts rest → part_in rest ≡ Some (part, after) → IsSoFar bytes (parts ++ part ∷ []) after
+one-more bytes parts rest after part fits so_far read =
+    let took = part_reads.takes rest (AreBytes-back (flat_map part_bytes parts) rest (subst AreBytes so_far.are fits)) (part, after) read in
+    record {
+      fit = each-append_one IsPart parts part so_far.fit took.says.fits;
+      are = so_far.are ∙ ap (λ (t : List ℕ). flat_map part_bytes parts ++ t) (took.parts ∙ ap (λ (t : List ℕ). t ++ after) took.says.are)
+          ∙ sym (append_assoc (flat_map part_bytes parts) (part_bytes part) after) ∙ ap (λ (t : List ℕ). t ++ after) (sym (flat_map-one_more parts part));
+    }
+
+pub no-part : (rest : List ℕ) → part_in rest ≡ None → (part : StoredPart) (more : List ℕ) → IsPart part → rest ≡ part_bytes part ++ more → ⊥
+no-part rest none part more fits are =
+    some_is_none (part, more) (sym (part_reads.again part (part_bytes part) more (record { fits = fits; are = refl })) ∙ ap part_in (sym are) ∙ none)
+
+-- ---- the first part that is refused, in the bytes
+
+-- a part that is refused among the parts is refused in the bytes
+pub bad-among : (Is : List StoredPart → Type 0) (bytes : List ℕ) (parts : List StoredPart) (all : Bool) (place : ℕ) → AreSplit bytes parts all → IsRefusedAt Is parts place → IsBadAt Is bytes place
+bad-among Is bytes parts all place split at =
+    subst (λ (n : ℕ). IsBadAt Is bytes n) at.here
+    (bad_part split.count at.before (part_bytes at.part ++ (flat_map part_bytes at.after ++ split.rest)) split.to below are at.begins
+    (λ part more fits same.
+    let one = part-same at.part part (flat_map part_bytes at.after ++ split.rest) more (inside at.before at.part at.after (subst (λ (ps : List StoredPart). AllByRecursion IsPart ps) at.are split.fit)) fits same in
+    λ is. at.refused (subst (λ (p : StoredPart). Is (at.before ++ p ∷ [])) (sym one.0) is)))
+  where
+    inside : (before : List StoredPart) (p : StoredPart) (after : List StoredPart) → AllByRecursion IsPart (before ++ p ∷ after) → IsPart p
+    inside [] p after each = each.0
+    inside (b ∷ bs) p after each = inside bs p after each.1
+
+    counted : (stops : Bool) → SplitStops split.count parts split.rest stops → length parts ≤ split.count
+    counted true h = omega (arith, h.0)
+    counted false (inl h) = omega (arith, h.0)
+    counted false (inr h) = omega (arith, h.0)
+
+    below : length at.before < split.count
+    below =
+        let long : length parts ≡ length at.before + suc (length at.after) = ap length at.are ∙ length-append at.before (at.part ∷ at.after) in
+        let most = counted all split.stops in
+        omega (arith, long, most)
+
+    are : bytes ≡ record_head split.count ++ flat_map part_bytes at.before ++ (part_bytes at.part ++ (flat_map part_bytes at.after ++ split.rest))
+    are =
+        split.are ∙ ap (λ (ps : List StoredPart). record_head split.count ++ (flat_map part_bytes ps ++ split.rest)) at.are
+        ∙ ap (λ (t : List ℕ). record_head split.count ++ (t ++ split.rest)) (flat_map-append part_bytes at.before (at.part ∷ at.after))
+        ∙ simp append_assoc
+
+-- all parts that are there are a record's, and more is to come, or to go
+pub bad-end : (Is : List StoredPart → Type 0) (bytes : List ℕ) (parts : List StoredPart) → AreSplit bytes parts false → Begins Is parts → IsBadAt Is bytes (length parts)
+bad-end Is bytes parts split begins = by split.stops begins
+  where
+    whole : bytes ≡ record_head split.count ++ flat_map part_bytes parts ++ split.rest
+    whole = split.are ∙ sym (append_assoc (record_head split.count) (flat_map part_bytes parts) split.rest)
+
+    by : SplitStops split.count parts split.rest false → Begins Is parts → IsBadAt Is bytes (length parts)
+    by (inl h) (inl none) = absurd (omega (arith, h.0, ap length none, split.from))
+    by (inl h) (inr is) = more_bytes parts split.rest is h.1 (whole ∙ ap (λ (n : ℕ). record_head n ++ flat_map part_bytes parts ++ split.rest) (sym h.0))
+    by (inr h) here = bad_part split.count parts split.rest split.to h.0 whole here (λ part more fits same is. h.1 part more fits same)
+
+-- the bytes are those of the parts
+pub whole-split : (bytes : List ℕ) (parts : List StoredPart) → AreSplit bytes parts true → bytes ≡ record_bytes parts
+whole-split bytes parts split =
+    split.are ∙ ap (λ (t : List ℕ). record_head split.count ++ (flat_map part_bytes parts ++ t)) split.stops.1 ∙ ap (λ (t : List ℕ). record_head split.count ++ t) (append-nil (flat_map part_bytes parts))
+    ∙ ap (λ (n : ℕ). record_head n ++ flat_map part_bytes parts) (sym split.stops.0)
+
+-- ---- how splitting ends
+
+head-found : (bytes rest : List ℕ) (count : ℕ) → AreBytes bytes → record_head_in bytes ≡ Some (count, rest) → (count < 2 ^ 32) × (bytes ≡ record_head count ++ rest)
+head-found bytes rest count fits read =
+    let took = record_head_reads.takes bytes fits (count, rest) read in
+    (took.says.fits.fits, took.parts ∙ ap (λ (t : List ℕ). t ++ rest) took.says.are)
+
+split-here : (bytes rest after : List ℕ) (count : ℕ) (parts : List StoredPart) (all : Bool) → AreBytes bytes → record_head_in bytes ≡ Some (count, rest) → 1 ≤ count → IsSoFar rest parts after → SplitStops count parts after all → AreSplit bytes parts all
+split-here bytes rest after count parts all fits read from so_far stops =
+    let head = head-found bytes rest count fits read in
+    record { count = count; rest = after; from = from; to = head.0; fit = so_far.fit; are = head.1 ∙ ap (λ (t : List ℕ). record_head count ++ t) so_far.are; stops = stops }
+
+pub split-stopped : (bytes rest after : List ℕ) (count : ℕ) (parts : List StoredPart) → AreBytes bytes → record_head_in bytes ≡ Some (count, rest) → 1 ≤ count → IsSoFar rest parts after → length parts < count → part_in after ≡ None → AreSplit bytes parts false
+split-stopped bytes rest after count parts fits read from so_far fewer none = split-here bytes rest after count parts false fits read from so_far (inr (fewer, no-part after none))
+
+pub split-ended : (bytes rest after : List ℕ) (count : ℕ) (parts : List StoredPart) (empty : Bool) → AreBytes bytes → record_head_in bytes ≡ Some (count, rest) → 1 ≤ count → IsSoFar rest parts after → length parts ≡ count → empty ≡ eqb (length after) 0 → AreSplit bytes parts empty
+split-ended bytes rest [] count parts true fits read from so_far all is = split-here bytes rest [] count parts true fits read from so_far (all, refl)
+split-ended bytes rest [] count parts false fits read from so_far all is = absurd cc
+split-ended bytes rest (b ∷ after) count parts true fits read from so_far all is = absurd (omega (arith, eqb-true (length (b ∷ after)) 0 (sym is)))
+split-ended bytes rest (b ∷ after) count parts false fits read from so_far all is = split-here bytes rest (b ∷ after) count parts false fits read from so_far (inl (all, λ e. cc))
+
+pub bytes-after : (bytes rest : List ℕ) (count : ℕ) → AreBytes bytes → record_head_in bytes ≡ Some (count, rest) → AreBytes rest
+bytes-after bytes rest count fits read = AreBytes-back (record_head count) rest (subst AreBytes (head-found bytes rest count fits read).1 fits)
+
+-- ---- what reading bytes answers
+
+-- the parts that are there are none of a record
+err-by : {X : Type 0} (Is : List StoredPart → Type 0) (parts_of : X → List StoredPart) (bytes : List ℕ) (parts : List StoredPart) (all : Bool) (place : ℕ) → AreSplit bytes parts all
+    → ((parts ≡ []) × (place ≡ 0)) ⊎ IsRefusedAt Is parts place → IsBadAt Is bytes place
+err-by Is parts_of bytes parts true place split (inl none) = absurd (omega (arith, split.stops.0, ap length none.0, split.from))
+err-by Is parts_of bytes parts false place split (inl none) =
+    subst (λ (n : ℕ). IsBadAt Is bytes n) (ap length none.0 ∙ sym none.1) (bad-end Is bytes parts split (inl none.0))
+err-by Is parts_of bytes parts all place split (inr at) = bad-among Is bytes parts all place split at
+
+pub err-bytes : {X : Type 0} (Is : List StoredPart → Type 0) (parts_of : X → List StoredPart) (bytes : List ℕ) (parts : List StoredPart) (all : Bool) (stop : RecordStop) → AreSplit bytes parts all
+    → ReadsParts Is parts_of parts (Err stop) → ReadsBytes Is parts_of bytes (Err stop)
+err-bytes Is parts_of bytes parts all (BadRecord place) split read = err-by Is parts_of bytes parts all place split read
+err-bytes Is parts_of bytes parts all NoMemory split read = tt
+
+-- one number of parts stands in front of bytes
+pub heads-same : (a b : ℕ) (first second : List ℕ) → a < 2 ^ 32 → b < 2 ^ 32 → record_head a ++ first ≡ record_head b ++ second → (a ≡ b) × (first ≡ second)
+heads-same a b first second fits fit e =
+    let one = record_head_reads.again a (record_head a) first (record { fits = record { fits = fits }; are = refl }) in
+    let two = record_head_reads.again b (record_head b) second (record { fits = record { fits = fit }; are = refl }) in
+    both a b first second (sym one ∙ ap record_head_in e ∙ two)
+  where
+    both : (x y : ℕ) (xs ys : List ℕ) → done x xs ≡ done y ys → (x ≡ y) × (xs ≡ ys)
+    both x y xs ys h = let same = some_is x xs (y, ys) h in (ap (λ p. p.0) same, ap (λ p. p.1) same)

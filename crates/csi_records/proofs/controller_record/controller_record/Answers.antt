@@ -1,0 +1,29 @@
+use Rattle.std.proofs.Common.{◌≡◌, ◌∙◌, ◌∷◌, ◌+◌, ◌-◌, ap, inr, sym, subst, List, ℕ, take, drop, length, arith}
+use Rattle.csi_controller.specs.Judging.{IsFirstRefused, IsRefusal}
+use Rattle.csi_records.specs.Part.{StoredPart, all_stored_in}
+use Rattle.csi_records.specs.Spelling.{controller_head}
+use Rattle.csi_records.specs.Stopping.{AreRead}
+use Rattle.csi_records.specs.Records.{controller_layout, IsRecordOf, IsRefusedAt}
+use Rattle.csi_records.proofs.Plugins.{controller-unread, controller-badrow, stored-split}
+use Rattle.csi_records.proofs.controller_record.controller_record.Goals as goal
+
+pub returns-in-Err-BadRow : goal.returns-in-Err-BadRow
+returns-in-Err-BadRow c =
+    let others = all_stored_in (take (length c.args.parts.now - 1) (drop 1 c.args.parts.now)) in
+    let split = stored-split c.args.parts.now c.head-item.result c.in-len1-up.len_at_least c.head-item.is in
+    let is : all_stored_in c.args.parts.now ≡ controller_head c.in-Some.next_id ∷ others = split ∙ ap (λ (h : StoredPart). h ∷ others) (sym c.in-Some.ensures.head) in
+    let first : IsFirstRefused c.in-Some.next_id c.in_ok-rows.field-0.rows.items c.in-Err-BadRow.bad = subst (IsRefusal c.in-Some.next_id c.in_ok-rows.field-0.rows.items) c.in-Err-BadRow.field-0-is c.in-Err-BadRow.ensures.refused in
+    inr (subst (λ (ps : List StoredPart). IsRefusedAt (IsRecordOf controller_layout) ps c.in-Err-BadRow.bad) (sym is)
+    (controller-badrow c.in-Some.next_id c.in_ok-rows.field-0.rows.items others c.in_ok-rows.field-0.all c.in-Err-BadRow.bad c.in-Some.ensures.fits c.in_ok-rows.ensures first))
+
+pub returns-in-Ok-2 : goal.returns-in-Ok-2
+returns-in-Ok-2 c =
+    let others = all_stored_in (take (length c.args.parts.now - 1) (drop 1 c.args.parts.now)) in
+    let rows = c.in_ok-rows.field-0.rows.items in
+    let split = stored-split c.args.parts.now c.head-item.result c.in-len1-up.len_at_least c.head-item.is in
+    let is : all_stored_in c.args.parts.now ≡ controller_head c.in-Some.next_id ∷ others = split ∙ ap (λ (h : StoredPart). h ∷ others) (sym c.in-Some.ensures.head) in
+    let read : AreRead controller_layout others _ _ = c.in_ok-rows.ensures in
+    let place : length rows + 1 ≡ c.len.result + 1 = omega (arith, c.len.ensures) in
+    inr (subst (λ (ps : List StoredPart). IsRefusedAt (IsRecordOf controller_layout) ps (c.len.result + 1)) (sym is)
+    (subst (λ (n : ℕ). IsRefusedAt (IsRecordOf controller_layout) (controller_head c.in-Some.next_id ∷ others) n) place
+    (controller-unread c.in-Some.next_id rows others c.in-Some.ensures.fits (subst (AreRead controller_layout others _) c.if-all.false read) c.in-Ok-2.ensures.sound)))

@@ -1,0 +1,35 @@
+use Rattle.std.proofs.Common.{◌≡◌, ◌∙◌, ◌∷◌, ◌+◌, ◌-◌, ap, inr, sym, subst, List, ℕ, take, drop, length, arith}
+use Rattle.std.specs.Prelude.{None}
+use Rattle.std.specs.Option.{option_copied}
+use Rattle.csi_node.specs.Judging.{IsFirstRefused, IsRefusal}
+use Rattle.csi_records.specs.Part.{StoredPart, all_stored_in}
+use Rattle.csi_records.specs.Spelling.{node_head}
+use Rattle.csi_records.specs.Stopping.{AreRead}
+use Rattle.csi_records.specs.Records.{node_layout, IsNodeHead, IsRecordOf, IsRefusedAt}
+use Rattle.csi_records.proofs.Plugins.{node-unread, node-badrow, stored-split}
+use Rattle.csi_records.proofs.node_record.node_record.Goals as goal
+
+pub returns-in-Err-BadRow : goal.returns-in-Err-BadRow
+returns-in-Err-BadRow c =
+    let others = all_stored_in (take (length c.args.parts.now - 1) (drop 1 c.args.parts.now)) in
+    let wanted = option_copied c.args.wanted in
+    let head : IsNodeHead wanted c.in-Ok.node = (c.in-Ok.ensures.head.0, c.is_wanted.ensures.0 c.if-not-is_wanted.false) in
+    let split = stored-split c.args.parts.now c.head-item.result c.in-len1-up.len_at_least c.head-item.is in
+    let is : all_stored_in c.args.parts.now ≡ node_head c.in-Ok.node ∷ others = split ∙ ap (λ (h : StoredPart). h ∷ others) (sym c.in-Ok.ensures.head.1) in
+    let first : IsFirstRefused c.in_ok-rows.field-0.rows.items c.in-Err-BadRow.bad = subst (IsRefusal c.in_ok-rows.field-0.rows.items) c.in-Err-BadRow.field-0-is c.in-Err-BadRow.ensures.refused in
+    inr (subst (λ (ps : List StoredPart). IsRefusedAt (IsRecordOf (node_layout wanted)) ps c.in-Err-BadRow.bad) (sym is)
+    (node-badrow wanted c.in-Ok.node c.in_ok-rows.field-0.rows.items others c.in_ok-rows.field-0.all c.in-Err-BadRow.bad head c.in_ok-rows.ensures first))
+
+pub returns-in-Ok-2 : goal.returns-in-Ok-2
+returns-in-Ok-2 c =
+    let others = all_stored_in (take (length c.args.parts.now - 1) (drop 1 c.args.parts.now)) in
+    let wanted = option_copied c.args.wanted in
+    let head : IsNodeHead wanted c.in-Ok.node = (c.in-Ok.ensures.head.0, c.is_wanted.ensures.0 c.if-not-is_wanted.false) in
+    let rows = c.in_ok-rows.field-0.rows.items in
+    let split = stored-split c.args.parts.now c.head-item.result c.in-len1-up.len_at_least c.head-item.is in
+    let is : all_stored_in c.args.parts.now ≡ node_head c.in-Ok.node ∷ others = split ∙ ap (λ (h : StoredPart). h ∷ others) (sym c.in-Ok.ensures.head.1) in
+    let read : AreRead (node_layout None) others _ _ = c.in_ok-rows.ensures in
+    let place : length rows + 1 ≡ c.len.result + 1 = omega (arith, c.len.ensures) in
+    inr (subst (λ (ps : List StoredPart). IsRefusedAt (IsRecordOf (node_layout wanted)) ps (c.len.result + 1)) (sym is)
+    (subst (λ (n : ℕ). IsRefusedAt (IsRecordOf (node_layout wanted)) (node_head c.in-Ok.node ∷ others) n) place
+    (node-unread wanted c.in-Ok.node rows others head (subst (AreRead (node_layout None) others _) c.if-all.false read) c.in-Ok-2.ensures.rules)))

@@ -1,0 +1,9 @@
+pub mod Part
+pub mod Spelling
+pub mod Records
+pub mod Reading
+pub mod Stopping
+pub mod Writing
+pub mod Places
+pub mod Laws
+pub mod Rows

@@ -1,0 +1,234 @@
+-- How a value is read, from left to right: what the private functions that read answer. Who reads the public contracts need not
+-- read this; it is joined to the spelling in proofs/.
+use Rattle.std.specs.Prelude.{ℕ, zero, suc, ◌-◌, ◌==◌, ◌&&◌, nat_lt, nat_le, Bool, true, false, not, if◌then◌else◌, List, [], ◌∷◌, length, take, drop, Option, Some, None}
+use Rattle.std.specs.Str.{is_utf8}
+use Rattle.byteorder.specs.Endian.{big_number}
+use Rattle.csi_types.specs.declared.number.Number.{Number}
+use Rattle.csi_types.specs.declared.capability.Access.{Access}
+use Rattle.csi_types.specs.declared.capability.Access.TheVariants.{Block, Mount}
+use Rattle.csi_types.specs.declared.capability.Capability.{Capability}
+use Rattle.csi_types.specs.declared.call.Kind.{Kind}
+use Rattle.csi_types.specs.declared.reply.Reply.{Reply}
+use Rattle.csi_types.specs.Fence.{Kept}
+use Rattle.csi_types.specs.Mode.{mode_from_number}
+use Rattle.csi_types.specs.Status.{status_from_code}
+use Rattle.csi_frames.specs.Codes.{kind_from_number}
+use Rattle.csi_controller.specs.declared.row.NodeHolding.{NodeHolding}
+use Rattle.csi_node.specs.declared.row.NodeTarget.{NodeTarget}
+use Rattle.csi_node.specs.OneRow.{RowShown}
+use Rattle.csi_records.specs.Part.{StoredPart}
+use Rattle.csi_records.specs.Spelling.{VolumeRow}
+
+-- a value and the bytes after it, if one stands there
+abbrev pub Reader : Type 0 → Type 0
+Reader A = List ℕ → Option (A × List ℕ)
+
+abbrev pub go_on : {A B : Type 0} → Option (A × List ℕ) → (A → Reader B) → Option (B × List ℕ)
+go_on (Some read) next = next read.0 read.1
+go_on None next = None
+
+infixl 10 ◌>>=◌
+abbrev pub ◌>>=◌ : {A B : Type 0} → Reader A → (A → Reader B) → Reader B
+(reader >>= next) bytes = go_on (reader bytes) next
+
+abbrev pub give : {A : Type 0} → A → Reader A
+give value bytes = Some (value, bytes)
+
+-- a value, if there is one
+abbrev pub or_none : {A : Type 0} → Option A → Reader A
+or_none (Some value) bytes = Some (value, bytes)
+or_none None bytes = None
+
+abbrev pub nothing : {A : Type 0} → Reader A
+nothing bytes = None
+
+-- ---- fields
+
+unfoldable pub byte_in : Reader ℕ
+byte_in [] = None
+byte_in (b ∷ bytes) = Some (b, bytes)
+
+-- a byte that stands for a value
+unfoldable pub code_in : {A : Type 0} → (ℕ → Option A) → Reader A
+code_in value_of = do
+  b ← byte_in
+  or_none (value_of b)
+
+-- a byte of at most so much
+unfoldable pub count_in : ℕ → Reader ℕ
+count_in most = do
+  b ← byte_in
+  if nat_le b most then give b else nothing
+
+unfoldable pub word_in : Reader ℕ
+word_in bytes = if nat_lt (length bytes) 8 then None else Some (big_number 8 bytes, drop 8 bytes)
+
+unfoldable pub text_in : ℕ → ℕ → Reader (List ℕ)
+text_in least most [] = None
+text_in least most (n ∷ bytes) =
+    if not (nat_le least n && nat_le n most) then None
+    else if nat_lt (length bytes) n then None
+    else if is_utf8 (take n bytes) then Some (take n bytes, drop n bytes)
+    else None
+
+abbrev pub flag_from : ℕ → Option Bool
+flag_from zero = Some false
+flag_from (suc zero) = Some true
+flag_from (suc (suc n)) = None
+
+-- 1 is live, 2 deleted
+abbrev pub live_from : ℕ → Option Bool
+live_from zero = None
+live_from (suc zero) = Some true
+live_from (suc (suc zero)) = Some false
+live_from (suc (suc (suc n))) = None
+
+-- a reply's kind byte is its call's and 128
+abbrev pub kind_from : ℕ → Option Kind
+kind_from n = if nat_lt n 128 then None else kind_from_number (n - 128)
+
+-- 0 stands for no id
+abbrev pub id_from : ℕ → Option ℕ
+id_from zero = None
+id_from (suc n) = Some (suc n)
+
+-- ---- values
+
+unfoldable pub access_in : Reader Access
+access_in = do
+  is_mount ← code_in flag_from
+  if is_mount then (do
+    fs_type ← text_in 0 128
+    give (Mount fs_type)) else give Block
+
+unfoldable pub capability_in : Reader Capability
+capability_in = do
+  access ← access_in
+  mode ← code_in mode_from_number
+  give (record { access = access; mode = mode })
+
+-- so many
+unfoldable pub items_in : {A : Type 0} → Reader A → ℕ → Reader (List A)
+items_in read zero = give []
+items_in read (suc n) = do
+  first ← read
+  others ← items_in read n
+  give (first ∷ others)
+
+-- a count of at most so many, and as many
+unfoldable pub counted_in : {A : Type 0} → ℕ → Reader A → Reader (List A)
+counted_in most read = do
+  count ← count_in most
+  items_in read count
+
+unfoldable pub holding_in : Reader NodeHolding
+holding_in = do
+  node ← text_in 1 255
+  capability ← capability_in
+  readonly ← code_in flag_from
+  give (record { node = node; capability = capability; readonly = readonly })
+
+unfoldable pub target_in : Reader NodeTarget
+target_in = do
+  target ← text_in 1 255
+  readonly ← code_in flag_from
+  give (record { target = target; readonly = readonly })
+
+unfoldable pub number_in : Reader Number
+number_in = do
+  session ← word_in
+  call ← word_in
+  give (record { session = session; call = call })
+
+unfoldable pub reply_id_in : Reader (Option ℕ)
+reply_id_in = do
+  n ← word_in
+  give (id_from n)
+
+unfoldable pub reply_in : Reader Reply
+reply_in = do
+  status ← code_in status_from_code
+  id ← reply_id_in
+  detail ← text_in 0 255
+  give (record { status = status; id = id; detail = detail })
+
+unfoldable pub kept_in : Reader Kept
+kept_in = do
+  number ← number_in
+  kind ← code_in kind_from
+  reply ← reply_in
+  give (record { number = number; kind = kind; reply = reply })
+
+unfoldable pub staged_in : Reader (Option Capability)
+staged_in = do
+  is_staged ← code_in flag_from
+  if is_staged then (do
+    capability ← capability_in
+    give (Some capability)) else give None
+
+-- ---- the values of parts, behind the version
+
+unfoldable pub volume_in : ℕ → Reader VolumeRow
+volume_in id = do
+  is_live ← code_in live_from
+  name ← text_in 1 128
+  capacity ← word_in
+  capabilities ← counted_in 8 capability_in
+  holdings ← counted_in 64 holding_in
+  kept ← kept_in
+  give (record { volume = record { id = id; name = name; capacity = capacity; capabilities = capabilities; is_live = is_live; kept = kept }; holdings = holdings })
+
+unfoldable pub answered_in : ℕ → Reader RowShown
+answered_in id = do
+  staged ← staged_in
+  targets ← counted_in 16 target_in
+  kept ← kept_in
+  give (record { id = id; staged = staged; targets = targets; kept = kept })
+
+-- the byte of this number
+unfoldable pub tag_in : ℕ → Reader (Unit {0})
+tag_in n = do
+  b ← byte_in
+  if b == n then give tt else nothing
+
+unfoldable pub controller_head_in : Reader ℕ
+controller_head_in = do
+  plugin ← tag_in 0
+  word_in
+
+unfoldable pub node_head_in : Reader (List ℕ)
+node_head_in = do
+  plugin ← tag_in 1
+  text_in 1 255
+
+-- ---- a part of a whole record
+
+unfoldable pub long_in : Reader ℕ
+long_in bytes = if nat_lt (length bytes) 4 then None else Some (big_number 4 bytes, drop 4 bytes)
+
+-- so many bytes
+unfoldable pub bytes_in : ℕ → Reader (List ℕ)
+bytes_in n bytes = if nat_lt (length bytes) n then None else Some (take n bytes, drop n bytes)
+
+unfoldable pub part_in : Reader StoredPart
+part_in = do
+  key ← word_in
+  count ← long_in
+  value ← bytes_in count
+  give (record { key = key; value = value })
+
+-- the version and the number of parts
+unfoldable pub record_head_in : Reader ℕ
+record_head_in = do
+  there ← tag_in 1
+  long_in
+
+-- ---- a whole value: the version, what stands behind it, and no byte more
+
+abbrev pub ended : {A : Type 0} → Option (A × List ℕ) → Option A
+ended (Some (value, [])) = Some value
+ended (Some (value, b ∷ bytes)) = None
+ended None = None
+
+unfoldable pub whole : {A : Type 0} → Reader A → List ℕ → Option A
+whole read bytes = ended (go_on (tag_in 1 bytes) (λ _. read))

@@ -1,0 +1,106 @@
+-- The spelling of records: their parts, and the bytes of a whole record. Texts, capabilities, flags, ids and replies are spelled
+-- as in frames. This profile's own.
+use Rattle.std.specs.Prelude.{ℕ, ◌+◌, Bool, if◌then◌else◌, List, [], ◌∷◌, ◌++◌, length, map, Option, Some, None}
+use Rattle.std.specs.List.{flat_map}
+use Rattle.byteorder.specs.Endian.{big_bytes}
+use Rattle.csi_types.specs.declared.capability.Capability.{Capability}
+use Rattle.csi_types.specs.declared.holding.Holding.{Holding}
+use Rattle.csi_types.specs.Fence.{Kept}
+use Rattle.csi_types.specs.Same.{kind_number}
+use Rattle.csi_frames.specs.Spelling.{word, text, flag, capability, reply_fields}
+use Rattle.csi_controller.specs.declared.row.ControllerRow.{ControllerRow}
+use Rattle.csi_controller.specs.declared.row.NodeHolding.{NodeHolding}
+use Rattle.csi_controller.specs.Shown.{volume_of_row}
+use Rattle.csi_controller.specs.State.{Volume, ControllerState, holdings_of}
+use Rattle.csi_node.specs.declared.row.NodeTarget.{NodeTarget}
+use Rattle.csi_node.specs.OneRow.{RowShown}
+use Rattle.csi_records.specs.Part.{StoredPart}
+
+-- every value begins with its version
+abbrev pub version : ℕ
+version = 1
+
+-- so many, and each in its spelling
+abbrev pub counted : {A : Type 0} → (A → List ℕ) → List A → List ℕ
+counted spell values = length values ∷ flat_map spell values
+
+-- a reply's kind byte, as its frame has it
+abbrev pub reply_kind : Kept → ℕ
+reply_kind kept = 128 + kind_number kept.kind
+
+-- the number of the last call, and the reply that was kept of it: its kind, status, id and detail
+abbrev pub kept_bytes : Kept → List ℕ
+kept_bytes kept = word kept.number.session ++ word kept.number.call ++ reply_kind kept ∷ reply_fields kept.reply
+
+-- ---- the controller's parts: a head with the next id (0 once all were given), and a row for each volume, under its id
+
+-- a volume that was made, and where it is held, in order
+pub record VolumeRow : Type 0 where
+  pub volume : Volume
+  pub holdings : List NodeHolding
+
+abbrev pub controller_head : ℕ → StoredPart
+controller_head next_id = record { key = 0; value = version ∷ 0 ∷ word next_id }
+
+-- 1 where it is live, 2 where it was deleted
+abbrev pub state_byte : Bool → ℕ
+state_byte is_live = if is_live then 1 else 2
+
+abbrev pub holding_bytes : NodeHolding → List ℕ
+holding_bytes holding = text holding.node ++ capability holding.capability ++ flag holding.readonly
+
+abbrev pub volume_bytes : VolumeRow → List ℕ
+volume_bytes row =
+    version ∷ state_byte row.volume.is_live ∷ text row.volume.name ++ word row.volume.capacity ++ counted capability row.volume.capabilities
+    ++ counted holding_bytes row.holdings ++ kept_bytes row.volume.kept
+
+abbrev pub volume_part : VolumeRow → StoredPart
+volume_part row = record { key = row.volume.id; value = volume_bytes row }
+
+abbrev pub controller_parts : ℕ → List VolumeRow → List StoredPart
+controller_parts next_id rows = controller_head next_id ∷ map volume_part rows
+
+-- a row as the controller has it
+abbrev pub volume_row : ControllerRow → VolumeRow
+volume_row row = record { volume = volume_of_row row; holdings = row.holdings.items }
+
+-- the rows of a state
+abbrev pub node_holding : Holding → NodeHolding
+node_holding holding = record { node = holding.node; capability = holding.capability; readonly = holding.readonly }
+
+abbrev pub rows_of : ControllerState → List VolumeRow
+rows_of state = map (λ volume. record { volume = volume; holdings = map node_holding (holdings_of volume.id state) }) state.volumes
+
+-- ---- the node's parts: a head with its id, and a row for each volume, under the volume's id
+
+abbrev pub node_head : List ℕ → StoredPart
+node_head node = record { key = 0; value = version ∷ 1 ∷ text node }
+
+-- 0, or 1 and how it is staged
+abbrev pub staged_bytes : Option Capability → List ℕ
+staged_bytes None = 0 ∷ []
+staged_bytes (Some staged) = 1 ∷ capability staged
+
+abbrev pub target_bytes : NodeTarget → List ℕ
+target_bytes target = text target.target ++ flag target.readonly
+
+abbrev pub answered_bytes : RowShown → List ℕ
+answered_bytes row = version ∷ staged_bytes row.staged ++ counted target_bytes row.targets ++ kept_bytes row.kept
+
+abbrev pub answered_part : RowShown → StoredPart
+answered_part row = record { key = row.id; value = answered_bytes row }
+
+abbrev pub node_parts : List ℕ → List RowShown → List StoredPart
+node_parts node rows = node_head node ∷ map answered_part rows
+
+-- ---- a whole record: the version, the number of parts, and of each part the key, the length of its value and the value
+
+abbrev pub part_bytes : StoredPart → List ℕ
+part_bytes part = word part.key ++ big_bytes 4 (length part.value) ++ part.value
+
+-- what stands before so many parts
+abbrev pub record_head : ℕ → List ℕ
+record_head count = version ∷ big_bytes 4 count
+
+abbrev pub record_bytes : List StoredPart → List ℕ
+record_bytes parts = record_head (length parts) ++ flat_map part_bytes parts

@@ -1,0 +1,36 @@
+-- How far the rows of a record were read, one part after another: what the private functions that read answer.
+use Rattle.std.specs.Prelude.{◌≡◌, ◌≢◌, ◌⊎◌, ◌<◌, ◌≤◌, ◌^◌, ℕ, Bool, true, false, List, [], ◌∷◌, ◌++◌, length, map}
+use Rattle.std.specs.List.{flat_map, AllByRecursion}
+use Rattle.csi_records.specs.Part.{StoredPart, IsPart}
+use Rattle.csi_records.specs.Spelling.{part_bytes, record_head}
+use Rattle.csi_records.specs.Records.{Layout}
+
+-- all parts are rows; or the first that is none stands behind those that are
+abbrev pub StopsAt : {H R : Type 0} → Layout H R → List StoredPart → List R → Bool → Type 0
+StopsAt layout parts rows true = parts ≡ map layout.row rows
+StopsAt {H} {R} layout parts rows false =
+    (part : StoredPart) × (rest : List StoredPart) × (parts ≡ map layout.row rows ++ part ∷ rest) × ((row : R) → layout.is_row row → layout.row row ≡ part → ⊥)
+
+pub record AreRead {H R : Type 0} (layout : Layout H R) (parts : List StoredPart) (rows : List R) (all : Bool) : Type 0 where
+  pub fit : AllByRecursion layout.is_row rows
+  pub stops : StopsAt layout parts rows all
+
+-- all bytes are taken by as many parts; or bytes are left behind them; or what comes next is no part
+abbrev pub SplitStops : ℕ → List StoredPart → List ℕ → Bool → Type 0
+SplitStops count parts rest true = (length parts ≡ count) × (rest ≡ [])
+SplitStops count parts rest false =
+    ((length parts ≡ count) × (rest ≢ [])) ⊎ ((length parts < count) × ((part : StoredPart) (more : List ℕ) → IsPart part → rest ≡ part_bytes part ++ more → ⊥))
+
+-- how far bytes were read as parts
+pub record AreSplit (bytes : List ℕ) (parts : List StoredPart) (all : Bool) : Type 0 where
+  pub count : ℕ
+  pub rest : List ℕ
+  pub from : 1 ≤ count
+  pub to : count < 2 ^ 32
+  pub fit : AllByRecursion IsPart parts
+  pub are : bytes ≡ record_head count ++ (flat_map part_bytes parts ++ rest)
+  pub stops : SplitStops count parts rest all
+
+-- no version and number of parts, from 1 on, stand in front of the bytes
+abbrev pub HasNoHead : List ℕ → Type 0
+HasNoHead bytes = (count : ℕ) (rest : List ℕ) → 1 ≤ count → count < 2 ^ 32 → bytes ≡ record_head count ++ rest → ⊥

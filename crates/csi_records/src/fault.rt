@@ -1,0 +1,68 @@
+//! Why parts or bytes are no record.
+use csi_types::NoMemory;
+use std::alloc::{AllocError, AllocFailed};
+use thiserror::Error;
+
+/// Why no record was read. This profile's own.
+#[derive(Clone, Copy, Debug, PartialEq, Eq, Error)]
+pub enum RecordStop {
+    /// The place, from 0, of the first part that is refused.
+    #[error("no record, at part {0}")]
+    BadRecord(u64),
+    /// An allocation was refused.
+    #[error("out of memory")]
+    NoMemory,
+}
+
+impl From<NoMemory> for RecordStop {
+    ghost use Rattle.std.specs.Prelude.{◌≡◌};
+    ghost use Rattle.csi_records.specs.declared.fault.RecordStop.TheVariants.{NoMemory as Refused};
+
+    ghost from_gives = { λ _ stop. stop ≡ Refused };
+
+    fn from(_refused: NoMemory) -> RecordStop {
+        RecordStop::NoMemory
+    }
+}
+
+/// Why a value wasn't read.
+#[derive(Clone, Copy)]
+pub(crate) enum Stop {
+    /// Its bytes are none that spell one.
+    Bad,
+    /// An allocation was refused.
+    NoMemory,
+}
+
+impl From<NoMemory> for Stop {
+    ghost use Rattle.std.specs.Prelude.{◌≡◌};
+    ghost use Rattle.csi_records.specs.declared.fault.Stop.TheVariants.{NoMemory as Refused};
+
+    ghost from_gives = { λ _ stop. stop ≡ Refused };
+
+    fn from(_refused: NoMemory) -> Stop {
+        Stop::NoMemory
+    }
+}
+
+impl From<AllocError> for Stop {
+    ghost use Rattle.std.specs.Prelude.{◌≡◌};
+    ghost use Rattle.csi_records.specs.declared.fault.Stop.TheVariants.{NoMemory as Refused};
+
+    ghost from_gives = { λ _ stop. stop ≡ Refused };
+
+    fn from(_refused: AllocError) -> Stop {
+        Stop::NoMemory
+    }
+}
+
+impl<T: Drop> From<AllocFailed<T>> for Stop {
+    ghost use Rattle.std.specs.Prelude.{◌≡◌};
+    ghost use Rattle.csi_records.specs.declared.fault.Stop.TheVariants.{NoMemory as Refused};
+
+    ghost from_gives = { λ _ stop. stop ≡ Refused };
+
+    fn from(_refused: AllocFailed<T>) -> Stop {
+        Stop::NoMemory
+    }
+}

@@ -1,0 +1,24 @@
+//! Records of the plugins: their parts, which a store keeps, and whole records as bytes, written and read exactly.
+#![tactic(auto)]
+
+mod answered;
+mod controller_record;
+mod fault;
+mod fields;
+mod laws;
+mod lists;
+mod node_record;
+mod part;
+mod record;
+mod row_values;
+mod rows;
+mod splitting;
+mod texts;
+mod values;
+mod volumes;
+mod writing;
+
+pub use fault::RecordStop;
+pub use laws::record_laws;
+pub use part::Part;
+pub use record::{Record, read_record, record_of_node, write_record};

@@ -1,0 +1,125 @@
+//! The values of parts, written: of heads and of rows.
+ghost use Rattle.std.specs.Prelude.{◌≡◌, ◌≤◌, ◌<◌, ◌++◌, ◌^◌, length, map, IfOk, OnOk};
+ghost use Rattle.std.specs.List.{flat_map, AllByRecursion};
+ghost use Rattle.csi_types.specs.Limits.{IsWord, IsCapability};
+ghost use Rattle.csi_types.specs.Text.{IsNodeId};
+ghost use Rattle.csi_node.specs.OneRow.{shown};
+ghost use Rattle.csi_records.specs.Spelling.{volume_row, counted, holding_bytes, target_bytes, staged_bytes, volume_bytes, answered_bytes, controller_head, node_head};
+ghost use Rattle.csi_records.specs.Writing.{AreHeldFew, ArePublishedFew};
+ghost use Rattle.csi_records.specs.Records.{IsHolding, IsVolumeRow, IsTargetRow, IsStagedSo, IsAnsweredRow};
+
+use crate::writing::{
+    put_byte, put_capabilities, put_capability, put_flag, put_kept, put_text, put_word,
+};
+use csi_controller::{ControllerRow, NodeHolding};
+use csi_node::{NodeRow, NodeTarget};
+use csi_types::{Capability, NoMemory, NodeId};
+use std::alloc::Global;
+
+fn put_holding(out: &mut Vec<u8>, from: &NodeHolding) -> Result<(), NoMemory>
+    ensures written { OnOk result (out.new.items ≡ out.old.items ++ holding_bytes from.now) }
+    ensures fits { OnOk result (IsHolding from.now) }
+{
+    put_text(out, from.node.as_str())?;
+    put_capability(out, &from.capability)?;
+    put_flag(out, from.readonly)
+}
+
+fn put_each_holding(out: &mut Vec<u8>, from: &[NodeHolding]) -> Result<(), NoMemory>
+    ensures written { OnOk result (out.new.items ≡ out.old.items ++ flat_map holding_bytes from.now) }
+    ensures fits { OnOk result (AllByRecursion IsHolding from.now) }
+{
+    for one in from {
+        put_holding(out, one)?;
+    }
+    Ok(())
+}
+
+fn put_target(out: &mut Vec<u8>, from: &NodeTarget) -> Result<(), NoMemory>
+    ensures written { OnOk result (out.new.items ≡ out.old.items ++ target_bytes from.now) }
+    ensures fits { OnOk result (IsTargetRow from.now) }
+{
+    put_text(out, from.target.as_str())?;
+    put_flag(out, from.readonly)
+}
+
+fn put_each_target(out: &mut Vec<u8>, from: &[NodeTarget]) -> Result<(), NoMemory>
+    ensures written { OnOk result (out.new.items ≡ out.old.items ++ flat_map target_bytes from.now) }
+    ensures fits { OnOk result (AllByRecursion IsTargetRow from.now) }
+{
+    for one in from {
+        put_target(out, one)?;
+    }
+    Ok(())
+}
+
+fn put_staged(out: &mut Vec<u8>, from: &Option<Capability>) -> Result<(), NoMemory>
+    ensures written { OnOk result (out.new.items ≡ out.old.items ++ staged_bytes from.now) }
+    ensures fits { OnOk result (IsStagedSo from.now) }
+{
+    match from {
+        None => put_byte(out, 0),
+        Some(capability) => {
+            put_byte(out, 1)?;
+            put_capability(out, capability)
+        }
+    }
+}
+
+/// The value of a controller's row.
+pub(crate) fn volume_value(alloc: Global, row: &ControllerRow) -> Result<Vec<u8>, NoMemory>
+    requires { AreHeldFew row.now }
+    ensures value { IfOk result (λ value. value.items ≡ volume_bytes (volume_row row.now)) }
+    ensures fits { IfOk result (λ value. IsVolumeRow (volume_row row.now)) }
+{
+    let _id = row.id.number();
+    let mut out = Vec::new(alloc);
+    put_byte(&mut out, 1)?;
+    put_byte(&mut out, if row.live { 1 } else { 2 })?;
+    put_text(&mut out, row.name.as_str())?;
+    put_word(&mut out, row.capacity)?;
+    put_capabilities(&mut out, &row.capabilities)?;
+    put_byte(&mut out, row.holdings.len() as u8)?;
+    put_each_holding(&mut out, &row.holdings)?;
+    put_kept(&mut out, row.last, row.kind, &row.reply)?;
+    Ok(out)
+}
+
+/// The value of a node's row.
+pub(crate) fn answered_value(alloc: Global, row: &NodeRow) -> Result<Vec<u8>, NoMemory>
+    requires { ArePublishedFew row.now }
+    ensures value { IfOk result (λ value. value.items ≡ answered_bytes (shown row.now)) }
+    ensures fits { IfOk result (λ value. IsAnsweredRow (shown row.now)) }
+{
+    let _id = row.id.number();
+    let mut out = Vec::new(alloc);
+    put_byte(&mut out, 1)?;
+    put_staged(&mut out, &row.staged)?;
+    put_byte(&mut out, row.targets.len() as u8)?;
+    put_each_target(&mut out, &row.targets)?;
+    put_kept(&mut out, row.last, row.kind, &row.reply)?;
+    Ok(out)
+}
+
+/// The value of a controller's head.
+pub(crate) fn controller_head_value(alloc: Global, next_id: u64) -> Result<Vec<u8>, NoMemory>
+    ensures { IfOk result (λ value. value.items ≡ (controller_head next_id).value) }
+{
+    let mut out = Vec::new(alloc);
+    put_byte(&mut out, 1)?;
+    put_byte(&mut out, 0)?;
+    put_word(&mut out, next_id)?;
+    Ok(out)
+}
+
+/// The value of a node's head.
+pub(crate) fn node_head_value(alloc: Global, node: &NodeId) -> Result<Vec<u8>, NoMemory>
+    ensures value { IfOk result (λ value. value.items ≡ (node_head node.now).value) }
+    ensures fits { IfOk result (λ value. IsNodeId node.now) }
+{
+    let mut out = Vec::new(alloc);
+    put_byte(&mut out, 1)?;
+    put_byte(&mut out, 1)?;
+    put_text(&mut out, node.as_str())?;
+    Ok(out)
+}
