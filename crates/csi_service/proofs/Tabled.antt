@@ -17,7 +17,8 @@ use Rattle.sqlite_keyed.proofs.ListLemmas.{all-filter, filter_all}
 use Rattle.sqlite_keyed.proofs.SortLemmas.{sorted_unique}
 use Rattle.sqlite.specs.State.{State}
 use Rattle.csi_tables.specs.Rows.{KeyedRow, cells, without, AreRising, HasRows}
-use Rattle.csi_serving.specs.Content.{StoredPart, put_in, take_out, put_all, IsRising}
+use Rattle.csi_records.specs.Part.{StoredPart, put_all}
+use Rattle.csi_serving.specs.Content.{put_in, take_out, IsRising}
 use Rattle.csi_service.specs.Tables.{row_of, AreKeys, StoresParts, HasParts, HoldsParts, LeavesParts}
 use Rattle.csi_serving.proofs.Rising.{AreAbove, rising-all}
 use Rattle.csi_service.proofs.KeyOrder.{key_below, key_back, same_key}

@@ -7,7 +7,8 @@ use Rattle.sqlite.specs.State.{State}
 use Rattle.csi_tables.specs.Rows.{KeyedRow, StoresRows, HasRows, IsAtRest}
 use Rattle.csi_serving.specs.declared.keep.KeepFault.{KeepFault}
 use Rattle.csi_serving.specs.declared.keep.KeepFault.TheVariants.{Device, NoMemory, BadRecord, Full}
-use Rattle.csi_serving.specs.Content.{StoredPart, IsRising}
+use Rattle.csi_records.specs.Part.{StoredPart}
+use Rattle.csi_serving.specs.Content.{IsRising}
 use Rattle.csi_serving.specs.Keeping.{HasRisen}
 
 -- a part as a row: its key in eight bytes, the greatest first

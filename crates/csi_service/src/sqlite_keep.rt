@@ -3,10 +3,11 @@ ghost use Rattle.std.specs.Prelude.{◌≡◌, ◌≤◌, ◌⊎◌, ℕ, List, 
 ghost use Rattle.sqlite.specs.Held.{state};
 ghost use Rattle.sqlite.specs.State.{HasCleanDisk};
 ghost use Rattle.csi_tables.specs.Rows.{IsBlank};
-ghost use Rattle.csi_serving.specs.Content.{StoredPart};
+ghost use Rattle.csi_records.specs.Part.{StoredPart};
 ghost use Rattle.csi_service.specs.Tables.{StoresParts, HoldsParts, LeavesParts, IsCounted};
 
-use csi_serving::{Keep, KeepFault, Part};
+use csi_records::Part;
+use csi_serving::{Keep, KeepFault};
 use csi_tables::{all_rows, make_table};
 use sqlite::{Alter, Connection, Error, ErrorCode};
 use std::alloc::Global;

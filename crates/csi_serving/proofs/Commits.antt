@@ -3,7 +3,7 @@ use Rattle.std.proofs.Common.{◌≡◌, ◌∙◌, inl, inr, sym, subst, ℕ, �
 use Rattle.std.specs.Prelude.{◌⊎◌}
 use Rattle.csi_serving.specs.declared.keep.KeepFault.{KeepFault}
 use Rattle.csi_serving.specs.declared.keep.KeepFault.TheVariants.{Device, NoMemory, BadRecord, Full}
-use Rattle.csi_serving.specs.Content.{StoredPart}
+use Rattle.csi_records.specs.Part.{StoredPart}
 use Rattle.csi_serving.specs.Keeping.{HasRisen, IsCommitFault}
 use Rattle.csi_serving.specs.Stores.{Store, Follows, Rests, LeavesEither, IsRefusal}
 

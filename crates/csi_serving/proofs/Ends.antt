@@ -13,7 +13,7 @@ use Rattle.csi_serving.specs.declared.serving.fault.ServeFaultKind.{ServeFaultKi
 use Rattle.csi_serving.specs.declared.serving.fault.ServeFaultKind.TheVariants as kinds
 use Rattle.csi_serving.specs.declared.serving.input.InputEnd.{InputEnd}
 use Rattle.csi_serving.specs.declared.serving.input.InputEnd.TheVariants as ends
-use Rattle.csi_serving.specs.Content.{StoredPart}
+use Rattle.csi_records.specs.Part.{StoredPart}
 use Rattle.csi_serving.specs.Stores.{Store}
 use Rattle.csi_serving.specs.Keeping.{HasRisen}
 use Rattle.csi_serving.specs.Reading.{IsReadEnd}

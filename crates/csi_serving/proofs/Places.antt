@@ -5,7 +5,8 @@ use Rattle.std.specs.List.{position_or_len, insert}
 use Rattle.std.proofs.lemmas.Bool.Decides.{nat_tests}
 use Rattle.std.proofs.lemmas.List.Quantifiers.{position-Some}
 use Rattle.csi_serving.specs.declared.entries.Entry.{Entry}
-use Rattle.csi_serving.specs.Content.{StoredPart, put_in}
+use Rattle.csi_records.specs.Part.{StoredPart}
+use Rattle.csi_serving.specs.Content.{put_in}
 use Rattle.csi_serving.specs.Memory.{stored, all_stored}
 
 -- before a greater or an equal key the others stay

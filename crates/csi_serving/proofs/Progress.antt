@@ -9,7 +9,7 @@ use Rattle.csi_serving.specs.declared.serving.fault.Served.{Served}
 use Rattle.csi_serving.specs.declared.serving.fault.ServeFaultKind.{ServeFaultKind}
 use Rattle.csi_serving.specs.declared.serving.fault.ServeFaultKind.TheVariants as kinds
 use Rattle.csi_serving.specs.declared.keep.KeepFault.{KeepFault}
-use Rattle.csi_serving.specs.Content.{StoredPart}
+use Rattle.csi_records.specs.Part.{StoredPart}
 use Rattle.csi_serving.specs.Stores.{Store, Follows}
 use Rattle.csi_serving.specs.Serving.{Setting, Runs, output_of, reply_count, AllDone, LastUnwritten, NextRefused, Serves}
 use Rattle.csi_serving.specs.Stopping.{AnswersAt, one_more_served, stopped_by}

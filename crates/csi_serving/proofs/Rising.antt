@@ -3,7 +3,8 @@ use Rattle.std.proofs.Common.{◌≡◌, ℕ, ◌<◌, Bool, true, false, cond, 
 use Rattle.std.specs.Prelude.{nat_lt, ◌==◌, not, Option, Some, None}
 use Rattle.std.specs.List.{AllByRecursion}
 use Rattle.std.proofs.lemmas.Bool.Decides.{nat_tests}
-use Rattle.csi_serving.specs.Content.{StoredPart, Change, put_in, take_out, changed_to, all_changed, IsRising}
+use Rattle.csi_records.specs.Part.{StoredPart, Change}
+use Rattle.csi_serving.specs.Content.{put_in, take_out, changed_to, all_changed, IsRising}
 
 -- all keys are above this one
 abbrev pub AreAbove : ℕ → List StoredPart → Type 0

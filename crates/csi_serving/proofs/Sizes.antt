@@ -2,7 +2,8 @@
 use Rattle.std.proofs.Common.{◌≡◌, ℕ, ◌+◌, ◌<◌, ◌≤◌, zero, suc, List, [], ◌∷◌, length, get_or, take, ap, arith}
 use Rattle.std.proofs.lemmas.List.Sums.{sum_by-cons}
 use Rattle.csi_serving.specs.declared.entries.Entry.{Entry}
-use Rattle.csi_serving.specs.Content.{StoredPart, size_of}
+use Rattle.csi_records.specs.Part.{StoredPart}
+use Rattle.csi_serving.specs.Content.{size_of}
 use Rattle.csi_serving.specs.Memory.{stored, all_stored}
 
 size-more : (part : StoredPart) (parts : List StoredPart) → size_of (part ∷ parts) ≡ 8 + length part.value + size_of parts

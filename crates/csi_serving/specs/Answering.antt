@@ -6,8 +6,7 @@ use Rattle.csi_frames.specs.Spelling.{spelling}
 use Rattle.csi_serving.specs.declared.keep.KeepFault.{KeepFault}
 use Rattle.csi_serving.specs.declared.serving.answering.FrameStop.{FrameStop}
 use Rattle.csi_serving.specs.declared.serving.answering.FrameStop.TheVariants.{NoMemory, Keep, Output}
-use Rattle.csi_serving.specs.Content.{StoredPart}
-use Rattle.csi_serving.specs.Part.{bytes_in}
+use Rattle.csi_records.specs.Part.{StoredPart, bytes_in}
 use Rattle.csi_serving.specs.Stores.{Store, LeavesEither, IsRefusal}
 use Rattle.csi_serving.specs.Serving.{Setting, AllDone, LastUnwritten, NextRefused}
 

@@ -2,7 +2,7 @@
 use Rattle.std.specs.Prelude.{◌≡◌, ◌⊎◌, ℕ, ◌<◌, ◌-◌, ◌^◌, List}
 use Rattle.csi_serving.specs.declared.keep.KeepFault.{KeepFault}
 use Rattle.csi_serving.specs.declared.keep.KeepFault.TheVariants.{Device, NoMemory, BadRecord, Full}
-use Rattle.csi_serving.specs.Content.{StoredPart}
+use Rattle.csi_records.specs.Part.{StoredPart}
 
 -- a count of faults has risen, or stands at its end, where each further fault leaves it
 abbrev pub HasRisen : ℕ → ℕ → Type 0

@@ -1,5 +1,4 @@
 pub mod Content
-pub mod Part
 pub mod Keeping
 pub mod Memory
 pub mod Counting
@@ -10,5 +9,3 @@ pub mod Serving
 pub mod Answering
 pub mod Stopping
 pub mod Ending
-pub mod RecordSpelling
-pub mod Rows

@@ -1,7 +1,8 @@
 -- A store in memory, as contracts see it.
 use Rattle.std.specs.Prelude.{◌≤◌, ℕ, List, map}
 use Rattle.csi_serving.specs.declared.entries.Entry.{Entry}
-use Rattle.csi_serving.specs.Content.{StoredPart, IsRising, size_of}
+use Rattle.csi_records.specs.Part.{StoredPart}
+use Rattle.csi_serving.specs.Content.{IsRising, size_of}
 
 -- its limit in bytes, and its parts
 pub record Memory : Type 0 where

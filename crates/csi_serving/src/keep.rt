@@ -1,10 +1,10 @@
 //! Where records are kept.
 ghost use Rattle.std.specs.Prelude.{◌≡◌, ◌≤◌, ◌⊎◌, ℕ, List, map, IfOk, IfErr, OnOk, OnErr};
-ghost use Rattle.csi_serving.specs.Content.{StoredPart, all_changed, put_all};
-ghost use Rattle.csi_serving.specs.Part.{change_of};
+ghost use Rattle.csi_records.specs.Part.{StoredPart, put_all, change_of};
+ghost use Rattle.csi_serving.specs.Content.{all_changed};
 ghost use Rattle.csi_serving.specs.Keeping.{IsLoadFault, IsCommitFault};
 
-use crate::part::Part;
+use csi_records::Part;
 use csi_types::NoMemory;
 use thiserror::Error;
 

@@ -5,14 +5,12 @@ mod counted;
 mod entries;
 mod keep;
 mod memory_keep;
-mod part;
 mod plugin_core;
-mod rows;
 mod serving;
 
 pub use counted::Counted;
 pub use keep::{Keep, KeepFault};
 pub use memory_keep::MemoryKeep;
-pub use part::Part;
+pub use csi_records::Part;
 pub use plugin_core::Core;
 pub use serving::{ServeFault, ServeFaultKind, Served, serve};

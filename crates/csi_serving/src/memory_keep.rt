@@ -1,12 +1,12 @@
 //! A store in memory.
 ghost use Rattle.std.specs.Prelude.{◌≡◌, ◌≤◌, ◌<◌, ◌⊎◌, ◌++◌, ◌∷◌, ℕ, List, [], map, Ok, IfOk, IfErr, OnOk, OnErr, IsOk};
-ghost use Rattle.csi_serving.specs.Content.{all_changed, put_all, size_of};
-ghost use Rattle.csi_serving.specs.Part.{change_of};
+ghost use Rattle.csi_records.specs.Part.{put_all, change_of};
+ghost use Rattle.csi_serving.specs.Content.{all_changed, size_of};
 ghost use Rattle.csi_serving.specs.Memory.{stored, all_stored};
 
 use crate::entries::{Entry, change_all, copies_of, fit};
 use crate::keep::{Keep, KeepFault};
-use crate::part::Part;
+use csi_records::Part;
 use csi_types::NoMemory;
 use std::alloc::Global;
 use std::marker::Model;

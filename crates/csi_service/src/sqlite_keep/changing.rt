@@ -3,11 +3,11 @@ ghost use Rattle.std.specs.Prelude.{◌≡◌, ◌⊎◌, List, map, OnOk};
 ghost use Rattle.sqlite.specs.Held.{state};
 ghost use Rattle.sqlite.specs.State.{HasCleanDisk, Survives};
 ghost use Rattle.sqlite.specs.Tree.{Trees};
-ghost use Rattle.csi_serving.specs.Content.{StoredPart, changed_to, all_changed};
-ghost use Rattle.csi_serving.specs.Part.{change_of};
+ghost use Rattle.csi_records.specs.Part.{StoredPart, change_of};
+ghost use Rattle.csi_serving.specs.Content.{changed_to, all_changed};
 ghost use Rattle.csi_service.specs.Tables.{StoresParts, HasParts, HoldsParts};
 
-use csi_serving::Part;
+use csi_records::Part;
 use csi_tables::{put_row, remove_row};
 use sqlite::{Alter, Connection, Error, ErrorCode, Transaction};
 

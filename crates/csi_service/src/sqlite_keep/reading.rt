@@ -5,11 +5,11 @@ ghost use Rattle.sqlite_value.specs.declared.value.Value.TheVariants.{Blob};
 ghost use Rattle.sqlite_value.specs.Value.{owned};
 ghost use Rattle.sqlite_value.specs.Order.{column};
 ghost use Rattle.csi_tables.specs.Rows.{cells};
-ghost use Rattle.csi_serving.specs.Content.{StoredPart, put_all};
-ghost use Rattle.csi_serving.specs.Part.{change_of};
+ghost use Rattle.csi_records.specs.Part.{StoredPart, put_all, change_of};
 ghost use Rattle.csi_service.specs.Tables.{row_of, AreKeys};
 
-use csi_serving::{KeepFault, Part};
+use csi_records::Part;
+use csi_serving::KeepFault;
 use byteorder::{BigEndian, ByteOrder};
 use csi_types::NoMemory;
 use sqlite::Row;

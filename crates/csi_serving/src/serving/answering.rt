@@ -2,7 +2,7 @@
 ghost use Rattle.std.specs.Prelude.{◌≡◌, ◌≤◌, ◌+◌, ℕ, Option, IfOk, IfErr, OnErr, OnOk, Err, length, drop, option_map};
 ghost use Rattle.std.specs.Option.{option_copied};
 ghost use Rattle.csi_frames.specs.Spelling.{spelling};
-ghost use Rattle.csi_serving.specs.Part.{bytes_in};
+ghost use Rattle.csi_records.specs.Part.{bytes_in};
 ghost use Rattle.csi_serving.specs.Keeping.{HasRisen};
 ghost use Rattle.csi_serving.specs.Stores.{store, Rests, Follows};
 ghost use Rattle.csi_serving.specs.Answering.{IsSpelledAs, Steps, StopsUnwritten, AnswersOne};

@@ -1,6 +1,6 @@
 use Rattle.std.proofs.Common.{◌≡◌, drop, map}
 use Rattle.csi_serving.specs.Content.{all_changed}
-use Rattle.csi_serving.specs.Part.{change_of}
+use Rattle.csi_records.specs.Part.{change_of}
 use Rattle.csi_serving.specs.Memory.{all_stored}
 use Rattle.csi_serving.proofs.entries.change_all.Given as goal
 

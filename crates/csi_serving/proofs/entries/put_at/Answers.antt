@@ -1,5 +1,5 @@
 use Rattle.std.proofs.Common.{◌∙◌, ap, refl}
-use Rattle.csi_serving.specs.Content.{StoredPart}
+use Rattle.csi_records.specs.Part.{StoredPart}
 use Rattle.csi_serving.specs.Memory.{all_stored}
 use Rattle.csi_serving.proofs.Places.{set-there, insert-there}
 use Rattle.csi_serving.proofs.entries.put_at.Goals as goal

@@ -2,7 +2,8 @@ use Rattle.std.proofs.Common.{◌≡◌, ◌∙◌, ap, refl, rules, Bool, true,
 use Rattle.std.specs.Prelude.{not, ◌==◌}
 use Rattle.std.proofs.lemmas.Fn.{filter_same}
 use Rattle.csi_serving.specs.declared.entries.Entry.{Entry}
-use Rattle.csi_serving.specs.Content.{StoredPart, take_out}
+use Rattle.csi_records.specs.Part.{StoredPart}
+use Rattle.csi_serving.specs.Content.{take_out}
 use Rattle.csi_serving.specs.Memory.{stored, all_stored}
 use Rattle.csi_serving.proofs.entries.take.Goals as goal
 

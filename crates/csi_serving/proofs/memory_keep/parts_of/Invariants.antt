@@ -1,6 +1,5 @@
 use Rattle.std.proofs.Common.{◌≡◌, take, map}
-use Rattle.csi_serving.specs.Content.{put_all}
-use Rattle.csi_serving.specs.Part.{change_of}
+use Rattle.csi_records.specs.Part.{put_all, change_of}
 use Rattle.csi_serving.specs.Memory.{all_stored}
 use Rattle.csi_serving.proofs.memory_keep.parts_of.Given as goal
 

@@ -2,7 +2,7 @@ use Rattle.std.proofs.Common.{◌≡◌, [], map, sym, ◌∙◌, ap, inl, inr, 
 use Rattle.std.proofs.lemmas.Grind.{common_steps}
 use Rattle.sqlite.specs.Held.{state}
 use Rattle.csi_serving.specs.Content.{all_changed}
-use Rattle.csi_serving.specs.Part.{change_of}
+use Rattle.csi_records.specs.Part.{change_of}
 use Rattle.csi_service.proofs.Tabled.{only_left, one_content}
 use Rattle.csi_service.proofs.sqlite_keep.SqliteKeepKeep.commit.Goals as goal
 

@@ -1,7 +1,7 @@
 use Rattle.std.proofs.Common.{◌≡◌, ◌⊎◌, inl, inr, ℕ, List, Result, Ok, Err, IfErr, map, sym, subst, ◌∙◌}
 use Rattle.csi_serving.specs.declared.keep.KeepFault.{KeepFault}
 use Rattle.csi_serving.specs.declared.keep.KeepFault.TheVariants.{NoMemory, BadRecord}
-use Rattle.csi_serving.specs.Content.{StoredPart}
+use Rattle.csi_records.specs.Part.{StoredPart}
 use Rattle.csi_serving.specs.Keeping.{IsLoadFault}
 use Rattle.csi_service.specs.Tables.{row_of}
 use Rattle.csi_service.proofs.Tabled.{rising_rows}

@@ -2,8 +2,8 @@ use Rattle.std.proofs.Common.{◌<◌, ◌^◌, sym, subst, map, arith}
 use Rattle.std.specs.Option.{option_map}
 use Rattle.std.proofs.lemmas.Result.{on_ok_weaker}
 use Rattle.sqlite.specs.Held.{state}
-use Rattle.csi_serving.specs.Content.{StoredPart, changed_to}
-use Rattle.csi_serving.specs.Part.{bytes_in}
+use Rattle.csi_records.specs.Part.{StoredPart, bytes_in}
+use Rattle.csi_serving.specs.Content.{changed_to}
 use Rattle.csi_service.specs.Tables.{row_of, HasParts}
 use Rattle.csi_service.proofs.Tabled.{put_has, removed_has}
 use Rattle.csi_service.proofs.sqlite_keep.changing.change.Goals as goal

@@ -1,8 +1,8 @@
 use Rattle.std.proofs.Common.{◌≡◌, List, map, drop}
 use Rattle.sqlite.specs.State.{HasCleanDisk, Survives}
 use Rattle.sqlite.specs.Held.{state}
-use Rattle.csi_serving.specs.Content.{StoredPart, all_changed}
-use Rattle.csi_serving.specs.Part.{change_of}
+use Rattle.csi_records.specs.Part.{StoredPart, change_of}
+use Rattle.csi_serving.specs.Content.{all_changed}
 use Rattle.csi_service.specs.Tables.{HasParts}
 use Rattle.csi_service.proofs.sqlite_keep.changing.change_all.Given as goal
 

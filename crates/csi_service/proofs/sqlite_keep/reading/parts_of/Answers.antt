@@ -1,5 +1,5 @@
 use Rattle.std.proofs.Common.{ℕ, List, [], ◌∷◌, ◌++◌, ◌∙◌, sym, ap, take, add-one}
-use Rattle.csi_serving.specs.Content.{Change, put_all}
+use Rattle.csi_records.specs.Part.{Change, put_all}
 use Rattle.csi_service.proofs.Tabled.{at_place}
 use Rattle.csi_service.proofs.sqlite_keep.reading.parts_of.Goals as goal
 

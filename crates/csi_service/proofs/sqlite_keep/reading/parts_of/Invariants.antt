@@ -1,7 +1,6 @@
 use Rattle.std.proofs.Common.{◌≡◌, List, map, take}
 use Rattle.csi_tables.specs.Rows.{cells}
-use Rattle.csi_serving.specs.Content.{StoredPart, put_all}
-use Rattle.csi_serving.specs.Part.{change_of}
+use Rattle.csi_records.specs.Part.{StoredPart, put_all, change_of}
 use Rattle.csi_service.specs.Tables.{row_of, AreKeys}
 use Rattle.csi_service.proofs.sqlite_keep.reading.parts_of.Given as goal
 
