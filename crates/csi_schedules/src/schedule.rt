@@ -126,6 +126,6 @@ pub fn read_config(alloc: Global, text: &str) -> Result<Config, ScheduleFault>
     match Value::from_str(alloc, text) {
         Ok(value) => config_alone(alloc, &value),
         Err(error) if error.is_memory() => Err(ScheduleFault::NoMemory),
-        Err(_) => Err(ScheduleFault::NotJson),
+        Err(_other) => Err(ScheduleFault::NotJson),
     }
 }
