@@ -2,15 +2,7 @@
 -- it. This profile's own.
 use Rattle.std.specs.Prelude.{ℕ, ◌+◌, ◌<◌, ◌==◌, nat_lt, not, if◌then◌else◌, List, [], ◌∷◌, map, filter, length, sum_by, Option, Some, None}
 use Rattle.std.specs.List.{AllByRecursion}
-
-pub record StoredPart : Type 0 where
-  pub key : ℕ
-  pub value : List ℕ
-
--- a part that is put in, or, where it has no value, taken out
-pub record Change : Type 0 where
-  pub key : ℕ
-  pub value : Option (List ℕ)
+pub use Rattle.csi_records.specs.Part.{StoredPart, Change, put_all}
 
 -- the part takes the place of the one of its key, or goes where its key belongs
 abbrev pub put_in : StoredPart → List StoredPart → List StoredPart
@@ -33,10 +25,6 @@ changed_to key None parts = take_out key parts
 abbrev pub all_changed : List Change → List StoredPart → List StoredPart
 all_changed [] parts = parts
 all_changed (change ∷ changes) parts = all_changed changes (changed_to change.key change.value parts)
-
--- the changes that put these parts in
-abbrev pub put_all : List StoredPart → List Change
-put_all parts = map (λ part. record { key = part.key; value = Some part.value }) parts
 
 -- each key is below the later ones
 abbrev pub IsRising : List StoredPart → Type 0

@@ -10,5 +10,4 @@ pub mod Serving
 pub mod Answering
 pub mod Stopping
 pub mod Ending
-pub mod RecordSpelling
 pub mod Rows

@@ -1,36 +1,9 @@
--- Worked rows of the spelling of records, which the checker computes.
-use Rattle.std.specs.Prelude.{◌≡◌, [], ◌∷◌, length, codes}
-use Rattle.csi_types.specs.declared.mode.Mode.TheVariants.{SingleNodeWriter}
-use Rattle.csi_types.specs.declared.capability.Access.TheVariants.{Block}
-use Rattle.csi_types.specs.declared.call.Call.TheVariants.{CreateVolume}
-use Rattle.csi_types.specs.declared.call.Party.TheVariants.{Controller}
-use Rattle.csi_types.specs.Config.{Config}
-use Rattle.csi_types.specs.Frame.{Frame}
-use Rattle.csi_types.specs.Replies.{call_frame}
+-- A worked row of the room in a store, which the checker computes.
+use Rattle.std.specs.Prelude.{◌≡◌}
 use Rattle.csi_controller.specs.State.{empty_controller}
-use Rattle.csi_controller.specs.Fenced.{after_frames}
+use Rattle.csi_records.specs.Rows.{parts_of_state}
 use Rattle.csi_service.specs.Content.{size_of}
-use Rattle.csi_service.specs.RecordSpelling.{controller_parts, node_parts, record_bytes}
 
--- no nodes, and volumes of at most 1,000 bytes
-abbrev pub no_nodes : Config
-no_nodes = record { greatest = 1000; nodes = [] }
-
--- creates v, of at least 10 bytes, for one writing node
-abbrev pub create : Frame
-create = call_frame (record { session = 1; call = 1 }) Controller (CreateVolume (codes "v") 10 0 (record { access = Block; mode = SingleNodeWriter } ∷ []))
-
--- the record of a controller that made its first volume: 82 bytes
-pub record CreatedRow : Type 0 where
-  pub bytes : record_bytes (controller_parts (after_frames no_nodes empty_controller (create ∷ [])))
-      ≡ 1 ∷ 0 ∷ 0 ∷ 0 ∷ 2
-      ∷ 0 ∷ 0 ∷ 0 ∷ 0 ∷ 0 ∷ 0 ∷ 0 ∷ 0 ∷ 0 ∷ 0 ∷ 0 ∷ 10 ∷ 1 ∷ 0 ∷ 0 ∷ 0 ∷ 0 ∷ 0 ∷ 0 ∷ 0 ∷ 0 ∷ 2
-      ∷ 0 ∷ 0 ∷ 0 ∷ 0 ∷ 0 ∷ 0 ∷ 0 ∷ 1 ∷ 0 ∷ 0 ∷ 0 ∷ 43 ∷ 1 ∷ 1 ∷ 1 ∷ 118 ∷ 0 ∷ 0 ∷ 0 ∷ 0 ∷ 0 ∷ 0 ∷ 0 ∷ 10 ∷ 1 ∷ 0 ∷ 1 ∷ 0
-      ∷ 0 ∷ 0 ∷ 0 ∷ 0 ∷ 0 ∷ 0 ∷ 0 ∷ 1 ∷ 0 ∷ 0 ∷ 0 ∷ 0 ∷ 0 ∷ 0 ∷ 0 ∷ 1 ∷ 129 ∷ 0 ∷ 0 ∷ 0 ∷ 0 ∷ 0 ∷ 0 ∷ 0 ∷ 0 ∷ 1 ∷ 0 ∷ []
-  pub count : length (record_bytes (controller_parts (after_frames no_nodes empty_controller (create ∷ [])))) ≡ 82
-
--- a controller that answered nothing has its head, which takes 18 bytes of a store, and so does a node
-pub record EmptyRow : Type 0 where
-  pub controller : controller_parts empty_controller ≡ record { key = 0; value = 1 ∷ 0 ∷ 0 ∷ 0 ∷ 0 ∷ 0 ∷ 0 ∷ 0 ∷ 0 ∷ 1 ∷ [] } ∷ []
-  pub size : size_of (controller_parts empty_controller) ≡ 18
-  pub node : node_parts (codes "n1") [] ≡ record { key = 0; value = 1 ∷ 1 ∷ 2 ∷ 110 ∷ 49 ∷ [] } ∷ []
+-- the record of a controller that answered nothing takes 18 bytes of a store
+abbrev pub EmptySize : Type 0
+EmptySize = size_of (parts_of_state empty_controller) ≡ 18

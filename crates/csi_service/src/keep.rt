@@ -5,6 +5,7 @@ ghost use Rattle.csi_service.specs.Part.{change_of};
 ghost use Rattle.csi_service.specs.Keeping.{IsLoadFault, IsCommitFault};
 
 use crate::part::Part;
+use csi_records::RecordStop;
 use csi_types::NoMemory;
 use thiserror::Error;
 
@@ -33,6 +34,20 @@ impl From<NoMemory> for KeepFault {
 
     fn from(_refused: NoMemory) -> KeepFault {
         KeepFault::NoMemory
+    }
+}
+
+impl From<RecordStop> for KeepFault {
+    ghost use Rattle.std.specs.Prelude.{◌≡◌};
+    ghost use Rattle.csi_service.specs.Keeping.{fault_of_stop};
+
+    ghost from_gives = { λ stop fault. fault ≡ fault_of_stop stop };
+
+    fn from(stop: RecordStop) -> KeepFault {
+        match stop {
+            RecordStop::BadRecord(place) => KeepFault::BadRecord(place),
+            RecordStop::NoMemory => KeepFault::NoMemory,
+        }
     }
 }
 

@@ -1,10 +1,6 @@
-//! Worked rows of the spelling of records. Each function proves a statement, and does nothing.
-ghost use Rattle.csi_service.specs.Rows.{CreatedRow, EmptyRow};
-
-fn created()
-    ensures { CreatedRow }
-{}
+//! A worked row of the room in a store. The function proves a statement, and does nothing.
+ghost use Rattle.csi_service.specs.Rows.{EmptySize};
 
 fn empty()
-    ensures { EmptyRow }
+    ensures { EmptySize }
 {}
