@@ -3,6 +3,8 @@ use Rattle.std.specs.Prelude.{◌≡◌, ◌⊎◌, ℕ, ◌<◌, ◌-◌, ◌^�
 use Rattle.csi_serving.specs.declared.keep.KeepFault.{KeepFault}
 use Rattle.csi_serving.specs.declared.keep.KeepFault.TheVariants.{Device, NoMemory, BadRecord, Full}
 use Rattle.csi_records.specs.Part.{StoredPart}
+use Rattle.csi_records.specs.declared.fault.RecordStop.{RecordStop}
+use Rattle.csi_records.specs.declared.fault.RecordStop.TheVariants as stops
 
 -- a count of faults has risen, or stands at its end, where each further fault leaves it
 abbrev pub HasRisen : ℕ → ℕ → Type 0
@@ -23,3 +25,8 @@ IsCommitFault honest holds fits change before after Device = HasRisen before aft
 IsCommitFault honest holds fits change before after NoMemory = Unit {0}
 IsCommitFault honest holds fits change before after (BadRecord place) = ⊥
 IsCommitFault honest holds fits change before after Full = honest → (content : List StoredPart) → holds content → fits (change content) → ⊥
+
+-- what a record that can't be read is to a store
+abbrev pub fault_of_stop : RecordStop → KeepFault
+fault_of_stop (stops.BadRecord place) = BadRecord place
+fault_of_stop stops.NoMemory = NoMemory

@@ -9,3 +9,4 @@ pub mod Serving
 pub mod Answering
 pub mod Stopping
 pub mod Ending
+pub mod Rows

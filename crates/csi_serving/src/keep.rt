@@ -4,7 +4,7 @@ ghost use Rattle.csi_records.specs.Part.{StoredPart, put_all, change_of};
 ghost use Rattle.csi_serving.specs.Content.{all_changed};
 ghost use Rattle.csi_serving.specs.Keeping.{IsLoadFault, IsCommitFault};
 
-use csi_records::Part;
+use csi_records::{Part, RecordStop};
 use csi_types::NoMemory;
 use thiserror::Error;
 
@@ -33,6 +33,20 @@ impl From<NoMemory> for KeepFault {
 
     fn from(_refused: NoMemory) -> KeepFault {
         KeepFault::NoMemory
+    }
+}
+
+impl From<RecordStop> for KeepFault {
+    ghost use Rattle.std.specs.Prelude.{◌≡◌};
+    ghost use Rattle.csi_serving.specs.Keeping.{fault_of_stop};
+
+    ghost from_gives = { λ stop fault. fault ≡ fault_of_stop stop };
+
+    fn from(stop: RecordStop) -> KeepFault {
+        match stop {
+            RecordStop::BadRecord(place) => KeepFault::BadRecord(place),
+            RecordStop::NoMemory => KeepFault::NoMemory,
+        }
     }
 }
 

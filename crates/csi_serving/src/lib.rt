@@ -6,11 +6,12 @@ mod entries;
 mod keep;
 mod memory_keep;
 mod plugin_core;
+mod rows;
 mod serving;
 
 pub use counted::Counted;
+pub use csi_records::Part;
 pub use keep::{Keep, KeepFault};
 pub use memory_keep::MemoryKeep;
-pub use csi_records::Part;
 pub use plugin_core::Core;
 pub use serving::{ServeFault, ServeFaultKind, Served, serve};

@@ -90,17 +90,19 @@ impl Keep for MemoryKeep {
 
     fn commit(&mut self, parts: &[Part]) -> Result<(), KeepFault>
         ensures done { OnOk result (self.new.parts ≡ all_changed (map change_of parts.now) self.old.parts) }
+        ensures fits { OnOk result (size_of (all_changed (map change_of parts.now) self.old.parts) ≤ self.old.limit) }
         ensures limit { self.new.limit ≡ self.old.limit }
         ensures refused { OnErr result (self.new ≡ self.old) }
         ensures cause { IfErr result (λ fault. (fault ≡ KeepFault.NoMemory) ⊎ ((fault ≡ KeepFault.Full) × (self.old.limit < size_of (all_changed (map change_of parts.now) self.old.parts)))) }
         ensures nothing { parts.now ≡ [] → IsOk result }
     {
+        let limit = self.limit;
         if parts.is_empty() {
             return Ok(());
         }
         let mut entries = copies_of(self.alloc, &self.entries)?;
         change_all(self.alloc, &mut entries, parts)?;
-        if !fit(&entries, self.limit) {
+        if !fit(&entries, limit) {
             return Err(KeepFault::Full);
         }
         self.entries = entries;
