@@ -3,6 +3,7 @@
 mod asking;
 mod frames;
 mod listing;
+mod names;
 mod numbers;
 mod playing;
 mod refusals;

@@ -5,9 +5,12 @@ mod endings;
 mod events;
 mod examples;
 mod files;
+mod listed;
+mod long;
 mod running;
 mod runs;
 mod schedules;
+mod scripts;
 mod shown;
 
 use csi_commands::Ending;

@@ -1,36 +1,71 @@
-//! The parts of a world with one node, `n1`.
+//! The parts of a world with one node, `n1`. Where memory is refused a part is asked again, or made a second time, so that
+//! each test here is one of refused growths too (by `rt try --test --fail-alloc N`).
+use crate::replies::is_reply;
 use crate::values::{
     block, blocks, call_frame, config, detail, name, node_id, number, room, volume_id,
 };
-use csi_controller::Controller;
-use csi_node::Node;
+use csi_controller::{Controller, ControllerRecord};
+use csi_node::{Node, NodeRecord};
 use csi_orchestrator::Orchestrator;
 use csi_types::Mode::SingleNodeWriter;
 use csi_types::{Call, Frame, Kind, Mode, Party, Reply, Status};
-use csi_world::World;
+use csi_world::{AssembleFault, World};
 use std::alloc::Global;
 use std::process::Abort;
 
-/// The three, before they are made into a world.
+/// The plugins, and what the orchestrator did, before they are made into a world.
 #[derive(Drop)]
 pub(super) struct Parts {
     pub controller: Controller,
     pub node: Node,
-    pub orchestrator: Orchestrator,
+    /// Whether the orchestrator took an OK to its CreateVolume of `v`, with id 1. Else it did nothing.
+    pub heard: bool,
     // How many calls were answered.
     calls: u64,
 }
 
+pub(super) fn kept_controller(
+    rt: &(impl Abort + AllocGlobal),
+    controller: &Controller,
+) -> ControllerRecord {
+    match controller.record(rt.alloc()) {
+        Ok(record) => record,
+        Err(_) => controller.record(rt.alloc()).expect(rt, "memory"),
+    }
+}
+
+pub(super) fn kept_node(rt: &impl Abort, node: &Node) -> NodeRecord {
+    match node.record() {
+        Ok(record) => record,
+        Err(_) => node.record().expect(rt, "memory"),
+    }
+}
+
 impl Parts {
-    /// The world of these parts.
-    pub(super) fn world(self, rt: &(impl Abort + AllocGlobal)) -> World {
-        let kept = self.controller.record(rt.alloc()).expect(rt, "memory");
+    // The world of these parts, if there is memory for it.
+    fn try_world(&self, rt: &(impl Abort + AllocGlobal)) -> Result<World, AssembleFault> {
+        let kept = kept_controller(rt, &self.controller);
         let mut nodes = room(rt, 1);
-        nodes
-            .push(self.node.record().expect(rt, "memory"))
-            .expect(rt, "room");
+        nodes.push(kept_node(rt, &self.node)).expect(rt, "room");
         let config = config(rt, &[("n1", 4)]);
-        World::assemble(rt.alloc(), config, kept, nodes, self.orchestrator).expect(rt, "a world")
+        World::assemble(
+            rt.alloc(),
+            config,
+            kept,
+            nodes,
+            orchestrator(rt, self.heard),
+        )
+    }
+
+    /// The world of these parts. It is refused for want of memory alone, and then made of the parts once more.
+    pub(super) fn world(&self, rt: &(impl Abort + AllocGlobal)) -> World {
+        match self.try_world(rt) {
+            Ok(world) => world,
+            Err(fault) => {
+                assert_eq!(rt; fault, AssembleFault::NoMemory);
+                self.try_world(rt).expect(rt, "a world")
+            }
+        }
     }
 }
 
@@ -49,7 +84,7 @@ pub(super) fn empty_parts(rt: &(impl Abort + AllocGlobal)) -> Parts {
     Parts {
         controller: new_controller(rt),
         node: Node::new(rt.alloc(), node_id(rt, "n1")),
-        orchestrator: new_orchestrator(rt),
+        heard: false,
         calls: 0,
     }
 }
@@ -91,15 +126,33 @@ fn is_controllers(call: &Call) -> bool {
     call.kind().is_for(&Party::Controller)
 }
 
+fn controllers_answer(
+    rt: &(impl Abort + AllocGlobal),
+    controller: &mut Controller,
+    frame: &Frame,
+) -> Option<Frame> {
+    match controller.step(frame) {
+        Ok(answer) => answer,
+        Err(_) => controller.step(frame).expect(rt, "memory"),
+    }
+}
+
+fn nodes_answer(rt: &impl Abort, node: &mut Node, frame: &Frame) -> Option<Frame> {
+    match node.step(frame) {
+        Ok(answer) => answer,
+        Err(_) => node.step(frame).expect(rt, "memory"),
+    }
+}
+
 // The plugin's reply to a call that it carries out.
 fn reply_of(rt: &(impl Abort + AllocGlobal), parts: &mut Parts, call: Call) -> Frame {
     parts.calls = parts.calls.saturating_add(1);
     let reply = if is_controllers(&call) {
         let frame = call_frame(rt, Party::Controller, parts.calls, call);
-        parts.controller.step(&frame).expect(rt, "memory")
+        controllers_answer(rt, &mut parts.controller, &frame)
     } else {
         let frame = call_frame(rt, Party::Node(node_id(rt, "n1")), parts.calls, call);
-        parts.node.step(&frame).expect(rt, "memory")
+        nodes_answer(rt, &mut parts.node, &frame)
     };
     reply.expect(rt, "a reply")
 }
@@ -109,36 +162,55 @@ pub(super) fn works(rt: &(impl Abort + AllocGlobal), parts: &mut Parts, call: Ca
     let _reply = reply_of(rt, parts, call);
 }
 
-// An orchestrator that asked for volume `v` by call 1.
-fn asking(rt: &(impl Abort + AllocGlobal)) -> Orchestrator {
-    let mut orchestrator = new_orchestrator(rt);
+// Whether it asks for volume `v`, if there is memory for it.
+fn asks(rt: &(impl Abort + AllocGlobal), orchestrator: &mut Orchestrator) -> bool {
     let capabilities = blocks(rt, &[SingleNodeWriter]);
-    let _sent = orchestrator
-        .create(name(rt, "v"), 10, 0, capabilities)
-        .expect(rt, "a call");
     orchestrator
+        .create(name(rt, "v"), 10, 0, capabilities)
+        .is_ok()
 }
 
-/// An orchestrator that took a forged OK to its CreateVolume.
-pub(super) fn heard(rt: &(impl Abort + AllocGlobal)) -> Orchestrator {
-    let mut orchestrator = asking(rt);
+// Whether it hears this, if there is memory for it.
+fn hears(orchestrator: &mut Orchestrator, frame: &Frame) -> bool {
+    orchestrator.deliver(frame).is_ok()
+}
+
+// The OK to call 1, a CreateVolume, with id 1.
+fn ok_to_create(rt: &(impl Abort + AllocGlobal)) -> Frame {
     let reply = Reply {
         status: Status::Ok,
         id: Some(volume_id(rt, 1)),
         detail: detail(rt, ""),
     };
-    let forged = Frame::reply(number(1), Party::Controller, Kind::CreateVolume, reply);
-    let _heard = orchestrator
-        .deliver(&forged.expect(rt, "a reply"))
-        .expect(rt, "memory");
+    Frame::reply(number(1), Party::Controller, Kind::CreateVolume, reply).expect(rt, "a reply")
+}
+
+// An orchestrator that asked for `v` by its call 1 and heard that it was made.
+fn heard(rt: &(impl Abort + AllocGlobal)) -> Orchestrator {
+    let mut orchestrator = new_orchestrator(rt);
+    let asked = asks(rt, &mut orchestrator) || asks(rt, &mut orchestrator);
+    assert!(rt; asked);
+    let frame = ok_to_create(rt);
+    let heard = hears(&mut orchestrator, &frame) || hears(&mut orchestrator, &frame);
+    assert!(rt; heard);
     orchestrator
 }
 
-/// Parts of which the controller made `v`, and the orchestrator heard so.
+// An orchestrator that heard so, or one that did nothing.
+fn orchestrator(rt: &(impl Abort + AllocGlobal), has_heard: bool) -> Orchestrator {
+    if has_heard {
+        heard(rt)
+    } else {
+        new_orchestrator(rt)
+    }
+}
+
+/// Parts of which the controller made `v` by call 1, and the orchestrator heard so.
 pub(super) fn created(rt: &(impl Abort + AllocGlobal)) -> Parts {
     let mut parts = empty_parts(rt);
-    parts.orchestrator = asking(rt);
     let reply = reply_of(rt, &mut parts, create(rt));
-    let _heard = parts.orchestrator.deliver(&reply).expect(rt, "memory");
+    let told = (Status::Ok, Some(1), "");
+    assert!(rt; is_reply(&reply, None, 1, Kind::CreateVolume, told));
+    parts.heard = true;
     parts
 }

@@ -25,10 +25,18 @@ const NO_EVENT: &str = "{\"config\":{\"greatest\":1000,\"nodes\":[]},\"events\":
 const NO_EVENT_REPORT: &str =
     "{\"attached\":[],\"events\":[],\"frames\":0,\"known\":[],\"published\":[],\"safe\":true,\"session\":1,\"staged\":[],\"volumes\":[]}\n";
 
+// A name that JSON can spell in several ways. The report has the shortest escapes, and no other.
+const ESCAPED: &str =
+    "{\"config\":{\"greatest\":1000,\"nodes\":[]},\"events\":[{\"create\":{\"capabilities\":[],\"limit\":0,\"name\":\"\\\"\\\\\\u000a\\u0001\\u00e9\\/\",\"required\":10}}]}";
+
+const ESCAPED_REPORT: &str =
+    "{\"attached\":[],\"events\":[\"sent 1\"],\"frames\":1,\"known\":[{\"known\":\"maybe\",\"name\":\"\\\"\\\\\\n\\u0001\u{e9}/\",\"thing\":\"exists\"}],\"published\":[],\"safe\":true,\"session\":1,\"staged\":[],\"volumes\":[]}\n";
+
 const RUNS: &[Case] = &[
     Case::Runs(USED, USED_REPORT, DONE),
     Case::Runs(NO_FRAME, NO_FRAME_REPORT, DONE),
     Case::Runs(NO_EVENT, NO_EVENT_REPORT, DONE),
+    Case::Runs(ESCAPED, ESCAPED_REPORT, DONE),
 ];
 
 #[test]
