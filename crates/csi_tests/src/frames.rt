@@ -1,6 +1,7 @@
 //! Frames as bytes: that they are written and read with memory to spare, and literal bytes.
 mod faults;
 mod growths;
+mod pieces;
 mod round_trips;
 mod vectors;
 

@@ -2,7 +2,7 @@
 //! in turn (`rt try --test --fail-alloc N`), they see want of memory and nothing changed, and then the whole answer.
 use super::read;
 use super::vectors::{CREATE, DELETE, PUBLISH};
-use csi_frames::{FaultKind, decode, encode};
+use csi_frames::{FaultKind, Splitter, decode, encode};
 use csi_types::Frame;
 use std::alloc::Global;
 use std::process::Abort;
@@ -46,4 +46,40 @@ fn encode_appends_or_leaves_the_bytes(rt: HostRuntime) {
     let frame = read(&rt, DELETE.as_slice());
     let out = written_in_the_end(&rt, &frame);
     assert!(rt; out.as_slice() == DELETE.as_slice());
+}
+
+// Feeds a piece, in the end.
+fn feed_in_the_end(rt: &(impl Abort + AllocGlobal), splitter: &mut Splitter, piece: &[u8]) {
+    let before = splitter.kept();
+    if splitter.feed(piece).is_err() {
+        assert!(rt; splitter.kept() == before);
+        splitter.feed(piece).expect(rt, "memory");
+    }
+}
+
+// The next frame's bytes, in the end.
+fn next_in_the_end(rt: &(impl Abort + AllocGlobal), splitter: &mut Splitter) -> Vec<u8> {
+    match splitter.next() {
+        Ok(Some(lent)) => match lent.to_frame(rt.alloc()) {
+            Ok(frame) => written_in_the_end(rt, &frame),
+            Err(_) => {
+                let frame = lent.to_frame(rt.alloc()).expect(rt, "memory");
+                written_in_the_end(rt, &frame)
+            }
+        },
+        _ => Vec::new(rt.alloc()),
+    }
+}
+
+#[test]
+fn feed_keeps_a_piece_or_wants_memory(rt: HostRuntime) {
+    let mut splitter = Splitter::new(rt.alloc());
+    for piece in CREATE.chunks(9) {
+        feed_in_the_end(&rt, &mut splitter, piece);
+    }
+    let out = next_in_the_end(&rt, &mut splitter);
+    assert!(rt; out.as_slice() == CREATE.as_slice());
+    feed_in_the_end(&rt, &mut splitter, &PUBLISH);
+    let out = next_in_the_end(&rt, &mut splitter);
+    assert!(rt; out.as_slice() == PUBLISH.as_slice());
 }

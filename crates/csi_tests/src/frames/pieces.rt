@@ -1,0 +1,186 @@
+//! Frames that come in pieces, with memory to spare.
+use super::read;
+use super::vectors::{
+    ATTACH, CREATE, CREATE_ACCENTED, CREATE_REPLY, DELETE, DELETE_REPLY, LONGER_DELETE, PUBLISH,
+    REFUSAL,
+};
+use csi_frames::{FaultKind, Splitter, encode};
+use csi_types::Frame;
+use std::alloc::Global;
+use std::process::Abort;
+
+// Whether it gives nothing yet.
+fn waits(splitter: &mut Splitter) -> bool {
+    match splitter.next() {
+        Ok(None) => true,
+        _ => false,
+    }
+}
+
+// Whether it gives this frame.
+fn gives(rt: &(impl Abort + AllocGlobal), splitter: &mut Splitter, frame: &Frame) -> bool {
+    match splitter.next() {
+        Ok(Some(lent)) => {
+            let copy = lent.to_frame(rt.alloc()).expect(rt, "memory");
+            copy == *frame
+        }
+        _ => false,
+    }
+}
+
+// Whether it answers this fault.
+fn stops(splitter: &mut Splitter, kind: FaultKind, place: usize) -> bool {
+    match splitter.next() {
+        Err(fault) => fault.kind == kind && fault.place == place,
+        Ok(_) => false,
+    }
+}
+
+// Whether the stream may not end, with so many bytes left.
+fn ends_short(splitter: &Splitter, left: usize) -> bool {
+    match splitter.end() {
+        Err(fault) => fault.kind == FaultKind::Short
+            && fault.place == left
+            && splitter.kept() == left,
+        Ok(()) => false,
+    }
+}
+
+// Whether the stream may end, after frames of so many bytes.
+fn has_ended(splitter: &Splitter, taken: usize) -> bool {
+    splitter.end().is_ok() && splitter.kept() == 0 && splitter.taken() == taken as u64
+}
+
+fn fed(rt: &(impl Abort + AllocGlobal), pieces: &[&[u8]]) -> Splitter {
+    let mut splitter = Splitter::new(rt.alloc());
+    for piece in pieces {
+        splitter.feed(piece).expect(rt, "memory");
+    }
+    splitter
+}
+
+// A frame, the last bytes of which come alone: none before them, and then that frame.
+fn comes_in_two(rt: &(impl Abort + AllocGlobal), bytes: &[u8], cut: usize, frame: &Frame) -> bool {
+    if bytes.len() <= cut {
+        return false;
+    }
+    let (first, second) = bytes.split_at(cut);
+    let mut splitter = fed(rt, &[first]);
+    if !waits(&mut splitter) || !ends_short(&splitter, cut) && cut > 0 {
+        return false;
+    }
+    splitter.feed(second).expect(rt, "memory");
+    gives(rt, &mut splitter, frame) && waits(&mut splitter) && has_ended(&splitter, bytes.len())
+}
+
+// The same where each byte comes alone.
+fn comes_in_bytes(rt: &(impl Abort + AllocGlobal), bytes: &[u8], frame: &Frame) -> bool {
+    let mut splitter = Splitter::new(rt.alloc());
+    for byte in bytes {
+        if !waits(&mut splitter) {
+            return false;
+        }
+        splitter.feed(&[*byte]).expect(rt, "memory");
+    }
+    gives(rt, &mut splitter, frame) && waits(&mut splitter) && has_ended(&splitter, bytes.len())
+}
+
+const VECTORS: &[&[u8]] = &[
+    &DELETE,
+    &DELETE_REPLY,
+    &CREATE,
+    &CREATE_REPLY,
+    &CREATE_ACCENTED,
+    &REFUSAL,
+    &ATTACH,
+    &PUBLISH,
+];
+
+#[test]
+fn a_frame_in_any_two_pieces(rt: HostRuntime) {
+    for bytes in VECTORS {
+        let frame = read(&rt, bytes);
+        for cut in 0..bytes.len() {
+            assert!(rt; comes_in_two(&rt, bytes, cut, &frame), "cut at {cut}");
+        }
+    }
+}
+
+#[test]
+fn a_frame_byte_by_byte(rt: HostRuntime) {
+    for bytes in VECTORS {
+        let frame = read(&rt, bytes);
+        assert!(rt; comes_in_bytes(&rt, bytes, &frame));
+    }
+}
+
+// Writes the frames that are there, each once.
+fn write_frames(rt: &(impl Abort + AllocGlobal), splitter: &mut Splitter, out: &mut Vec<u8>) {
+    for _ in 0..100 {
+        match splitter.next() {
+            Ok(Some(lent)) => {
+                let frame = lent.to_frame(rt.alloc()).expect(rt, "memory");
+                encode(&frame, out).expect(rt, "memory");
+            }
+            _ => return,
+        }
+    }
+}
+
+// Whether the frames of the stream, in pieces of this size, are written as they were.
+fn is_written_again(rt: &(impl Abort + AllocGlobal), stream: &[u8], size: usize) -> bool {
+    let mut splitter = Splitter::new(rt.alloc());
+    let mut out = Vec::new(rt.alloc());
+    for piece in stream.chunks(size.max(1)) {
+        splitter.feed(piece).expect(rt, "memory");
+        write_frames(rt, &mut splitter, &mut out);
+    }
+    has_ended(&splitter, stream.len()) && out.as_slice() == stream
+}
+
+#[test]
+fn a_stream_in_pieces_of_any_size(rt: HostRuntime) {
+    let mut stream = Vec::new(rt.alloc());
+    for bytes in VECTORS {
+        stream.extend_from_slice(bytes).expect(&rt, "memory");
+    }
+    for size in 1..=stream.len() {
+        assert!(rt;
+            is_written_again(&rt, stream.as_slice(), size),
+            "pieces of {size}"
+        );
+    }
+}
+
+#[test]
+fn a_fault_stays(rt: HostRuntime) {
+    let mut splitter = fed(&rt, &[&DELETE, &LONGER_DELETE]);
+    let frame = read(&rt, DELETE.as_slice());
+    assert!(rt; gives(&rt, &mut splitter, &frame) && splitter.taken() == 31);
+    assert!(rt; stops(&mut splitter, FaultKind::LengthDiffers, 31));
+    assert!(rt; stops(&mut splitter, FaultKind::LengthDiffers, 31));
+    assert!(rt; splitter.feed(&[0]).is_ok() && ends_short(&splitter, 32));
+    assert!(rt; splitter.feed(&DELETE).is_ok() && ends_short(&splitter, 32));
+    assert!(rt; stops(&mut splitter, FaultKind::LengthDiffers, 31) && splitter.taken() == 31);
+}
+
+#[test]
+fn what_is_judged_before_it_is_whole(rt: HostRuntime) {
+    // a body of the wrong version, which isn't whole
+    let mut early = fed(&rt, &[&[0, 0, 0, 0x1b, 2, 9]]);
+    assert!(rt; waits(&mut early) && ends_short(&early, 6));
+    // a length of 1281, as soon as it is there
+    let mut long = fed(&rt, &[&[0, 0, 5], &[1]]);
+    assert!(rt; stops(&mut long, FaultKind::TooLong, 0) && ends_short(&long, 4));
+    // a front of a frame, and nothing
+    let mut front = fed(&rt, &[&DELETE[..10]]);
+    assert!(rt; waits(&mut front) && ends_short(&front, 10));
+    let mut nothing = fed(&rt, &[]);
+    assert!(rt; waits(&mut nothing) && has_ended(&nothing, 0));
+}
+
+#[test]
+fn feed_succeeds_with_memory(rt: HostRuntime) {
+    let mut splitter = Splitter::new(rt.alloc());
+    assert!(rt; splitter.feed(&CREATE).is_ok() && splitter.kept() == 44);
+}
