@@ -10,7 +10,6 @@ use Rattle.csi_types.specs.declared.number.Number.{Number}
 use Rattle.csi_types.specs.declared.reply.Reply.{Reply}
 use Rattle.csi_types.specs.Frame.{Frame}
 use Rattle.csi_types.specs.Reply.{is_ok_status}
-use Rattle.csi_orchestrator.specs.declared.fault.Heard.{Heard}
 use Rattle.csi_orchestrator.specs.declared.fault.Heard.TheVariants.{Ignored}
 use Rattle.csi_orchestrator.specs.declared.fault.OrchFault.{OrchFault}
 use Rattle.csi_orchestrator.specs.declared.row.Goal.{Goal}
@@ -21,7 +20,7 @@ use Rattle.csi_orchestrator.specs.Due.{Due}
 use Rattle.csi_orchestrator.specs.Moves.{Comes, Hears, Moved, hears, moves}
 use Rattle.csi_orchestrator.specs.Shown.{RowShown, Parts, due_in, closed, AgreesWith}
 use Rattle.csi_orchestrator.specs.RowChanges.{succeeded, wanted, stopped_goal, dropped}
-use Rattle.csi_orchestrator.specs.RowMoves.{Told, told, goes_on, sends_as, takes_nothing_more, stops_after, hears_refusal, hears_reply, row_replied, receives, row_moves, IsToldAs}
+use Rattle.csi_orchestrator.specs.RowMoves.{Told, told, goes_on, sends_as, takes_nothing_more, stops_after, hears_refusal, hears_reply, row_replied, receives, row_moves}
 use Rattle.csi_orchestrator.specs.Kept.{AreKept}
 use Rattle.csi_orchestrator.specs.Promises.{IsHeardAs}
 use Rattle.csi_orchestrator.proofs.GoingOn.{Tells}
@@ -100,16 +99,3 @@ ignored-promised old now frame is kept history form agrees heard =
     body-stays old frame.number frame.party frame.body
     (told-ignored history (row_moves old (Comes frame)) (moves old.nodes history (Comes frame)) (all-tell old history (Comes frame) form kept (subst (λ (p : Parts). AgreesWith p history) (sym is) agrees))
     (subst (λ (p : Parts). IsHeardAs Ignored (moves p.nodes history (Comes frame))) (sym is) heard))
-
-told-heard : (history : History) (heard : Heard) (result : Result Told OrchFault) (moved : Result Moved OrchFault) → Tells history result moved → IsHeardAs heard moved → IsToldAs (Hears heard) result
-told-heard history heard (Ok told) (Ok moved) tells is = tells.0.0 ∙ is
-told-heard history heard (Ok told) (Err fault) tells is = absurd is
-told-heard history heard (Err fault) (Ok moved) tells is = absurd tells.0
-told-heard history heard (Err fault) (Err other) tells is = absurd is
-
--- as a history has a frame heard, so the rows do
-pub heard-promised : (old now : Parts) (frame : Frame) (heard : Heard) → old ≡ now → AreKept old.rows → (history : History) → IsWellFormed history → AgreesWith now history → IsHeardAs heard (moves now.nodes history (Comes frame))
-    → IsToldAs (Hears heard) (row_moves old (Comes frame))
-heard-promised old now frame heard is kept history form agrees told =
-    told-heard history heard (row_moves old (Comes frame)) (moves old.nodes history (Comes frame)) (all-tell old history (Comes frame) form kept (subst (λ (p : Parts). AgreesWith p history) (sym is) agrees))
-    (subst (λ (p : Parts). IsHeardAs heard (moves p.nodes history (Comes frame))) (sym is) told)

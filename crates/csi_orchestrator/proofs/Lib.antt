@@ -34,6 +34,7 @@ pub mod Joined
 pub mod ThingsNoted
 pub mod NothingNoted
 pub mod CalledRows
+pub mod MetUses
 pub mod GivenUp
 pub mod HeardRows
 pub mod DueParties

@@ -6,9 +6,9 @@ use Rattle.csi_orchestrator.specs.History.{History}
 use Rattle.csi_orchestrator.specs.WellFormed.{IsWellFormed}
 use Rattle.csi_orchestrator.specs.Moves.{Input, Answer, Moved, moves}
 use Rattle.csi_orchestrator.specs.Shown.{Parts, AgreesWith}
-use Rattle.csi_orchestrator.specs.RowMoves.{Told, row_moves, IsRefusal}
+use Rattle.csi_orchestrator.specs.RowMoves.{Told, row_moves, IsRefusal, IsToldAs}
 use Rattle.csi_orchestrator.specs.Kept.{AreKept}
-use Rattle.csi_orchestrator.specs.Promises.{IsDone}
+use Rattle.csi_orchestrator.specs.Promises.{IsDone, IsAnsweredAs}
 use Rattle.csi_orchestrator.proofs.GoingOn.{Tells}
 use Rattle.csi_orchestrator.proofs.Keeping.{rows-stay-kept}
 use Rattle.csi_orchestrator.proofs.TellingReplies.{all-tell}
@@ -57,3 +57,16 @@ pub kept-promised : {R : Type 0} (result : Result R OrchFault) (says : R → Ans
     → IfOk result (λ r. row_moves old input ≡ Ok (let t : Told = record { answer = says r; parts = new } in t)) → OnErr result (new ≡ old) → AreKept new.rows × (new.nodes ≡ old.nodes)
 kept-promised (Ok r) says old new input kept told stays = stays-kept old new input (says r) kept told
 kept-promised (Err fault) says old new input kept told stays = (subst (λ (p : Parts). AreKept p.rows) (sym stays) kept, ap (λ (p : Parts). p.nodes) stays)
+
+told-so : (history : History) (answer : Answer) (result : Result Told OrchFault) (moved : Result Moved OrchFault) → Tells history result moved → IsAnsweredAs answer moved → IsToldAs answer result
+told-so history answer (Ok told) (Ok moved) tells is = tells.0.0 ∙ is
+told-so history answer (Ok told) (Err fault) tells is = absurd is
+told-so history answer (Err fault) (Ok moved) tells is = absurd tells.0
+told-so history answer (Err fault) (Err other) tells is = absurd is
+
+-- as a history answers, so the rows do
+pub answered-promised : (old now : Parts) (input : Input) (answer : Answer) → old ≡ now → AreKept old.rows → (history : History) → IsWellFormed history → AgreesWith now history → IsAnsweredAs answer (moves now.nodes history input)
+    → IsToldAs answer (row_moves old input)
+answered-promised old now input answer is kept history form agrees answered =
+    told-so history answer (row_moves old input) (moves old.nodes history input) (all-tell old history input form kept (subst (λ (p : Parts). AgreesWith p history) (sym is) agrees))
+    (subst (λ (p : Parts). IsAnsweredAs answer (moves p.nodes history input)) (sym is) answered)

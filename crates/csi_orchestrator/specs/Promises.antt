@@ -19,7 +19,11 @@ abbrev pub IsDone : History → Result Moved OrchFault → Answer → Parts → 
 IsDone history (Ok moved) answer parts = Follows history moved answer parts
 IsDone history (Err fault) answer parts = ⊥
 
+-- it is answered so, and nothing is refused
+abbrev pub IsAnsweredAs : Answer → Result Moved OrchFault → Type 0
+IsAnsweredAs answer (Ok moved) = moved.answer ≡ answer
+IsAnsweredAs answer (Err fault) = ⊥
+
 -- a frame that comes is heard so
 abbrev pub IsHeardAs : Heard → Result Moved OrchFault → Type 0
-IsHeardAs heard (Ok moved) = moved.answer ≡ Hears heard
-IsHeardAs heard (Err fault) = ⊥
+IsHeardAs heard moved = IsAnsweredAs (Hears heard) moved

@@ -1,10 +1,10 @@
 //! The commands: each is carried out at the row of its name.
-ghost use Rattle.std.specs.Prelude.{◌≡◌, map, position, None, Ok, IfOk, IfErr, OnErr};
+ghost use Rattle.std.specs.Prelude.{◌≡◌, map, position, None, Ok, IfOk, IfErr, IsOk, OnErr};
 ghost use Rattle.csi_types.specs.Same.{same_text};
 ghost use Rattle.csi_orchestrator.specs.Core.{parts_of};
 ghost use Rattle.csi_orchestrator.specs.CoreMoves.{frame_in, last_after};
 ghost use Rattle.csi_orchestrator.specs.Moves.{ToCreate, ToUse, ToStop, ToDelete, Sends};
-ghost use Rattle.csi_orchestrator.specs.RowMoves.{IsRefusal, creates, row_moves};
+ghost use Rattle.csi_orchestrator.specs.RowMoves.{IsRefusal, IsToldAs, creates, row_moves};
 ghost use Rattle.csi_orchestrator.specs.Shown.{row_shown, arguments_shown};
 
 use crate::fault::OrchFault;
@@ -71,7 +71,7 @@ impl Core {
         }
     }
 
-    /// Wants the volume of this name to be published so.
+    /// Wants the volume of this name to be published so. Where it is so already it takes no memory.
     pub fn use_at(
         &mut self,
         name: &Name,
@@ -83,6 +83,7 @@ impl Core {
         ensures ok { IfOk result (λ sent. row_moves (parts_of self.old) (ToUse name.now (record { node = node; target = target; capability = capability; readonly = readonly })) ≡ Ok (record { answer = Sends sent; parts = parts_of self.new })) }
         ensures err { IfErr result (IsRefusal (row_moves (parts_of self.old) (ToUse name.now (record { node = node; target = target; capability = capability; readonly = readonly })))) }
         ensures stays { OnErr result (parts_of self.new ≡ parts_of self.old) }
+        ensures met { IsToldAs (Sends None) (row_moves (parts_of self.old) (ToUse name.now (record { node = node; target = target; capability = capability; readonly = readonly }))) → IsOk result }
     {
         let usage = Usage {
             node,

@@ -40,7 +40,7 @@ impl Orchestrator {
     ghost use Rattle.csi_orchestrator.specs.Readings.{known, last_number};
     ghost use Rattle.csi_orchestrator.specs.Shown.{AgreesWith, view_of};
     ghost use Rattle.csi_orchestrator.specs.RowMoves.{IsRefusal};
-    ghost use Rattle.csi_orchestrator.specs.Promises.{IsDone, IsHeardAs};
+    ghost use Rattle.csi_orchestrator.specs.Promises.{IsDone, IsAnsweredAs, IsHeardAs};
     ghost use Rattle.csi_orchestrator.specs.Listing.{ListsKnown, IsInOrder};
 
     /// An orchestrator of these nodes that did nothing, in session 1. It takes no memory.
@@ -123,6 +123,7 @@ impl Orchestrator {
     ) -> Result<Option<Frame>, OrchFault>
         ensures ok { (history : History) → IsWellFormed history → AgreesWith self.old history → IfOk result (λ sent. IsDone history (moves self.old.nodes history (ToUse name.now (record { node = node; target = target; capability = capability; readonly = readonly }))) (Sends sent) self.new) }
         ensures err { (history : History) → IsWellFormed history → AgreesWith self.old history → IfErr result (IsRefusal (moves self.old.nodes history (ToUse name.now (record { node = node; target = target; capability = capability; readonly = readonly })))) }
+        ensures met { (history : History) → IsWellFormed history → AgreesWith self.old history → IsAnsweredAs (Sends None) (moves self.old.nodes history (ToUse name.now (record { node = node; target = target; capability = capability; readonly = readonly }))) → IsOk result }
         ensures stays { OnErr result (self.new ≡ self.old) }
         ensures nodes { self.new.nodes ≡ self.old.nodes }
     {

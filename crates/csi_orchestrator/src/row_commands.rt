@@ -1,9 +1,9 @@
 //! What a command makes of the row of its name. A refusal changes nothing.
-ghost use Rattle.std.specs.Prelude.{◌≡◌, Ok, is_none, IfOk, IfErr, OnErr};
-ghost use Rattle.csi_orchestrator.specs.Shown.{row_shown, arguments_shown};
+ghost use Rattle.std.specs.Prelude.{◌≡◌, None, Ok, is_none, IfOk, IfErr, IsOk, OnErr};
+ghost use Rattle.csi_orchestrator.specs.Shown.{row_shown, arguments_shown, usage_shown};
 ghost use Rattle.csi_orchestrator.specs.Found.{without_rows, with_last};
 ghost use Rattle.csi_orchestrator.specs.RowChanges.{new_row as new_row_shown, wanted_anew};
-ghost use Rattle.csi_orchestrator.specs.RowMoves.{IsRefusal, due_for_use};
+ghost use Rattle.csi_orchestrator.specs.RowMoves.{IsRefusal, use_refusal, due_for_use};
 ghost use Rattle.csi_orchestrator.specs.CoreMoves.{row_goes_on, row_creates, row_use_or_met, row_uses, row_stops, row_delete_or_met, row_deletes};
 
 use crate::changes::{new_row, want_anew};
@@ -78,7 +78,7 @@ fn is_met(row: &Row, goal: &Goal) -> bool
     !is_due(row.id, known_for(row, goal), goal)
 }
 
-// A use, where nothing refuses it. It may be so already.
+// A use, where nothing refuses it. It may be so already: then it takes no memory.
 fn use_or_met(
     alloc: Global,
     row: &mut Row,
@@ -88,6 +88,7 @@ fn use_or_met(
     ensures ok { IfOk result (λ next. row_use_or_met (with_last last) usage (row_shown row.old) ≡ Ok (record { outgoing = next; row = row_shown row.new })) }
     ensures err { IfErr result (IsRefusal (row_use_or_met (with_last last) usage (row_shown row.old))) }
     ensures stays { OnErr result (row_shown row.new ≡ row_shown row.old) }
+    ensures met { due_for_use usage (row_shown row.old) ≡ None → IsOk result }
 {
     let room = room_fault(last, &usage, row);
     let goal = Goal::Use(usage);
@@ -100,7 +101,7 @@ fn use_or_met(
     pursue(alloc, row, last, goal)
 }
 
-/// A use of the row's volume.
+/// A use of the row's volume. Where it is so already it takes no memory.
 pub(crate) fn use_row(
     alloc: Global,
     row: &mut Row,
@@ -111,6 +112,7 @@ pub(crate) fn use_row(
     ensures ok { IfOk result (λ next. row_uses (without_rows nodes.now last) usage (row_shown row.old) ≡ Ok (record { outgoing = next; row = row_shown row.new })) }
     ensures err { IfErr result (IsRefusal (row_uses (without_rows nodes.now last) usage (row_shown row.old))) }
     ensures stays { OnErr result (row_shown row.new ≡ row_shown row.old) }
+    ensures met { use_refusal nodes.now (usage_shown usage) (row_shown row.old) ≡ None → due_for_use usage (row_shown row.old) ≡ None → IsOk result }
 {
     if let Some(fault) = use_fault(nodes, &usage, row) {
         return Err(fault);

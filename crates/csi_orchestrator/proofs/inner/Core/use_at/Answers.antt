@@ -1,13 +1,15 @@
 -- At the row of the name.
-use Rattle.std.proofs.Common.{refl}
+use Rattle.std.proofs.Common.{None, refl, subst}
 use Rattle.csi_orchestrator.specs.declared.fault.OrchFault.TheVariants.{NoSuchVolume}
 use Rattle.csi_orchestrator.specs.Core.{parts_of}
 use Rattle.csi_orchestrator.specs.CoreMoves.{row_uses}
 use Rattle.csi_orchestrator.specs.Found.{without_rows}
-use Rattle.csi_orchestrator.specs.RowMoves.{uses}
+use Rattle.csi_orchestrator.specs.Moves.{Sends}
+use Rattle.csi_orchestrator.specs.RowMoves.{uses, IsToldAs}
 use Rattle.csi_orchestrator.specs.Shown.{row_shown}
 use Rattle.csi_orchestrator.proofs.RowsGoOn.{passed-on, holds-at_err}
-use Rattle.csi_orchestrator.proofs.CalledRows.{refused-nowhere, called-refused, called-told, use-called, rows-stay}
+use Rattle.csi_orchestrator.proofs.CalledRows.{shown-nowhere, refused-nowhere, called-refused, called-told, use-called, rows-stay}
+use Rattle.csi_orchestrator.proofs.MetUses.{met-there}
 use Rattle.csi_orchestrator.proofs.inner.Core.use_at.Goals as goal
 
 pub returns-in_err-next-in-Some-clause-err : goal.returns-in_err-next-in-Some-clause-err
@@ -35,3 +37,14 @@ returns-in_ok-next-in-Some-clause-ok c =
 
 pub returns-in-None-clause-err : goal.returns-in-None-clause-err
 returns-in-None-clause-err c = refused-nowhere (uses (parts_of c.args.self.now) (record { node = c.args.node; target = c.args.target; capability = c.args.capability; readonly = c.args.readonly })) c.args.self.now.rows.items c.args.name.now NoSuchVolume (cc) refl
+
+pub returns-in_err-next-in-Some-clause-met : goal.returns-in_err-next-in-Some-clause-met
+returns-in_err-next-in-Some-clause-met c = λ told.
+    let core = c.args.self.now in
+    let met = met-there core.nodes.items c.deref-in-Some.result.now core.last core.rows.items c.args.name.now (record { node = c.args.node; target = c.args.target; capability = c.args.capability; readonly = c.args.readonly }) c.in-Some.index c.index_mut-row.result.now (cc) c.index_mut-row.ensures.value c.deref-in-Some.ensures.value told in
+    let ok = c.in_err-next-in-Some.ensures.met met.0 met.1 in
+    cc
+
+pub returns-in-None-clause-met : goal.returns-in-None-clause-met
+returns-in-None-clause-met c = λ told.
+    absurd (subst (λ o. IsToldAs (Sends None) (uses (parts_of c.args.self.now) (record { node = c.args.node; target = c.args.target; capability = c.args.capability; readonly = c.args.readonly }) o)) (shown-nowhere c.args.self.now.rows.items c.args.name.now (cc)) told)

@@ -4,8 +4,8 @@ use Rattle.csi_orchestrator.specs.declared.fault.Heard.TheVariants.{Taken}
 use Rattle.csi_orchestrator.specs.Core.{parts_of}
 use Rattle.csi_orchestrator.specs.Moves.{Comes, Hears}
 use Rattle.csi_orchestrator.specs.Shown.{Parts}
-use Rattle.csi_orchestrator.proofs.Ignoring.{heard-promised, ignored-promised}
-use Rattle.csi_orchestrator.proofs.Promised.{ok-promised, err-promised, kept-promised}
+use Rattle.csi_orchestrator.proofs.Ignoring.{ignored-promised}
+use Rattle.csi_orchestrator.proofs.Promised.{ok-promised, err-promised, kept-promised, answered-promised}
 use Rattle.csi_orchestrator.proofs.orchestrator.Orchestrator.deliver.Goals as goal
 
 pub invariant_of-self : goal.invariant_of-self
@@ -27,4 +27,4 @@ returns-clause-ignored c = λ history form agrees heard.
 
 pub returns-clause-quiet : goal.returns-clause-quiet
 returns-clause-quiet c = λ history form agrees heard.
-    c.deliver.ensures.quiet (heard-promised (parts_of c.self.inside.core) c.args.self.now c.args.frame.now (Taken None) c.self.view_is c.self.invariant history form agrees heard)
+    c.deliver.ensures.quiet (answered-promised (parts_of c.self.inside.core) c.args.self.now (Comes c.args.frame.now) (Hears (Taken None)) c.self.view_is c.self.invariant history form agrees heard)
