@@ -11,7 +11,7 @@ use Rattle.std.specs.declared.cmp.Ordering.{Ordering}
 use Rattle.std.specs.declared.cmp.Ordering.TheVariants.{Less, Equal, Greater}
 use Rattle.csi_lists.specs.Members.{IsAmong, EachTwo}
 use Rattle.csi_lists.proofs.Members.{each_of}
-use Rattle.csi_orchestrator.proofs.Joined.{two-by-places}
+use Rattle.csi_lists.proofs.Pairs.{two-by_places}
 
 module _ {X K : Type 0} (R : K → K → Ordering) (total : IsTotalOrder R) (apart : (a b : K) → R a b ≡ Equal → a ≡ b) (place : X → K) where
   abbrev Rises : List X → Type 0
@@ -19,7 +19,7 @@ module _ {X K : Type 0} (R : K → K → Ordering) (total : IsTotalOrder R) (apa
 
   rises : (xs : List X) → IsSortedBy (λ a b. is_lt (R (place a) (place b))) xs → Rises xs
   rises xs sorted =
-      two-by-places (λ a b. is_lt (R (place b) (place a)) ≡ false) xs (λ i j d before inside. sorted_far (λ a b. is_lt (R (place a) (place b))) (ranks_by total place) xs sorted i j d (omega arith) inside)
+      two-by_places (λ a b. is_lt (R (place b) (place a)) ≡ false) xs (λ i j d before inside. sorted_far (λ a b. is_lt (R (place a) (place b))) (ranks_by total place) xs sorted i j d (omega arith) inside)
 
   -- whatever is counted of places, both lists have as much of it
   abbrev AreAlike : List X → List X → Type 0

@@ -3,7 +3,7 @@ use Rattle.std.proofs.Common.{◌≡◌, ◌+◌, List, [], ◌∷◌, ◌++◌,
 use Rattle.std.specs.List.{AllByRecursion}
 use Rattle.std.proofs.lemmas.List.{take_more}
 use Rattle.csi_node.specs.Record.{NodeParts}
-use Rattle.csi_world.proofs.Laid.{all-more}
+use Rattle.csi_lists.proofs.Each.{each-append_one}
 use Rattle.csi_reports.specs.Laws.{ShowsAState}
 use Rattle.csi_reports.proofs.laws.nodes_show.Goals as goal
 
@@ -13,4 +13,4 @@ loop-node-preserved c =
     let i = c.loop-node.node-index in
     let parts : NodeParts = c.node-item.result in
     let front : take i nodes ++ parts ∷ [] ≡ take (i + 1) nodes = ap (λ (p : NodeParts). take i nodes ++ p ∷ []) c.node-item.is ∙ sym (take_more nodes i parts c.loop-node-test.true) in
-    subst (AllByRecursion ShowsAState) front (all-more ShowsAState (take i nodes) parts c.loop-node.invariant c.showing_law.ensures)
+    subst (AllByRecursion ShowsAState) front (each-append_one ShowsAState (take i nodes) parts c.loop-node.invariant c.showing_law.ensures)
