@@ -15,7 +15,7 @@ use Rattle.csi_frames.specs.Grammar.{body_grammar}
 use Rattle.csi_frames.specs.Fault.{IsStuck, IsFaulty, length_of, no_length, too_long, short, in_body}
 use Rattle.csi_frames.specs.Stream.{FramesOf}
 use Rattle.csi_frames.specs.Splitting.{Splitting, kept_after, after_next, IsNext}
-use Rattle.csi_frames.specs.Cutting.{frame_in, Splits, begins, feeds, asks, HasNoFrame}
+use Rattle.csi_frames.specs.Cutting.{IsLeft, frame_in, Splits, begins, feeds, asks, HasNoFrame}
 use Rattle.csi_frames.proofs.Bytes.{AreBytes-back}
 use Rattle.csi_frames.proofs.Front.{first_frame-begins, first_frame-faulty}
 use Rattle.csi_frames.proofs.Verdicts.{same_frame, no_both}
@@ -39,8 +39,8 @@ one_first f g x y f-fits g-fits e =
     let other = first_frame-begins (spelling f ++ x) g (length (spelling g)) (subst (λ (bytes : List ℕ). BeginsWith bytes g (length (spelling g))) (sym e) (spelled_first g y g-fits)) in
     (same_frame f g (length (spelling f)) (length (spelling g)) (read ∙ other)).0
 
-unique : (fs gs : List Frame) (x y : List ℕ) → AllByRecursion IsFrame fs → AllByRecursion IsFrame gs → NoFrame x → NoFrame y → flat_map spelling fs ++ x ≡ flat_map spelling gs ++ y → fs ≡ gs
-unique [] [] x y f-each g-each no-x no-y e = refl
+unique : (fs gs : List Frame) (x y : List ℕ) → AllByRecursion IsFrame fs → AllByRecursion IsFrame gs → NoFrame x → NoFrame y → flat_map spelling fs ++ x ≡ flat_map spelling gs ++ y → (fs ≡ gs) × (x ≡ y)
+unique [] [] x y f-each g-each no-x no-y e = (refl, e)
 unique [] (g ∷ gs) x y f-each g-each no-x no-y e =
     absurd (no-x g (length (spelling g)) (subst (λ (bytes : List ℕ). BeginsWith bytes g (length (spelling g))) (sym (e ∙ append_assoc (spelling g) (flat_map spelling gs) y)) (spelled_first g (flat_map spelling gs ++ y) g-each.0)))
 unique (f ∷ fs) [] x y f-each g-each no-x no-y e =
@@ -51,7 +51,8 @@ unique (f ∷ fs) (g ∷ gs) x y f-each g-each no-x no-y e =
     let same : f ≡ g = one_first f g (flat_map spelling fs ++ x) (flat_map spelling gs ++ y) f-each.0 g-each.0 both in
     let rest : flat_map spelling fs ++ x ≡ flat_map spelling gs ++ y =
     append_cancel_left (spelling f) (flat_map spelling fs ++ x) (flat_map spelling gs ++ y) (both ∙ ap (λ (h : Frame). spelling h ++ (flat_map spelling gs ++ y)) (sym same)) in
-    ap (λ (h : Frame). h ∷ fs) same ∙ ap (λ (hs : List Frame). g ∷ hs) (unique fs gs x y f-each.1 g-each.1 no-x no-y rest)
+    let others = unique fs gs x y f-each.1 g-each.1 no-x no-y rest in
+    (ap (λ (h : Frame). h ∷ fs) same ∙ ap (λ (hs : List Frame). g ∷ hs) others.0, others.1)
 
 -- ---- more bytes don't mend a fault
 
@@ -161,8 +162,14 @@ no_more None kept dropped fits nothing none frame n b =
 no_more (Some f) kept dropped fits faulty none frame n b =
     no_both frame n f.kind f.place (sym (first_frame-begins (kept ++ dropped) frame n b) ∙ first_frame-faulty (kept ++ dropped) f.kind f.place fits (faulty-more kept dropped f.kind f.place faulty.0 faulty.1))
 
-pub given_are : (stream rest : List ℕ) (given frames : List Frame) (s : Splitting) → AreBytes stream → Splits stream given s → HasNoFrame s → FramesOf stream frames rest → given ≡ frames
+-- what is left of the stream, as the splitter shows it
+left-is : (fault : Option FrameFault) (kept dropped rest : List ℕ) → IsDropped fault kept dropped → kept ++ dropped ≡ rest → IsLeft fault kept rest
+left-is None kept dropped rest nothing is = sym (append-nil kept) ∙ ap (λ (bytes : List ℕ). kept ++ bytes) (sym nothing) ∙ is
+left-is (Some f) kept dropped rest faulty is = subst (λ (bytes : List ℕ). IsFaulty bytes f.kind f.place) is (faulty-more kept dropped f.kind f.place faulty.0 faulty.1)
+
+pub given_are : (stream rest : List ℕ) (given frames : List Frame) (s : Splitting) → AreBytes stream → Splits stream given s → HasNoFrame s → FramesOf stream frames rest → (given ≡ frames) × IsLeft s.fault s.kept rest
 given_are stream rest given frames s fits run none of =
     let at = stands stream given s run in
     let behind : AreBytes (s.kept ++ at.dropped) = AreBytes-back (flat_map spelling given) (s.kept ++ at.dropped) (subst AreBytes at.whole fits) in
-    unique given frames (s.kept ++ at.dropped) rest at.each of.each (no_more s.fault s.kept at.dropped behind at.is_dropped none) of.longest (sym at.whole ∙ of.whole)
+    let same = unique given frames (s.kept ++ at.dropped) rest at.each of.each (no_more s.fault s.kept at.dropped behind at.is_dropped none) of.longest (sym at.whole ∙ of.whole) in
+    (same.0, left-is s.fault s.kept at.dropped rest at.is_dropped same.1)

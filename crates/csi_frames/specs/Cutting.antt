@@ -1,7 +1,8 @@
 -- What a splitter gives of a stream, in whatever pieces it comes. This profile's own.
-use Rattle.std.specs.Prelude.{ℕ, List, [], ◌∷◌, ◌++◌, Option, Some, None, Result, Ok, Err}
+use Rattle.std.specs.Prelude.{◌≡◌, ℕ, List, [], ◌∷◌, ◌++◌, Option, Some, None, Result, Ok, Err}
 use Rattle.csi_types.specs.Frame.{Frame}
 use Rattle.csi_frames.specs.declared.fault.FrameFault.{FrameFault}
+use Rattle.csi_frames.specs.Fault.{IsFaulty}
 use Rattle.csi_frames.specs.Splitting.{Splitting, new_splitting, after_feed, after_next, IsNext}
 
 -- the frame in an answer
@@ -20,3 +21,8 @@ pub data Splits : List ℕ → List Frame → Splitting → Type 0 where
 -- it would give no frame now
 abbrev pub HasNoFrame : Splitting → Type 0
 HasNoFrame s = (frame : Frame) → IsNext s.fault s.kept (Ok (Some frame)) → ⊥
+
+-- Of a stream with this rest the splitter keeps the rest itself, or, once it answered a fault, the fault is the rest's first one.
+abbrev pub IsLeft : Option FrameFault → List ℕ → List ℕ → Type 0
+IsLeft None kept rest = kept ≡ rest
+IsLeft (Some fault) kept rest = IsFaulty rest fault.kind fault.place

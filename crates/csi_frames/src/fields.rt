@@ -1,5 +1,5 @@
 //! The bytes of a body, from which its fields are read one after another.
-ghost use Rattle.std.specs.Prelude.{◌≡◌, ◌≤◌, true, false, MatchOption, IfOk, length};
+ghost use Rattle.std.specs.Prelude.{◌≡◌, true, false, MatchOption, length};
 ghost use Rattle.std.specs.Str.{is_utf8};
 
 use crate::fault::FaultKind;
@@ -50,8 +50,7 @@ impl<'a> Fields<'a> {
     /// A byte of at most `most`.
     #[tactic(auto, unfolding(crate::specs::Reading::byte_at))]
     pub fn byte(&mut self, most: u8, fault: FaultKind) -> Result<u8, Stop>
-        ensures read { Gives (λ n. n) result self.new (byte_at (at_most most) fault self.old.bytes.now) }
-        ensures bounded { IfOk result (λ byte. byte ≤ most) }
+        ensures { Gives (λ n. n) result self.new (byte_at (at_most most) fault self.old.bytes.now) }
     {
         let [byte, rest @ ..] = self.bytes else {
             return Err(self.stop(FaultKind::LengthDiffers));
