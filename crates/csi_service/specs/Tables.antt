@@ -1,10 +1,10 @@
 -- A store in a SQLite database, as contracts see it. This profile's own.
-use Rattle.std.specs.Prelude.{ℕ, ◌<◌, ◌^◌, ⊤, List, map}
+use Rattle.std.specs.Prelude.{◌⊎◌, [], IsTrue, ℕ, ◌<◌, ◌^◌, ⊤, List, map}
 use Rattle.std.specs.List.{AllByRecursion}
 use Rattle.byteorder.specs.Endian.{big_bytes}
 use Rattle.sqlite.specs.Tree.{Trees}
-use Rattle.sqlite.specs.State.{State}
-use Rattle.csi_tables.specs.Rows.{KeyedRow, StoresRows, HasRows, IsAtRest}
+use Rattle.sqlite.specs.State.{State, HasCleanDisk}
+use Rattle.csi_tables.specs.Rows.{KeyedRow, StoresRows, HasRows, IsBlank, IsAtRest}
 use Rattle.csi_serving.specs.declared.keep.KeepFault.{KeepFault}
 use Rattle.csi_serving.specs.declared.keep.KeepFault.TheVariants.{Device, NoMemory, BadRecord, Full}
 use Rattle.csi_records.specs.Part.{StoredPart}
@@ -40,6 +40,12 @@ pub record LeavesParts (s : State) (content : List StoredPart) : Type 0 where
   pub db : Trees
   pub may : s.may_leave db
   pub parts : StoresParts db content
+
+-- What opening leaves, also where it is refused or crashes: what was left before, or, where nothing was listed, a table without a part.
+pub record OpensOver (before after : State) : Type 0 where
+  pub honest : HasCleanDisk after → HasCleanDisk before
+  pub blank : HasCleanDisk after → IsBlank before → (db : Trees) → after.may_leave db → before.may_leave db ⊎ StoresParts db []
+  pub found : HasCleanDisk after → (content : List StoredPart) → IsTrue before.is_open → StoresParts before.now.trees content → (db : Trees) → after.may_leave db → before.may_leave db
 
 -- what a refusal by SQLite is to a keeper: want of memory, or a failure, which is counted
 abbrev pub IsCounted : ℕ → ℕ → KeepFault → Type 0

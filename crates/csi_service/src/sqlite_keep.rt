@@ -4,10 +4,10 @@ ghost use Rattle.sqlite.specs.Held.{state};
 ghost use Rattle.sqlite.specs.State.{HasCleanDisk};
 ghost use Rattle.csi_tables.specs.Rows.{IsBlank};
 ghost use Rattle.csi_records.specs.Part.{StoredPart};
-ghost use Rattle.csi_service.specs.Tables.{StoresParts, HoldsParts, LeavesParts, IsCounted};
+ghost use Rattle.csi_service.specs.Tables.{StoresParts, HoldsParts, LeavesParts, OpensOver, IsCounted};
 
-use csi_records::Part;
 use csi_serving::{Keep, KeepFault};
+use csi_records::Part;
 use csi_tables::{all_rows, make_table};
 use sqlite::{Alter, Connection, Error, ErrorCode};
 use std::alloc::Global;
@@ -65,9 +65,9 @@ impl<S: Alter> SqliteKeep<S> {
     ) -> Result<SqliteKeep<S>, (KeepFault, Connection<S>)>
         ensures blank { IfOk result (λ keep. HasCleanDisk (state S.Store keep.connection) → IsBlank (state S.Store connection) → HoldsParts (state S.Store keep.connection) []) }
         ensures found { IfOk result (λ keep. HasCleanDisk (state S.Store keep.connection) → (content : List StoredPart) → IsTrue (state S.Store connection).is_open → StoresParts (state S.Store connection).now.trees content → HoldsParts (state S.Store keep.connection) content) }
-        ensures honest { IfOk result (λ keep. HasCleanDisk (state S.Store keep.connection) → HasCleanDisk (state S.Store connection)) }
+        ensures left { IfOk result (λ keep. OpensOver (state S.Store connection) (state S.Store keep.connection)) }
         ensures faults { IfOk result (λ keep. keep.faults ≡ 0) }
-        ensures back { IfErr result (λ refusal. HasCleanDisk (state S.Store refusal.1) → HasCleanDisk (state S.Store connection)) }
+        ensures back { IfErr result (λ refusal. OpensOver (state S.Store connection) (state S.Store refusal.1)) }
         ensures cause { IfErr result (λ refusal. (refusal.0 ≡ KeepFault.Device) ⊎ (refusal.0 ≡ KeepFault.NoMemory)) }
     {
         if !connection.is_autocommit() {

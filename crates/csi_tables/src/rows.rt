@@ -1,7 +1,8 @@
 //! The statements on the table `parts`.
-ghost use Rattle.std.specs.Prelude.{◌≡◌, ◌∷◌, [], List, IsTrue, map, false, IfOk, IfErr, OnOk};
+ghost use Rattle.std.specs.Prelude.{◌≡◌, ◌⊎◌, ◌∷◌, [], List, IsTrue, map, false, IfOk, IfErr, OnOk};
 ghost use Rattle.sqlite.specs.State.{HasCleanDisk, IsUnchanged, Survives};
 ghost use Rattle.sqlite.specs.Held.{state};
+ghost use Rattle.sqlite.specs.Tree.{Trees};
 ghost use Rattle.csi_tables.specs.Rows.{KeyedRow, cells, without, AreRising, StoresRows, HasRows, IsAtRest, IsBlank, IsInputError};
 
 use sqlite::{Alter, Connection, Error, Row, Transaction, params};
@@ -12,6 +13,9 @@ pub fn make_table<S: Alter>(connection: &mut Connection<S>) -> Result<(), Error>
         → OnOk result (HasRows (state S.Store connection.new) [] × IsAtRest (state S.Store connection.new)) }
     ensures found { HasCleanDisk (state S.Store connection.new) → (rows : List KeyedRow) → IsTrue (state S.Store connection.old).is_open → StoresRows (state S.Store connection.old).now.trees rows → IsAtRest (state S.Store connection.old)
         → OnOk result (HasRows (state S.Store connection.new) rows × IsAtRest (state S.Store connection.new)) }
+    ensures crash_made { HasCleanDisk (state S.Store connection.new) → IsBlank (state S.Store connection.old) → (db : Trees) → (state S.Store connection.new).may_leave db → (state S.Store connection.old).may_leave db ⊎ StoresRows db [] }
+    ensures crash_found { HasCleanDisk (state S.Store connection.new) → (rows : List KeyedRow) → IsTrue (state S.Store connection.old).is_open → StoresRows (state S.Store connection.old).now.trees rows
+        → (db : Trees) → (state S.Store connection.new).may_leave db → (state S.Store connection.old).may_leave db }
     ensures clean { HasCleanDisk (state S.Store connection.new) → HasCleanDisk (state S.Store connection.old) }
 {
     let _schema = connection.schema();
