@@ -10,4 +10,7 @@ pub mod Serving
 pub mod Answering
 pub mod Stopping
 pub mod Ending
+pub mod Opening
+pub mod Services
+pub mod WholeRecords
 pub mod Rows
