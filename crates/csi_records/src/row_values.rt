@@ -101,8 +101,8 @@ pub(crate) fn answered_value(alloc: Global, row: &NodeRow) -> Result<Vec<u8>, No
     Ok(out)
 }
 
-/// The value of a controller's head.
-pub(crate) fn controller_head_value(alloc: Global, next_id: u64) -> Result<Vec<u8>, NoMemory>
+/// The value of the head of a controller's record: a version, the plugin and the next id (this profile's own).
+pub fn controller_head_value(alloc: Global, next_id: u64) -> Result<Vec<u8>, NoMemory>
     ensures { IfOk result (λ value. value.items ≡ (controller_head next_id).value) }
 {
     let mut out = Vec::new(alloc);
@@ -112,8 +112,8 @@ pub(crate) fn controller_head_value(alloc: Global, next_id: u64) -> Result<Vec<u
     Ok(out)
 }
 
-/// The value of a node's head.
-pub(crate) fn node_head_value(alloc: Global, node: &NodeId) -> Result<Vec<u8>, NoMemory>
+/// The value of the head of a node's record: a version, the plugin and the node's id (this profile's own).
+pub fn node_head_value(alloc: Global, node: &NodeId) -> Result<Vec<u8>, NoMemory>
     ensures value { IfOk result (λ value. value.items ≡ (node_head node.now).value) }
     ensures fits { IfOk result (λ value. IsNodeId node.now) }
 {

@@ -5,6 +5,7 @@
 mod sqlite_keep;
 
 pub use csi_serving::{
-    Core, Counted, Keep, KeepFault, MemoryKeep, Part, ServeFault, ServeFaultKind, Served, serve,
+    ControllerService, Core, Counted, Keep, KeepFault, MemoryKeep, NodeService, Part, Record,
+    ServeFault, ServeFaultKind, Served, read_record, serve, write_record,
 };
 pub use sqlite_keep::SqliteKeep;

@@ -10,3 +10,5 @@ pub mod Taken
 pub mod Runs
 pub mod Progress
 pub mod Ends
+pub mod Loading
+pub mod Opened

@@ -1,6 +1,6 @@
 -- What a store has: parts, each a value under a key, by rising key; and what putting parts in and taking parts out makes of
 -- it. This profile's own.
-use Rattle.std.specs.Prelude.{ℕ, ◌+◌, ◌<◌, ◌==◌, nat_lt, not, if◌then◌else◌, List, [], ◌∷◌, map, filter, length, sum_by, Option, Some, None}
+use Rattle.std.specs.Prelude.{ℕ, ◌+◌, ◌<◌, ◌==◌, nat_lt, not, if◌then◌else◌, List, [], ◌∷◌, filter, length, sum_by, Option, Some, None}
 use Rattle.std.specs.List.{AllByRecursion}
 use Rattle.csi_records.specs.Part.{StoredPart, Change}
 

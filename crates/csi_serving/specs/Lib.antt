@@ -10,3 +10,6 @@ pub mod Answering
 pub mod Stopping
 pub mod Ending
 pub mod Rows
+pub mod Opening
+pub mod Services
+pub mod WholeRecords
