@@ -6,8 +6,8 @@ ghost use Rattle.csi_tables.specs.Rows.{IsBlank};
 ghost use Rattle.csi_records.specs.Part.{StoredPart};
 ghost use Rattle.csi_service.specs.Tables.{StoresParts, HoldsParts, LeavesParts, OpensOver, IsCounted};
 
-use csi_serving::{Keep, KeepFault};
 use csi_records::Part;
+use csi_serving::{Keep, KeepFault};
 use csi_tables::{all_rows, make_table};
 use sqlite::{Alter, Connection, Error, ErrorCode};
 use std::alloc::Global;

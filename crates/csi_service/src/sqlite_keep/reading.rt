@@ -8,9 +8,9 @@ ghost use Rattle.csi_tables.specs.Rows.{cells};
 ghost use Rattle.csi_records.specs.Part.{StoredPart, put_all, change_of};
 ghost use Rattle.csi_service.specs.Tables.{row_of, AreKeys};
 
+use byteorder::{BigEndian, ByteOrder};
 use csi_records::Part;
 use csi_serving::KeepFault;
-use byteorder::{BigEndian, ByteOrder};
 use csi_types::NoMemory;
 use sqlite::Row;
 use sqlite::types::ValueRef;
