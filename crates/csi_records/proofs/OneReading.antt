@@ -7,9 +7,9 @@ use Rattle.std.proofs.lemmas.List.{append-nil, append_cancel_left, length-append
 use Rattle.csi_lists.proofs.Each.{each-map}
 use Rattle.csi_records.specs.Part.{StoredPart, IsPart}
 use Rattle.csi_records.specs.Spelling.{part_bytes, record_head, record_bytes}
-use Rattle.csi_records.specs.Records.{Layout, IsRecordOf, Begins}
+use Rattle.csi_records.specs.Records.{Layout, IsRecordOf, Begins, IsRefusedAt}
 use Rattle.csi_records.specs.Places.{IsBadAt, no_head, bad_part, more_bytes}
-use Rattle.csi_records.specs.Laws.{PartsTell, HasOneReading}
+use Rattle.csi_records.specs.Laws.{PartsTell, HasOneReading, HasOneRefusal}
 use Rattle.csi_records.proofs.Layouts.{IsOneToOne, parts-same}
 use Rattle.csi_records.proofs.Wholes.{part-same, heads-same}
 
@@ -228,3 +228,45 @@ one-reading {H} {R} layout one plain bytes = record {
         by (inl same) = same
         by (inr (inl less)) = absurd (same-place layout one plain bytes a b p q less)
         by (inr (inr more)) = absurd (same-place layout one plain bytes b a q p more)
+
+-- ---- the first part that is refused, among parts
+
+-- a shorter front of the same list is a front of the longer one, and so is what stands behind it
+record GoesOn (front longer : List StoredPart) (part : StoredPart) : Type 0 where
+  more : List StoredPart
+  are : longer ≡ front ++ part ∷ more
+
+goes-on : (front longer : List StoredPart) (p q : StoredPart) (x y : List StoredPart) → front ++ p ∷ x ≡ longer ++ q ∷ y → length front < length longer → GoesOn front longer p
+goes-on front [] p q x y e less = absurd (omega arith)
+goes-on [] (b ∷ bs) p q x y e less = let same : b ≡ p = cc in record { more = bs; are = ap (λ (r : StoredPart). r ∷ bs) same }
+goes-on (a ∷ front) (b ∷ bs) p q x y e less =
+    let same : b ≡ a = cc in
+    let rest : front ++ p ∷ x ≡ bs ++ q ∷ y = cc in
+    let on = goes-on front bs p q x y rest (omega arith) in
+    record { more = on.more; are = ap (λ (r : StoredPart). r ∷ bs) same ∙ ap (λ (rs : List StoredPart). a ∷ rs) on.are }
+
+-- a front with one part more is a record where the whole begins one
+begun-front : {H R : Type 0} (layout : Layout H R) → IsOneToOne layout → (front : List StoredPart) (p : StoredPart) (more whole : List StoredPart) → whole ≡ front ++ p ∷ more → Begins (IsRecordOf layout) whole → IsRecordOf layout (front ++ p ∷ [])
+begun-front layout one front p more whole are (inl none) = absurd (omega (arith, ap length (sym none ∙ are), length-append front (p ∷ more)))
+begun-front layout one front p more whole are (inr is) =
+    by (front-of layout one (front ++ p ∷ []) more (subst (IsRecordOf layout) (are ∙ sym (append_assoc front (p ∷ []) more)) is))
+  where
+    by : Begins (IsRecordOf layout) (front ++ p ∷ []) → IsRecordOf layout (front ++ p ∷ [])
+    by (inl none) = absurd (omega (arith, length-append front (p ∷ []), ap length none))
+    by (inr here) = here
+
+refused-clash : {H R : Type 0} (layout : Layout H R) → IsOneToOne layout → (parts : List StoredPart) (a b : ℕ) → IsRefusedAt (IsRecordOf layout) parts a → IsRefusedAt (IsRecordOf layout) parts b → a < b → ⊥
+refused-clash layout one parts a b first second less =
+    let on = goes-on first.before second.before first.part second.part first.after second.after (sym first.are ∙ second.are) (omega (arith, first.here, second.here, less)) in
+    first.refused (begun-front layout one first.before first.part on.more second.before on.are second.begins)
+
+pub one-refusal : {H R : Type 0} (layout : Layout H R) → IsOneToOne layout → (parts : List StoredPart) → HasOneRefusal (IsRecordOf layout) parts
+one-refusal layout one parts = record {
+  none = λ place is at. at.refused (begun-front layout one at.before at.part at.after parts at.are (inr is));
+  one_place = λ a b first second. by a b first second (cases_order a b);
+}
+  where
+    by : (a b : ℕ) → IsRefusedAt (IsRecordOf layout) parts a → IsRefusedAt (IsRecordOf layout) parts b → (a ≡ b) ⊎ ((a < b) ⊎ (b < a)) → a ≡ b
+    by a b first second (inl same) = same
+    by a b first second (inr (inl less)) = absurd (refused-clash layout one parts a b first second less)
+    by a b first second (inr (inr more)) = absurd (refused-clash layout one parts b a second first more)
