@@ -17,6 +17,8 @@ mod replay;
 #[cfg(test)]
 mod replies;
 #[cfg(test)]
+mod service;
+#[cfg(test)]
 mod types;
 #[cfg(test)]
 mod values;

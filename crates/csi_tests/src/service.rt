@@ -1,0 +1,225 @@
+//! Records as bytes, and stores that plugins are opened from.
+use crate::values::{config, node_id};
+use csi_controller::{Controller, ControllerRecord};
+use csi_frames::decode;
+use csi_service::{
+    ControllerService, Keep, KeepFault, MemoryKeep, NodeService, Part, SqliteKeep, read_record,
+    write_record,
+};
+use sqlite::Connection;
+use std::alloc::Global;
+use std::process::Abort;
+
+// Creates `v` with at least 10 bytes, for one writing node.
+const CREATE: &[u8] = &[
+    0, 0, 0, 40, 1, 1, 0, 0, 0, 0, 0, 0, 0, 1, 0, 0, 0, 0, 0, 0, 0, 1, 0, 1, 118, 0, 0, 0, 0, 0, 0,
+    0, 10, 0, 0, 0, 0, 0, 0, 0, 0, 1, 0, 1,
+];
+
+// The record of a controller that carried it out.
+const RECORD: &[u8] = &[
+    1, 0, 0, 0, 2, 0, 0, 0, 0, 0, 0, 0, 0, 0, 0, 0, 10, 1, 0, 0, 0, 0, 0, 0, 0, 0, 2, 0, 0, 0, 0,
+    0, 0, 0, 1, 0, 0, 0, 43, 1, 1, 1, 118, 0, 0, 0, 0, 0, 0, 0, 10, 1, 0, 1, 0, 0, 0, 0, 0, 0, 0,
+    0, 1, 0, 0, 0, 0, 0, 0, 0, 1, 129, 0, 0, 0, 0, 0, 0, 0, 0, 1, 0,
+];
+
+// The heads of a new controller and of a new node `n1`.
+const CONTROLLER_HEAD: &[u8] = &[1, 0, 0, 0, 0, 0, 0, 0, 0, 1];
+
+const NODE_HEAD: &[u8] = &[1, 1, 2, 110, 49];
+
+// What a controller that made `v` has recorded.
+fn recorded(rt: &(impl Abort + AllocGlobal)) -> ControllerRecord {
+    let (frame, _) = decode(rt.alloc(), CREATE).expect(rt, "a frame");
+    let mut controller = Controller::new(rt.alloc(), config(rt, &[]));
+    let _reply = controller.step(&frame).expect(rt, "memory");
+    controller.record(rt.alloc()).expect(rt, "memory")
+}
+
+// The bytes of a record.
+fn written(rt: &(impl Abort + AllocGlobal), record: &ControllerRecord) -> Vec<u8> {
+    write_record(rt.alloc(), record).expect(rt, "memory")
+}
+
+// Where the bytes are refused as a controller's record, if they are.
+fn refused_at(alloc: Global, bytes: &[u8]) -> Option<u64> {
+    match read_record::<ControllerRecord>(alloc, bytes) {
+        Err(KeepFault::BadRecord(place)) => Some(place),
+        _ => None,
+    }
+}
+
+#[test]
+fn a_first_volume_is_recorded_in_82_bytes(rt: HostRuntime) {
+    let bytes = written(&rt, &recorded(&rt));
+    assert!(&rt; bytes.as_slice() == RECORD);
+}
+
+#[test]
+fn a_record_is_read_as_it_was_written(rt: HostRuntime) {
+    let record: ControllerRecord = read_record(rt.alloc(), RECORD).expect(&rt, "a record");
+    assert!(&rt; record.next_id() == 2 && record.rows().len() == 1);
+    let bytes = written(&rt, &record);
+    assert!(&rt; bytes.as_slice() == RECORD);
+}
+
+// The record with one byte in place of another.
+fn changed(rt: &(impl Abort + AllocGlobal), at: usize, byte: u8) -> Vec<u8> {
+    let mut bytes = Vec::from_slice(rt.alloc(), RECORD).expect(rt, "memory");
+    if at < bytes.len() {
+        bytes[at] = byte;
+    }
+    bytes
+}
+
+// A byte that is changed, and the part that is refused for it.
+const CHANGES: &[(usize, u8, u64)] = &[
+    // the version, and the number of parts
+    (0, 2, 0),
+    (4, 3, 2),
+    // a node's head, and a next id that is given already
+    (18, 1, 0),
+    (26, 1, 1),
+    // a row of version 2, neither live nor deleted, with capacity 0, in mode 6
+    (39, 2, 1),
+    (40, 3, 1),
+    (50, 0, 1),
+    (53, 6, 1),
+];
+
+#[test]
+fn a_record_is_refused_at_its_first_bad_part(rt: HostRuntime) {
+    for (at, byte, place) in CHANGES {
+        let bytes = changed(&rt, *at, *byte);
+        assert!(&rt; refused_at(rt.alloc(), bytes.as_slice()) == Some(*place));
+    }
+}
+
+#[test]
+fn bytes_behind_a_record_have_the_number_of_parts_as_place(rt: HostRuntime) {
+    let mut bytes = Vec::from_slice(rt.alloc(), RECORD).expect(&rt, "memory");
+    bytes.push(0).expect(&rt, "memory");
+    assert!(&rt; refused_at(rt.alloc(), bytes.as_slice()) == Some(2));
+    assert!(&rt; refused_at(rt.alloc(), &[]) == Some(0));
+}
+
+// Whether a part has this key and this value.
+fn is_part(part: &Part, key: u64, value: &[u8]) -> bool {
+    let is_value = match &part.value {
+        Some(bytes) => bytes.as_slice() == value,
+        None => false,
+    };
+    part.key == key && is_value
+}
+
+// Whether the store has one part, a head of this value.
+fn has_head<K: Keep>(keep: &mut K, head: &[u8]) -> bool {
+    match keep.load() {
+        Ok(parts) => parts.len() == 1 && is_part(&parts[0], 0, head),
+        Err(_) => false,
+    }
+}
+
+// Whether the store has no part.
+fn is_empty<K: Keep>(keep: &mut K) -> bool {
+    match keep.load() {
+        Ok(parts) => parts.is_empty(),
+        Err(_) => false,
+    }
+}
+
+// The controller of this store.
+fn controller<K: Keep>(
+    rt: &(impl Abort + AllocGlobal),
+    keep: &mut K,
+) -> Result<ControllerService, KeepFault> {
+    ControllerService::open(rt.alloc(), config(rt, &[]), keep)
+}
+
+// The node `n1` of this store.
+fn node<K: Keep>(
+    rt: &(impl Abort + AllocGlobal),
+    keep: &mut K,
+    id: &str,
+) -> Result<NodeService, KeepFault> {
+    NodeService::open(rt.alloc(), node_id(rt, id), keep)
+}
+
+#[test]
+fn an_empty_store_gets_the_head_of_its_plugin(rt: HostRuntime) {
+    let mut first = MemoryKeep::new(rt.alloc(), 1000);
+    assert!(&rt; controller(&rt, &mut first).is_ok());
+    assert!(&rt; has_head(&mut first, CONTROLLER_HEAD));
+    assert!(&rt; controller(&rt, &mut first).is_ok());
+    let mut second = MemoryKeep::new(rt.alloc(), 1000);
+    assert!(&rt; node(&rt, &mut second, "n1").is_ok());
+    assert!(&rt; has_head(&mut second, NODE_HEAD));
+}
+
+// Whether the refusal is this one.
+fn is_fault<T>(opened: &Result<T, KeepFault>, wanted: KeepFault) -> bool {
+    match opened {
+        Ok(_) => false,
+        Err(fault) => *fault == wanted,
+    }
+}
+
+#[test]
+fn a_head_fits_in_18_bytes(rt: HostRuntime) {
+    let mut small = MemoryKeep::new(rt.alloc(), 17);
+    assert!(&rt; is_fault(&controller(&rt, &mut small), KeepFault::Full));
+    assert!(&rt; is_empty(&mut small));
+    let mut enough = MemoryKeep::new(rt.alloc(), 18);
+    assert!(&rt; controller(&rt, &mut enough).is_ok());
+    assert!(&rt; small.faults() == 0 && enough.faults() == 0);
+}
+
+#[test]
+fn a_store_of_another_plugin_is_refused_at_its_head(rt: HostRuntime) {
+    let mut keep = MemoryKeep::new(rt.alloc(), 1000);
+    assert!(&rt; controller(&rt, &mut keep).is_ok());
+    assert!(&rt; is_fault(&node(&rt, &mut keep, "n1"), KeepFault::BadRecord(0)));
+    let mut other = MemoryKeep::new(rt.alloc(), 1000);
+    assert!(&rt; node(&rt, &mut other, "n1").is_ok());
+    assert!(&rt; is_fault(&node(&rt, &mut other, "n2"), KeepFault::BadRecord(0)));
+    assert!(&rt; is_fault(&controller(&rt, &mut other), KeepFault::BadRecord(0)));
+    assert!(&rt; has_head(&mut other, NODE_HEAD));
+}
+
+// A part, put in.
+fn part(rt: &(impl Abort + AllocGlobal), key: u64, value: &[u8]) -> Part {
+    Part {
+        key,
+        value: Some(Vec::from_slice(rt.alloc(), value).expect(rt, "memory")),
+    }
+}
+
+// Puts a part in, and takes it out again.
+fn puts_and_takes<K: Keep>(rt: &(impl Abort + AllocGlobal), keep: &mut K) {
+    keep.commit(&[part(rt, 5, &[7, 8])]).expect(rt, "a commit");
+    let parts = keep.load().expect(rt, "parts");
+    assert!(rt; parts.len() == 2 && is_part(&parts[1], 5, &[7, 8]));
+    keep.commit(&[Part {
+        key: 5,
+        value: None,
+    }])
+    .expect(rt, "a commit");
+}
+
+#[test]
+fn sqlite_keep_works_with_no_stop(rt: HostRuntime) {
+    let connection = Connection::open_in_memory(rt.alloc()).expect(&rt, "a database");
+    let Ok(mut keep) = SqliteKeep::new(rt.alloc(), connection) else {
+        return assert!(&rt; false);
+    };
+    assert!(&rt; is_empty(&mut keep));
+    assert!(&rt; controller(&rt, &mut keep).is_ok());
+    puts_and_takes(&rt, &mut keep);
+    assert!(&rt; keep.faults() == 0);
+    let Ok(mut again) = SqliteKeep::new(rt.alloc(), keep.into_connection()) else {
+        return assert!(&rt; false);
+    };
+    assert!(&rt; has_head(&mut again, CONTROLLER_HEAD));
+    assert!(&rt; controller(&rt, &mut again).is_ok());
+    assert!(&rt; is_fault(&node(&rt, &mut again, "n1"), KeepFault::BadRecord(0)));
+}
