@@ -25,12 +25,12 @@ use Rattle.csi_node.proofs.Steps.{row_of, all-from_shows, shows-from_all}
 use Rattle.csi_node.proofs.Answering.{GivesAll, gives-again, gives-anew, gives-full}
 use Rattle.csi_node.proofs.Rules.{id_at-parts, found-at, absent-gap, after-set, after-insert, rules-set, rules-insert}
 
-parts-at : (rows : List NodeRow) (place : ℕ) (d : NodeRow) → get_or (parts rows) place (shown d) ≡ shown (get_or rows place d)
+pub parts-at : (rows : List NodeRow) (place : ℕ) (d : NodeRow) → get_or (parts rows) place (shown d) ≡ shown (get_or rows place d)
 parts-at [] place d = refl
 parts-at (row ∷ rows) zero d = refl
 parts-at (row ∷ rows) (suc place) d = parts-at rows place d
 
-parts-insert : (rows : List NodeRow) (place : ℕ) (row : NodeRow) → parts (insert rows place row) ≡ insert (parts rows) place (shown row)
+pub parts-insert : (rows : List NodeRow) (place : ℕ) (row : NodeRow) → parts (insert rows place row) ≡ insert (parts rows) place (shown row)
 parts-insert rows place row =
     map-append shown (take place rows) (row ∷ drop place rows)
     ∙ ap (λ (front : List RowShown). front ++ shown row ∷ map shown (drop place rows)) (sym (take-map shown place rows))
@@ -60,7 +60,7 @@ there rows id place row is rules at =
     }
 
 -- a row keeps its id
-answers-id : (node : List ℕ) (number : Number) (call : Call) (old new : RowShown) (frame : Frame) (verdict : Verdict) → RowAnswers node number call old new frame verdict → new.id ≡ old.id
+pub answers-id : (node : List ℕ) (number : Number) (call : Call) (old new : RowShown) (frame : Frame) (verdict : Verdict) → RowAnswers node number call old new frame verdict → new.id ≡ old.id
 answers-id node number call old new frame Stale h = ap (λ (r : RowShown). r.id) h.1
 answers-id node number call old new frame Repeated h = ap (λ (r : RowShown). r.id) h.1
 answers-id node number call old new frame Fresh h = h.1.id

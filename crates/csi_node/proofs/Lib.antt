@@ -21,4 +21,5 @@ pub mod TableLaw
 pub mod SafeStates
 pub mod StagedOnce
 mod SoundRow
+pub mod OneVolume
 pub mod FirstRefused

@@ -1,5 +1,6 @@
 //! The laws of the node's table, and of every node.
 ghost use Rattle.csi_node.specs.Laws.{NodeTableLaw};
+ghost use Rattle.csi_node.specs.Record.{parts, IsRecord};
 ghost use Rattle.csi_node.specs.Safe.{NodeSafetyLaw, IsPublishedRight};
 ghost use Rattle.csi_node.specs.Shown.{Shows};
 ghost use Rattle.csi_node.specs.State.{NodeState};
@@ -35,6 +36,14 @@ pub fn delivery_law()
 /// targets).
 pub fn publishing_law(node: &Node)
     ensures { (state : NodeState) → Shows node.now.rows state → IsPublishedRight state }
+{
+    node.assert_rules();
+}
+
+/// A law, and nothing that runs: the rows of every node, whatever it was asked and whichever record it was made of, keep the rules
+/// of a record: they stand by rising id, at most 4,096, and each keeps the rules of a row. This profile's own.
+pub fn record_law(node: &Node)
+    ensures { IsRecord (parts node.now.rows) }
 {
     node.assert_rules();
 }

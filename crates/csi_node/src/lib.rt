@@ -7,6 +7,7 @@ mod changes;
 mod copies;
 mod entries;
 mod fault;
+mod finding;
 mod judging;
 mod laws;
 mod line;
@@ -21,7 +22,7 @@ mod views;
 
 pub use entries::{Published, Staged};
 pub use fault::{CoreFault, RecordFault};
-pub use laws::{delivery_law, publishing_law, safety_law, showing_law, table_law};
+pub use laws::{delivery_law, publishing_law, record_law, safety_law, showing_law, table_law};
 pub use node::Node;
 pub use record::NodeRecord;
 pub use row::{NodeRow, NodeTarget};

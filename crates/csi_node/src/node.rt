@@ -1,5 +1,6 @@
 //! The node plugin.
-ghost use Rattle.std.specs.Prelude.{◌≡◌, true, false, Some, None, [], IfOk, OnOk, OnErr, Ok, IsOk, option_map, map};
+ghost use Rattle.std.specs.Prelude.{◌≡◌, true, false, Some, None, [], IfOk, OnOk, OnErr, Ok, IsOk, IfSome, option_map, map};
+ghost use Rattle.std.specs.Option.{option_copied};
 ghost use Rattle.csi_types.specs.Call.{kind_of, is_node_kind};
 ghost use Rattle.csi_types.specs.Same.{same_text};
 ghost use Rattle.csi_node.specs.State.{volume_of};
@@ -54,7 +55,8 @@ fn is_same_node(a: &NodeId, b: &NodeId) -> bool
 impl Node {
     ghost use Rattle.csi_node.specs.Fenced.{fenced};
     ghost use Rattle.csi_node.specs.Record.{parts, is_call_for, IsRecord};
-    ghost use Rattle.csi_node.specs.OneRow.{shown, alone};
+    ghost use Rattle.csi_node.specs.OneRow.{shown, alone, IsRow};
+    ghost use Rattle.csi_node.specs.OneVolume.{row_by_id, called_volume, AreRowsAfter};
     ghost use Rattle.std.specs.List.{flat_map};
     ghost use Rattle.csi_node.specs.Views.{staged_shown, published_shown, ListsStaged, ListsPublished};
     ghost use Rattle.csi_node.specs.Shown.{Shows, row_in, answered_of_row};
@@ -90,6 +92,9 @@ impl Node {
             OnOk result (Shows self.new.rows (fenced self.old.id state frame.now).state) }
         ensures id { self.new.id ≡ self.old.id }
         ensures err { (state : NodeState) → Shows self.old.rows state → OnErr result (Shows self.new.rows state) }
+        // What becomes of the rows.
+        ensures rows { OnOk result (AreRowsAfter (called_volume frame.now.body) (parts self.old.rows) (parts self.new.rows)) }
+        ensures err_rows { OnErr result (parts self.new.rows ≡ parts self.old.rows) }
         // What is not for the node.
         ensures silent { is_call_for self.old.id frame.now.party frame.now.body ≡ false → result ≡ Ok None }
         ensures untouched { is_call_for self.old.id frame.now.party frame.now.body ≡ false → self.new ≡ self.old }
@@ -135,6 +140,14 @@ impl Node {
             IfOk result (λ row. option_map answered_of_row row ≡ row_with_id id state) }
     {
         self.record.row(id)
+    }
+
+    /// The row of a volume, if the node has one, as it is kept: it keeps the rules of a row. It takes no memory.
+    pub fn row_with_id(&self, id: VolumeId) -> Option<&NodeRow>
+        ensures row { option_map shown (option_copied result) ≡ row_by_id id (parts self.now.rows) }
+        ensures rules { IfSome (option_copied result) (λ row. IsRow (shown row)) }
+    {
+        self.record.row_with_id(id)
     }
 
     /// What is staged, each volume once, by rising id. The node stays as it is. An `Err` is an allocation that was

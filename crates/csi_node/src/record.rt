@@ -1,8 +1,10 @@
 //! A node's record as a value.
-ghost use Rattle.std.specs.Prelude.{◌≡◌, true, Some, None, [], IfOk, IfErr, IsOk, OnOk, OnErr, option_map};
+ghost use Rattle.std.specs.Prelude.{◌≡◌, true, Some, None, [], IfOk, IfErr, IsOk, OnOk, OnErr, IfSome, option_map};
+ghost use Rattle.std.specs.Option.{option_copied};
 
 use crate::copies::{copies_of, copy_in};
 use crate::fault::{CoreFault, RecordFault};
+use crate::finding::row_with_id;
 use crate::judging::first_refused;
 use crate::row::NodeRow;
 use crate::step::answer;
@@ -34,9 +36,10 @@ impl NodeRecord {
     ghost use Rattle.csi_node.specs.Judging.{IsRefusal};
     ghost use Rattle.csi_types.specs.Call.{kind_of, is_node_kind};
     ghost use Rattle.csi_node.specs.Fenced.{fenced_call, kept_for};
+    ghost use Rattle.csi_node.specs.OneVolume.{IsOneRowPut, row_by_id};
     ghost use Rattle.csi_node.specs.Record.{parts, IsRecord, Gives};
     ghost use Rattle.csi_node.specs.Shown.{Shows, row_in};
-    ghost use Rattle.csi_node.specs.OneRow.{shown};
+    ghost use Rattle.csi_node.specs.OneRow.{shown, IsRow};
     ghost use Rattle.csi_node.specs.State.{NodeState, volume_of};
 
     /// The record of the node of this id that has these rows, by rising id (this profile's own). It is refused with `BadRow` at
@@ -93,6 +96,7 @@ impl NodeRecord {
         ensures ok { (state : NodeState) → Shows self.old.rows state → IfOk result (λ frame.
             Gives self.new.rows frame (fenced_call self.old.id state number call.now (kept_for call.now state))) }
         ensures id { self.new.id ≡ self.old.id }
+        ensures one { OnOk result (IsOneRowPut id (parts self.old.rows) (parts self.new.rows)) }
         ensures err { OnErr result (parts self.new.rows ≡ parts self.old.rows) }
     {
         answer(&mut self.rows, alloc, &self.id, number, id, call)
@@ -106,6 +110,14 @@ impl NodeRecord {
         let id = self.id.clone()?;
         let rows = copies_of(alloc, self.rows.as_slice())?;
         Ok(NodeRecord { id, rows })
+    }
+
+    /// The row of this volume, if it has one.
+    pub(crate) fn row_with_id(&self, id: VolumeId) -> Option<&NodeRow>
+        ensures row { option_map shown (option_copied result) ≡ row_by_id id (parts self.now.rows) }
+        ensures rules { IfSome (option_copied result) (λ row. IsRow (shown row)) }
+    {
+        row_with_id(self.rows.as_slice(), id)
     }
 
     /// A copy of the row of this volume, if it has one. Without one it takes no memory.

@@ -2,6 +2,7 @@
 ghost use Rattle.std.specs.Prelude.{◌≡◌, ◌<◌, true, Some, length, vec_len, IfOk, IfErr, OnErr, OnOk};
 ghost use Rattle.csi_types.specs.Call.{kind_of, is_node_kind};
 ghost use Rattle.csi_node.specs.Fenced.{fenced_call, kept_for};
+ghost use Rattle.csi_node.specs.OneVolume.{IsOneRowPut};
 ghost use Rattle.csi_node.specs.Record.{parts, IsRecord, IsAt, IsGapFor, Gives};
 ghost use Rattle.csi_node.specs.Shown.{Shows};
 ghost use Rattle.csi_node.specs.State.{NodeState, volume_of};
@@ -41,6 +42,7 @@ fn answer_there(
     ensures ok { (state : NodeState) → Shows rows.old.items state → IfOk result (λ frame.
         Gives rows.new.items frame (fenced_call node.now state number call.now (kept_for call.now state))) }
     ensures rules { IsRecord (parts rows.new.items) }
+    ensures one { OnOk result (IsOneRowPut id (parts rows.old.items) (parts rows.new.items)) }
     ensures err { OnErr result (parts rows.new.items ≡ parts rows.old.items) }
 {
     answer_again(&mut rows[place], alloc, node, number, call)
@@ -63,6 +65,7 @@ fn answer_first(
     ensures ok { (state : NodeState) → Shows rows.old.items state → IfOk result (λ frame.
         Gives rows.new.items frame (fenced_call node.now state number call.now (kept_for call.now state))) }
     ensures rules { IsRecord (parts rows.new.items) }
+    ensures one { OnOk result (IsOneRowPut id (parts rows.old.items) (parts rows.new.items)) }
     ensures err { OnErr result (parts rows.new.items ≡ parts rows.old.items) }
 {
     if rows.len() >= MAX_ROWS {
@@ -88,6 +91,7 @@ pub(crate) fn answer(
     ensures ok { (state : NodeState) → Shows rows.old.items state → IfOk result (λ frame.
         Gives rows.new.items frame (fenced_call node.now state number call.now (kept_for call.now state))) }
     ensures rules { IsRecord (parts rows.new.items) }
+    ensures one { OnOk result (IsOneRowPut id (parts rows.old.items) (parts rows.new.items)) }
     ensures err { OnErr result (parts rows.new.items ≡ parts rows.old.items) }
 {
     match place_of(rows, id) {

@@ -85,8 +85,9 @@ pub(crate) fn volume_value(alloc: Global, row: &ControllerRow) -> Result<Vec<u8>
     Ok(out)
 }
 
-/// The value of a node's row.
-pub(crate) fn answered_value(alloc: Global, row: &NodeRow) -> Result<Vec<u8>, NoMemory>
+/// The value of a row of a node's record: a version, how the volume is staged, its targets, and the last number with the reply that
+/// was kept (this profile's own).
+pub fn answered_value(alloc: Global, row: &NodeRow) -> Result<Vec<u8>, NoMemory>
     requires { ArePublishedFew row.now }
     ensures value { IfOk result (λ value. value.items ≡ answered_bytes (shown row.now)) }
     ensures fits { IfOk result (λ value. IsAnsweredRow (shown row.now)) }

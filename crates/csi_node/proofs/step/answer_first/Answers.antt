@@ -4,6 +4,8 @@ use Rattle.csi_node.specs.declared.row.NodeRow.{NodeRow}
 use Rattle.csi_node.specs.Record.{parts, IsRecord, Gives}
 use Rattle.csi_node.specs.Fenced.{fenced_call, kept_for}
 use Rattle.csi_node.proofs.Calls.{gives-first, rules-first, gives-none}
+use Rattle.csi_node.specs.OneVolume.{IsOneRowPut}
+use Rattle.csi_node.proofs.OneVolume.{put-nowhere, one-first, on_ok_holds}
 use Rattle.csi_node.proofs.step.answer_first.Goals as goal
 
 pub returns-then-len-ge-MAX_ROWS-clause-ok : goal.returns-then-len-ge-MAX_ROWS-clause-ok
@@ -22,3 +24,11 @@ pub returns-clause-rules : goal.returns-clause-rules
 returns-clause-rules c =
     subst (λ (rows : List NodeRow). IsRecord (parts rows)) (sym c.in_ok-insert.ensures.items)
     (rules-first c.args.id c.args.rows.now.items c.args.place c.in_ok-row.row c.requires.rules c.requires.place (omega arith) c.in_ok-row.ensures.rules c.in_ok-row.ensures.row.id)
+
+pub returns-then-len-ge-MAX_ROWS-clause-one : goal.returns-then-len-ge-MAX_ROWS-clause-one
+returns-then-len-ge-MAX_ROWS-clause-one c = on_ok_holds c.full_frame.result (put-nowhere c.args.id c.args.rows.now.items c.args.place c.requires.place)
+
+pub returns-clause-one : goal.returns-clause-one
+returns-clause-one c =
+    subst (λ (rows : List NodeRow). IsOneRowPut c.args.id (parts c.args.rows.now.items) (parts rows)) (sym c.in_ok-insert.ensures.items)
+    (one-first c.args.id c.args.rows.now.items c.args.place c.in_ok-row.row c.requires.place c.in_ok-row.ensures.row.id)

@@ -3,6 +3,7 @@ use Rattle.std.proofs.lemmas.Result.{IfOk-weaker, on_err_weaker}
 use Rattle.std.proofs.Math.Seq.{map-set_same}
 use Rattle.csi_node.specs.OneRow.{shown}
 use Rattle.csi_node.proofs.Calls.{there, gives-there, rules-there, kept_id}
+use Rattle.csi_node.proofs.OneVolume.{one-there, on_ok_of}
 use Rattle.csi_node.proofs.step.answer_there.Goals as goal
 
 pub answer_again-requires-clause-volume : goal.answer_again-requires-clause-volume
@@ -32,3 +33,10 @@ returns-clause-err c =
     on_err_weaker c.answer_again.result
     (λ same. map-set_same shown c.args.rows.now.items c.args.place c.answer_again.new.row c.index_mut.result.now (same ∙ ap shown c.index_mut.ensures.value))
     c.answer_again.ensures.err
+
+pub returns-clause-one : goal.returns-clause-one
+returns-clause-one c =
+    let is = there c.args.rows.now.items c.args.id c.args.place c.index_mut.result.now c.index_mut.ensures.value c.requires.rules c.requires.place in
+    on_ok_of c.answer_again.result
+    (one-there c.args.node.now c.args.id c.args.number c.args.call.now c.args.rows.now.items c.args.place c.index_mut.result.now c.answer_again.new.row c.index_mut.ensures.value c.requires.rules c.requires.place is)
+    c.answer_again.ensures.ok

@@ -1,5 +1,14 @@
 use Rattle.csi_node.proofs.Frames.{shows-same, err_holds}
+use Rattle.csi_node.specs.OneVolume.{called_volume}
+use Rattle.csi_node.specs.Record.{parts}
+use Rattle.csi_node.proofs.OneVolume.{none-put}
 use Rattle.csi_node.proofs.node.Node.step.Goals as goal
+
+pub returns-in_default-party-clause-rows : goal.returns-in_default-party-clause-rows
+returns-in_default-party-clause-rows c = none-put (called_volume c.args.frame.now.body) (parts c.args.self.now.rows)
+
+pub returns-then-not-is_same_node-clause-rows : goal.returns-then-not-is_same_node-clause-rows
+returns-then-not-is_same_node-clause-rows c = none-put (called_volume c.args.frame.now.body) (parts c.args.self.now.rows)
 
 pub returns-in_err-reply-clause-err : goal.returns-in_err-reply-clause-err
 returns-in_err-reply-clause-err c = λ state shows.
