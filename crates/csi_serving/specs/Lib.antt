@@ -12,4 +12,5 @@ pub mod Ending
 pub mod Rows
 pub mod Opening
 pub mod Services
+pub mod NodeServices
 pub mod WholeRecords
