@@ -21,7 +21,8 @@ use csi_records::{Part, answered_value, node_head_value, record_of_node};
 use csi_types::{Body, Call, Frame, NoMemory, NodeId, Number, VolumeId};
 use std::alloc::Global;
 
-/// A node's plugin with its record, whose parts a store keeps. This profile's own.
+/// A node's plugin with its record, whose parts a store keeps: a core that answers as its `Node` does, where a step of a volume
+/// changes the part of that volume's row at most. This profile's own.
 #[derive(Drop)]
 pub struct NodeService {
     alloc: Global,
@@ -150,6 +151,7 @@ impl Core for NodeService {
     fn step(&mut self, frame: &Frame) -> Result<Option<Frame>, NoMemory>
         ensures answered { IfOk result (λ reply. NodeServiceAnswers self.old frame.now reply self.new) }
         ensures parts { OnOk result (node_service_parts self.new ≡ all_changed (node_service_changes self.new) (node_service_parts self.old)) }
+        // Where no row changed, neither did a part; and a refusal leaves also what was told of the step before.
         ensures nothing { OnOk result (map shown self.new.node.rows ≡ map shown self.old.node.rows → node_service_changes self.new ≡ []) }
         ensures err { OnErr result (node_service_parts self.new ≡ node_service_parts self.old) }
         ensures err_changes { OnErr result (node_service_changes self.new ≡ node_service_changes self.old) }
