@@ -12,3 +12,4 @@ pub mod Progress
 pub mod Ends
 pub mod Loading
 pub mod Opened
+pub mod RisingParts
