@@ -13,3 +13,4 @@ pub mod Ends
 pub mod Loading
 pub mod Opened
 pub mod RisingParts
+pub mod ControllerChanges
