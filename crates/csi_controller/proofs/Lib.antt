@@ -26,3 +26,6 @@ pub mod TableLaw
 pub mod SafeStates
 mod SoundRow
 pub mod FirstRefused
+pub mod RowsTold
+pub mod OneRow
+pub mod OtherRows

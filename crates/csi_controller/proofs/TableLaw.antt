@@ -116,7 +116,7 @@ let_through : (config : Config) (state : ControllerState) (number : Number) (cal
 let_through config state number call None h = refl
 let_through config state number call (Some kept) h = rw h refl
 
-is_carried_out : (config : Config) (state : ControllerState) (number : Number) (call : Call) → IsLetThrough state number call
+pub is_carried_out : (config : Config) (state : ControllerState) (number : Number) (call : Call) → IsLetThrough state number call
     → fenced config state (call_frame number Controller call) ≡ carried_out state number call (controller_row config state call)
 is_carried_out config state number call h = let_through config state number call (kept_for call state) h
 

@@ -15,3 +15,4 @@ pub mod View
 pub mod SoundRow
 pub mod Judging
 pub mod Repeats
+pub mod RowsLaw

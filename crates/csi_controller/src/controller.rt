@@ -5,6 +5,7 @@ ghost use Rattle.csi_types.specs.declared.call.Call.{Call as OneCall};
 mod answer;
 mod fence;
 mod inner;
+mod last_call;
 mod line;
 pub(crate) mod lines;
 mod listing;
@@ -15,7 +16,7 @@ pub(crate) mod wanted;
 use crate::fault::CoreFault;
 use crate::record::ControllerRecord;
 use crate::row::ControllerRow;
-use csi_types::{Body, Config, Frame, Holding, Name, VolumeId};
+use csi_types::{Body, Call, Config, Frame, Holding, Name, Number, VolumeId};
 use inner::Core;
 use new_row::attachments;
 use std::alloc::Global;
@@ -41,7 +42,8 @@ impl Model for Controller {
 }
 
 impl Controller {
-    ghost use Rattle.csi_controller.specs.State.{ControllerState, empty_controller, volume_named};
+    ghost use Rattle.csi_controller.specs.RowsLaw.{last_call};
+    ghost use Rattle.csi_controller.specs.State.{ControllerState, empty_controller, volume_named, row_for};
     ghost use Rattle.csi_controller.specs.Fenced.{fenced, kept_for};
     ghost use Rattle.csi_controller.specs.Repeats.{IsPlainRepeat};
     ghost use Rattle.csi_lists.specs.Members.{EachTwo};
@@ -144,6 +146,15 @@ impl Controller {
         ensures succeeds { find (λ row. row.id == id) self.now.rows ≡ None → IsOk result }
     {
         self.core.row(id)
+    }
+
+    /// The id of the volume of this call, deleted or not, and the number of the last call that was answered for it; none where there is
+    /// no such volume. A CreateVolume's volume is that of its name, and each other call's that of its id. It takes no memory.
+    /// This profile's own.
+    pub fn last_for(&self, call: &Call) -> Option<(VolumeId, Number)>
+        ensures { (state : ControllerState) → IsShown self.now state → result ≡ option_map last_call (row_for call.now state) }
+    {
+        self.core.last_for(call)
     }
 
     /// Where each volume is held, by rising id, and for each volume in the order of its row.

@@ -1,8 +1,9 @@
 //! The laws of the controller.
 ghost use Rattle.std.specs.List.{AllByRecursion};
-ghost use Rattle.csi_controller.specs.Core.{IsShown};
+ghost use Rattle.csi_controller.specs.Core.{IsShown, IsSound};
 ghost use Rattle.csi_controller.specs.Exclusive.{IsRowExclusive};
 ghost use Rattle.csi_controller.specs.Laws.{ControllerTableLaw};
+ghost use Rattle.csi_controller.specs.RowsLaw.{ControllerRowsLaw};
 ghost use Rattle.csi_controller.specs.Safe.{ControllerSafetyLaw};
 ghost use Rattle.csi_controller.specs.State.{ControllerState};
 ghost use Rattle.csi_controller.specs.View.{ControllerDeliveryLaw, ControllerNamesLaw};
@@ -57,3 +58,17 @@ pub fn showing_law(controller: &Controller)
     controller.assert_sound();
     let _next = controller.next_id();
 }
+
+/// A law, and nothing that runs: the rows of every controller keep the rules of a record. This profile's own.
+pub fn sound_law(controller: &Controller)
+    ensures { IsSound controller.now.next_id controller.now.rows }
+{
+    controller.assert_sound();
+}
+
+/// A law, and nothing that runs: what a controller shows tells its next id and its rows; and a frame changes at most the row that its
+/// call has then, so that a call whose row has the last number that it had changed nothing, nor did one that has no row then.
+/// This profile's own.
+pub fn rows_law()
+    ensures { ControllerRowsLaw }
+{}

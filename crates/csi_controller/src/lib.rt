@@ -13,6 +13,8 @@ mod sound_row;
 
 pub use controller::Controller;
 pub use fault::{CoreFault, RecordFault};
-pub use laws::{delivery_law, exclusive_law, names_law, safety_law, showing_law, table_law};
+pub use laws::{
+    delivery_law, exclusive_law, names_law, rows_law, safety_law, showing_law, sound_law, table_law,
+};
 pub use record::ControllerRecord;
 pub use row::{ControllerRow, NodeHolding};

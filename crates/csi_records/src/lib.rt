@@ -22,4 +22,4 @@ pub use fault::RecordStop;
 pub use laws::record_laws;
 pub use part::Part;
 pub use record::{Record, read_record, record_of_node, write_record};
-pub use row_values::{answered_value, controller_head_value, node_head_value};
+pub use row_values::{answered_value, controller_head_value, node_head_value, volume_value};

@@ -66,8 +66,9 @@ fn put_staged(out: &mut Vec<u8>, from: &Option<Capability>) -> Result<(), NoMemo
     }
 }
 
-/// The value of a controller's row.
-pub(crate) fn volume_value(alloc: Global, row: &ControllerRow) -> Result<Vec<u8>, NoMemory>
+/// The value of a controller's row, of at most 64 holdings, as a controller has it: a version, whether it is live, name, capacity,
+/// capabilities, holdings, and the last call with its reply (this profile's own).
+pub fn volume_value(alloc: Global, row: &ControllerRow) -> Result<Vec<u8>, NoMemory>
     requires { AreHeldFew row.now }
     ensures value { IfOk result (λ value. value.items ≡ volume_bytes (volume_row row.now)) }
     ensures fits { IfOk result (λ value. IsVolumeRow (volume_row row.now)) }

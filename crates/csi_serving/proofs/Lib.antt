@@ -13,3 +13,5 @@ pub mod Ends
 pub mod Loading
 pub mod Opened
 pub mod NodeSteps
+pub mod RisingParts
+pub mod ControllerChanges

@@ -23,7 +23,7 @@ above-more : (low key : ℕ) (parts : List StoredPart) → low < key → AreAbov
 above-more low key [] less above = tt
 above-more low key (part ∷ parts) less above = (omega (arith, above.0), above-more low key parts less above.1)
 
-rising-put : (part : StoredPart) (parts : List StoredPart) → IsRising parts → IsRising (put_in part parts)
+pub rising-put : (part : StoredPart) (parts : List StoredPart) → IsRising parts → IsRising (put_in part parts)
 rising-put part [] rising = (tt, tt)
 rising-put part (other ∷ others) rising = by (nat_lt other.key part.key) (other.key == part.key) refl refl (rising-put part others rising.1)
   where

@@ -75,7 +75,7 @@ impl Core {
     }
 
     // Where the row of this id is. It doesn't walk the rows.
-    fn place_of_id(&self, id: VolumeId) -> Option<usize>
+    pub(super) fn place_of_id(&self, id: VolumeId) -> Option<usize>
         requires { IsSound self.now.next_id self.now.rows.items }
         ensures { result ≡ position (λ row. row.id == id) self.now.rows.items }
     {
