@@ -1,4 +1,6 @@
 //! Records as bytes, and stores that plugins are opened from.
+mod stores;
+
 use crate::values::{config, node_id};
 use csi_controller::{Controller, ControllerRecord};
 use csi_frames::decode;

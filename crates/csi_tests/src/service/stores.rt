@@ -1,0 +1,119 @@
+//! Stores in SQLite that something else wrote, and stores in memory at their limits.
+use super::{controller, has_head, is_fault, part};
+use csi_service::{Keep, KeepFault, MemoryKeep, Part, SqliteKeep};
+use sqlite::{Connection, MemStore};
+use std::process::Abort;
+
+// The table `parts`, with the head of a new controller.
+const WITH_HEAD: &str =
+    "CREATE TABLE parts (key BLOB NOT NULL PRIMARY KEY, value BLOB NOT NULL); INSERT INTO parts VALUES (x'0000000000000000', x'01000000000000000001');";
+
+// A store in memory that this made of an empty database.
+fn store(rt: &(impl Abort + AllocGlobal), table: &str, rows: &str) -> SqliteKeep<MemStore> {
+    let mut connection = Connection::open_in_memory(rt.alloc()).expect(rt, "a database");
+    connection.execute_batch(table).expect(rt, "a table");
+    connection.execute_batch(rows).expect(rt, "rows");
+    match SqliteKeep::new(rt.alloc(), connection) {
+        Ok(keep) => keep,
+        Err(_) => panic!(rt; "a store"),
+    }
+}
+
+// Where the store's parts are refused, if they are.
+fn refused_at(keep: &mut SqliteKeep<MemStore>) -> Option<u64> {
+    match keep.load() {
+        Err(KeepFault::BadRecord(place)) => Some(place),
+        _ => None,
+    }
+}
+
+// A row beside the head, and its place in the order of keys, in which a text comes before each blob.
+const ROWS: &[(&str, u64)] = &[
+    // a key of seven bytes, one of nine, and one that is a text
+    ("INSERT INTO parts VALUES (x'00000000000001', x'01')", 1),
+    ("INSERT INTO parts VALUES (x'000000000000000001', x'01')", 1),
+    ("INSERT INTO parts VALUES ('00000000', x'01')", 0),
+    // a value that is a text, and one that is a number
+    ("INSERT INTO parts VALUES (x'0000000000000001', 'v')", 1),
+    ("INSERT INTO parts VALUES (x'0000000000000002', 7)", 1),
+];
+
+#[test]
+fn a_row_that_is_no_part_is_refused_at_its_place(rt: HostRuntime) {
+    for (row, place) in ROWS {
+        let mut keep = store(&rt, WITH_HEAD, row);
+        assert!(&rt; refused_at(&mut keep) == Some(*place));
+        assert!(&rt; keep.faults() == 0);
+    }
+}
+
+#[test]
+fn another_table_of_that_name_is_refused_at_0(rt: HostRuntime) {
+    let mut keep = store(&rt, "CREATE TABLE parts (name TEXT, size INTEGER)", "");
+    assert!(&rt; refused_at(&mut keep) == Some(0));
+}
+
+#[test]
+fn what_another_program_wrote_is_opened(rt: HostRuntime) {
+    let mut keep = store(&rt, WITH_HEAD, "");
+    assert!(&rt; has_head(&mut keep, super::CONTROLLER_HEAD));
+    assert!(&rt; controller(&rt, &mut keep).is_ok());
+}
+
+#[test]
+fn a_connection_inside_a_transaction_comes_back(rt: HostRuntime) {
+    let mut connection = Connection::open_in_memory(rt.alloc()).expect(&rt, "a database");
+    connection
+        .execute_batch("BEGIN")
+        .expect(&rt, "a transaction");
+    let Err((fault, back)) = SqliteKeep::new(rt.alloc(), connection) else {
+        return assert!(&rt; false);
+    };
+    assert!(&rt; fault == KeepFault::Device && !back.is_autocommit());
+}
+
+// How much a store may take that has a part of key 1 with a value of two bytes, and what putting these in answers: a value
+// for key 1, and one for key 2.
+const ROOMS: &[(u64, &[u8], &[u8], bool)] = &[
+    // two parts of 8 bytes and two
+    (20, &[1, 2], &[3, 4], true),
+    (19, &[1, 2], &[3, 4], false),
+    // the first is made smaller, by what the second takes
+    (19, &[1], &[3, 4], true),
+    (18, &[], &[3, 4], true),
+    (17, &[], &[3, 4], false),
+];
+
+// Whether a store with so much room takes these values.
+fn takes(rt: &(impl Abort + AllocGlobal), limit: u64, first: &[u8], second: &[u8]) -> bool {
+    let mut keep = MemoryKeep::new(rt.alloc(), limit);
+    keep.commit(&[part(rt, 1, &[1, 2])]).expect(rt, "room");
+    let committed = keep.commit(&[part(rt, 1, first), part(rt, 2, second)]);
+    let parts = keep.load().expect(rt, "parts");
+    match committed {
+        Ok(()) => parts.len() == 2,
+        Err(fault) => {
+            assert!(rt; fault == KeepFault::Full && parts.len() == 1);
+            false
+        }
+    }
+}
+
+#[test]
+fn a_content_fits_exactly_within_the_limit(rt: HostRuntime) {
+    for (limit, first, second, fits) in ROOMS {
+        assert!(&rt; takes(&rt, *limit, first, second) == *fits);
+    }
+}
+
+#[test]
+fn a_part_that_is_taken_out_makes_room(rt: HostRuntime) {
+    let mut keep = MemoryKeep::new(rt.alloc(), 10);
+    keep.commit(&[part(&rt, 1, &[1, 2])]).expect(&rt, "room");
+    let gone = Part {
+        key: 1,
+        value: None,
+    };
+    assert!(&rt; is_fault(&keep.commit(&[part(&rt, 2, &[3, 4])]), KeepFault::Full));
+    assert!(&rt; keep.commit(&[gone, part(&rt, 2, &[3, 4])]).is_ok());
+}
