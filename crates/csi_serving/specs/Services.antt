@@ -7,18 +7,22 @@ use Rattle.csi_types.specs.Frame.{Frame}
 use Rattle.csi_controller.specs.declared.row.ControllerRow.{ControllerRow}
 use Rattle.csi_controller.specs.State.{ControllerState, row_for}
 use Rattle.csi_controller.specs.Fenced.{fenced}
-use Rattle.csi_controller.specs.Core.{IsShown}
+use Rattle.csi_controller.specs.Core.{Parts, IsShown}
 use Rattle.csi_controller.specs.RowsLaw.{last_call}
 use Rattle.csi_node.specs.OneRow.{shown}
 use Rattle.csi_records.specs.Spelling.{controller_head, controller_parts, volume_part, volume_row, node_parts}
+use Rattle.csi_serving.specs.declared.controller_changes.Changed.{Changed}
 use Rattle.csi_serving.specs.declared.controller_service.ControllerService.{ControllerService}
 use Rattle.csi_serving.specs.declared.node_service.NodeService.{NodeService}
 use Rattle.csi_records.specs.Part.{StoredPart, Change, put_all}
 
 -- ---- the controller
 
+abbrev pub parts_of_controller : Parts → List StoredPart
+parts_of_controller controller = controller_parts controller.next_id (map volume_row controller.rows)
+
 abbrev pub controller_service_parts : ControllerService → List StoredPart
-controller_service_parts service = controller_parts service.controller.next_id (map volume_row service.controller.rows)
+controller_service_parts service = parts_of_controller service.controller
 
 -- the head, where the next id is a new one
 abbrev pub head_change : Bool → ℕ → List Change
@@ -34,9 +38,13 @@ abbrev pub touched_change : Option ℕ → List ControllerRow → List Change
 touched_change None rows = []
 touched_change (Some id) rows = row_change (find (λ row. row.id == id) rows)
 
--- what the last step that answered changed: the head, where a volume was made, and the row of one volume
+-- what a step changed, as the controller has it now: the head, where a volume was made, and the row of one volume
+abbrev pub changes_of : Changed → Parts → List Change
+changes_of changed controller = head_change changed.has_new_id controller.next_id ++ touched_change changed.touched controller.rows
+
+-- the same, of the last step that answered
 abbrev pub controller_service_changes : ControllerService → List Change
-controller_service_changes service = head_change service.has_new_id service.controller.next_id ++ touched_change service.touched service.controller.rows
+controller_service_changes service = changes_of service.changed service.controller
 
 -- Reply and new state are those of the controller's own definitions, for every state that the old one shows; the configuration
 -- stays.

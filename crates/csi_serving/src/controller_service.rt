@@ -1,26 +1,23 @@
 //! The controller plugin over a store.
-ghost use Rattle.std.specs.Prelude.{◌≡◌, ◌⊎◌, ◌++◌, ◌==◌, ◌∷◌, ℕ, List, None, Some, [], find, map, IfOk, IfErr, IfSome, OnErr, OnOk, Option};
-ghost use Rattle.csi_types.specs.declared.number.Number.{Number as OneNumber};
-ghost use Rattle.csi_types.specs.Frame.{Frame as FrameParts};
-ghost use Rattle.csi_types.specs.VolumeId.{IsVolumeId};
+ghost use Rattle.std.specs.Prelude.{◌≡◌, ◌∷◌, Some, [], map, IfOk, IfErr, OnErr, OnOk, Option};
 ghost use Rattle.csi_controller.specs.Core.{IsShown};
 ghost use Rattle.csi_controller.specs.Fenced.{fenced};
 ghost use Rattle.csi_controller.specs.State.{ControllerState};
-ghost use Rattle.csi_controller.specs.Views.{RecordParts};
-ghost use Rattle.csi_records.specs.Part.{StoredPart, Change, change_of, put_all};
+ghost use Rattle.csi_records.specs.Part.{change_of};
 ghost use Rattle.csi_records.specs.Records.{controller_layout, IsRecordOf, IsRefusedAt};
 ghost use Rattle.csi_records.specs.Spelling.{controller_head, controller_parts, volume_row};
 ghost use Rattle.csi_serving.specs.Content.{all_changed};
 ghost use Rattle.csi_serving.specs.Stores.{store};
 ghost use Rattle.csi_serving.specs.Opening.{IsOpenFault, LeavesHead, HasRecord};
-ghost use Rattle.csi_serving.specs.Services.{controller_service_parts, controller_service_changes, head_change, row_change, touched_change, last_in, ControllerAnswers};
+ghost use Rattle.csi_serving.specs.Services.{controller_service_parts, controller_service_changes, ControllerAnswers};
 
+use crate::controller_changes::{Changed, NOTHING, answer, push_row, push_value};
 use crate::keep::{Keep, KeepFault};
 use crate::opening::load_or_begin;
 use crate::plugin_core::Core;
-use csi_controller::{Controller, ControllerRecord, rows_law, showing_law, sound_law};
-use csi_records::{Part, Record, controller_head_value, volume_value};
-use csi_types::{Body, Config, Frame, NoMemory, Number, VolumeId};
+use csi_controller::{Controller, ControllerRecord};
+use csi_records::{Part, Record, controller_head_value};
+use csi_types::{Config, Frame, NoMemory};
 use std::alloc::Global;
 
 /// The controller plugin with its record, whose parts a store keeps. This profile's own.
@@ -28,10 +25,8 @@ use std::alloc::Global;
 pub struct ControllerService {
     alloc: Global,
     controller: Controller,
-    // Whether the last step that answered made a new next id.
-    has_new_id: bool,
-    // The volume whose row that step changed.
-    touched: Option<VolumeId>,
+    // By the last step that answered.
+    changed: Changed,
 }
 
 // A controller that made no volume.
@@ -43,8 +38,7 @@ fn begun(alloc: Global, config: Config) -> ControllerService
     ControllerService {
         alloc,
         controller: Controller::new(alloc, config),
-        has_new_id: false,
-        touched: None,
+        changed: NOTHING,
     }
 }
 
@@ -62,68 +56,8 @@ fn of_record(
         Ok(controller) => Ok(ControllerService {
             alloc,
             controller,
-            has_new_id: false,
-            touched: None,
+            changed: NOTHING,
         }),
-        Err(_) => Err(NoMemory),
-    }
-}
-
-// Id and last number of the volume of a frame's call.
-fn last_for(controller: &Controller, frame: &Frame) -> Option<(VolumeId, Number)>
-    ensures { (state : ControllerState) → IsShown controller.now state → result ≡ last_in frame.now.body state }
-{
-    match frame.body() {
-        Body::Call(call) => controller.last_for(call),
-        Body::Reply(..) => None,
-    }
-}
-
-// The volume that has another last number than before.
-fn touched(
-    before: Option<(VolumeId, Number)>,
-    after: Option<(VolumeId, Number)>,
-) -> Option<VolumeId>
-    ensures same { before ≡ after → result ≡ None }
-    ensures none { result ≡ None → (before ≡ after) ⊎ (after ≡ None) }
-    ensures some { IfSome result (λ id. (number : OneNumber) × (after ≡ Some (id, number))) }
-    ensures id { IfSome result IsVolumeId }
-{
-    let (id, last) = after?;
-    let _number = id.number();
-    match before {
-        Some((own, earlier)) if own == id && earlier == last => None,
-        _ => Some(id),
-    }
-}
-
-// Puts a part for this value at the end.
-fn push_value(parts: &mut Vec<Part>, key: u64, value: Vec<u8>) -> Result<(), NoMemory>
-    ensures { OnOk result (map change_of parts.new.items ≡ map change_of parts.old.items ++ put_all (record { key = key; value = value.items } ∷ [])) }
-{
-    parts.push(Part {
-        key,
-        value: Some(value),
-    })?;
-    Ok(())
-}
-
-// Puts the part of a volume's row at the end, if it has one.
-fn push_row(
-    alloc: Global,
-    parts: &mut Vec<Part>,
-    controller: &Controller,
-    id: VolumeId,
-) -> Result<(), NoMemory>
-    ensures { OnOk result (map change_of parts.new.items ≡ map change_of parts.old.items ++ row_change (find (λ row. row.id == id) controller.now.rows)) }
-{
-    sound_law(controller);
-    match controller.row(alloc, id) {
-        Ok(Some(row)) => {
-            let value = volume_value(alloc, &row)?;
-            push_value(parts, row.id.number(), value)
-        }
-        Ok(None) => Ok(()),
         Err(_) => Err(NoMemory),
     }
 }
@@ -166,6 +100,8 @@ impl Core for ControllerService {
 
     ghost answers = { ControllerAnswers };
 
+    /// The controller's own answer. A frame that leaves its state changes no part: a reply, another plugin's call, a stale call and one
+    /// that came again. After a refusal `parts` gives what it gave before.
     fn step(&mut self, frame: &Frame) -> Result<Option<Frame>, NoMemory>
         ensures answered { IfOk result (λ reply. ControllerAnswers self.old frame.now reply self.new) }
         ensures parts { OnOk result (controller_service_parts self.new ≡ all_changed (controller_service_changes self.new) (controller_service_parts self.old)) }
@@ -173,35 +109,22 @@ impl Core for ControllerService {
         ensures err { OnErr result (controller_service_parts self.new ≡ controller_service_parts self.old) }
         ensures same { OnErr result (controller_service_changes self.new ≡ controller_service_changes self.old) }
     {
-        rows_law();
-        sound_law(&self.controller);
-        showing_law(&self.controller);
-        let next_id = self.controller.next_id();
-        let before = last_for(&self.controller, frame);
-        let reply = match self.controller.step(frame) {
-            Ok(reply) => reply,
-            Err(_) => {
-                sound_law(&self.controller);
-                return Err(NoMemory);
-            }
-        };
-        sound_law(&self.controller);
-        self.has_new_id = self.controller.next_id() != next_id;
-        self.touched = touched(before, last_for(&self.controller, frame));
+        let (reply, changed) = answer(&mut self.controller, frame)?;
+        self.changed = changed;
         Ok(reply)
     }
 
+    /// The head where a volume was made, and the row of the one volume that was touched. The row is found by its id.
     fn parts(&self) -> Result<Vec<Part>, NoMemory>
         ensures { IfOk result (λ parts. map change_of parts.items ≡ controller_service_changes self.now) }
     {
-        let alloc = self.alloc;
-        let mut parts = Vec::new(alloc);
-        if self.has_new_id {
-            let value = controller_head_value(alloc, self.controller.next_id())?;
+        let mut parts = Vec::new(self.alloc);
+        if self.changed.has_new_id {
+            let value = controller_head_value(self.alloc, self.controller.next_id())?;
             push_value(&mut parts, 0, value)?;
         }
-        if let Some(id) = self.touched {
-            push_row(alloc, &mut parts, &self.controller, id)?;
+        if let Some(id) = self.changed.touched {
+            push_row(self.alloc, &mut parts, &self.controller, id)?;
         }
         Ok(parts)
     }

@@ -1,6 +1,7 @@
 //! Serving a plugin over a store: each frame is answered, what it changed is committed, and only then the reply is written.
 #![tactic(auto)]
 
+mod controller_changes;
 mod controller_service;
 mod counted;
 mod entries;

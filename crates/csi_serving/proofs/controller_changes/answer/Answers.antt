@@ -9,7 +9,7 @@ use Rattle.csi_types.specs.VolumeId.{IsVolumeId}
 use Rattle.csi_controller.specs.RowsLaw.{AreOf, after_frame}
 use Rattle.csi_serving.specs.Services.{last_in}
 use Rattle.csi_serving.proofs.ControllerChanges.{same-parts, same-changes, parts-changed, frame-touches, IsTouched}
-use Rattle.csi_serving.proofs.controller_service.ControllerServiceCore.step.Goals as goal
+use Rattle.csi_serving.proofs.controller_changes.answer.Goals as goal
 
 told-from : (touched : Option ℕ) (b a before after : Option (ℕ × Number)) → b ≡ before → a ≡ after → (touched ≡ None → (b ≡ a) ⊎ (a ≡ None))
     → IfSome touched (λ id. (number : Number) × (a ≡ Some (id, number))) → IfSome touched IsVolumeId → IsTouched touched before after
@@ -31,26 +31,26 @@ pub returns-in-Err-clause-err : goal.returns-in-Err-clause-err
 returns-in-Err-clause-err c =
     let state = c.showing_law.ensures.0 in
     let shown = c.showing_law.ensures.1 in
-    same-parts c.rows_law.ensures c.args.self.now.controller c.step.new.self state (record { sound = c.sound_law.ensures; shown = shown }) (record { sound = c.sound_law-in-Err.ensures; shown = c.in-Err.ensures.err state shown })
+    same-parts c.rows_law.ensures c.args.controller.now c.step.new.self state (record { sound = c.sound_law.ensures; shown = shown }) (record { sound = c.sound_law-in-Err.ensures; shown = c.in-Err.ensures.err state shown })
 
 pub returns-in-Err-clause-same : goal.returns-in-Err-clause-same
-returns-in-Err-clause-same c =
+returns-in-Err-clause-same c = λ changed.
     let state = c.showing_law.ensures.0 in
     let shown = c.showing_law.ensures.1 in
-    same-changes c.rows_law.ensures c.args.self.now.controller c.step.new.self state c.args.self.now.has_new_id c.args.self.now.touched
+    same-changes c.rows_law.ensures c.args.controller.now c.step.new.self state changed.has_new_id changed.touched
     (record { sound = c.sound_law.ensures; shown = shown }) (record { sound = c.sound_law-in-Err.ensures; shown = c.in-Err.ensures.err state shown })
 
 pub returns-clause-parts : goal.returns-clause-parts
 returns-clause-parts c =
-    let old = c.args.self.now.controller in
+    let old = c.args.controller.now in
     let new = c.step.new.self in
     let state = c.showing_law.ensures.0 in
     let shown = c.showing_law.ensures.1 in
     let after = after_frame old.config state c.args.frame.now in
     let of_it : AreOf old state = record { sound = c.sound_law.ensures; shown = shown } in
     let of_it_too : AreOf new after = record { sound = c.sound_law-2.ensures; shown = c.in-Ok.ensures.state state shown } in
-    let told : IsTouched c.touched-self.result (last_in c.args.frame.now.body state) (last_in c.args.frame.now.body after) =
-    told-from c.touched-self.result c.last_for-before.result c.last_for.result _ _ (c.last_for-before.ensures state shown) (c.last_for.ensures after of_it_too.shown)
-    c.touched-self.ensures.none c.touched-self.ensures.some c.touched-self.ensures.id in
-    parts-changed old new _ c.touched-self.result c.sound_law.ensures.rising c.sound_law-2.ensures.rising (same-next c.next_id.result c.next_id-next_id.result new.next_id old.next_id c.next_id.ensures.value c.next_id-next_id.ensures.value)
-    (frame-touches c.rows_law.ensures old new state c.args.frame.now c.args.frame.now.body c.touched-self.result of_it of_it_too refl told)
+    let told : IsTouched c.touched.result (last_in c.args.frame.now.body state) (last_in c.args.frame.now.body after) =
+    told-from c.touched.result c.last_for-before.result c.last_for.result _ _ (c.last_for-before.ensures state shown) (c.last_for.ensures after of_it_too.shown)
+    c.touched.ensures.none c.touched.ensures.some c.touched.ensures.id in
+    parts-changed old new _ c.touched.result c.sound_law.ensures.rising c.sound_law-2.ensures.rising (same-next c.next_id.result c.next_id-next_id.result new.next_id old.next_id c.next_id.ensures.value c.next_id-next_id.ensures.value)
+    (frame-touches c.rows_law.ensures old new state c.args.frame.now c.args.frame.now.body c.touched.result of_it of_it_too refl told)

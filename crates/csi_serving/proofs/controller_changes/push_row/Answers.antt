@@ -6,7 +6,7 @@ use Rattle.csi_controller.specs.declared.row.NodeHolding.{NodeHolding}
 use Rattle.csi_controller.specs.declared.row.ControllerRow.{ControllerRow}
 use Rattle.csi_controller.specs.Core.{IsSound, IsSoundRow}
 use Rattle.csi_controller.specs.Views.{IsCopyOf}
-use Rattle.csi_serving.proofs.controller_service.push_row.Goals as goal
+use Rattle.csi_serving.proofs.controller_changes.push_row.Goals as goal
 
 few-held : (next_id id : ℕ) (rows : List ControllerRow) (copy : ControllerRow) (o : Option ControllerRow) → IsSound next_id rows → find (λ (row : ControllerRow). row.id == id) rows ≡ o → IsCopyOf o (Some copy) → length copy.holdings.items ≤ 64
 few-held next_id id rows copy None sound is same = absurd same
