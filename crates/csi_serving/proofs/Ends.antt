@@ -1,161 +1,322 @@
--- How the end of the reading closes what was served.
-use Rattle.std.proofs.Common.{◌≡◌, refl, inl, inr, ℕ, ◌≤◌, ◌^◌, List, [], length, arith}
-use Rattle.std.specs.Prelude.{Option, Result, Ok, Err}
-use Rattle.std.specs.Io.KnownBytes.{IsAtEnd}
+-- What serving has come to where it ends.
+use Rattle.std.proofs.Common.{◌≡◌, ◌∙◌, sym, ap, subst, refl, inr, ℕ, ◌+◌, ◌≤◌, ◌^◌, List, [], ◌∷◌, ◌++◌, length, take, arith, length-append, append_assoc}
+use Rattle.std.specs.Prelude.{Option, Some, None, slice_get, Bool, false, Result, Ok, Err}
+use Rattle.std.specs.List.{flat_map}
+use Rattle.std.specs.Io.KnownBytes.{Appends, IsAtEnd}
+use Rattle.std.proofs.lemmas.List.{append-nil}
 use Rattle.csi_types.specs.Frame.{Frame}
-use Rattle.csi_frames.specs.declared.fault.FaultKind.{FaultKind}
-use Rattle.csi_frames.specs.declared.fault.FaultKind.TheVariants.{Short, TooLong, BadVersion, BadKind, BadParty, BadText, BadMode, BadAccess, BadFlag, BadStatus, BadId, BadCount, LengthDiffers, NoMemory as OutOfMemory}
+use Rattle.csi_frames.specs.declared.fault.FaultKind.TheVariants.{Short}
+use Rattle.csi_frames.specs.declared.fault.FrameFault.{FrameFault}
 use Rattle.csi_frames.specs.Bytes.{AreBytes}
-use Rattle.csi_serving.specs.declared.keep.KeepFault.{KeepFault}
+use Rattle.csi_frames.specs.Fault.{IsFaulty}
+use Rattle.csi_frames.specs.Spelling.{spelling}
+use Rattle.csi_frames.specs.Stream.{FramesOf}
+use Rattle.csi_frames.specs.Splitting.{Splitting, IsNext, IsFound, after_feed, after_next, kept_after}
+use Rattle.csi_frames.specs.Cutting.{Splits, feeds, asks, HasNoFrame, IsLeft}
+use Rattle.csi_frames.proofs.Bytes.{AreBytes-drop}
+use Rattle.csi_frames.proofs.Splitting.{IsNext-only}
+use Rattle.csi_frames.proofs.Streams.{given_are}
 use Rattle.csi_serving.specs.declared.serving.fault.Served.{Served}
-use Rattle.csi_serving.specs.declared.serving.fault.ServeFault.{ServeFault}
 use Rattle.csi_serving.specs.declared.serving.fault.ServeFaultKind.{ServeFaultKind}
 use Rattle.csi_serving.specs.declared.serving.fault.ServeFaultKind.TheVariants as kinds
-use Rattle.csi_serving.specs.declared.serving.input.InputEnd.{InputEnd}
-use Rattle.csi_serving.specs.declared.serving.input.InputEnd.TheVariants as ends
+use Rattle.csi_serving.specs.declared.keep.KeepFault.{KeepFault}
 use Rattle.csi_records.specs.Part.{StoredPart}
-use Rattle.csi_serving.specs.Stores.{Store}
 use Rattle.csi_serving.specs.Keeping.{HasRisen}
-use Rattle.csi_serving.specs.Reading.{IsReadEnd}
-use Rattle.csi_serving.specs.Serving.{Setting, AllDone, LastUnwritten, NextRefused, StopsBy, Waits, Serves}
-use Rattle.csi_serving.specs.Ending.{cut_frame, kind_cut_short, cut_short, ended_by}
-use Rattle.csi_serving.proofs.Commits.{rests-same}
-use Rattle.csi_serving.proofs.Known.{appends-none}
-use Rattle.csi_serving.proofs.Progress.{within}
-use Rattle.csi_serving.proofs.Streams.{frames_of}
+use Rattle.csi_serving.specs.Stores.{Store, Follows}
+use Rattle.csi_serving.specs.Serving.{Setting, Runs, output_of, AllDone, LastUnwritten, NextRefused, Waits, Serves}
+use Rattle.csi_serving.specs.Reading.{IsPiece, IsPieceStop, ReadsPiece}
+use Rattle.csi_serving.specs.Stopping.{AnswersNext, stopped_by}
+use Rattle.csi_serving.specs.Ending.{ended_by}
+use Rattle.csi_serving.proofs.Commits.{rests-more, left-more, refusal-more}
+use Rattle.csi_serving.proofs.Known.{appends-more}
+use Rattle.csi_serving.proofs.Runs.{runs-push, output-append}
+use Rattle.csi_serving.proofs.Streams.{AreBytes-append, fault_of_something, frames_of, given_first}
+use Rattle.csi_serving.proofs.Progress.{setting_of, Progress, same-written, taken_front}
 
-module _ {C : Type 0} (answers : C → Frame → Option Frame → C → Type 0) (parts_of : C → List StoredPart) (core : C) (before after : Store) (out0 out2 : Option (List ℕ)) (U P Q E : Type 0) where
-  -- what is known of the frames alone, and what is known when reading has ended
-  abbrev part : Setting C
-  part = within answers parts_of core before after out0 out2 (Unit {0}) U
+get-seam : (done : List Frame) (frame : Frame) (later : List Frame) → slice_get (done ++ frame ∷ later) (length done) ≡ Some frame
+get-seam [] frame later = refl
+get-seam (d ∷ ds) frame later = get-seam ds frame later
 
-  abbrev full : Setting C
-  full = record {
-    answers = answers;
-    parts_of = parts_of;
-    core = core;
-    before = before;
-    after = after;
-    written_before = out0;
-    written_after = out2;
-    at_end = P;
-    reader_failed = Q;
-    writer_failed = U;
-    endless = E;
-  }
+abbrev given : Frame → Result (Option Frame) FrameFault
+given frame = Ok (Some frame)
 
-  full-done : (replies : List (Option Frame)) (now : C) → AllDone part replies now → AllDone full replies now
-  full-done replies now done = record { kept = done.kept; written = done.written }
+abbrev none_given : Result (Option Frame) FrameFault
+none_given = Ok None
 
-  full-last : (replies : List (Option Frame)) (now : C) → LastUnwritten part replies now → LastUnwritten full replies now
-  full-last replies now last = record { kept = last.kept; earlier = last.earlier; last = last.last; are = last.are; front = last.front; more = last.more; parts = last.parts; written = last.written }
+given_or_none : (frame : Frame) → given frame ≡ none_given → ⊥
+given_or_none frame is = cc
 
-  full-refused : (frame : Frame) (replies : List (Option Frame)) (now : C) (fault : KeepFault) → NextRefused part frame replies now fault → NextRefused full frame replies now fault
-  full-refused frame replies now fault refused = record { reply = refused.reply; next = refused.next; answered = refused.answered; left = refused.left; cause = refused.cause; written = refused.written }
+given_or_fault : (frame : Frame) (fault : FrameFault) → given frame ≡ Err fault → ⊥
+given_or_fault frame fault is = cc
 
-  -- the reader has ended
-  stops-ended : P → (frames : List Frame) (rest : List ℕ) (k : ℕ) (replies : List (Option Frame)) (now : C) (kind : ServeFaultKind) → StopsBy part frames rest k replies now kind → StopsBy full frames rest k replies now kind
-  stops-ended at_end frames rest k replies now kinds.Input stop = absurd stop.1
-  stops-ended at_end frames rest k replies now kinds.Output stop = (stop.0, full-last replies now stop.1)
-  stops-ended at_end frames rest k replies now (kinds.Frame kind place) stop = (stop.0, stop.1, λ _. at_end, full-done replies now stop.3)
-  stops-ended at_end frames rest k replies now (kinds.Keep fault) stop = (stop.0, stop.1, full-refused stop.0 replies now fault stop.2)
-  stops-ended at_end frames rest k replies now kinds.NoMemory stop = full-done replies now stop
-  stops-ended at_end frames rest k replies now kinds.Endless stop = absurd stop.1
+nothing_more_of : (stream bytes : List ℕ) → bytes ≡ [] → stream ≡ stream ++ bytes
+nothing_more_of stream bytes is = sym (append-nil stream) ∙ ap (λ bs. stream ++ bs) (sym is)
 
-  serves-ended : P → (bytes : List ℕ) (result : Result Served ServeFault) → Serves part bytes result → Serves full bytes result
-  serves-ended at_end bytes (Ok served) s = record {
-    frames = s.frames;
-    rest = s.rest;
-    stream = s.stream;
-    within = s.within;
-    replies = s.replies;
-    now = s.now;
-    runs = s.runs;
-    ends = (s.ends.0, s.ends.1, s.ends.2, at_end, full-done s.replies s.now s.ends.4);
-  }
-  serves-ended at_end bytes (Err fault) s = record {
-    frames = s.frames;
-    rest = s.rest;
-    stream = s.stream;
-    within = s.within;
-    replies = s.replies;
-    now = s.now;
-    runs = s.runs;
-    ends = stops-ended at_end s.frames s.rest fault.frames s.replies s.now fault.kind s.ends;
-  }
+module _ {C : Type 0} (answers : C → Frame → Option Frame → C → Type 0) (parts_of : C → List StoredPart) (core now : C) (before mid : Store) (out0 out1 : Option (List ℕ)) (stream : List ℕ) (s : Splitting) (served : Served) where
+  abbrev Now : Type 0
+  Now = Progress answers parts_of core before mid out0 out1 stream s served now
 
-  -- reading ended for another cause
-  frame-cut : (cause : ServeFaultKind) (frames : List Frame) (rest : List ℕ) (k : ℕ) (replies : List (Option Frame)) (now : C) (kind : FaultKind) (place : ℕ)
-      → ((k ≡ length frames) → Waits rest → AllDone full replies now → StopsBy full frames rest k replies now cause) → StopsBy part frames rest k replies now (kinds.Frame kind place) → StopsBy full frames rest k replies now (cut_frame cause kind place)
-  frame-cut cause frames rest k replies now Short place by stop = by stop.0 (inr (stop.1.at, stop.1.faulty)) (full-done replies now stop.3)
-  frame-cut cause frames rest k replies now TooLong place by stop = (stop.0, stop.1, λ e. absurd (cc), full-done replies now stop.3)
-  frame-cut cause frames rest k replies now BadVersion place by stop = (stop.0, stop.1, λ e. absurd (cc), full-done replies now stop.3)
-  frame-cut cause frames rest k replies now BadKind place by stop = (stop.0, stop.1, λ e. absurd (cc), full-done replies now stop.3)
-  frame-cut cause frames rest k replies now BadParty place by stop = (stop.0, stop.1, λ e. absurd (cc), full-done replies now stop.3)
-  frame-cut cause frames rest k replies now BadText place by stop = (stop.0, stop.1, λ e. absurd (cc), full-done replies now stop.3)
-  frame-cut cause frames rest k replies now BadMode place by stop = (stop.0, stop.1, λ e. absurd (cc), full-done replies now stop.3)
-  frame-cut cause frames rest k replies now BadAccess place by stop = (stop.0, stop.1, λ e. absurd (cc), full-done replies now stop.3)
-  frame-cut cause frames rest k replies now BadFlag place by stop = (stop.0, stop.1, λ e. absurd (cc), full-done replies now stop.3)
-  frame-cut cause frames rest k replies now BadStatus place by stop = (stop.0, stop.1, λ e. absurd (cc), full-done replies now stop.3)
-  frame-cut cause frames rest k replies now BadId place by stop = (stop.0, stop.1, λ e. absurd (cc), full-done replies now stop.3)
-  frame-cut cause frames rest k replies now BadCount place by stop = (stop.0, stop.1, λ e. absurd (cc), full-done replies now stop.3)
-  frame-cut cause frames rest k replies now LengthDiffers place by stop = (stop.0, stop.1, λ e. absurd (cc), full-done replies now stop.3)
-  frame-cut cause frames rest k replies now OutOfMemory place by stop = (stop.0, stop.1, λ e. absurd (cc), full-done replies now stop.3)
+  -- ---- how much of the stream was answered
 
-  stops-cut : (cause : ServeFaultKind) (frames : List Frame) (rest : List ℕ) (k : ℕ) (replies : List (Option Frame)) (now : C) (kind : ServeFaultKind)
-      → ((k ≡ length frames) → Waits rest → AllDone full replies now → StopsBy full frames rest k replies now cause) → StopsBy part frames rest k replies now kind → StopsBy full frames rest k replies now (kind_cut_short cause kind)
-  stops-cut cause frames rest k replies now kinds.Input by stop = absurd stop.1
-  stops-cut cause frames rest k replies now kinds.Output by stop = (stop.0, full-last replies now stop.1)
-  stops-cut cause frames rest k replies now (kinds.Frame kind place) by stop = frame-cut cause frames rest k replies now kind place by stop
-  stops-cut cause frames rest k replies now (kinds.Keep fault) by stop = (stop.0, stop.1, full-refused stop.0 replies now fault stop.2)
-  stops-cut cause frames rest k replies now kinds.NoMemory by stop = full-done replies now stop
-  stops-cut cause frames rest k replies now kinds.Endless by stop = absurd stop.1
+  -- the first frames were answered
+  runs_front : (p : Now) (frames later : List Frame) → frames ≡ p.done ++ later → Runs answers core (take served.frames frames) p.replies now
+  runs_front p frames later are = subst (λ fs. Runs answers core fs p.replies now) (sym (taken_front frames p.done later served.frames are p.counted)) p.runs
 
-  serves-cut : (cause : ServeFaultKind) → ((frames : List Frame) (rest : List ℕ) (k : ℕ) (replies : List (Option Frame)) (now : C) → (k ≡ length frames) → Waits rest → AllDone full replies now → StopsBy full frames rest k replies now cause)
-      → (bytes : List ℕ) (result : Result Served ServeFault) → Serves part bytes result → Serves full bytes (cut_short cause result)
-  serves-cut cause by bytes (Ok served) s = record {
-    frames = s.frames;
-    rest = s.rest;
-    stream = s.stream;
-    within = s.within;
-    replies = s.replies;
-    now = s.now;
-    runs = s.runs;
-    ends = by s.frames s.rest served.frames s.replies s.now s.ends.0 (inl s.ends.1) (full-done s.replies s.now s.ends.4);
-  }
-  serves-cut cause by bytes (Err fault) s = record {
-    frames = s.frames;
-    rest = s.rest;
-    stream = s.stream;
-    within = s.within;
-    replies = s.replies;
-    now = s.now;
-    runs = s.runs;
-    ends = stops-cut cause s.frames s.rest fault.frames s.replies s.now fault.kind (by s.frames s.rest fault.frames s.replies s.now) s.ends;
-  }
+  -- all frames were
+  runs_all : (p : Now) (frames : List Frame) → frames ≡ p.done → Runs answers core (take served.frames frames) p.replies now
+  runs_all p frames are = runs_front p frames [] (are ∙ sym (append-nil p.done))
 
-  -- nothing was served
-  pub nothing-served : (bytes : List ℕ) → AreBytes bytes → before ≡ after → out0 ≡ out2 → Serves full bytes (Err (record { kind = kinds.NoMemory; frames = 0 }))
-  nothing-served bytes are same_store same_out =
-      let stream = frames_of bytes are in
-      record {
-        frames = stream.0;
-        rest = stream.1;
-        stream = stream.2;
-        within = omega arith;
-        replies = [];
-        now = core;
-        runs = refl;
-        ends = record { kept = rw same_store (rests-same after (parts_of core)); written = rw same_out (appends-none out2) };
-      }
+  -- no frame is there: those that were answered are all, and the rest is kept
+  rest_waits : (p : Now) → IsFound s.kept (Ok None) → (frames : List Frame) (rest : List ℕ) → FramesOf stream frames rest → (frames ≡ p.done) × (rest ≡ s.kept)
+  rest_waits p found frames rest of =
+      let asked : IsNext s.fault s.kept (Ok None) = subst (λ (f : Option FrameFault). IsNext f s.kept (Ok None)) (sym p.clear) found in
+      let none : HasNoFrame s = λ frame is. given_or_none frame (IsNext-only s.fault s.kept (Ok (Some frame)) (Ok None) p.kept_are is asked) in
+      let given = given_are stream rest p.done frames s p.are p.splits none of in
+      (sym given.0, sym (subst (λ (f : Option FrameFault). IsLeft f s.kept rest) p.clear given.1))
 
--- by how reading ended
-pub serves-by : {C : Type 0} (answers : C → Frame → Option Frame → C → Type 0) (parts_of : C → List StoredPart) (core : C) (before after : Store) (out0 out2 : Option (List ℕ)) (U : Type 0) (left : Option (List ℕ)) (faults0 faults1 : ℕ) (bytes : List ℕ) (end : InputEnd) (result : Result Served ServeFault)
-    → IsReadEnd left faults0 faults1 bytes end → Serves (within answers parts_of core before after out0 out2 (Unit {0}) U) bytes result
-    → Serves (record { answers = answers; parts_of = parts_of; core = core; before = before; after = after; written_before = out0; written_after = out2; at_end = IsAtEnd left; reader_failed = HasRisen faults0 faults1; writer_failed = U; endless = 2 ^ 63 ≤ length bytes }) bytes (ended_by end result)
-serves-by answers parts_of core before after out0 out2 U left faults0 faults1 bytes ends.AtEnd result fact s =
-    serves-ended answers parts_of core before after out0 out2 U (IsAtEnd left) (HasRisen faults0 faults1) (2 ^ 63 ≤ length bytes) fact bytes result s
-serves-by answers parts_of core before after out0 out2 U left faults0 faults1 bytes ends.Failed result fact s =
-    serves-cut answers parts_of core before after out0 out2 U (IsAtEnd left) (HasRisen faults0 faults1) (2 ^ 63 ≤ length bytes) kinds.Input (λ frames rest k replies now all waits done. (all, fact, waits, done)) bytes result s
-serves-by answers parts_of core before after out0 out2 U left faults0 faults1 bytes ends.Endless result fact s =
-    serves-cut answers parts_of core before after out0 out2 U (IsAtEnd left) (HasRisen faults0 faults1) (2 ^ 63 ≤ length bytes) kinds.Endless (λ frames rest k replies now all waits done. (all, fact, waits, done)) bytes result s
+  -- a fault is there: those that were answered are all, and it is the rest's
+  rest_faulty : (p : Now) (fault : FrameFault) → IsNext s.fault s.kept (Err fault) → (frames : List Frame) (rest : List ℕ) → FramesOf stream frames rest → (frames ≡ p.done) × IsFaulty rest fault.kind fault.place
+  rest_faulty p fault is frames rest of =
+      let splits : Splits stream p.done (after_next s (Err fault)) = subst (λ (fs : List Frame). Splits stream fs (after_next s (Err fault))) (append-nil p.done) (asks stream p.done s (Err fault) p.splits is) in
+      let given = given_are stream rest p.done frames (after_next s (Err fault)) p.are splits (λ frame next. given_or_fault frame fault next) of in
+      (sym given.0, given.1)
+
+  -- a frame is there: it is the next one
+  next_of : (p : Now) (frame : Frame) → IsNext s.fault s.kept (Ok (Some frame)) → (frames : List Frame) (rest : List ℕ) → FramesOf stream frames rest → (later : List Frame) × (frames ≡ p.done ++ frame ∷ later)
+  next_of p frame is frames rest of =
+      let first = given_first stream (p.done ++ frame ∷ []) (after_next s (Ok (Some frame))) p.clear (AreBytes-drop (length (spelling frame)) s.kept p.kept_are) p.are (asks stream p.done s (Ok (Some frame)) p.splits is) frames rest of in
+      (first.0, first.1 ∙ append_assoc p.done (frame ∷ []) first.0)
+
+  -- what is left over may be the beginning of a frame
+  waits_so : (rest : List ℕ) → rest ≡ s.kept → IsFound s.kept (Ok None) → Waits rest
+  waits_so rest is found = inr (length s.kept, subst (λ bytes. IsFaulty bytes Short (length s.kept)) (sym is) found)
+
+  -- ---- a frame isn't answered to the end
+
+  module _ (new : C) (after : Store) (out2 : Option (List ℕ)) (P Q U V E : Type 0) where
+    abbrev Call : Setting C
+    Call = setting_of answers parts_of now mid after out1 out2 ⊥ ⊥ V ⊥
+
+    abbrev Full : Setting C
+    Full = setting_of answers parts_of core before after out0 out2 P Q U E
+
+    -- what is done stays done where nothing more is
+    done_still : (p : Now) → Follows mid after → AllDone Call [] now → AllDone Full p.replies now
+    done_still p follows nothing = record {
+      kept = rests-more before mid after (parts_of core) (parts_of now) (parts_of now) follows p.kept nothing.kept;
+      written = same-written out0 out1 out2 p.replies p.written nothing.written;
+    }
+
+    refused_still : (p : Now) (frame : Frame) (fault : KeepFault) → Follows mid after → NextRefused Call frame [] now fault → NextRefused Full frame p.replies now fault
+    refused_still p frame fault follows refused = record {
+      reply = refused.reply;
+      next = refused.next;
+      answered = refused.answered;
+      left = left-more before mid after (parts_of core) (parts_of now) (parts_of now) (parts_of refused.next) follows p.kept refused.left;
+      cause = refusal-more before mid after (parts_of core) (parts_of now) (parts_of refused.next) fault p.follows follows p.kept refused.cause;
+      written = same-written out0 out1 out2 p.replies p.written refused.written;
+    }
+
+    unwritten_still : (p : Now) (reply : Option Frame) → Follows mid after → LastUnwritten Call (reply ∷ []) new → LastUnwritten Full (p.replies ++ reply ∷ []) new
+    unwritten_still p reply follows last = record {
+      kept = rests-more before mid after (parts_of core) (parts_of now) (parts_of new) follows p.kept last.kept;
+      earlier = p.replies ++ last.earlier;
+      last = last.last;
+      are = ap (λ rs. p.replies ++ rs) last.are ∙ sym (append_assoc p.replies last.earlier (last.last ∷ []));
+      front = last.front;
+      more = last.more;
+      parts = last.parts;
+      written = subst (Appends out0 out2) (sym (append_assoc (output_of p.replies) (output_of last.earlier) last.front) ∙ ap (λ bytes. bytes ++ last.front) (sym (output-append p.replies last.earlier)))
+          (appends-more out0 out1 out2 (output_of p.replies) (output_of last.earlier ++ last.front) p.written last.written);
+    }
+
+    pub halted : (kind : ServeFaultKind) (t : Splitting) → Now → Follows mid after → (V → U) → AnswersNext Call s t new (Err kind) → Serves Full stream (Err (stopped_by kind served.frames))
+    halted kinds.Input t p follows risen stop = absurd stop
+    halted kinds.Endless t p follows risen stop = absurd stop
+    halted (kinds.Frame kind place) t p follows risen stop =
+        let of = frames_of stream p.are in
+        let at : ℕ = stop.0.0 in
+        let fault : FrameFault = record { kind = kind; place = at } in
+        let read = rest_faulty p fault stop.0.1 of.0 of.1 of.2 in
+        let found : IsFound s.kept (Err fault) = subst (λ (f : Option FrameFault). IsNext f s.kept (Err fault)) p.clear stop.0.1 in
+        let counted : served.frames ≡ length of.0 = p.counted ∙ ap length (sym read.0) in
+        record {
+          frames = of.0;
+          rest = of.1;
+          stream = of.2;
+          within = omega arith;
+          replies = p.replies;
+          now = now;
+          runs = runs_all p of.0 read.0;
+          ends = (
+            counted,
+            record {
+              at = at;
+              something = fault_of_something of.1 kind at read.1 found.0;
+              faulty = read.1;
+              here = omega (arith, stop.0.2, p.taken, ap (λ fs. length (flat_map spelling fs)) read.0);
+            },
+            λ short. absurd (found.0 short),
+            done_still p follows stop.1,
+          );
+        }
+    halted kinds.NoMemory t p follows risen stop =
+        let of = frames_of stream p.are in
+        let first = given_first stream p.done s p.clear p.kept_are p.are p.splits of.0 of.1 of.2 in
+        record {
+          frames = of.0;
+          rest = of.1;
+          stream = of.2;
+          within = omega (arith, p.counted, ap length first.1, length-append p.done first.0);
+          replies = p.replies;
+          now = now;
+          runs = runs_front p of.0 first.0 first.1;
+          ends = done_still p follows stop;
+        }
+    halted (kinds.Keep fault) t p follows risen stop =
+        let of = frames_of stream p.are in
+        let frame : Frame = stop.0 in
+        let next = next_of p frame stop.1 of.0 of.1 of.2 in
+        record {
+          frames = of.0;
+          rest = of.1;
+          stream = of.2;
+          within = omega (arith, p.counted, ap length next.1, length-append p.done (frame ∷ next.0));
+          replies = p.replies;
+          now = now;
+          runs = runs_front p of.0 (frame ∷ next.0) next.1;
+          ends = (frame, ap (λ k. slice_get of.0 k) p.counted ∙ ap (λ fs. slice_get fs (length p.done)) next.1 ∙ get-seam p.done frame next.0, refused_still p frame fault follows stop.2);
+        }
+    halted kinds.Output t p follows risen stop =
+        let of = frames_of stream p.are in
+        let frame : Frame = stop.0 in
+        let last = stop.2 in
+        let next = next_of p frame stop.1 of.0 of.1 of.2 in
+        let done : List Frame = p.done ++ frame ∷ [] in
+        let counted : served.frames + 1 ≡ length done = omega (arith, p.counted, length-append p.done (frame ∷ [])) in
+        let are_frames : of.0 ≡ done ++ next.0 = next.1 ∙ sym (append_assoc p.done (frame ∷ []) next.0) in
+        record {
+          frames = of.0;
+          rest = of.1;
+          stream = of.2;
+          within = omega (arith, counted, ap length are_frames, length-append done next.0);
+          replies = p.replies ++ last.0 ∷ [];
+          now = new;
+          runs = subst (λ fs. Runs answers core fs (p.replies ++ last.0 ∷ []) new) (sym (taken_front of.0 done next.0 (served.frames + 1) are_frames counted)) (runs-push answers core p.done p.replies now frame last.0 new p.runs last.1);
+          ends = (risen last.2, unwritten_still p last.0 follows last.3);
+        }
+
+  -- ---- no more is read
+
+  module _ (P Q U E : Type 0) where
+    abbrev Here : Setting C
+    Here = setting_of answers parts_of core before mid out0 out1 P Q U E
+
+    done_here : (p : Now) → AllDone Here p.replies now
+    done_here p = record { kept = p.kept; written = p.written }
+
+    -- reading stopped behind these bytes, of which none was fed
+    unread : (kind : ServeFaultKind) (bytes : List ℕ) (faults0 faults1 : ℕ) → Now → IsFound s.kept (Ok None) → AreBytes bytes → IsPieceStop faults0 faults1 s bytes kind → (HasRisen faults0 faults1 → Q) → (2 ^ 63 ≤ length (stream ++ bytes) → E)
+        → Serves Here (stream ++ bytes) (Err (stopped_by kind served.frames))
+    unread kinds.Input bytes faults0 faults1 p found are stop risen endless =
+        let of = frames_of stream p.are in
+        let read = rest_waits p found of.0 of.1 of.2 in
+        let counted : served.frames ≡ length of.0 = p.counted ∙ ap length (sym read.0) in
+        record {
+          frames = of.0;
+          rest = of.1;
+          stream = subst (λ bs. FramesOf bs of.0 of.1) (nothing_more_of stream bytes stop.0) of.2;
+          within = omega arith;
+          replies = p.replies;
+          now = now;
+          runs = runs_all p of.0 read.0;
+          ends = (counted, risen stop.1, waits_so of.1 read.1 found, done_here p);
+        }
+    unread kinds.Output bytes faults0 faults1 p found are stop risen endless = absurd stop
+    unread (kinds.Frame kind place) bytes faults0 faults1 p found are stop risen endless = absurd stop
+    unread (kinds.Keep fault) bytes faults0 faults1 p found are stop risen endless = absurd stop
+    unread kinds.NoMemory bytes faults0 faults1 p found are stop risen endless =
+        let all : AreBytes (stream ++ bytes) = AreBytes-append stream bytes p.are are in
+        let of = frames_of (stream ++ bytes) all in
+        let behind : kept_after s.fault s.kept bytes ≡ s.kept ++ bytes = ap (λ (f : Option FrameFault). kept_after f s.kept bytes) p.clear in
+        let kept : AreBytes (kept_after s.fault s.kept bytes) = subst AreBytes (sym behind) (AreBytes-append s.kept bytes p.kept_are are) in
+        let first = given_first (stream ++ bytes) p.done (after_feed s bytes) p.clear kept all (feeds stream bytes p.done s p.splits) of.0 of.1 of.2 in
+        record {
+          frames = of.0;
+          rest = of.1;
+          stream = of.2;
+          within = omega (arith, p.counted, ap length first.1, length-append p.done first.0);
+          replies = p.replies;
+          now = now;
+          runs = runs_front p of.0 first.0 first.1;
+          ends = done_here p;
+        }
+    unread kinds.Endless bytes faults0 faults1 p found are stop risen endless =
+        let of = frames_of stream p.are in
+        let read = rest_waits p found of.0 of.1 of.2 in
+        let counted : served.frames ≡ length of.0 = p.counted ∙ ap length (sym read.0) in
+        record {
+          frames = of.0;
+          rest = of.1;
+          stream = subst (λ bs. FramesOf bs of.0 of.1) (nothing_more_of stream bytes stop.0) of.2;
+          within = omega arith;
+          replies = p.replies;
+          now = now;
+          runs = runs_all p of.0 read.0;
+          ends = (counted, endless (omega (arith, stop.1, p.total, length-append stream bytes)), waits_so of.1 read.1 found, done_here p);
+        }
+
+    pub stopped_reading : (left0 left1 : Option (List ℕ)) (faults0 faults1 : ℕ) (t : Splitting) (kind : ServeFaultKind) → Now → IsFound s.kept (Ok None) → (r : ReadsPiece left0 left1 faults0 faults1 s t (Err kind)) → (HasRisen faults0 faults1 → Q) → (2 ^ 63 ≤ length (stream ++ r.bytes) → E)
+        → Serves Here (stream ++ r.bytes) (Err (stopped_by kind served.frames))
+    stopped_reading left0 left1 faults0 faults1 t kind p found r risen endless = unread kind r.bytes faults0 faults1 p found r.are r.piece risen endless
+
+    -- the reader has ended
+    ended_here : Now → IsFound s.kept (Ok None) → P → Serves Here stream (ended_by s.kept s.taken served)
+    ended_here p found at_end = by s.kept refl
+      where
+        by : (kept : List ℕ) → s.kept ≡ kept → Serves Here stream (ended_by kept s.taken served)
+        by [] is =
+            let of = frames_of stream p.are in
+            let read = rest_waits p found of.0 of.1 of.2 in
+            let counted : served.frames ≡ length of.0 = p.counted ∙ ap length (sym read.0) in
+            record {
+              frames = of.0;
+              rest = of.1;
+              stream = of.2;
+              within = omega arith;
+              replies = p.replies;
+              now = now;
+              runs = runs_all p of.0 read.0;
+              ends = (counted, read.1 ∙ is, p.replied, at_end, done_here p);
+            }
+        by (b ∷ kept) is =
+            let of = frames_of stream p.are in
+            let read = rest_waits p found of.0 of.1 of.2 in
+            let counted : served.frames ≡ length of.0 = p.counted ∙ ap length (sym read.0) in
+            record {
+              frames = of.0;
+              rest = of.1;
+              stream = of.2;
+              within = omega arith;
+              replies = p.replies;
+              now = now;
+              runs = runs_all p of.0 read.0;
+              ends = (
+                counted,
+                record {
+                  at = length s.kept;
+                  something = λ nothing. omega (arith, ap length (sym (read.1 ∙ is) ∙ nothing));
+                  faulty = subst (λ bytes. IsFaulty bytes Short (length s.kept)) (sym read.1) found;
+                  here = omega (arith, p.taken, ap length is, ap (λ fs. length (flat_map spelling fs)) read.0);
+                },
+                λ short. at_end,
+                done_here p,
+              );
+            }
+
+    pub at_end_of : (left0 left1 : Option (List ℕ)) (faults0 faults1 : ℕ) (t : Splitting) (more : Bool) → more ≡ false → Now → IsFound s.kept (Ok None) → (r : ReadsPiece left0 left1 faults0 faults1 s t (Ok more)) → (IsAtEnd left1 → P)
+        → Serves Here (stream ++ r.bytes) (ended_by t.kept t.taken served)
+    at_end_of left0 left1 faults0 faults1 t more no_more p found r at_end =
+        let piece = subst (λ (b : Bool). IsPiece left1 faults0 faults1 s t r.bytes (Ok b)) no_more r.piece in
+        subst (λ bs. Serves Here bs (ended_by t.kept t.taken served)) (nothing_more_of stream r.bytes piece.0)
+        (subst (λ (u : Splitting). Serves Here stream (ended_by u.kept u.taken served)) (sym piece.2) (ended_here p found (at_end piece.1)))

@@ -1,9 +1,8 @@
 -- What a reader loses and a writer gains, one call after another.
-use Rattle.std.proofs.Common.{◌≡◌, ◌∙◌, sym, ap, refl, ℕ, List, [], ◌++◌, append_assoc}
+use Rattle.std.proofs.Common.{◌∙◌, sym, ap, refl, ℕ, List, [], ◌++◌, append_assoc}
 use Rattle.std.specs.Prelude.{Option, Some, None}
 use Rattle.std.specs.Io.KnownBytes.{Appends, Consumes, Keeps}
 use Rattle.std.proofs.lemmas.List.{append-nil}
-use Rattle.csi_serving.specs.Reading.{ReadsTo}
 
 pub appends-none : (known : Option (List ℕ)) → Appends known known []
 appends-none None = tt
@@ -21,11 +20,11 @@ appends-kept (Some first_xs) None c xs first kept = absurd first
 appends-kept (Some first_xs) (Some bs) None xs first kept = absurd kept
 appends-kept (Some first_xs) (Some bs) (Some cs) xs first kept = kept ∙ first
 
-consumes-none : (known : Option (List ℕ)) → Consumes known known []
+pub consumes-none : (known : Option (List ℕ)) → Consumes known known []
 consumes-none None = tt
 consumes-none (Some xs) = refl
 
-consumes-more : (a b c : Option (List ℕ)) (xs ys : List ℕ) → Consumes a b xs → Consumes b c ys → Consumes a c (xs ++ ys)
+pub consumes-more : (a b c : Option (List ℕ)) (xs ys : List ℕ) → Consumes a b xs → Consumes b c ys → Consumes a c (xs ++ ys)
 consumes-more None b c xs ys first second = tt
 consumes-more (Some first_xs) None c xs ys first second = absurd first
 consumes-more (Some first_xs) (Some bs) None xs ys first second = absurd second
@@ -36,16 +35,3 @@ consumes-kept None b c xs first kept = tt
 consumes-kept (Some first_xs) None c xs first kept = absurd first
 consumes-kept (Some first_xs) (Some bs) None xs first kept = absurd kept
 consumes-kept (Some first_xs) (Some bs) (Some cs) xs first kept = first ∙ ap (λ zs. xs ++ zs) (sym kept)
-
-pub reads-none : (known : Option (List ℕ)) (old : List ℕ) → ReadsTo known known old old
-reads-none known old = record { bytes = []; appended = sym (append-nil old); consumed = consumes-none known }
-
-pub reads-more : (a b c : Option (List ℕ)) (old mid new bytes : List ℕ) → ReadsTo a b old mid → new ≡ mid ++ bytes → Consumes b c bytes → ReadsTo a c old new
-reads-more a b c old mid new bytes first is second = record {
-  bytes = first.bytes ++ bytes;
-  appended = is ∙ ap (λ front. front ++ bytes) first.appended ∙ append_assoc old first.bytes bytes;
-  consumed = consumes-more a b c first.bytes bytes first.consumed second;
-}
-
-pub reads-kept : (a b c : Option (List ℕ)) (old new : List ℕ) → ReadsTo a b old new → Keeps b c → ReadsTo a c old new
-reads-kept a b c old new first kept = record { bytes = first.bytes; appended = first.appended; consumed = consumes-kept a b c first.bytes first.consumed kept }

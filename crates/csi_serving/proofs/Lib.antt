@@ -6,7 +6,6 @@ pub mod Commits
 pub mod Spelled
 pub mod FaultPlaces
 pub mod Streams
-pub mod Taken
 pub mod Runs
 pub mod Progress
 pub mod Ends

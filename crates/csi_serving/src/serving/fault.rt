@@ -21,7 +21,7 @@ pub enum ServeFaultKind {
     /// The writer failed at the last frame's reply.
     #[error("the output can't be written")]
     Output,
-    /// The bytes after the last frame are no frame: the kind of their first fault, and its place in the input.
+    /// The bytes after the last frame are no frame: the kind of their first fault, and its place from the front of the input.
     #[error("{0}, at byte {1} of the input")]
     Frame(FaultKind, u64),
     /// The store refused what a frame changed, whose reply is not written.

@@ -1,52 +1,53 @@
-//! The input, read whole.
-ghost use Rattle.std.specs.Prelude.{◌≡◌, ◌≤◌, ◌++◌, ◌+◌, ℕ, List, length, IfOk, IsTrue, vec_len, vec_capacity};
-ghost use Rattle.std.specs.Io.KnownBytes.{Consumes};
-ghost use Rattle.csi_serving.specs.Reading.{ReadsTo, IsReadEnd};
+//! The input, read a piece at a time.
+ghost use Rattle.std.specs.Prelude.{◌≡◌, ◌≤◌, ◌+◌, ◌<◌, ◌^◌, None, OnOk, IfErr, length};
+ghost use Rattle.csi_frames.specs.Bytes.{AreBytes};
+ghost use Rattle.csi_frames.specs.Splitting.{after_feed};
+ghost use Rattle.csi_serving.specs.Reading.{ReadsPiece};
+ghost use Rattle.csi_serving.specs.declared.serving.fault.ServeFaultKind.TheVariants.{NoMemory as Refused};
 
 use crate::counted::Counted;
+use crate::serving::fault::ServeFaultKind;
+use csi_frames::Splitter;
 use csi_types::NoMemory;
 use std::io::Read;
-
-/// How reading ended.
-#[derive(Clone, Copy, Debug)]
-pub(crate) enum InputEnd {
-    AtEnd,
-    Failed,
-    Endless,
-}
 
 /// As much as is read at once.
 const PIECE: usize = 4096;
 
-/// More bytes than this are no input.
-const ENDLESS: usize = 1 << 63;
+/// So many bytes are no input.
+const ENDLESS: u64 = 1 << 63;
 
-// Bytes behind what a vector has, which has room for them.
-fn put(out: &mut Vec<u8>, bytes: &[u8])
-    requires { vec_len out.old + length bytes.now ≤ vec_capacity out.old }
-    ensures { out.new.items ≡ out.old.items ++ bytes.now }
+// Feeds what was read.
+fn feed(splitter: &mut Splitter, bytes: &[u8]) -> Result<(), ServeFaultKind>
+    ensures ok { OnOk result (splitter.new ≡ after_feed splitter.old bytes.now) }
+    ensures err { IfErr result (λ kind. kind ≡ Refused) }
+    ensures bytes { AreBytes bytes.now }
 {
-    out.extend_from_slice(bytes).unwrap();
+    match splitter.feed(bytes) {
+        Ok(()) => Ok(()),
+        Err(NoMemory) => Err(ServeFaultKind::NoMemory),
+    }
 }
 
-/// Puts what the reader has left behind the bytes that are there. An `Err` is an allocation that was refused, before the
-/// bytes were read for which it was asked.
-pub(crate) fn read_in<R: Read>(
+/// Reads a piece, of 4,096 bytes at most, and feeds it; whether there was one.
+pub(crate) fn read_piece<R: Read>(
     reader: &mut Counted<R>,
-    input: &mut Vec<u8>,
-) -> Result<InputEnd, NoMemory>
-    ensures read { ReadsTo (R.remaining reader.old.inner) (R.remaining reader.new.inner) input.old.items input.new.items }
-    ensures end { IfOk result (IsReadEnd (R.remaining reader.new.inner) reader.old.faults reader.new.faults input.new.items) }
+    splitter: &mut Splitter,
+) -> Result<bool, ServeFaultKind>
+    requires few { splitter.old.taken + length splitter.old.kept < 2 ^ 64 }
+    ensures read { ReadsPiece (R.remaining reader.old.inner) (R.remaining reader.new.inner) reader.old.faults reader.new.faults splitter.old splitter.new result }
     ensures faults { reader.old.faults ≤ reader.new.faults }
 {
-    let mut piece = [0; PIECE];
-    while input.len() < ENDLESS {
-        input.reserve(PIECE)?;
-        match reader.read(&mut piece) {
-            Ok(0) => return Ok(InputEnd::AtEnd),
-            Ok(n) => put(input, piece.split_at(n).0),
-            Err(_) => return Ok(InputEnd::Failed),
-        }
+    if splitter.taken() + splitter.kept() as u64 >= ENDLESS {
+        return Err(ServeFaultKind::Endless);
     }
-    Ok(InputEnd::Endless)
+    let mut piece = [0; PIECE];
+    match reader.read(&mut piece) {
+        Ok(0) => Ok(false),
+        Ok(n) => {
+            feed(splitter, piece.split_at(n).0)?;
+            Ok(true)
+        }
+        Err(_) => Err(ServeFaultKind::Input),
+    }
 }

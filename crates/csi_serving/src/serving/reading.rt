@@ -1,39 +1,37 @@
-//! The input, read a frame at a time.
-ghost use Rattle.std.specs.Prelude.{◌≡◌, ◌⊎◌, ◌+◌, ◌≤◌, length, drop, IfOk, IfErr};
-ghost use Rattle.csi_frames.specs.Spelling.{BeginsWith};
-ghost use Rattle.csi_frames.specs.Fault.{IsFaulty};
-ghost use Rattle.csi_frames.specs.Decoding.{no_memory};
-ghost use Rattle.csi_serving.specs.Stopping.{IsReadStop};
+//! The stream, read a frame at a time.
+ghost use Rattle.std.specs.Prelude.{◌≡◌, ◌+◌, ◌<◌, ◌^◌, None, length};
+ghost use Rattle.csi_serving.specs.Reading.{GivesNext};
+ghost use Rattle.csi_serving.specs.declared.serving.fault.ServeFaultKind.TheVariants.{Frame as FrameKind};
 
 use crate::serving::fault::ServeFaultKind;
-use csi_frames::{FaultKind, FrameFault, decode};
-use csi_types::Frame;
+use csi_frames::{FrameFault, Splitter};
+use csi_types::{Frame, NoMemory};
 use std::alloc::Global;
 
-// A frame's fault, in an input that has the frame in this place.
-fn in_input(input: &[u8], place: usize, fault: FrameFault) -> ServeFaultKind
-    requires within { place ≤ length input.now }
-    requires fault { IsFaulty (drop place input.now) fault.kind fault.place ⊎ (fault ≡ no_memory) }
-    ensures { IsReadStop (drop place input.now) place result }
+/// A frame's fault, behind frames of so many bytes: its place counts from the front of the stream.
+pub(crate) fn in_stream(taken: u64, fault: FrameFault) -> ServeFaultKind
+    requires { taken + fault.place < 2 ^ 64 }
+    ensures { result ≡ FrameKind fault.kind (taken + fault.place) }
 {
-    match fault.kind {
-        FaultKind::NoMemory => ServeFaultKind::NoMemory,
-        kind => ServeFaultKind::Frame(kind, (place + fault.place) as u64),
-    }
+    ServeFaultKind::Frame(fault.kind, taken + fault.place as u64)
 }
 
-/// The frame in this place of the input, and the count of its bytes; a fault's place counts from the front of the input.
-pub(crate) fn read_at(
+/// The next frame that is there, with texts of its own.
+pub(crate) fn next_frame(
     alloc: Global,
-    input: &[u8],
-    place: usize,
-) -> Result<(Frame, usize), ServeFaultKind>
-    requires { place ≤ length input.now }
-    ensures found { IfOk result (λ read. BeginsWith (drop place input.now) read.0 read.1) }
-    ensures fault { IfErr result (IsReadStop (drop place input.now) place) }
+    splitter: &mut Splitter,
+) -> Result<Option<Frame>, ServeFaultKind>
+    requires clear { splitter.old.fault ≡ None }
+    requires few { splitter.old.taken + length splitter.old.kept < 2 ^ 64 }
+    ensures { GivesNext splitter.old splitter.new result }
 {
-    match decode(alloc, &input[place..]) {
-        Ok(read) => Ok(read),
-        Err(fault) => Err(in_input(input, place, fault)),
+    let taken = splitter.taken();
+    match splitter.next() {
+        Ok(Some(frame)) => match frame.to_frame(alloc) {
+            Ok(frame) => Ok(Some(frame)),
+            Err(NoMemory) => Err(ServeFaultKind::NoMemory),
+        },
+        Ok(None) => Ok(None),
+        Err(fault) => Err(in_stream(taken, fault)),
     }
 }

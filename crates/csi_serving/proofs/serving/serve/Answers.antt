@@ -1,44 +1,126 @@
--- What was read is what the frames were read from.
-use Rattle.std.proofs.Common.{◌≡◌, ◌∙◌, ◌++◌, ap, subst, refl, List, ℕ, ◌≤◌, ◌^◌, length}
+-- What was read is what the frames came from.
+use Rattle.std.proofs.Common.{◌++◌, [], ◌≤◌, ◌^◌, length, arith}
 use Rattle.std.specs.Io.KnownBytes.{IsAtEnd}
-use Rattle.csi_frames.specs.Bytes.{AreBytes}
 use Rattle.csi_serving.specs.Keeping.{HasRisen}
 use Rattle.csi_serving.specs.Stores.{store}
-use Rattle.csi_serving.specs.Reading.{IsReadEnd}
-use Rattle.csi_serving.specs.Serving.{Serves}
-use Rattle.csi_serving.proofs.Progress.{within}
-use Rattle.csi_serving.proofs.Ends.{serves-by, nothing-served}
+use Rattle.csi_serving.proofs.Commits.{risen-more}
+use Rattle.csi_serving.proofs.Known.{consumes-none, consumes-more}
+use Rattle.csi_serving.proofs.Progress.{start, more, takes_off, waits, fed, more_frames, more_replies}
+use Rattle.csi_serving.proofs.Ends.{halted, stopped_reading, at_end_of}
 use Rattle.csi_serving.proofs.serving.serve.Goals as goal
 
-pub returns-in-Ok : goal.returns-in-Ok
-returns-in-Ok g c =
+pub frames-init : goal.frames-init
+frames-init g c =
+    let now = store g.K.Keep.is_honest g.K.Keep.holds g.K.Keep.leaves g.K.Keep.fits g.K.Keep.fault_count in
+    record {
+      stream = [];
+      consumed = consumes-none (g.R.Read.remaining c.args.reader.now.inner);
+      progress = rw c.new-splitter.ensures (start g.C.Core.answers g.C.Core.parts_of c.args.core (now c.args.keep.now) (g.W.Write.contents c.args.writer.now.inner));
+      reader_faults = omega arith;
+      writer_faults = omega arith;
+    }
+
+pub one_more-served-requires-clause-frames : goal.one_more-served-requires-clause-frames
+one_more-served-requires-clause-frames g c =
+    more_frames g.C.Core.answers g.C.Core.parts_of c.args.core c.frames.core _ _ _ _ c.frames.invariant.stream c.frames.splitter c.frames.served c.frames.invariant.progress
+
+pub one_more-served-requires-clause-replies : goal.one_more-served-requires-clause-replies
+one_more-served-requires-clause-replies g c =
+    more_replies g.C.Core.answers g.C.Core.parts_of c.args.core c.frames.core _ _ _ _ c.frames.invariant.stream c.frames.splitter c.frames.served c.frames.invariant.progress
+
+pub stopped-requires : goal.stopped-requires
+stopped-requires g c =
+    more_frames g.C.Core.answers g.C.Core.parts_of c.args.core c.frames.core _ _ _ _ c.frames.invariant.stream c.frames.splitter c.frames.served c.frames.invariant.progress
+
+pub stopped-requires-in-Err : goal.stopped-requires-in-Err
+stopped-requires-in-Err g c =
+    more_frames g.C.Core.answers g.C.Core.parts_of c.args.core c.frames.core _ _ _ _ c.frames.invariant.stream c.frames.splitter c.frames.served c.frames.invariant.progress
+
+pub frames-preserved-in-Ok-Some : goal.frames-preserved-in-Ok-Some
+frames-preserved-in-Ok-Some g c =
+    let now = store g.K.Keep.is_honest g.K.Keep.holds g.K.Keep.leaves g.K.Keep.fits g.K.Keep.fault_count in
+    let contents = g.W.Write.contents in
+    let i = c.frames.invariant in
+    record {
+      stream = i.stream;
+      consumed = i.consumed;
+      progress = rw c.one_more-served.ensures (more g.C.Core.answers g.C.Core.parts_of c.args.core c.frames.core (now c.args.keep.now) (now c.frames.keep) (contents c.args.writer.now.inner) (contents c.frames.writer.inner)
+          i.stream c.frames.splitter c.frames.served c.answer_next.new.core (now c.answer_next.new.keep) (contents c.answer_next.new.writer.inner) (HasRisen c.frames.writer.faults c.answer_next.new.writer.faults)
+          c.answer_next.new.splitter c.in-Ok-Some.field-0 c.in-Ok-Some.replied c.in-Ok-Some.field-0-is i.progress c.in-Ok-Some.ensures.follows c.in-Ok-Some.ensures.answer);
+      reader_faults = i.reader_faults;
+      writer_faults = omega (arith, i.writer_faults, c.in-Ok-Some.ensures.faults);
+    }
+
+pub frames-smaller-in-Ok-Some : goal.frames-smaller-in-Ok-Some
+frames-smaller-in-Ok-Some g c =
+    let now = store g.K.Keep.is_honest g.K.Keep.holds g.K.Keep.leaves g.K.Keep.fits g.K.Keep.fault_count in
+    let contents = g.W.Write.contents in
+    let i = c.frames.invariant in
+    let off = takes_off g.C.Core.answers g.C.Core.parts_of c.args.core c.frames.core (now c.args.keep.now) (now c.frames.keep) (contents c.args.writer.now.inner) (contents c.frames.writer.inner) i.stream c.frames.splitter c.frames.served
+    c.answer_next.new.core (now c.answer_next.new.keep) (contents c.answer_next.new.writer.inner) (HasRisen c.frames.writer.faults c.answer_next.new.writer.faults) c.answer_next.new.splitter c.in-Ok-Some.field-0 c.in-Ok-Some.replied c.in-Ok-Some.field-0-is i.progress c.in-Ok-Some.ensures.answer in
+    omega (arith, off.0, off.1, i.progress.total, i.progress.few)
+
+pub frames-preserved : goal.frames-preserved
+frames-preserved g c =
     let now = store g.K.Keep.is_honest g.K.Keep.holds g.K.Keep.leaves g.K.Keep.fits g.K.Keep.fault_count in
     let contents = g.W.Write.contents in
     let remaining = g.R.Read.remaining in
-    let read = c.in-Ok.ensures.read in
-    let are : c.read_in.new.input.items ≡ read.bytes = read.appended ∙ ap (λ (xs : List ℕ). xs ++ read.bytes) c.new-input.ensures.items in
-    let failed = HasRisen c.args.writer.now.faults c.answer_all.new.writer.faults in
-    let fact : IsReadEnd (remaining c.read_in.new.reader.inner) c.args.reader.now.faults c.read_in.new.reader.faults read.bytes c.in-Ok.end =
-    subst (λ (bytes : List ℕ). IsReadEnd (remaining c.read_in.new.reader.inner) c.args.reader.now.faults c.read_in.new.reader.faults bytes c.in-Ok.end) are c.in-Ok.ensures.end in
-    let part : Serves (within g.C.Core.answers g.C.Core.parts_of c.args.core (now c.args.keep.now) (now c.answer_all.new.keep) (contents c.args.writer.now.inner) (contents c.answer_all.new.writer.inner) (Unit {0}) failed) read.bytes c.answer_all.result =
-    subst (λ (bytes : List ℕ). Serves (within g.C.Core.answers g.C.Core.parts_of c.args.core (now c.args.keep.now) (now c.answer_all.new.keep) (contents c.args.writer.now.inner) (contents c.answer_all.new.writer.inner) (Unit {0}) failed) bytes c.answer_all.result)
-    (c.deref.ensures.value ∙ are) c.answer_all.ensures.serves in (
-      read.bytes,
-      read.consumed,
-      rw c.ended.ensures (serves-by g.C.Core.answers g.C.Core.parts_of c.args.core (now c.args.keep.now) (now c.answer_all.new.keep) (contents c.args.writer.now.inner) (contents c.answer_all.new.writer.inner) failed
-          (remaining c.read_in.new.reader.inner) c.args.reader.now.faults c.read_in.new.reader.faults read.bytes c.in-Ok.end c.answer_all.result fact part),
+    let i = c.frames.invariant in
+    let waiting = waits g.C.Core.answers g.C.Core.parts_of c.args.core c.frames.core (now c.args.keep.now) (now c.frames.keep) (contents c.args.writer.now.inner) (contents c.frames.writer.inner) i.stream c.frames.splitter c.frames.served
+    c.answer_next.new.core (now c.answer_next.new.keep) (contents c.answer_next.new.writer.inner) (HasRisen c.frames.writer.faults c.answer_next.new.writer.faults) c.answer_next.new.splitter c.in-Ok-None.field-0 c.in-Ok-None.field-0-is i.progress c.in-Ok-None.ensures.follows c.in-Ok-None.ensures.answer in
+    let read = c.in-Ok-true.ensures.read in
+    record {
+      stream = i.stream ++ read.bytes;
+      consumed = consumes-more (remaining c.args.reader.now.inner) (remaining c.frames.reader.inner) (remaining c.read_piece.new.reader.inner) i.stream read.bytes i.consumed read.consumed;
+      progress = fed g.C.Core.answers g.C.Core.parts_of c.args.core c.answer_next.new.core (now c.args.keep.now) (now c.answer_next.new.keep) (contents c.args.writer.now.inner) (contents c.answer_next.new.writer.inner) i.stream c.answer_next.new.splitter c.frames.served
+          (remaining c.frames.reader.inner) (remaining c.read_piece.new.reader.inner) c.frames.reader.faults c.read_piece.new.reader.faults c.read_piece.new.splitter c.in-Ok-true.field-0 c.in-Ok-true.field-0-test waiting.0 read;
+      reader_faults = omega (arith, i.reader_faults, c.in-Ok-true.ensures.faults);
+      writer_faults = omega (arith, i.writer_faults, c.in-Ok-None.ensures.faults);
+    }
+
+pub returns-in-Err : goal.returns-in-Err
+returns-in-Err g c =
+    let now = store g.K.Keep.is_honest g.K.Keep.holds g.K.Keep.leaves g.K.Keep.fits g.K.Keep.fault_count in
+    let contents = g.W.Write.contents in
+    let remaining = g.R.Read.remaining in
+    let i = c.frames.invariant in (
+      i.stream,
+      i.consumed,
+      rw c.stopped-in-Err.ensures (halted g.C.Core.answers g.C.Core.parts_of c.args.core c.frames.core (now c.args.keep.now) (now c.frames.keep) (contents c.args.writer.now.inner) (contents c.frames.writer.inner) i.stream c.frames.splitter c.frames.served
+          c.answer_next.new.core (now c.answer_next.new.keep) (contents c.answer_next.new.writer.inner) (IsAtEnd (remaining c.frames.reader.inner)) (HasRisen c.args.reader.now.faults c.frames.reader.faults) (HasRisen c.args.writer.now.faults c.answer_next.new.writer.faults)
+          (HasRisen c.frames.writer.faults c.answer_next.new.writer.faults) (2 ^ 63 ≤ length i.stream) c.in-Err.kind c.answer_next.new.splitter i.progress c.in-Err.ensures.follows
+          (λ risen. risen-more c.args.writer.now.faults c.frames.writer.faults c.answer_next.new.writer.faults i.writer_faults risen) c.in-Err.ensures.answer),
     )
 
-pub returns : goal.returns
-returns g c =
+pub returns-in-Err-read_piece : goal.returns-in-Err-read_piece
+returns-in-Err-read_piece g c =
     let now = store g.K.Keep.is_honest g.K.Keep.holds g.K.Keep.leaves g.K.Keep.fits g.K.Keep.fault_count in
     let contents = g.W.Write.contents in
     let remaining = g.R.Read.remaining in
-    let read = c.in-Err.ensures.read in
-    let are : c.read_in.new.input.items ≡ read.bytes = read.appended ∙ ap (λ (xs : List ℕ). xs ++ read.bytes) c.new-input.ensures.items in
-    let bytes : AreBytes read.bytes = subst AreBytes (c.deref-in-Err.ensures.value ∙ are) c.not_served.ensures.bytes in (
-      read.bytes,
-      read.consumed,
-      rw c.not_served.ensures.fault (nothing-served g.C.Core.answers g.C.Core.parts_of c.args.core (now c.args.keep.now) (now c.args.keep.now) (contents c.args.writer.now.inner) (contents c.args.writer.now.inner)
-          (HasRisen c.args.writer.now.faults c.args.writer.now.faults) (IsAtEnd (remaining c.read_in.new.reader.inner)) (HasRisen c.args.reader.now.faults c.read_in.new.reader.faults) (2 ^ 63 ≤ length read.bytes) read.bytes bytes refl refl),
+    let i = c.frames.invariant in
+    let waiting = waits g.C.Core.answers g.C.Core.parts_of c.args.core c.frames.core (now c.args.keep.now) (now c.frames.keep) (contents c.args.writer.now.inner) (contents c.frames.writer.inner) i.stream c.frames.splitter c.frames.served
+    c.answer_next.new.core (now c.answer_next.new.keep) (contents c.answer_next.new.writer.inner) (HasRisen c.frames.writer.faults c.answer_next.new.writer.faults) c.answer_next.new.splitter c.in-Ok-None.field-0 c.in-Ok-None.field-0-is i.progress c.in-Ok-None.ensures.follows c.in-Ok-None.ensures.answer in
+    let read = c.in-Err-read_piece.ensures.read in (
+      i.stream ++ read.bytes,
+      consumes-more (remaining c.args.reader.now.inner) (remaining c.frames.reader.inner) (remaining c.read_piece.new.reader.inner) i.stream read.bytes i.consumed read.consumed,
+      rw c.stopped.ensures (stopped_reading g.C.Core.answers g.C.Core.parts_of c.args.core c.answer_next.new.core (now c.args.keep.now) (now c.answer_next.new.keep) (contents c.args.writer.now.inner) (contents c.answer_next.new.writer.inner) i.stream c.answer_next.new.splitter c.frames.served
+          (IsAtEnd (remaining c.read_piece.new.reader.inner)) (HasRisen c.args.reader.now.faults c.read_piece.new.reader.faults) (HasRisen c.args.writer.now.faults c.answer_next.new.writer.faults) (2 ^ 63 ≤ length (i.stream ++ read.bytes))
+          (remaining c.frames.reader.inner) (remaining c.read_piece.new.reader.inner) c.frames.reader.faults c.read_piece.new.reader.faults c.read_piece.new.splitter c.in-Err-read_piece.kind waiting.0 waiting.1 read
+          (λ risen. risen-more c.args.reader.now.faults c.frames.reader.faults c.read_piece.new.reader.faults i.reader_faults risen) (λ endless. endless)),
+    )
+
+pub returns-in-Ok-false : goal.returns-in-Ok-false
+returns-in-Ok-false g c =
+    let now = store g.K.Keep.is_honest g.K.Keep.holds g.K.Keep.leaves g.K.Keep.fits g.K.Keep.fault_count in
+    let contents = g.W.Write.contents in
+    let remaining = g.R.Read.remaining in
+    let i = c.frames.invariant in
+    let waiting = waits g.C.Core.answers g.C.Core.parts_of c.args.core c.frames.core (now c.args.keep.now) (now c.frames.keep) (contents c.args.writer.now.inner) (contents c.frames.writer.inner) i.stream c.frames.splitter c.frames.served
+    c.answer_next.new.core (now c.answer_next.new.keep) (contents c.answer_next.new.writer.inner) (HasRisen c.frames.writer.faults c.answer_next.new.writer.faults) c.answer_next.new.splitter c.in-Ok-None.field-0 c.in-Ok-None.field-0-is i.progress c.in-Ok-None.ensures.follows c.in-Ok-None.ensures.answer in
+    let read = c.in-Ok-false.ensures.read in (
+      i.stream ++ read.bytes,
+      consumes-more (remaining c.args.reader.now.inner) (remaining c.frames.reader.inner) (remaining c.read_piece.new.reader.inner) i.stream read.bytes i.consumed read.consumed,
+      rw c.ended.ensures (at_end_of g.C.Core.answers g.C.Core.parts_of c.args.core c.answer_next.new.core (now c.args.keep.now) (now c.answer_next.new.keep) (contents c.args.writer.now.inner) (contents c.answer_next.new.writer.inner) i.stream c.answer_next.new.splitter c.frames.served
+          (IsAtEnd (remaining c.read_piece.new.reader.inner)) (HasRisen c.args.reader.now.faults c.read_piece.new.reader.faults) (HasRisen c.args.writer.now.faults c.answer_next.new.writer.faults) (2 ^ 63 ≤ length (i.stream ++ read.bytes))
+          (remaining c.frames.reader.inner) (remaining c.read_piece.new.reader.inner) c.frames.reader.faults c.read_piece.new.reader.faults c.read_piece.new.splitter c.in-Ok-false.field-0 c.in-Ok-false.field-0-test waiting.0 waiting.1 read (λ at_end. at_end)),
     )
