@@ -28,7 +28,7 @@ use Rattle.csi_serving.specs.Reading.{IsPiece, IsPieceStop, ReadsPiece}
 use Rattle.csi_serving.specs.Stopping.{AnswersNext, stopped_by}
 use Rattle.csi_serving.specs.Ending.{ended_by}
 use Rattle.csi_serving.proofs.Commits.{rests-more, left-more, refusal-more}
-use Rattle.csi_serving.proofs.Known.{appends-more}
+use Rattle.std.proofs.KnownBytes.{Appends-trans}
 use Rattle.csi_serving.proofs.Runs.{runs-push, output-append}
 use Rattle.csi_serving.proofs.Streams.{AreBytes-append, fault_of_something, frames_of, given_first}
 use Rattle.csi_serving.proofs.Progress.{setting_of, Progress, same-written, taken_front}
@@ -127,7 +127,7 @@ module _ {C : Type 0} (answers : C → Frame → Option Frame → C → Type 0) 
       more = last.more;
       parts = last.parts;
       written = subst (Appends out0 out2) (sym (append_assoc (output_of p.replies) (output_of last.earlier) last.front) ∙ ap (λ bytes. bytes ++ last.front) (sym (output-append p.replies last.earlier)))
-          (appends-more out0 out1 out2 (output_of p.replies) (output_of last.earlier ++ last.front) p.written last.written);
+          (Appends-trans out0 out1 out2 (output_of p.replies) (output_of last.earlier ++ last.front) p.written last.written);
     }
 
     pub halted : (kind : ServeFaultKind) (t : Splitting) → Now → Follows mid after → (V → U) → AnswersNext Call s t new (Err kind) → Serves Full stream (Err (stopped_by kind served.frames))

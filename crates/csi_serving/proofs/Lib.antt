@@ -1,7 +1,6 @@
 pub mod Places
 pub mod Sizes
 pub mod Rising
-pub mod Known
 pub mod Commits
 pub mod Spelled
 pub mod FaultPlaces

@@ -20,7 +20,7 @@ use Rattle.csi_serving.specs.Serving.{Setting, Runs, output_of, reply_count}
 use Rattle.csi_serving.specs.Reading.{IsPiece, ReadsPiece}
 use Rattle.csi_serving.specs.Stopping.{AnswersNext, one_more_served}
 use Rattle.csi_serving.proofs.Commits.{follows-same, follows-more, rests-same, rests-more}
-use Rattle.csi_serving.proofs.Known.{appends-none, appends-more}
+use Rattle.std.proofs.KnownBytes.{Appends-nil, Appends-trans}
 use Rattle.csi_serving.proofs.Runs.{runs-push, runs-length, count-few, count-push, output-append}
 use Rattle.csi_serving.proofs.Streams.{AreBytes-append, spelling-not-empty, frames_few}
 
@@ -74,17 +74,17 @@ start answers parts_of core before out = record {
   replied = refl;
   runs = refl;
   kept = rests-same before (parts_of core);
-  written = appends-none out;
+  written = Appends-nil out;
   follows = follows-same before;
 }
 
 -- what was written, and more of it
 written-more : (a b c : Option (List ℕ)) (earlier later : List (Option Frame)) → Appends a b (output_of earlier) → Appends b c (output_of later) → Appends a c (output_of (earlier ++ later))
-written-more a b c earlier later first second = subst (Appends a c) (sym (output-append earlier later)) (appends-more a b c (output_of earlier) (output_of later) first second)
+written-more a b c earlier later first second = subst (Appends a c) (sym (output-append earlier later)) (Appends-trans a b c (output_of earlier) (output_of later) first second)
 
 -- what was done, and nothing more
 pub same-written : (a b c : Option (List ℕ)) (earlier : List (Option Frame)) → Appends a b (output_of earlier) → Appends b c [] → Appends a c (output_of earlier)
-same-written a b c earlier first second = subst (Appends a c) (append-nil (output_of earlier)) (appends-more a b c (output_of earlier) [] first second)
+same-written a b c earlier first second = subst (Appends a c) (append-nil (output_of earlier)) (Appends-trans a b c (output_of earlier) [] first second)
 
 -- the frames at the front
 pub taken_front : (frames done later : List Frame) (k : ℕ) → frames ≡ done ++ later → k ≡ length done → take k frames ≡ done
@@ -102,9 +102,6 @@ module _ {C : Type 0} (answers : C → Frame → Option Frame → C → Type 0) 
   Now = Progress answers parts_of core before mid out0 out1 stream s served now
 
   -- ---- how much there may be
-
-  pub room : Now → s.taken + length s.kept < 2 ^ 64
-  room p = omega (arith, p.total, p.few)
 
   pub more_frames : Now → served.frames + 1 < 2 ^ 64
   more_frames p = omega (arith, p.counted, frames_few p.done, p.taken, p.total, p.few)

@@ -4,7 +4,7 @@ use Rattle.std.specs.Io.KnownBytes.{IsAtEnd}
 use Rattle.csi_serving.specs.Keeping.{HasRisen}
 use Rattle.csi_serving.specs.Stores.{store}
 use Rattle.csi_serving.proofs.Commits.{risen-more}
-use Rattle.csi_serving.proofs.Known.{consumes-none, consumes-more}
+use Rattle.std.proofs.KnownBytes.{Consumes-nil, Consumes-trans}
 use Rattle.csi_serving.proofs.Progress.{start, more, takes_off, waits, fed, more_frames, more_replies}
 use Rattle.csi_serving.proofs.Ends.{halted, stopped_reading, at_end_of}
 use Rattle.csi_serving.proofs.serving.serve.Goals as goal
@@ -14,7 +14,7 @@ frames-init g c =
     let now = store g.K.Keep.is_honest g.K.Keep.holds g.K.Keep.leaves g.K.Keep.fits g.K.Keep.fault_count in
     record {
       stream = [];
-      consumed = consumes-none (g.R.Read.remaining c.args.reader.now.inner);
+      consumed = Consumes-nil (g.R.Read.remaining c.args.reader.now.inner);
       progress = rw c.new-splitter.ensures (start g.C.Core.answers g.C.Core.parts_of c.args.core (now c.args.keep.now) (g.W.Write.contents c.args.writer.now.inner));
       reader_faults = omega arith;
       writer_faults = omega arith;
@@ -71,7 +71,7 @@ frames-preserved g c =
     let read = c.in-Ok-true.ensures.read in
     record {
       stream = i.stream ++ read.bytes;
-      consumed = consumes-more (remaining c.args.reader.now.inner) (remaining c.frames.reader.inner) (remaining c.read_piece.new.reader.inner) i.stream read.bytes i.consumed read.consumed;
+      consumed = Consumes-trans (remaining c.args.reader.now.inner) (remaining c.frames.reader.inner) (remaining c.read_piece.new.reader.inner) i.stream read.bytes i.consumed read.consumed;
       progress = fed g.C.Core.answers g.C.Core.parts_of c.args.core c.answer_next.new.core (now c.args.keep.now) (now c.answer_next.new.keep) (contents c.args.writer.now.inner) (contents c.answer_next.new.writer.inner) i.stream c.answer_next.new.splitter c.frames.served
           (remaining c.frames.reader.inner) (remaining c.read_piece.new.reader.inner) c.frames.reader.faults c.read_piece.new.reader.faults c.read_piece.new.splitter c.in-Ok-true.field-0 c.in-Ok-true.field-0-test waiting.0 read;
       reader_faults = omega (arith, i.reader_faults, c.in-Ok-true.ensures.faults);
@@ -102,7 +102,7 @@ returns-in-Err-read_piece g c =
     c.answer_next.new.core (now c.answer_next.new.keep) (contents c.answer_next.new.writer.inner) (HasRisen c.frames.writer.faults c.answer_next.new.writer.faults) c.answer_next.new.splitter c.in-Ok-None.field-0 c.in-Ok-None.field-0-is i.progress c.in-Ok-None.ensures.follows c.in-Ok-None.ensures.answer in
     let read = c.in-Err-read_piece.ensures.read in (
       i.stream ++ read.bytes,
-      consumes-more (remaining c.args.reader.now.inner) (remaining c.frames.reader.inner) (remaining c.read_piece.new.reader.inner) i.stream read.bytes i.consumed read.consumed,
+      Consumes-trans (remaining c.args.reader.now.inner) (remaining c.frames.reader.inner) (remaining c.read_piece.new.reader.inner) i.stream read.bytes i.consumed read.consumed,
       rw c.stopped.ensures (stopped_reading g.C.Core.answers g.C.Core.parts_of c.args.core c.answer_next.new.core (now c.args.keep.now) (now c.answer_next.new.keep) (contents c.args.writer.now.inner) (contents c.answer_next.new.writer.inner) i.stream c.answer_next.new.splitter c.frames.served
           (IsAtEnd (remaining c.read_piece.new.reader.inner)) (HasRisen c.args.reader.now.faults c.read_piece.new.reader.faults) (HasRisen c.args.writer.now.faults c.answer_next.new.writer.faults) (2 ^ 63 ≤ length (i.stream ++ read.bytes))
           (remaining c.frames.reader.inner) (remaining c.read_piece.new.reader.inner) c.frames.reader.faults c.read_piece.new.reader.faults c.read_piece.new.splitter c.in-Err-read_piece.kind waiting.0 waiting.1 read
@@ -119,7 +119,7 @@ returns-in-Ok-false g c =
     c.answer_next.new.core (now c.answer_next.new.keep) (contents c.answer_next.new.writer.inner) (HasRisen c.frames.writer.faults c.answer_next.new.writer.faults) c.answer_next.new.splitter c.in-Ok-None.field-0 c.in-Ok-None.field-0-is i.progress c.in-Ok-None.ensures.follows c.in-Ok-None.ensures.answer in
     let read = c.in-Ok-false.ensures.read in (
       i.stream ++ read.bytes,
-      consumes-more (remaining c.args.reader.now.inner) (remaining c.frames.reader.inner) (remaining c.read_piece.new.reader.inner) i.stream read.bytes i.consumed read.consumed,
+      Consumes-trans (remaining c.args.reader.now.inner) (remaining c.frames.reader.inner) (remaining c.read_piece.new.reader.inner) i.stream read.bytes i.consumed read.consumed,
       rw c.ended.ensures (at_end_of g.C.Core.answers g.C.Core.parts_of c.args.core c.answer_next.new.core (now c.args.keep.now) (now c.answer_next.new.keep) (contents c.args.writer.now.inner) (contents c.answer_next.new.writer.inner) i.stream c.answer_next.new.splitter c.frames.served
           (IsAtEnd (remaining c.read_piece.new.reader.inner)) (HasRisen c.args.reader.now.faults c.read_piece.new.reader.faults) (HasRisen c.args.writer.now.faults c.answer_next.new.writer.faults) (2 ^ 63 ≤ length (i.stream ++ read.bytes))
           (remaining c.frames.reader.inner) (remaining c.read_piece.new.reader.inner) c.frames.reader.faults c.read_piece.new.reader.faults c.read_piece.new.splitter c.in-Ok-false.field-0 c.in-Ok-false.field-0-test waiting.0 waiting.1 read (λ at_end. at_end)),
