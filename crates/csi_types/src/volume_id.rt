@@ -6,7 +6,7 @@ use std::marker::Model;
 
 /// The id that the controller gives a volume (`Volume.volume_id` of CSI's spec.md, "CreateVolume"; in
 /// this profile a number from 1). A contract sees it as the number.
-#[derive(Clone, Copy, Debug, PartialEq, Eq, PartialOrd, Ord)]
+#[derive(Clone, Copy, Debug, PartialEq, Eq, PartialOrd, Ord, Hash)]
 pub struct VolumeId {
     number: u64,
 }
