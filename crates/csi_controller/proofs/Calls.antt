@@ -48,12 +48,12 @@ at-place p rows place row at is = FirstAt-position p rows place row (sym at) is
 pub sound-at : (p : ControllerRow → Bool) (n : ℕ) (rows : List ControllerRow) (place : ℕ) (row : ControllerRow) → IsSound n rows → Some place ≡ position p rows → row ≡ get_or rows place row → IsSoundRow n row
 sound-at p n rows place row sound at is = each-at (IsSoundRow n) rows place row sound.each (FirstAt-is_at p rows place row (at-place p rows place row at is))
 
-same_id : (number : Number) (kind : Kind) (outcome : RowOutcome) (row : ControllerRow) (verdict : Verdict) → (row_after number kind outcome row verdict).volume.id ≡ row.id
+pub same_id : (number : Number) (kind : Kind) (outcome : RowOutcome) (row : ControllerRow) (verdict : Verdict) → (row_after number kind outcome row verdict).volume.id ≡ row.id
 same_id number kind outcome row Stale = refl
 same_id number kind outcome row Repeated = refl
 same_id number kind outcome row Fresh = refl
 
-same_name : (number : Number) (kind : Kind) (outcome : RowOutcome) (row : ControllerRow) (verdict : Verdict) → (row_after number kind outcome row verdict).volume.name ≡ row.name
+pub same_name : (number : Number) (kind : Kind) (outcome : RowOutcome) (row : ControllerRow) (verdict : Verdict) → (row_after number kind outcome row verdict).volume.name ≡ row.name
 same_name number kind outcome row Stale = refl
 same_name number kind outcome row Repeated = refl
 same_name number kind outcome row Fresh = refl

@@ -1,10 +1,11 @@
 pub mod Holdings
 pub mod Lines
 pub mod Sound
-pub mod Search
+pub mod Indexed
 pub mod Steps
 pub mod Fit
 pub mod Calls
+pub mod Placed
 pub mod Made
 pub mod Called
 pub mod Views

@@ -9,6 +9,7 @@ use Rattle.csi_lists.proofs.Places.{AtMostOne-append}
 use Rattle.csi_lists.proofs.Searches.{find-of_map}
 use Rattle.csi_lists.specs.Places.{AtMostOne}
 use Rattle.csi_controller.specs.declared.controller.inner.Core.{Core}
+use Rattle.csi_controller.specs.Catalog.{rows_of}
 use Rattle.csi_controller.specs.CoreParts.{parts_of, IsMade}
 use Rattle.std.specs.Prelude.{Option, Some, None, option_map, find, ◌==◌, ◌||◌, nat_le, nat_lt, codes, IsTrue}
 use Rattle.std.specs.List.{AllByRecursion}
@@ -248,7 +249,21 @@ ok-both (results.Ok x) P S Q f p q = f x p q
 ok-both (results.Err e) P S Q f p q = tt
 
 pub parts-made : (old new : Core) (number : Number) (id : ℕ) (name : List ℕ) (capacity : ℕ) (wished : List Capability) (made : IsMade old new number id name capacity wished)
-    → record { config = old.config; next_id = (old.next_id + 1) % 18446744073709551616; rows = old.rows.items ++ made.row ∷ [] } ≡ parts_of new
+    → record { config = old.config; next_id = (old.next_id + 1) % 18446744073709551616; rows = rows_of old.catalog ++ made.row ∷ [] } ≡ parts_of new
 parts-made old new number id name capacity wished made =
     let config = sym made.config in let next = sym made.next in let rows = sym made.rows in
     λ i. record { config = config i; next_id = next i; rows = rows i }
+
+-- no row has the next id
+pub fresh-id : (n : ℕ) (rows : List ControllerRow) (id : ℕ) → IsSound n rows → id ≡ n → 0 < id → find (λ (r : ControllerRow). r.id == id) rows ≡ None
+fresh-id n rows id sound is from = by rows sound.each
+  where
+    one : next_shown n ≡ n
+    one = next_self n (omega (arith, is, from))
+
+    other : (r : ControllerRow) → IsSoundRow n r → (r.id == id) ≡ false
+    other r own = let below = own.below in grind (arith, nat_tests, one, is, below)
+
+    by : (rs : List ControllerRow) → AllByRecursion (IsSoundRow n) rs → find (λ (r : ControllerRow). r.id == id) rs ≡ None
+    by [] all = refl
+    by (r ∷ rs) all = let fails = other r (all.0) in rw fails (by rs (all.1))

@@ -7,6 +7,7 @@ pub mod Laws
 pub mod Core
 pub mod Wanted
 pub mod Line
+pub mod Catalog
 pub mod CoreParts
 pub mod Views
 pub mod Exclusive

@@ -9,10 +9,11 @@ mod last_call;
 mod line;
 pub(crate) mod lines;
 mod listing;
-mod new_row;
+pub(crate) mod new_row;
 mod row_calls;
 pub(crate) mod wanted;
 
+use crate::catalog::Catalog;
 use crate::fault::CoreFault;
 use crate::record::ControllerRecord;
 use crate::row::ControllerRow;
@@ -31,14 +32,14 @@ pub struct Controller {
 }
 
 impl Model for Controller {
-    ghost use Rattle.csi_controller.specs.Core.{Parts, IsSound};
-    ghost use Rattle.csi_controller.specs.CoreParts.{parts_of};
+    ghost use Rattle.csi_controller.specs.Core.{Parts};
+    ghost use Rattle.csi_controller.specs.CoreParts.{parts_of, IsKept};
 
     ghost Value = { Parts };
 
     ghost view = { λ controller. parts_of controller.core };
 
-    ghost invariant = { λ controller. IsSound controller.core.next_id controller.core.rows.items };
+    ghost invariant = { λ controller. IsKept controller.core };
 }
 
 impl Controller {
@@ -60,7 +61,7 @@ impl Controller {
                 alloc,
                 config,
                 next_id: 1,
-                rows: Vec::new(alloc),
+                catalog: Catalog::new(alloc),
             },
         }
     }
@@ -118,13 +119,13 @@ impl Controller {
         ensures { result ≡ Ok (record { config = config; next_id = kept.next_id; rows = kept.rows }) }
     {
         let next_id = kept.next_id();
-        let rows = kept.into_rows();
+        let catalog = kept.into_catalog();
         Ok(Controller {
             core: Core {
                 alloc,
                 config,
                 next_id,
-                rows,
+                catalog,
             },
         })
     }
@@ -135,8 +136,8 @@ impl Controller {
             IfOk result (λ kept. IsShown (record { config = self.now.config; next_id = kept.next_id; rows = kept.rows }) state) }
     {
         let core = &self.core;
-        let rows = core.copied_rows(alloc)?;
-        Ok(ControllerRecord::new(core.next_id, rows))
+        let catalog = core.catalog.copied(alloc, core.next_id)?;
+        Ok(ControllerRecord::new(core.next_id, catalog))
     }
 
     /// The row of the volume of this id, deleted or not, as the record has it. Where there is none it takes no memory.
@@ -163,7 +164,7 @@ impl Controller {
         ensures rising { IfOk result (λ all. EachTwo IsHeldBefore all.items) }
         ensures state { (state : ControllerState) → IsShown self.now state → IfOk result (λ all. HasHoldingsOf state all.items) }
     {
-        attachments(&self.core.rows, alloc)
+        attachments(self.core.catalog.rows(), alloc)
     }
 
     // Nothing that runs: the rules of the rows hold.

@@ -2,6 +2,7 @@
 //! to each call, and what it keeps.
 #![tactic(auto)]
 
+mod catalog;
 mod controller;
 mod fault;
 mod judging;

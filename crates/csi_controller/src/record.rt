@@ -1,7 +1,8 @@
 //! A controller's record.
 ghost use Rattle.std.specs.Prelude.{◌≡◌, List, IfOk, IfErr, OnOk};
 
-use crate::fault::RecordFault;
+use crate::catalog::Catalog;
+use crate::fault::{CoreFault, RecordFault};
 use crate::judging::first_refused;
 use crate::row::ControllerRow;
 use csi_types::NoMemory;
@@ -14,32 +15,35 @@ use std::marker::Model;
 #[derive(Drop)]
 pub struct ControllerRecord {
     next_id: u64,
-    rows: Vec<ControllerRow>,
+    catalog: Catalog,
 }
 
 impl Model for ControllerRecord {
     ghost use Rattle.csi_controller.specs.Core.{IsSound};
+    ghost use Rattle.csi_controller.specs.Catalog.{rows_of, IsIndexed};
     ghost use Rattle.csi_controller.specs.Views.{RecordParts};
 
     ghost Value = { RecordParts };
 
-    ghost view = { λ record_. record { next_id = record_.next_id; rows = record_.rows.items } };
+    ghost view = { λ record_. record { next_id = record_.next_id; rows = rows_of record_.catalog } };
 
-    ghost invariant = { λ record_. IsSound record_.next_id record_.rows.items };
+    ghost invariant = { λ record_. IsSound record_.next_id (rows_of record_.catalog) × IsIndexed record_.catalog };
 }
 
 impl ControllerRecord {
+    ghost use Rattle.csi_controller.specs.Catalog.{rows_of, IsIndexed};
     ghost use Rattle.csi_controller.specs.Core.{IsSound};
     ghost use Rattle.csi_controller.specs.declared.row.ControllerRow.{ControllerRow as OneRow};
     ghost use Rattle.csi_controller.specs.Judging.{IsRefusal};
     ghost use Rattle.csi_controller.specs.Views.{AreSameRows};
 
-    // A record of these rows.
-    pub(crate) fn new(next_id: u64, rows: Vec<ControllerRow>) -> ControllerRecord
-        requires { IsSound next_id rows.items }
-        ensures { result ≡ record { next_id = next_id; rows = rows.items } }
+    // The record of this catalog.
+    pub(crate) fn new(next_id: u64, catalog: Catalog) -> ControllerRecord
+        requires sound { IsSound next_id (rows_of catalog) }
+        requires indexed { IsIndexed catalog }
+        ensures { result ≡ record { next_id = next_id; rows = rows_of catalog } }
     {
-        ControllerRecord { next_id, rows }
+        ControllerRecord { next_id, catalog }
     }
 
     /// The record of these rows, which stand by rising id, with this next id, 0 for all that were given (this profile's own).
@@ -60,7 +64,10 @@ impl ControllerRecord {
         ensures copies { (kept : List OneRow) → IsSound next_id kept → AreSameRows kept rows.items → IfErr result (λ fault. fault ≡ RecordFault.NoMemory) }
     {
         match first_refused(alloc, next_id, rows.as_slice()) {
-            Ok(None) => Ok(ControllerRecord { next_id, rows }),
+            Ok(None) => match Catalog::of_rows(alloc, next_id, rows) {
+                Ok(catalog) => Ok(ControllerRecord { next_id, catalog }),
+                Err(CoreFault::NoMemory) => Err(RecordFault::NoMemory),
+            },
             Ok(Some(place)) => Err(RecordFault::BadRow(place)),
             Err(NoMemory) => Err(RecordFault::NoMemory),
         }
@@ -78,15 +85,19 @@ impl ControllerRecord {
         ensures value { result.now ≡ self.now.rows }
         ensures sound { IsSound self.now.next_id self.now.rows }
     {
-        self.rows.as_slice()
+        self.catalog.rows()
     }
 
-    // The rows alone.
-    pub(crate) fn into_rows(self) -> Vec<ControllerRow>
-        ensures value { result.items ≡ self.rows }
+    // The rows by id and by name.
+    pub(crate) fn into_catalog(self) -> Catalog
+        ensures value { rows_of result ≡ self.rows }
         ensures sound { IsSound self.next_id self.rows }
+        ensures indexed { IsIndexed result }
     {
-        let ControllerRecord { next_id: _, rows } = self;
-        rows
+        let ControllerRecord {
+            next_id: _,
+            catalog,
+        } = self;
+        catalog
     }
 }

@@ -1,4 +1,4 @@
-//! The controller's rows in a vector, in the order of their ids, and what it does with a call.
+//! A controller's parts, and what it does with a call.
 ghost use Rattle.std.specs.Prelude.{◌≡◌, ◌==◌, ◌<◌, ◌&&◌, ◌||◌, ◌∷◌, ℕ, true, false, List, Some, None, [], length, position, count_by, nat_le, IfOk, OnErr, OnOk, IsOk, IfSome, IfNone, IsTrue, IfErr, MatchResult, option_map};
 ghost use Rattle.std.specs.List.{find, list_any};
 ghost use Rattle.std.specs.Option.{option_copied};
@@ -25,6 +25,7 @@ use super::lines::{argument_fault, is_held_at, publish_by_row};
 use super::new_row::{copied_row, new_row};
 use super::row_calls::{create_again, delete, publish, unpublish};
 use super::wanted::Wanted;
+use crate::catalog::Catalog;
 use crate::fault::CoreFault;
 use crate::row::ControllerRow;
 use csi_types::{
@@ -43,7 +44,7 @@ pub struct Core {
     pub config: Config,
     // 0 once all ids are given
     pub next_id: u64,
-    pub rows: Vec<ControllerRow>,
+    pub catalog: Catalog,
 }
 
 // The capacity that is asked for with this range.
@@ -64,31 +65,19 @@ impl Core {
     ghost use Rattle.csi_controller.specs.Core.{IsShown, IsSound, Answers, IsAnsweredOk, IsUndoing, new_line, next_shown};
     ghost use Rattle.csi_controller.specs.Core.{by_line, publish_line as publish_told};
     ghost use Rattle.csi_controller.specs.Core.RowChange.{RowAttaches};
-    ghost use Rattle.csi_controller.specs.CoreParts.{parts_of, IsMade};
+    ghost use Rattle.csi_controller.specs.Catalog.{IsIndexed};
+    ghost use Rattle.csi_controller.specs.CoreParts.{parts_of, IsKept, IsMade};
     ghost use Rattle.csi_controller.specs.Repeats.{IsPlainRepeat};
-
-    // Where the row of this name is.
-    fn place_of_name(&self, name: &Name) -> Option<usize>
-        ensures { result ≡ position (λ row. same_text row.name name.now) self.now.rows.items }
-    {
-        self.rows.iter().position(|row| row.name == *name)
-    }
-
-    // Where the row of this id is. It doesn't walk the rows.
-    pub(super) fn place_of_id(&self, id: VolumeId) -> Option<usize>
-        requires { IsSound self.now.next_id self.now.rows.items }
-        ensures { result ≡ position (λ row. row.id == id) self.now.rows.items }
-    {
-        self.rows
-            .binary_search_by_key(&id.number(), |row| row.id.number())
-            .ok()
-    }
 
     // How many volumes are held at the node.
     fn count_at(&self, node: &NodeId) -> usize
-        ensures { result ≡ count_by (λ row. list_any (λ held. same_text held.node node.now) row.holdings.items) self.now.rows.items }
+        ensures { result ≡ count_by (λ row. list_any (λ held. same_text held.node node.now) row.holdings.items) (parts_of self.now).rows }
     {
-        self.rows.iter().filter(|row| is_held_at(row, node)).count()
+        self.catalog
+            .rows()
+            .iter()
+            .filter(|row| is_held_at(row, node))
+            .count()
     }
 
     // Whether the node is configured.
@@ -101,7 +90,7 @@ impl Core {
     // Whether the node takes no more volumes.
     fn is_full(&self, node: &NodeId) -> bool
         ensures { result ≡ list_any (λ entry. same_text entry.id node.now
-            && nat_le entry.slots (count_by (λ row. list_any (λ held. same_text held.node node.now) row.holdings.items) self.now.rows.items)) self.now.config.nodes }
+            && nat_le entry.slots (count_by (λ row. list_any (λ held. same_text held.node node.now) row.holdings.items) (parts_of self.now).rows)) self.now.config.nodes }
     {
         let count = self.count_at(node) as u64;
         self.config
@@ -113,9 +102,9 @@ impl Core {
     // The id and the capacity of the volume that is made for a new name, or the table's refusal.
     fn room_for(&self, required: u64, limit: u64) -> Result<(VolumeId, u64), Line<'static>>
         ensures line { (name : List ℕ) (wished : List OneCapability) → MatchResult result
-            (λ made. new_line self.now.config.greatest (length self.now.rows.items) (next_shown self.now.next_id) name required limit wished
+            (λ made. new_line self.now.config.greatest (length (parts_of self.now).rows) (next_shown self.now.next_id) name required limit wished
             ≡ record { reply = ok_reply_with made.0; change = Makes name made.1 wished })
-            (λ line. new_line self.now.config.greatest (length self.now.rows.items) (next_shown self.now.next_id) name required limit wished
+            (λ line. new_line self.now.config.greatest (length (parts_of self.now).rows) (next_shown self.now.next_id) name required limit wished
             ≡ record { reply = line_told line; change = Stays }) }
         ensures id { IfOk result (λ made. made.0 ≡ self.now.next_id) }
         ensures from { IfOk result (λ made. 0 < made.0) }
@@ -125,7 +114,7 @@ impl Core {
         if capacity > self.config.greatest() {
             return Err(refused(Status::OutOfRange, "range"));
         }
-        if self.rows.len() >= MAX_ROWS {
+        if self.catalog.len() >= MAX_ROWS {
             return Err(refused(Status::ResourceExhausted, "volumes"));
         }
         match VolumeId::try_new(self.next_id) {
@@ -143,13 +132,17 @@ impl Core {
         name: &Name,
         capabilities: &CapabilityList,
     ) -> Result<Frame, CoreFault>
+        requires indexed { IsIndexed self.old.catalog }
+        requires new_id { find (λ row. row.id == id) (parts_of self.old).rows ≡ None }
+        requires new_name { find (λ row. same_text row.name name.now) (parts_of self.old).rows ≡ None }
         ensures frame { IfOk result (λ frame. frame ≡ reply_frame number Controller CreateKind (ok_reply_with id)) }
         ensures made { OnOk result (IsMade self.old self.new number id name.now capacity capabilities.now) }
         ensures err { OnErr result (parts_of self.new ≡ parts_of self.old) }
+        ensures indexed { IsIndexed self.new.catalog }
     {
         let alloc = self.alloc;
         let row = new_row(alloc, number, id, name, capacity, capabilities)?;
-        self.rows.push(row)?;
+        self.catalog.add(row)?;
         self.next_id = self.next_id.wrapping_add(1);
         Ok(carried(number, Kind::CreateVolume, done(alloc, Some(id))))
     }
@@ -163,12 +156,12 @@ impl Core {
         limit: u64,
         capabilities: &CapabilityList,
     ) -> Result<Frame, CoreFault>
-        requires sound { IsSound self.old.next_id self.old.rows.items }
-        requires new { find (λ row. same_text row.name name.now) self.old.rows.items ≡ None }
+        requires kept { IsKept self.old }
+        requires new { find (λ row. same_text row.name name.now) (parts_of self.old).rows ≡ None }
         ensures ok { (state : ControllerState) → IsShown (parts_of self.old) state → IfOk result (λ frame. Answers (parts_of self.new) frame
             (fenced_call self.old.config state number (Call.CreateVolume name.now required limit capabilities.now) (kept_for (Call.CreateVolume name.now required limit capabilities.now) state))) }
         ensures err { (state : ControllerState) → IsShown (parts_of self.old) state → OnErr result (IsShown (parts_of self.new) state) }
-        ensures sound { IsSound self.new.next_id self.new.rows.items }
+        ensures kept { IsKept self.new }
         ensures config { self.new.config ≡ self.old.config }
     {
         let alloc = self.alloc;
@@ -191,20 +184,20 @@ impl Core {
         limit: u64,
         capabilities: &CapabilityList,
     ) -> Result<Frame, CoreFault>
-        requires sound { IsSound self.old.next_id self.old.rows.items }
+        requires kept { IsKept self.old }
         ensures ok { (state : ControllerState) → IsShown (parts_of self.old) state → IfOk result (λ frame. Answers (parts_of self.new) frame
             (fenced_call self.old.config state number (Call.CreateVolume name.now required limit capabilities.now) (kept_for (Call.CreateVolume name.now required limit capabilities.now) state))) }
         ensures err { (state : ControllerState) → IsShown (parts_of self.old) state → OnErr result (IsShown (parts_of self.new) state) }
-        ensures sound { IsSound self.new.next_id self.new.rows.items }
+        ensures kept { IsKept self.new }
         ensures config { self.new.config ≡ self.old.config }
         ensures repeated { (state : ControllerState) → IsShown (parts_of self.old) state → IsPlainRepeat (kept_for (Call.CreateVolume name.now required limit capabilities.now) state) number → IsOk result }
     {
         let alloc = self.alloc;
         let wished = capabilities.as_slice();
-        match self.place_of_name(name) {
+        match self.catalog.place_of_name(name) {
             Some(place) => {
                 create_again(
-                    &mut self.rows[place],
+                    &mut self.catalog.rows[place],
                     alloc,
                     number,
                     required,
@@ -218,18 +211,18 @@ impl Core {
 
     // DeleteVolume, behind the fence. A refusal changes nothing. What the table answers 0 takes no memory.
     fn delete(&mut self, number: Number, id: VolumeId) -> Result<Frame, CoreFault>
-        requires sound { IsSound self.old.next_id self.old.rows.items }
+        requires kept { IsKept self.old }
         ensures ok { (state : ControllerState) → IsShown (parts_of self.old) state → IfOk result (λ frame. Answers (parts_of self.new) frame
             (fenced_call self.old.config state number (Call.DeleteVolume id) (kept_for (Call.DeleteVolume id) state))) }
         ensures err { (state : ControllerState) → IsShown (parts_of self.old) state → OnErr result (IsShown (parts_of self.new) state) }
-        ensures sound { IsSound self.new.next_id self.new.rows.items }
+        ensures kept { IsKept self.new }
         ensures config { self.new.config ≡ self.old.config }
         ensures repeated { (state : ControllerState) → IsShown (parts_of self.old) state → IsPlainRepeat (kept_for (Call.DeleteVolume id) state) number → IsOk result }
         ensures succeeds { (state : ControllerState) → IsShown (parts_of self.old) state → IsAnsweredOk self.old.config state number (Call.DeleteVolume id) → IsOk result }
     {
         let alloc = self.alloc;
-        match self.place_of_id(id) {
-            Some(place) => delete(&mut self.rows[place], alloc, number),
+        match self.catalog.place_of_id(id) {
+            Some(place) => delete(&mut self.catalog.rows[place], alloc, number),
             None => Ok(carried(number, Kind::DeleteVolume, done(alloc, None))),
         }
     }
@@ -239,7 +232,7 @@ impl Core {
     fn publish_line(&self, row: &ControllerRow, wanted: Wanted) -> Result<Option<Reply>, CoreFault>
         ensures ok { IfOk result (λ line. publish_told row.now (wanted_shown wanted.entry) (has_node wanted.entry.node.now self.now.config.nodes)
             (list_any (λ entry. same_text entry.id wanted.entry.node.now
-            && nat_le entry.slots (count_by (λ row. list_any (λ held. same_text held.node wanted.entry.node.now) row.holdings.items) self.now.rows.items)) self.now.config.nodes
+            && nat_le entry.slots (count_by (λ row. list_any (λ held. same_text held.node wanted.entry.node.now) row.holdings.items) (parts_of self.now).rows)) self.now.config.nodes
             || nat_le 64 (length row.now.holdings.items)) ≡ by_line (RowAttaches (wanted_shown wanted.entry)) line) }
         ensures id { IfOk result (λ line. IfSome line (λ reply. IsTrue (has_id_by_rule PublishKind reply))) }
     {
@@ -268,11 +261,11 @@ impl Core {
         capability: &Capability,
         readonly: bool,
     ) -> Result<Frame, CoreFault>
-        requires sound { IsSound self.old.next_id self.old.rows.items }
+        requires kept { IsKept self.old }
         ensures ok { (state : ControllerState) → IsShown (parts_of self.old) state → IfOk result (λ frame. Answers (parts_of self.new) frame
             (fenced_call self.old.config state number (Call.ControllerPublishVolume id node.now capability.now readonly) (kept_for (Call.ControllerPublishVolume id node.now capability.now readonly) state))) }
         ensures err { (state : ControllerState) → IsShown (parts_of self.old) state → OnErr result (IsShown (parts_of self.new) state) }
-        ensures sound { IsSound self.new.next_id self.new.rows.items }
+        ensures kept { IsKept self.new }
         ensures config { self.new.config ≡ self.old.config }
         ensures repeated { (state : ControllerState) → IsShown (parts_of self.old) state → IsPlainRepeat (kept_for (Call.ControllerPublishVolume id node.now capability.now readonly) state) number → IsOk result }
     {
@@ -282,14 +275,14 @@ impl Core {
             capability,
             readonly,
         };
-        match self.place_of_id(id) {
+        match self.catalog.place_of_id(id) {
             Some(place) => {
-                let row = &self.rows[place];
+                let row = &self.catalog.rows[place];
                 if let Some(answer) = fence(row, alloc, number, Kind::ControllerPublishVolume) {
                     return answer;
                 }
                 match self.publish_line(row, wanted) {
-                    Ok(line) => publish(&mut self.rows[place], alloc, number, wanted, line),
+                    Ok(line) => publish(&mut self.catalog.rows[place], alloc, number, wanted, line),
                     Err(fault) => Err(fault),
                 }
             }
@@ -303,32 +296,32 @@ impl Core {
     // ControllerUnpublishVolume, behind the fence. A refusal changes nothing. What the table answers takes no
     // memory.
     fn unpublish(&mut self, number: Number, id: VolumeId, node: &NodeId) -> Result<Frame, CoreFault>
-        requires sound { IsSound self.old.next_id self.old.rows.items }
+        requires kept { IsKept self.old }
         ensures ok { (state : ControllerState) → IsShown (parts_of self.old) state → IfOk result (λ frame. Answers (parts_of self.new) frame
             (fenced_call self.old.config state number (Call.ControllerUnpublishVolume id node.now) (kept_for (Call.ControllerUnpublishVolume id node.now) state))) }
         ensures err { (state : ControllerState) → IsShown (parts_of self.old) state → OnErr result (IsShown (parts_of self.new) state) }
-        ensures sound { IsSound self.new.next_id self.new.rows.items }
+        ensures kept { IsKept self.new }
         ensures config { self.new.config ≡ self.old.config }
         ensures repeated { (state : ControllerState) → IsShown (parts_of self.old) state → IsPlainRepeat (kept_for (Call.ControllerUnpublishVolume id node.now) state) number → IsOk result }
         ensures succeeds { (state : ControllerState) → IsShown (parts_of self.old) state → IsAnsweredOk self.old.config state number (Call.ControllerUnpublishVolume id node.now) → IsOk result }
     {
         let alloc = self.alloc;
-        match self.place_of_id(id) {
-            Some(place) => unpublish(&mut self.rows[place], alloc, number, node),
+        match self.catalog.place_of_id(id) {
+            Some(place) => unpublish(&mut self.catalog.rows[place], alloc, number, node),
             None => Ok(carried(number, Kind::ControllerUnpublishVolume, done(alloc, None))),
         }
     }
 
     // Answers a call of the controller; `None` for a node's.
     fn answer(&mut self, number: Number, call: &Call) -> Option<Result<Frame, CoreFault>>
-        requires sound { IsSound self.old.next_id self.old.rows.items }
+        requires kept { IsKept self.old }
         ensures own { IfSome result (λ answer. is_node_kind (kind_of call.now) ≡ false) }
         ensures others { IfNone result (is_node_kind (kind_of call.now) ≡ true) }
         ensures ok { (state : ControllerState) → IsShown (parts_of self.old) state → IfSome result (λ answer. IfOk answer (λ frame. Answers (parts_of self.new) frame
             (fenced_call self.old.config state number call.now (kept_for call.now state)))) }
         ensures err { (state : ControllerState) → IsShown (parts_of self.old) state → IfSome result (λ answer. OnErr answer (IsShown (parts_of self.new) state)) }
         ensures none { (state : ControllerState) → IsShown (parts_of self.old) state → IfNone result (IsShown (parts_of self.new) state) }
-        ensures sound { IsSound self.new.next_id self.new.rows.items }
+        ensures kept { IsKept self.new }
         ensures config { self.new.config ≡ self.old.config }
         ensures repeated { (state : ControllerState) → IsShown (parts_of self.old) state → IsPlainRepeat (kept_for call.now state) number → IfSome result (λ answer. IsOk answer) }
         ensures undone { (state : ControllerState) → IsShown (parts_of self.old) state → IsUndoing call.now → IsAnsweredOk self.old.config state number call.now → IfSome result (λ answer. IsOk answer) }
@@ -356,11 +349,11 @@ impl Core {
 
     /// Answers a frame, as `Controller::step` says.
     pub fn step(&mut self, frame: &Frame) -> Result<Option<Frame>, CoreFault>
-        requires sound { IsSound self.old.next_id self.old.rows.items }
+        requires kept { IsKept self.old }
         ensures reply { (state : ControllerState) → IsShown (parts_of self.old) state → IfOk result (λ reply. reply ≡ (fenced self.old.config state frame.now).reply) }
         ensures state { (state : ControllerState) → IsShown (parts_of self.old) state → OnOk result (IsShown (parts_of self.new) (fenced self.old.config state frame.now).state) }
         ensures err { (state : ControllerState) → IsShown (parts_of self.old) state → OnErr result (IsShown (parts_of self.new) state) }
-        ensures sound { IsSound self.new.next_id self.new.rows.items }
+        ensures kept { IsKept self.new }
         ensures config { self.new.config ≡ self.old.config }
         ensures silent { (state : ControllerState) → (fenced self.old.config state frame.now).reply ≡ None → IsOk result }
         ensures undone { (state : ControllerState) (call : OneCall) → IsShown (parts_of self.old) state → frame.now.body ≡ Body.Call call → IsUndoing call
@@ -375,18 +368,12 @@ impl Core {
         self.answer(number, call).transpose()
     }
 
-    /// The row of this name.
-    pub fn named(&self, name: &Name) -> Option<&ControllerRow>
-        ensures { option_copied result ≡ find (λ row. same_text row.name name.now) self.now.rows.items }
-    {
-        self.rows.iter().find(|row| row.name == *name)
-    }
-
     /// Id and capacity of the volume of this name, unless it was deleted.
     pub fn volume(&self, name: &Name) -> Option<(VolumeId, u64)>
-        ensures { result ≡ row_if_live (find (λ row. same_text row.name name.now) self.now.rows.items) }
+        requires { IsKept self.now }
+        ensures { result ≡ row_if_live (find (λ row. same_text row.name name.now) (parts_of self.now).rows) }
     {
-        match self.named(name) {
+        match self.catalog.named(name) {
             Some(row) => {
                 if row.live {
                     Some((row.id, row.capacity))
@@ -400,33 +387,20 @@ impl Core {
 
     /// The id of the volume of this name, deleted or not.
     pub fn id_of(&self, name: &Name) -> Option<VolumeId>
-        ensures { result ≡ option_map (λ row. row.id) (find (λ row. same_text row.name name.now) self.now.rows.items) }
+        requires { IsKept self.now }
+        ensures { result ≡ option_map (λ row. row.id) (find (λ row. same_text row.name name.now) (parts_of self.now).rows) }
     {
-        match self.named(name) {
-            Some(row) => Some(row.id),
-            None => None,
-        }
-    }
-
-    /// Copies of the rows, in order.
-    pub fn copied_rows(&self, alloc: Global) -> Result<Vec<ControllerRow>, CoreFault>
-        ensures { IfOk result (λ rows. AreSameRows self.now.rows.items rows.items) }
-    {
-        let mut copies = Vec::new(alloc);
-        for row in &self.rows {
-            copies.push(copied_row(row)?)?;
-        }
-        Ok(copies)
+        self.catalog.id_of(name)
     }
 
     /// A copy of the row of this id. Without one it takes no memory.
     pub fn row(&self, id: VolumeId) -> Result<Option<ControllerRow>, CoreFault>
-        requires { IsSound self.now.next_id self.now.rows.items }
-        ensures copy { IfOk result (λ copy. IsCopyOf (find (λ row. row.id == id) self.now.rows.items) copy) }
-        ensures succeeds { find (λ row. row.id == id) self.now.rows.items ≡ None → IsOk result }
+        requires { IsKept self.now }
+        ensures copy { IfOk result (λ copy. IsCopyOf (find (λ row. row.id == id) (parts_of self.now).rows) copy) }
+        ensures succeeds { find (λ row. row.id == id) (parts_of self.now).rows ≡ None → IsOk result }
     {
-        match self.place_of_id(id) {
-            Some(place) => match copied_row(&self.rows[place]) {
+        match self.catalog.place_of_id(id) {
+            Some(place) => match copied_row(&self.catalog.rows[place]) {
                 Ok(copy) => Ok(Some(copy)),
                 Err(fault) => Err(fault),
             },

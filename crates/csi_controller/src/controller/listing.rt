@@ -12,6 +12,6 @@ impl Controller {
         ensures sound { IsSound self.now.next_id self.now.rows }
     {
         self.assert_sound();
-        self.core.rows.as_slice()
+        self.core.catalog.rows()
     }
 }

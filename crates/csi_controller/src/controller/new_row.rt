@@ -69,8 +69,8 @@ pub fn add_holdings(row: &ControllerRow, all: &mut Vec<Holding>) -> Result<(), C
 }
 
 /// The holdings of all rows, in order.
-pub fn attachments(rows: &Vec<ControllerRow>, alloc: Global) -> Result<Vec<Holding>, CoreFault>
-    ensures { IfOk result (λ all. all.items ≡ attached rows.now.items) }
+pub fn attachments(rows: &[ControllerRow], alloc: Global) -> Result<Vec<Holding>, CoreFault>
+    ensures { IfOk result (λ all. all.items ≡ attached rows.now) }
 {
     let mut all = Vec::new(alloc);
     for row in rows {

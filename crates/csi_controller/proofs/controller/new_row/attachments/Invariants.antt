@@ -4,4 +4,4 @@ use Rattle.csi_controller.specs.Views.{attached}
 use Rattle.csi_controller.proofs.controller.new_row.attachments.Given as goal
 
 abbrev pub invariant-loop-row : goal.invariant-loop-row
-invariant-loop-row l = l.all.items ≡ attached (take l.row-index l.rows.items)
+invariant-loop-row l = l.all.items ≡ attached (take l.row-index l.rows)

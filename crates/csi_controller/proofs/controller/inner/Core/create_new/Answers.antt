@@ -4,13 +4,19 @@ use Rattle.std.proofs.lemmas.Result.{IfOk-weaker}
 use Rattle.csi_types.specs.declared.call.Call.TheVariants.{CreateVolume}
 use Rattle.csi_controller.specs.Fenced.{fenced_call, kept_for}
 use Rattle.csi_controller.specs.Core.{Parts, Answers, IsSound, argument_fault, next_shown}
+use Rattle.csi_controller.specs.Catalog.{rows_of}
 use Rattle.csi_controller.specs.CoreParts.{parts_of}
 use Rattle.csi_controller.proofs.Calls.{either_way}
-use Rattle.csi_controller.proofs.Made.{fault-answers, refused-answers, made-answers, made-sound, made-well, ok-both, parts-made}
+use Rattle.csi_controller.proofs.Made.{fault-answers, refused-answers, made-answers, made-sound, made-well, fresh-id, ok-both, parts-made}
 use Rattle.std.specs.Prelude.{option_map}
 use Rattle.csi_controller.specs.Line.{line_told}
 use Rattle.csi_lists.proofs.Options.{none-where}
 use Rattle.csi_controller.proofs.controller.inner.Core.create_new.Goals as goal
+
+pub make-requires-clause-new_id : goal.make-requires-clause-new_id
+make-requires-clause-new_id c =
+    let core = c.args.self.now in
+    fresh-id core.next_id (rows_of core.catalog) c.in-Ok.made.0 c.requires.kept.sound c.in-Ok.ensures.id c.in-Ok.ensures.from
 
 pub returns-in-Some-clause-ok : goal.returns-in-Some-clause-ok
 returns-in-Some-clause-ok c = λ state shown.
@@ -18,7 +24,7 @@ returns-in-Some-clause-ok c = λ state shown.
     let fault : argument_fault c.args.required c.args.limit c.args.capabilities.now ≡ Some (line_told c.in-Some.line)
     = ap (argument_fault c.args.required c.args.limit) (sym c.as_slice-wished.ensures.value) ∙ sym c.argument_fault.ensures.ok ∙ ap (option_map line_told) c.in-Some.is in
     IfOk-weaker c.unkept.result _ _
-    (λ frame is. fault-answers core.config core.next_id core.rows.items state c.args.number c.args.name.now c.args.required c.args.limit c.args.capabilities.now frame (line_told c.in-Some.line) shown c.requires.new fault is)
+    (λ frame is. fault-answers core.config core.next_id (rows_of core.catalog) state c.args.number c.args.name.now c.args.required c.args.limit c.args.capabilities.now frame (line_told c.in-Some.line) shown c.requires.new fault is)
     c.unkept.ensures.ok
 
 pub returns-in-Ok-clause-ok : goal.returns-in-Ok-clause-ok
@@ -29,23 +35,27 @@ returns-in-Ok-clause-ok c = λ state shown.
     ok-both c.make.result _ _ _
     (λ frame is made. subst (λ (k : Parts). Answers k frame (fenced_call core.config state c.args.number (CreateVolume c.args.name.now c.args.required c.args.limit c.args.capabilities.now) (kept_for (CreateVolume c.args.name.now c.args.required c.args.limit c.args.capabilities.now) state)))
     (parts-made core c.make.new.self c.args.number c.in-Ok.made.0 c.args.name.now c.in-Ok.made.1 c.args.capabilities.now made)
-    (made-answers core.config core.next_id core.rows.items state c.args.number c.args.name.now c.args.required c.args.limit c.in-Ok.made.1 c.in-Ok.made.0 c.args.capabilities.now made.row frame shown c.requires.new good
+    (made-answers core.config core.next_id (rows_of core.catalog) state c.args.number c.args.name.now c.args.required c.args.limit c.in-Ok.made.1 c.in-Ok.made.0 c.args.capabilities.now made.row frame shown c.requires.new good
     (c.in-Ok.ensures.line c.args.name.now c.args.capabilities.now) c.in-Ok.ensures.id c.in-Ok.ensures.from made.fits is made.volume made.items))
     c.make.ensures.frame c.make.ensures.made
 
-pub returns-in-Ok-clause-sound : goal.returns-in-Ok-clause-sound
-returns-in-Ok-clause-sound c =
+pub returns-in-Ok-clause-kept : goal.returns-in-Ok-clause-kept
+returns-in-Ok-clause-kept c =
     let core = c.args.self.now in
     let good : argument_fault c.args.required c.args.limit c.args.capabilities.now ≡ None
     = ap (argument_fault c.args.required c.args.limit) (sym c.as_slice-wished.ensures.value) ∙ sym c.argument_fault.ensures.ok ∙ ap (option_map line_told) (none-where _ c.in_default.not-Some) in
-    let well = made-well core.config.greatest (length core.rows.items) (next_shown core.next_id) c.args.name.now c.args.required c.args.limit c.in-Ok.made.1 c.in-Ok.made.0 c.args.capabilities.now good
+    let well = made-well core.config.greatest (length (rows_of core.catalog)) (next_shown core.next_id) c.args.name.now c.args.required c.args.limit c.in-Ok.made.1 c.in-Ok.made.0 c.args.capabilities.now good
     (c.in-Ok.ensures.line c.args.name.now c.args.capabilities.now) in
-    either_way c.make.result _ _ _
-    (λ x made. subst (λ (k : Parts). IsSound k.next_id k.rows) (parts-made core c.make.new.self c.args.number c.in-Ok.made.0 c.args.name.now c.in-Ok.made.1 c.args.capabilities.now made)
-    (made-sound core.next_id core.rows.items c.args.number c.args.name.now c.in-Ok.made.1 c.in-Ok.made.0 c.args.capabilities.now made.row c.requires.sound c.requires.new
-    c.in-Ok.ensures.id c.in-Ok.ensures.from made.fits made.volume made.items well))
-    (λ (same : parts_of c.make.new.self ≡ parts_of core). subst (λ (k : Parts). IsSound k.next_id k.rows) (sym same) c.requires.sound)
-    c.make.ensures.made c.make.ensures.err
+    record {
+      sound =
+          either_way c.make.result _ _ _
+          (λ x made. subst (λ (k : Parts). IsSound k.next_id k.rows) (parts-made core c.make.new.self c.args.number c.in-Ok.made.0 c.args.name.now c.in-Ok.made.1 c.args.capabilities.now made)
+          (made-sound core.next_id (rows_of core.catalog) c.args.number c.args.name.now c.in-Ok.made.1 c.in-Ok.made.0 c.args.capabilities.now made.row c.requires.kept.sound c.requires.new
+          c.in-Ok.ensures.id c.in-Ok.ensures.from made.fits made.volume made.items well))
+          (λ (same : parts_of c.make.new.self ≡ parts_of core). subst (λ (k : Parts). IsSound k.next_id k.rows) (sym same) c.requires.kept.sound)
+          c.make.ensures.made c.make.ensures.err;
+      indexed = c.make.ensures.indexed;
+    }
 
 pub returns-in-Err-clause-ok : goal.returns-in-Err-clause-ok
 returns-in-Err-clause-ok c = λ state shown.
@@ -53,6 +63,6 @@ returns-in-Err-clause-ok c = λ state shown.
     let good : argument_fault c.args.required c.args.limit c.args.capabilities.now ≡ None
     = ap (argument_fault c.args.required c.args.limit) (sym c.as_slice-wished.ensures.value) ∙ sym c.argument_fault.ensures.ok ∙ ap (option_map line_told) (none-where _ c.in_default.not-Some) in
     IfOk-weaker c.unkept-in-Err.result _ _
-    (λ frame is. refused-answers core.config core.next_id core.rows.items state c.args.number c.args.name.now c.args.required c.args.limit c.args.capabilities.now frame (line_told c.in-Err.line) shown c.requires.new good
+    (λ frame is. refused-answers core.config core.next_id (rows_of core.catalog) state c.args.number c.args.name.now c.args.required c.args.limit c.args.capabilities.now frame (line_told c.in-Err.line) shown c.requires.new good
     (c.in-Err.ensures.line c.args.name.now c.args.capabilities.now) is)
     c.unkept-in-Err.ensures.ok

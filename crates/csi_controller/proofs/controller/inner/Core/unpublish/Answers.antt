@@ -10,48 +10,51 @@ use Rattle.csi_types.specs.Fence.{verdict_of}
 use Rattle.csi_types.specs.Replies.{reply_frame}
 use Rattle.csi_controller.specs.declared.row.ControllerRow.{ControllerRow}
 use Rattle.csi_controller.specs.Core.{unpublish_line}
+use Rattle.csi_controller.specs.Catalog.{rows_of}
 use Rattle.csi_controller.proofs.Fit.{unpublish-good}
-use Rattle.csi_controller.proofs.Calls.{at-place, repeat-there, unpublish-answers, unpublish-nowhere, unpublish-let_through, shown-refused, sound-gives, sound-refused, either_way}
+use Rattle.csi_controller.proofs.Calls.{at-place, repeat-there, unpublish-answers, unpublish-nowhere, unpublish-let_through, shown-refused, either_way}
+use Rattle.csi_controller.proofs.Indexed.{read-at}
+use Rattle.csi_controller.proofs.Placed.{answers-set, shown-set, kept-gives, kept-refused}
 use Rattle.csi_controller.proofs.controller.inner.Core.unpublish.Goals as goal
 
 pub returns-in-Some-clause-ok : goal.returns-in-Some-clause-ok
 returns-in-Some-clause-ok c = λ state shown.
     let core = c.args.self.now in
     IfOk-weaker c.unpublish.result _ _
-    (λ frame gives. unpublish-answers core.config core.next_id core.rows.items state c.args.number c.args.id c.args.node.now c.in-Some.place c.index_mut.result.now c.unpublish.new.row frame c.requires.sound shown c.in-Some.ensures c.index_mut.ensures.value gives)
+    (λ frame gives. answers-set core c.in-Some.place c.unpublish.new.row frame _ (unpublish-answers core.config core.next_id (rows_of core.catalog) state c.args.number c.args.id c.args.node.now c.in-Some.place c.index_mut.result.now c.unpublish.new.row frame c.requires.kept.sound shown c.in-Some.ensures.place (read-at (rows_of core.catalog) c.in-Some.place c.index_mut.result.now c.index_mut.ensures.value) gives))
     c.unpublish.ensures.ok
 
 pub returns-in-Some-clause-err : goal.returns-in-Some-clause-err
 returns-in-Some-clause-err c = λ state shown.
     let core = c.args.self.now in
     on_err_weaker c.unpublish.result
-    (λ same. shown-refused (λ (r : ControllerRow). r.id == c.args.id) core.config core.next_id core.rows.items state c.in-Some.place c.index_mut.result.now c.unpublish.new.row c.requires.sound c.in-Some.ensures c.index_mut.ensures.value same shown)
+    (λ same. shown-set core c.in-Some.place c.unpublish.new.row state (shown-refused (λ (r : ControllerRow). r.id == c.args.id) core.config core.next_id (rows_of core.catalog) state c.in-Some.place c.index_mut.result.now c.unpublish.new.row c.requires.kept.sound c.in-Some.ensures.place (read-at (rows_of core.catalog) c.in-Some.place c.index_mut.result.now c.index_mut.ensures.value) same shown))
     c.unpublish.ensures.err
 
-pub returns-in-Some-clause-sound : goal.returns-in-Some-clause-sound
-returns-in-Some-clause-sound c =
+pub returns-in-Some-clause-kept : goal.returns-in-Some-clause-kept
+returns-in-Some-clause-kept c =
     let core = c.args.self.now in
     let row = c.index_mut.result.now in
     either_way c.unpublish.result _ _ _
-    (λ frame gives. sound-gives (λ (r : ControllerRow). r.id == c.args.id) core.next_id core.rows.items c.in-Some.place row c.unpublish.new.row frame c.args.number ControllerUnpublishVolume (unpublish_line row c.args.node.now) c.requires.sound c.in-Some.ensures c.index_mut.ensures.value refl
+    (λ frame gives. kept-gives (λ (r : ControllerRow). r.id == c.args.id) core c.in-Some.place row c.unpublish.new.row frame c.args.number ControllerUnpublishVolume (unpublish_line row c.args.node.now) c.requires.kept c.in-Some.ensures.place c.index_mut.ensures.value refl
     (unpublish-good row c.args.node.now) (verdict_of (Some row.last) c.args.number) gives)
-    (λ same. sound-refused (λ (r : ControllerRow). r.id == c.args.id) core.next_id core.rows.items c.in-Some.place row c.unpublish.new.row c.requires.sound c.in-Some.ensures c.index_mut.ensures.value same)
+    (λ same. kept-refused (λ (r : ControllerRow). r.id == c.args.id) core c.in-Some.place row c.unpublish.new.row c.requires.kept c.in-Some.ensures.place c.index_mut.ensures.value same)
     c.unpublish.ensures.ok c.unpublish.ensures.err
 
 pub returns-in-Some-clause-succeeds : goal.returns-in-Some-clause-succeeds
 returns-in-Some-clause-succeeds c = λ state shown answered.
     let core = c.args.self.now in
-    c.unpublish.ensures.succeeds (unpublish-let_through core.config core.next_id core.rows.items state c.args.number c.args.id c.args.node.now c.in-Some.place c.index_mut.result.now shown c.in-Some.ensures c.index_mut.ensures.value answered)
+    c.unpublish.ensures.succeeds (unpublish-let_through core.config core.next_id (rows_of core.catalog) state c.args.number c.args.id c.args.node.now c.in-Some.place c.index_mut.result.now shown c.in-Some.ensures.place (read-at (rows_of core.catalog) c.in-Some.place c.index_mut.result.now c.index_mut.ensures.value) answered)
 
 pub returns-in-None-clause-ok : goal.returns-in-None-clause-ok
 returns-in-None-clause-ok c = λ state shown.
     let core = c.args.self.now in
-    unpublish-nowhere core.config core.next_id core.rows.items state c.args.number c.args.id c.args.node.now c.carried.result shown c.in-None.ensures
+    unpublish-nowhere core.config core.next_id (rows_of core.catalog) state c.args.number c.args.id c.args.node.now c.carried.result shown c.in-None.ensures.place
     (c.carried.ensures ∙ ap (λ (reply : Reply). reply_frame c.args.number Controller ControllerUnpublishVolume reply) c.done.ensures)
 
 pub returns-in-Some-clause-repeated : goal.returns-in-Some-clause-repeated
 returns-in-Some-clause-repeated c = λ state shown repeat.
     let core = c.args.self.now in
-    let told = repeat-there core.config core.next_id core.rows.items state c.args.number (UnpublishCall c.args.id c.args.node.now) c.in-Some.place c.index_mut.result.now shown
-    (at-place (λ (r : ControllerRow). r.id == c.args.id) core.rows.items c.in-Some.place c.index_mut.result.now c.in-Some.ensures c.index_mut.ensures.value) repeat in
+    let told = repeat-there core.config core.next_id (rows_of core.catalog) state c.args.number (UnpublishCall c.args.id c.args.node.now) c.in-Some.place c.index_mut.result.now shown
+    (at-place (λ (r : ControllerRow). r.id == c.args.id) (rows_of core.catalog) c.in-Some.place c.index_mut.result.now c.in-Some.ensures.place (read-at (rows_of core.catalog) c.in-Some.place c.index_mut.result.now c.index_mut.ensures.value)) repeat in
     c.unpublish.ensures.repeated told.0 told.1

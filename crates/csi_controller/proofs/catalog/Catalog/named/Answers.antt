@@ -1,0 +1,18 @@
+-- At the place of the name.
+use Rattle.std.proofs.Common.{sym}
+use Rattle.csi_lists.proofs.Places.{FirstAt-find}
+use Rattle.csi_types.specs.Same.{same_text}
+use Rattle.csi_controller.specs.declared.row.ControllerRow.{ControllerRow}
+use Rattle.csi_controller.specs.Catalog.{rows_of}
+use Rattle.csi_controller.proofs.Calls.{at-place, nowhere}
+use Rattle.csi_controller.proofs.Indexed.{read-at}
+use Rattle.csi_controller.proofs.catalog.Catalog.named.Goals as goal
+
+pub returns-in-Some : goal.returns-in-Some
+returns-in-Some c =
+    let rows = rows_of c.args.self.now in
+    let named = λ (row : ControllerRow). same_text row.name c.args.name.now in
+    sym (FirstAt-find named rows c.in-Some.place c.index.result.now (at-place named rows c.in-Some.place c.index.result.now c.in-Some.ensures.place (read-at rows c.in-Some.place c.index.result.now c.index.ensures)))
+
+pub returns-in-None : goal.returns-in-None
+returns-in-None c = sym (nowhere (λ (row : ControllerRow). same_text row.name c.args.name.now) (rows_of c.args.self.now) c.in-None.ensures.place)

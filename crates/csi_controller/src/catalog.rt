@@ -1,0 +1,158 @@
+//! A controller's rows by id and by name. No look-up walks them.
+ghost use Rattle.std.specs.Prelude.{◌≡◌, ◌==◌, ◌++◌, ◌∷◌, [], None, Some, length, find, position, option_map, OnOk, OnErr, IfOk, IfSome, ◌<◌};
+ghost use Rattle.std.specs.Option.{option_copied};
+ghost use Rattle.indexmap.specs.IndexMap.{index_map_len};
+ghost use Rattle.csi_types.specs.Same.{same_text};
+ghost use Rattle.csi_controller.specs.Catalog.{rows_of, IsIndexed};
+ghost use Rattle.csi_controller.specs.Core.{IsSound};
+ghost use Rattle.csi_controller.specs.Views.{AreSameRows};
+
+use crate::controller::new_row::copied_row;
+use crate::fault::CoreFault;
+use crate::row::ControllerRow;
+use csi_types::{Name, VolumeId};
+use indexmap::IndexMap;
+use std::alloc::{AllocError, Global};
+
+/// The rows, each under its id, and the id of each name. Both maps are in the order of the rows, which is that of their ids.
+#[derive(Drop)]
+pub struct Catalog {
+    pub rows: IndexMap<VolumeId, ControllerRow>,
+    pub ids: IndexMap<Name, VolumeId>,
+}
+
+// The same name again.
+fn copied_name(name: &Name) -> Result<Name, AllocError>
+    ensures { IfOk result (λ copy. copy ≡ name.now) }
+{
+    name.clone()
+}
+
+impl Catalog {
+    /// No rows. It takes no memory.
+    pub fn new(alloc: Global) -> Catalog
+        ensures rows { rows_of result ≡ [] }
+        ensures indexed { IsIndexed result }
+    {
+        Catalog {
+            rows: IndexMap::new(alloc),
+            ids: IndexMap::new(alloc),
+        }
+    }
+
+    /// The catalog of these rows.
+    pub fn of_rows(
+        alloc: Global,
+        next_id: u64,
+        rows: Vec<ControllerRow>,
+    ) -> Result<Catalog, CoreFault>
+        requires { IsSound next_id rows.items }
+        ensures rows { IfOk result (λ catalog. rows_of catalog ≡ rows.items) }
+        ensures indexed { IfOk result IsIndexed }
+    {
+        let mut catalog = Catalog::new(alloc);
+        for row in rows {
+            catalog.add(row)?;
+        }
+        Ok(catalog)
+    }
+
+    /// The rows in order.
+    pub fn rows(&self) -> &[ControllerRow]
+        ensures { result.now ≡ rows_of self.now }
+    {
+        self.rows.values().as_slice()
+    }
+
+    /// How many rows there are.
+    pub fn len(&self) -> usize
+        ensures { result ≡ length (rows_of self.now) }
+    {
+        self.rows().len()
+    }
+
+    /// Where the row of this id is.
+    pub fn place_of_id(&self, id: VolumeId) -> Option<usize>
+        requires { IsIndexed self.now }
+        ensures place { result ≡ position (λ row. row.id == id) (rows_of self.now) }
+        ensures within { IfSome result (λ place. place < index_map_len self.now.rows) }
+    {
+        self.rows.get_index_of(&id)
+    }
+
+    /// Where the row of this name is.
+    pub fn place_of_name(&self, name: &Name) -> Option<usize>
+        requires { IsIndexed self.now }
+        ensures place { result ≡ position (λ row. same_text row.name name.now) (rows_of self.now) }
+        ensures within { IfSome result (λ place. place < index_map_len self.now.rows) }
+    {
+        self.ids.get_index_of(name)
+    }
+
+    /// The id of this name.
+    pub fn id_of(&self, name: &Name) -> Option<VolumeId>
+        requires { IsIndexed self.now }
+        ensures { result ≡ option_map (λ row. row.id) (find (λ row. same_text row.name name.now) (rows_of self.now)) }
+    {
+        match self.ids.get(name) {
+            Some(id) => Some(*id),
+            None => None,
+        }
+    }
+
+    /// The row of this id.
+    pub fn with_id(&self, id: VolumeId) -> Option<&ControllerRow>
+        requires { IsIndexed self.now }
+        ensures { option_copied result ≡ find (λ row. row.id == id) (rows_of self.now) }
+    {
+        match self.place_of_id(id) {
+            Some(place) => Some(&self.rows[place]),
+            None => None,
+        }
+    }
+
+    /// The row of this name.
+    pub fn named(&self, name: &Name) -> Option<&ControllerRow>
+        requires { IsIndexed self.now }
+        ensures { option_copied result ≡ find (λ row. same_text row.name name.now) (rows_of self.now) }
+    {
+        match self.place_of_name(name) {
+            Some(place) => Some(&self.rows[place]),
+            None => None,
+        }
+    }
+
+    /// Adds a row, the last one. A refusal changes nothing.
+    pub fn add(&mut self, row: ControllerRow) -> Result<(), CoreFault>
+        requires indexed { IsIndexed self.old }
+        requires new_id { find (λ other. other.id == row.id) (rows_of self.old) ≡ None }
+        requires new_name { find (λ other. same_text other.name row.name) (rows_of self.old) ≡ None }
+        ensures added { OnOk result (rows_of self.new ≡ rows_of self.old ++ row ∷ []) }
+        ensures err { OnErr result (rows_of self.new ≡ rows_of self.old) }
+        ensures indexed { IsIndexed self.new }
+    {
+        let id = row.id;
+        let name = copied_name(&row.name)?;
+        self.ids.insert(name, id)?;
+        match self.rows.insert(id, row) {
+            Ok(_) => Ok(()),
+            Err(_) => {
+                self.ids.pop();
+                Err(CoreFault::NoMemory)
+            }
+        }
+    }
+
+    /// The same rows again.
+    pub fn copied(&self, alloc: Global, next_id: u64) -> Result<Catalog, CoreFault>
+        requires { IsSound next_id (rows_of self.now) }
+        ensures rows { IfOk result (λ copy. AreSameRows (rows_of self.now) (rows_of copy)) }
+        ensures indexed { IfOk result IsIndexed }
+    {
+        let mut copies = Catalog::new(alloc);
+        for row in self.rows() {
+            copies.add(copied_row(row)?)?;
+        }
+        Ok(copies)
+    }
+}
