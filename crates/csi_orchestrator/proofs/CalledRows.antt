@@ -14,7 +14,7 @@ use Rattle.csi_orchestrator.specs.Found.{without_rows, with_last}
 use Rattle.csi_orchestrator.specs.Moves.{Sends}
 use Rattle.csi_orchestrator.specs.RowChanges.{new_row}
 use Rattle.csi_orchestrator.specs.RowMoves.{Told, told, put, goes_on, unless_refused, first_fault, creates, uses, stops, deletes, times_out, IsRefusal}
-use Rattle.csi_orchestrator.specs.Shown.{RowShown, Parts, row_shown, row_of, usage_shown}
+use Rattle.csi_orchestrator.specs.Shown.{RowShown, Parts, row_shown, row_of}
 use Rattle.csi_orchestrator.specs.CoreMoves.{RowTold, row_goes_on, row_creates, row_uses, row_stops, row_deletes, row_times_out, frame_in, last_after}
 use Rattle.csi_orchestrator.proofs.ChangedEntries.{find-place, find-none_placed, put-place, put-none_placed}
 use Rattle.csi_orchestrator.proofs.PlacedRows.{placed, placed-on, creates-placed, uses-placed, stops-placed, deletes-placed, times-out-placed, KeepsName, on-keeps, creates-keeps, uses-keeps, stops-keeps, deletes-keeps, times-out-keeps, found-name}
@@ -80,7 +80,7 @@ create-called nodes last rows name arguments i r at there =
     }
 
 pub use-called : (nodes read : List (List ℕ)) (last : Number) (rows : List Row) (name : List ℕ) (usage : Usage) (i : ℕ) (r : Row) → position (λ (row : Row). same_text row.name name) rows ≡ Some i → r ≡ get_or rows i r → read ≡ nodes
-    → Called (uses (record { nodes = nodes; last = last; rows = map row_shown rows }) (usage_shown usage)) nodes last rows name i r (row_uses (without_rows read last) usage (row_shown r))
+    → Called (uses (record { nodes = nodes; last = last; rows = map row_shown rows }) usage) nodes last rows name i r (row_uses (without_rows read last) usage (row_shown r))
 use-called nodes read last rows name usage i r at there same =
     let parts : Parts = record { nodes = nodes; last = last; rows = map row_shown rows } in
     record {

@@ -1,14 +1,12 @@
 -- What is among lists, and how many texts a list has that has each text once.
-use Rattle.std.proofs.Common.{◌≡◌, ◌⊎◌, ℕ, suc, List, [], ◌∷◌, Bool, true, false, cond, not, map, length, refl, sym, ◌∙◌, ap, subst, inl, inr, arith}
-use Rattle.std.specs.Prelude.{Option, Some, None, find, filter, filter_map, count_by, nat_lt, ◌&&◌, ◌||◌}
-use Rattle.std.specs.List.{list_any, cons_option}
+use Rattle.std.proofs.Common.{◌≡◌, ◌⊎◌, ℕ, suc, List, [], ◌∷◌, Bool, true, false, cond, not, length, refl, sym, ◌∙◌, ap, inl, inr}
+use Rattle.std.specs.Prelude.{Option, Some, None, filter, nat_lt, ◌&&◌, ◌||◌}
+use Rattle.std.specs.List.{list_any}
 use Rattle.std.proofs.lemmas.Bool.{false≢true}
-use Rattle.std.proofs.lemmas.Bool.Decides.{nat_tests}
-use Rattle.std.proofs.lemmas.List.Sums.{length-filter}
 use Rattle.csi_lists.specs.Members.{IsAmong, EachTwo}
-use Rattle.csi_lists.proofs.Members.{each_of, all_of, in_filter, has-some, some-has, among-kept, empty-where}
+use Rattle.csi_lists.proofs.Members.{each_of, all_of, in_filter, among-kept, empty-where}
 use Rattle.csi_lists.proofs.Pairs.{two-filter}
-use Rattle.csi_lists.proofs.Tests.{any-then, none-among, then-any}
+use Rattle.csi_lists.proofs.Tests.{none-among}
 use Rattle.csi_lists.proofs.Counts.{any-counted}
 use Rattle.csi_lists.proofs.Filters.{filter-each}
 use Rattle.csi_types.specs.Same.{same_text}

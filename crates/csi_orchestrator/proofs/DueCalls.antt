@@ -1,7 +1,7 @@
 -- Why the call that is due is read from the row.
-use Rattle.std.proofs.Common.{◌≡◌, ◌⊎◌, ℕ, List, [], ◌∷◌, Bool, true, false, cond, not, map, refl, sym, ◌∙◌, ap, subst, inl, inr}
+use Rattle.std.proofs.Common.{◌≡◌, ◌⊎◌, ℕ, List, [], ◌∷◌, Bool, true, false, cond, not, refl, sym, ◌∙◌, ap, subst, inl, inr}
 use Rattle.std.specs.Prelude.{Option, Some, None, option_map, option_and_then, find, filter_map, ◌&&◌, ◌||◌}
-use Rattle.std.specs.List.{AllByRecursion, list_any, cons_option}
+use Rattle.std.specs.List.{AllByRecursion, list_any}
 use Rattle.std.proofs.lemmas.Bool.{false≢true}
 use Rattle.csi_types.specs.declared.call.Call.{Call}
 use Rattle.csi_types.specs.declared.call.Call.TheVariants as calls
@@ -16,16 +16,15 @@ use Rattle.csi_types.proofs.Equality.{same_text-tells}
 use Rattle.csi_orchestrator.specs.declared.row.Aim.{Aim}
 use Rattle.csi_orchestrator.specs.declared.row.Goal.{Goal as KeptGoal}
 use Rattle.csi_orchestrator.specs.declared.row.Goal.TheVariants as kept
-use Rattle.csi_orchestrator.specs.declared.row.Usage.{Usage as KeptUsage}
 use Rattle.csi_orchestrator.specs.declared.thing.Thing.{Thing}
 use Rattle.csi_orchestrator.specs.declared.thing.Thing.TheVariants.{Exists, Attached, Staged, Published}
 use Rattle.csi_orchestrator.specs.declared.thing.Known.{Known}
 use Rattle.csi_orchestrator.specs.declared.thing.Known.TheVariants.{Yes, No, Maybe}
 use Rattle.csi_orchestrator.specs.Thing.{Issued, name_in, thing_of, thing_at, is_thing, touches, is_no}
-use Rattle.csi_orchestrator.specs.History.{History}
+use Rattle.csi_orchestrator.specs.History.{Usage, History}
 use Rattle.csi_orchestrator.specs.Readings.{known, known_by, id_of, goal_of, issued_in, issued_of, distinct}
 use Rattle.csi_orchestrator.specs.Due.{Due, published_target, targets_in_use, due_use, due_leave, due_stop, due_delete, due_for, due_call}
-use Rattle.csi_orchestrator.specs.Shown.{PlaceShown, RowShown, row_of, place_of, aim_of, mark_in, published_in, mark_of, usage_shown, goal_shown, goal_in, others_in, marks_for, use_due, stop_due, delete_due, due_by, due_in, AreTargetsApart, DueIsTold}
+use Rattle.csi_orchestrator.specs.Shown.{PlaceShown, RowShown, row_of, place_of, aim_of, mark_in, published_in, mark_of, goal_shown, goal_in, others_in, marks_for, use_due, stop_due, delete_due, due_by, due_in, AreTargetsApart, DueIsTold}
 use Rattle.csi_orchestrator.proofs.Following.{and-false, touches-name}
 use Rattle.csi_orchestrator.proofs.Joined.{own-entry}
 
@@ -160,7 +159,7 @@ targets-then row history node target tells this others =
     by t (Some place) e maybe = aimed t place e (aim_of place t) refl maybe
 
 -- goal by goal
-pub use-told : (row : RowShown) (history : History) (usage : KeptUsage) (id : ℕ) → Tells row history → due_use history row.name (usage_shown usage) id ≡ use_due usage (marks_for row (kept.Use usage)) id
+pub use-told : (row : RowShown) (history : History) (usage : Usage) (id : ℕ) → Tells row history → due_use history row.name usage id ≡ use_due usage (marks_for row (kept.Use usage)) id
 use-told row history usage id tells =
     rw (sym (tells.marks (Attached row.name usage.node) refl), sym (tells.marks (Staged row.name usage.node) refl), sym (tells.marks (Published row.name usage.node usage.target) refl)) refl
 
@@ -191,9 +190,9 @@ stop-told row history node target id tells =
 goal-told : (row : RowShown) (history : History) → Tells row history → (goal : Option KeptGoal) → due_for history row.name (option_map (goal_shown row) goal) ≡ due_by row goal
 goal-told row history tells None = refl
 goal-told row history tells (Some kept.Create) = rw (sym (tells.marks (Exists row.name) refl)) refl
-goal-told row history tells (Some (kept.Use usage)) = ap (option_and_then (due_use history row.name (usage_shown usage))) (sym tells.own_id) ∙ by row.id
+goal-told row history tells (Some (kept.Use usage)) = ap (option_and_then (due_use history row.name usage)) (sym tells.own_id) ∙ by row.id
   where
-    by : (o : Option ℕ) → option_and_then (due_use history row.name (usage_shown usage)) o ≡ option_and_then (use_due usage (marks_for row (kept.Use usage))) o
+    by : (o : Option ℕ) → option_and_then (due_use history row.name usage) o ≡ option_and_then (use_due usage (marks_for row (kept.Use usage))) o
     by None = refl
     by (Some id) = use-told row history usage id tells
 goal-told row history tells (Some (kept.Stop node target)) = ap (option_and_then (due_stop history row.name node target)) (sym tells.own_id) ∙ by row.id

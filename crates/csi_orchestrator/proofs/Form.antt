@@ -1,6 +1,6 @@
 -- Why what an orchestrator does keeps its history well-formed.
 use Rattle.std.proofs.Common.{◌≡◌, ℕ, ◌+◌, ◌<◌, List, [], ◌∷◌, Bool, true, false, cond, not, refl, sym, subst, arith}
-use Rattle.std.specs.Prelude.{Option, Some, None, Result, Ok, Err, find, ◌==◌, ◌&&◌, nat_lt, option_and_then}
+use Rattle.std.specs.Prelude.{Option, Some, None, Result, Ok, Err, ◌==◌, ◌&&◌, nat_lt, option_and_then}
 use Rattle.std.proofs.lemmas.Bool.{and_parts, eqb-true, eq-eqb, lt-ltb, le-ltb, false≢true}
 use Rattle.csi_lists.proofs.Searches.{find-passes}
 use Rattle.csi_types.specs.declared.number.Number.{Number}

@@ -17,18 +17,17 @@ use Rattle.csi_types.proofs.Equality.{same_text-tells}
 use Rattle.csi_orchestrator.specs.declared.row.Aim.{Aim}
 use Rattle.csi_orchestrator.specs.declared.row.Goal.{Goal as KeptGoal}
 use Rattle.csi_orchestrator.specs.declared.row.Goal.TheVariants as kept
-use Rattle.csi_orchestrator.specs.declared.row.Usage.{Usage as KeptUsage}
 use Rattle.csi_orchestrator.specs.declared.thing.Thing.{Thing}
 use Rattle.csi_orchestrator.specs.declared.thing.Thing.TheVariants.{Exists, Attached, Staged, Published}
 use Rattle.csi_orchestrator.specs.declared.thing.Known.{Known}
 use Rattle.csi_orchestrator.specs.declared.thing.Known.TheVariants.{Yes, No, Maybe}
 use Rattle.csi_orchestrator.specs.Thing.{name_in, is_yes, is_no}
-use Rattle.csi_orchestrator.specs.History.{Held, History}
+use Rattle.csi_orchestrator.specs.History.{Usage, Held, History}
 use Rattle.csi_orchestrator.specs.Readings.{known, id_of, held, open_call}
 use Rattle.csi_orchestrator.specs.Due.{Due}
 use Rattle.csi_orchestrator.specs.Commands.{is_for_one_node, is_second_writer}
 use Rattle.csi_orchestrator.specs.Guards.{CanBeHeldToo, holding_by, IsGuarded, MayIssue}
-use Rattle.csi_orchestrator.specs.Shown.{PlaceShown, RowShown, Parts, row_of, place_of, aim_of, mark_in, published_in, mark_of, usage_shown, held_at, held_in, others_in, marks_for, use_due, stop_due, delete_due, due_by, due_in, AgreesWith}
+use Rattle.csi_orchestrator.specs.Shown.{PlaceShown, RowShown, Parts, row_of, place_of, aim_of, mark_in, published_in, mark_of, held_at, held_in, others_in, marks_for, use_due, stop_due, delete_due, due_by, due_in, AgreesWith}
 use Rattle.csi_orchestrator.specs.RowMoves.{is_so_elsewhere, has_elsewhere}
 use Rattle.csi_orchestrator.specs.Kept.{ArePlacesApart, IsUsable, MayBeWanted}
 use Rattle.csi_orchestrator.proofs.DueCalls.{no_is_no}
@@ -152,11 +151,11 @@ delete-guarded row history due told detached e = by_id row.id refl e
     by_id (Some id) own g = by id own (is_no row.exists) refl g
 
 -- how a usage holds the volume
-abbrev held-so : KeptUsage → Held
+abbrev held-so : Usage → Held
 held-so usage = record { capability = usage.capability; readonly = usage.readonly }
 
 -- the volume can be held so beside its other holdings
-shared-so : (row : RowShown) (history : History) (usage : KeptUsage) (id : ℕ) → ToldBy row history → IsUsable row usage → CanBeHeldToo history row.name id usage.node (held-so usage)
+shared-so : (row : RowShown) (history : History) (usage : Usage) (id : ℕ) → ToldBy row history → IsUsable row usage → CanBeHeldToo history row.name id usage.node (held-so usage)
 shared-so row history usage id told usable other there apart maybe holds = by (place_of row other) refl (told.holdings other maybe ∙ holds)
   where
     not_none : None ≡ Some there → ⊥
@@ -168,8 +167,8 @@ shared-so row history usage id told usable other there apart maybe holds = by (p
     alike : (place : PlaceShown) → place_of row other ≡ Some place → held_at place ≡ there → CanHoldBoth (holding_by id other there) (holding_by id usage.node (held-so usage))
     alike place e same =
         let modes = neither (is_single_node there.capability.mode) (is_single_node usage.capability.mode)
-        (ap (is_for_one_node (usage_shown usage)) (sym same) ∙ not-so row (is_for_one_node (usage_shown usage)) usage.node other place usable.shared e apart (attached place e)) in
-        let writers = ap (is_second_writer (usage_shown usage)) (sym same) ∙ not-so row (is_second_writer (usage_shown usage)) usage.node other place usable.one_writer e apart (attached place e) in
+        (ap (is_for_one_node usage) (sym same) ∙ not-so row (is_for_one_node usage) usage.node other place usable.shared e apart (attached place e)) in
+        let writers = ap (is_second_writer usage) (sym same) ∙ not-so row (is_second_writer usage) usage.node other place usable.one_writer e apart (attached place e) in
         inr (record { apart = apart; first_shared = ap not modes.0; second_shared = ap not modes.1; no_second_writer = ap not writers })
 
     by : (o : Option PlaceShown) → place_of row other ≡ o → option_map held_at o ≡ Some there → CanHoldBoth (holding_by id other there) (holding_by id usage.node (held-so usage))
@@ -177,7 +176,7 @@ shared-so row history usage id told usable other there apart maybe holds = by (p
     by (Some place) e same = alike place e (same_Some (held_at place) there same)
 
 -- ControllerPublishVolume, NodeStageVolume and NodePublishVolume
-use-guarded : (row : RowShown) (history : History) (usage : KeptUsage) (id : ℕ) (due : Due) → ToldBy row history → IsUsable row usage → row.id ≡ Some id → use_due usage (marks_for row (kept.Use usage)) id ≡ Some due → Guarded history row.name due
+use-guarded : (row : RowShown) (history : History) (usage : Usage) (id : ℕ) (due : Due) → ToldBy row history → IsUsable row usage → row.id ≡ Some id → use_due usage (marks_for row (kept.Use usage)) id ≡ Some due → Guarded history row.name due
 unfolding Guarded
 use-guarded row history usage id due told usable own e = by (is_yes attached) refl (is_yes staged) refl (is_yes published) refl e
   where

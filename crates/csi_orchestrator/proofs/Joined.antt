@@ -1,13 +1,8 @@
 -- What is among lists that are joined, among a list in another order, and any two of these.
-use Rattle.std.proofs.Common.{◌≡◌, ◌⊎◌, ℕ, zero, suc, ◌<◌, List, [], ◌∷◌, ◌++◌, length, get_or, false, cond, refl, sym, ◌∙◌, ap, subst, inl, inr, arith}
+use Rattle.std.proofs.Common.{◌≡◌, ℕ, List, [], ◌∷◌, false, cond, refl, sym, ◌∙◌, ap, inl, inr}
 use Rattle.std.specs.Prelude.{Some, find}
-use Rattle.std.specs.List.{AllByRecursion, flat_map}
-use Rattle.std.specs.List.Sorted.{IsPermutation}
-use Rattle.std.proofs.lemmas.List.Sorted.{All-permutation, IsPermutation-sym}
 use Rattle.csi_lists.specs.Members.{IsAmong, EachTwo}
-use Rattle.csi_lists.proofs.Members.{each_of, all_of, among-append, among-right, among-joined, among-flat, among-moved}
-use Rattle.csi_lists.proofs.Pairs.{two-joined}
-use Rattle.csi_lists.proofs.Each.{each-by_places}
+use Rattle.csi_lists.proofs.Members.{each_of}
 use Rattle.csi_types.specs.Same.{same_text}
 use Rattle.csi_types.proofs.Equality.{same_text-tells}
 

@@ -32,7 +32,7 @@ use Rattle.csi_orchestrator.specs.Due.{Due}
 use Rattle.csi_orchestrator.specs.Moves.{Input, ToCreate, ToUse, ToStop, ToDelete, TimesOut, Comes, Restarts, Answer, Sends, Restarted, is_forward_due, hears}
 use Rattle.csi_orchestrator.specs.Shown.{PlaceShown, RowShown, Parts, row_of, place_of, due_by, due_in, issued_as, open_in_row, closed, in_session}
 use Rattle.csi_orchestrator.specs.RowChanges.{succeeded, told_of, wanted, dropped, stopped_goal, new_row, wanted_anew, with_entry}
-use Rattle.csi_orchestrator.specs.RowMoves.{Told, told, put, sends_as, goes_on, unless_refused, first_fault, again_fault, creates, has_elsewhere, is_place_otherwise, use_refusal, room_refusal, kept_usage, due_for_use, uses, stop_refusal, stops, is_attached_somewhere, delete_refusal, busy_refusal, deletes, times_out_with, times_out, is_issued_as, row_replied, stops_after, hears_refusal, hears_reply, receives, starts_again, row_moves}
+use Rattle.csi_orchestrator.specs.RowMoves.{Told, told, put, sends_as, goes_on, unless_refused, first_fault, again_fault, creates, has_elsewhere, is_place_otherwise, use_refusal, room_refusal, due_for_use, uses, stop_refusal, stops, is_attached_somewhere, delete_refusal, busy_refusal, deletes, times_out_with, times_out, is_issued_as, row_replied, stops_after, hears_refusal, hears_reply, receives, starts_again, row_moves}
 use Rattle.csi_orchestrator.specs.Kept.{MayBeWanted, IsKept, AreKept, RowsStayKept}
 use Rattle.csi_orchestrator.proofs.KeptEntries.{by_if, each-put, apart-put, apart-map}
 use Rattle.csi_orchestrator.proofs.KeptRows.{AreDistinct, kept-distinct, FitsGoal, due-fits-goal, marked-distinct, marked-goal, kept-sent, kept-closed, kept-dropped, wanted-stopped, wanted-succeeded}
@@ -104,11 +104,11 @@ uses-kept parts name usage kept (Some row) e =
     let one_node = first-held (has_elsewhere (is_for_one_node usage) usage.node row) faults.HeldElsewhere _ capable.1 in
     let one_writer = first-held (has_elsewhere (is_second_writer usage) usage.node row) faults.WriterElsewhere _ one_node.1 in
     let alike = first-held (is_place_otherwise usage (place_of row usage.node)) faults.HeldOtherwise _ one_writer.1 in
-    by_if (KeptAfter parts) (is_none (due_for_use (kept_usage usage) row)) (told parts (Sends None)) _ (λ met. (kept, refl))
+    by_if (KeptAfter parts) (is_none (due_for_use usage row)) (told parts (Sends None)) _ (λ met. (kept, refl))
     (λ unmet. unless-refused parts (room_refusal parts usage row) _
     (λ room.
-    goes-on-kept parts Sends (wanted (Use (kept_usage usage)) (with_entry (kept_usage usage) row)) kept (distinct-entry (kept_usage usage) row (kept-distinct row own) alike.0)
-    (λ due f. usable-entry (kept_usage usage) row own.aims (is-made row.exists made.0) one_node.0 one_writer.0 alike.0))))
+    goes-on-kept parts Sends (wanted (Use usage) (with_entry usage row)) kept (distinct-entry usage row (kept-distinct row own) alike.0)
+    (λ due f. usable-entry usage row own.aims (is-made row.exists made.0) one_node.0 one_writer.0 alike.0))))
 
 -- a stop
 stops-kept : (parts : Parts) (name node target : List ℕ) → AreKept parts.rows → (o : Option RowShown) → row_of parts.rows name ≡ o → KeptAfter parts (stops parts node target o)

@@ -1,9 +1,8 @@
 -- What holds of entries with keys, after one was changed or put in, and after some were taken out.
 use Rattle.std.proofs.Common.{◌≡◌, ℕ, List, [], ◌∷◌, Bool, true, false, cond, map, refl, sym, ◌∙◌, ap, subst}
-use Rattle.std.specs.Prelude.{filter, ◌||◌}
+use Rattle.std.specs.Prelude.{◌||◌}
 use Rattle.std.specs.List.{AllByRecursion, list_any}
 use Rattle.csi_lists.specs.Members.{EachTwo}
-use Rattle.csi_lists.proofs.Members.{each_of, all_of, among-filter}
 use Rattle.csi_lists.proofs.Each.{each-map}
 use Rattle.csi_types.specs.Same.{same_text}
 use Rattle.csi_types.proofs.Equality.{same_text-tells}

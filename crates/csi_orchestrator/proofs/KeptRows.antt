@@ -20,7 +20,7 @@ use Rattle.csi_orchestrator.specs.Thing.{is_yes, is_no}
 use Rattle.csi_orchestrator.specs.History.{Held}
 use Rattle.csi_orchestrator.specs.Commands.{is_for_one_node, is_second_writer}
 use Rattle.csi_orchestrator.specs.Due.{Due}
-use Rattle.csi_orchestrator.specs.Shown.{PlaceShown, RowShown, place_of, aim_of, held_at, usage_shown, marks_for, use_due, delete_due, due_by, due_in, closed, AreTargetsApart}
+use Rattle.csi_orchestrator.specs.Shown.{PlaceShown, RowShown, place_of, aim_of, held_at, marks_for, use_due, delete_due, due_by, due_in, closed, AreTargetsApart}
 use Rattle.csi_orchestrator.specs.RowChanges.{attached_as, staged_as, aimed_as, published_as, at_goal, marked, sent, told_of, succeeded, wanted, is_aim_kept, with_kept_aims, is_place_kept, dropped, stopped_goal}
 use Rattle.csi_orchestrator.specs.RowMoves.{is_so_elsewhere}
 use Rattle.csi_orchestrator.specs.Keyed.{change_by}
@@ -139,8 +139,8 @@ usable-alike row other usage exists places usable =
             same_capability = usable.entry.same_capability;
             same_flag = usable.entry.same_flag;
           };
-      shared = ap (list_any (is_so_elsewhere (is_for_one_node (usage_shown usage)) usage.node)) places ∙ usable.shared;
-      one_writer = ap (list_any (is_so_elsewhere (is_second_writer (usage_shown usage)) usage.node)) places ∙ usable.one_writer;
+      shared = ap (list_any (is_so_elsewhere (is_for_one_node usage) usage.node)) places ∙ usable.shared;
+      one_writer = ap (list_any (is_so_elsewhere (is_second_writer usage) usage.node)) places ∙ usable.one_writer;
     }
 
 pub wanted-alike : (row other : RowShown) (goal : Option Goal) → other.id ≡ row.id → other.exists ≡ row.exists → other.places ≡ row.places → MayBeWanted row goal → MayBeWanted other goal
@@ -172,8 +172,8 @@ usable-change row usage change mild usable =
             same_capability = mild.same_capability usable.entry.place ∙ usable.entry.same_capability;
             same_flag = mild.same_flag usable.entry.place ∙ usable.entry.same_flag;
           };
-      shared = unmoved (is_for_one_node (usage_shown usage)) ∙ usable.shared;
-      one_writer = unmoved (is_second_writer (usage_shown usage)) ∙ usable.one_writer;
+      shared = unmoved (is_for_one_node usage) ∙ usable.shared;
+      one_writer = unmoved (is_second_writer usage) ∙ usable.one_writer;
     }
   where
     unmoved : (so : Held → Bool) → list_any (is_so_elsewhere so usage.node) (change_by (λ (place : PlaceShown). place.node) usage.node change row.places) ≡ list_any (is_so_elsewhere so usage.node) row.places

@@ -10,12 +10,11 @@ use Rattle.csi_lists.proofs.Searches.{find-append_one, find-passes}
 use Rattle.csi_types.proofs.Equality.{same_text-tells, same_capability-tells}
 use Rattle.csi_orchestrator.specs.declared.row.Aim.{Aim}
 use Rattle.csi_orchestrator.specs.declared.row.Goal.TheVariants.{Use}
-use Rattle.csi_orchestrator.specs.declared.row.Usage.{Usage as KeptUsage}
 use Rattle.csi_orchestrator.specs.declared.thing.Known.TheVariants.{Yes}
 use Rattle.csi_orchestrator.specs.Thing.{is_no}
-use Rattle.csi_orchestrator.specs.History.{Held}
+use Rattle.csi_orchestrator.specs.History.{Usage, Held}
 use Rattle.csi_orchestrator.specs.Commands.{is_for_one_node, is_second_writer}
-use Rattle.csi_orchestrator.specs.Shown.{PlaceShown, RowShown, place_of, aim_of, usage_shown, AreTargetsApart}
+use Rattle.csi_orchestrator.specs.Shown.{PlaceShown, RowShown, place_of, aim_of, AreTargetsApart}
 use Rattle.csi_orchestrator.specs.RowChanges.{wanted, new_aim, with_aim, held_as, entry_for, with_entry}
 use Rattle.csi_orchestrator.specs.RowMoves.{is_so_elsewhere, has_elsewhere, is_place_otherwise}
 use Rattle.csi_orchestrator.specs.Keyed.{put_by}
@@ -26,7 +25,7 @@ use Rattle.csi_orchestrator.proofs.KeptEntries.{each-put, apart-put, any-put}
 use Rattle.csi_orchestrator.proofs.KeptRows.{AreDistinct, here}
 
 -- an entry that serves a use
-pub record Serves (usage : KeptUsage) (place : PlaceShown) : Type 0 where
+pub record Serves (usage : Usage) (place : PlaceShown) : Type 0 where
   pub at_node : place.node ≡ usage.node
   pub as_capable : place.capability ≡ usage.capability
   pub as_flagged : place.readonly ≡ usage.readonly
@@ -62,12 +61,12 @@ not_false true e = refl
 not_false false e = sym e
 
 -- how a place is held for a use, where it isn't held otherwise
-pub record IsHeldFor (usage : KeptUsage) (place held : PlaceShown) : Type 0 where
+pub record IsHeldFor (usage : Usage) (place held : PlaceShown) : Type 0 where
   pub same_node : held.node ≡ place.node
   pub as_capable : held.capability ≡ usage.capability
   pub as_flagged : held.readonly ≡ usage.readonly
 
-held-for : (usage : KeptUsage) (place : PlaceShown) → is_place_otherwise (usage_shown usage) (Some place) ≡ false → IsHeldFor usage place (held_as usage place)
+held-for : (usage : Usage) (place : PlaceShown) → is_place_otherwise usage (Some place) ≡ false → IsHeldFor usage place (held_as usage place)
 held-for usage place fits = by (is_no place.attached) fits
   where
     by : (b : Bool) → (not b && not (same_capability place.capability usage.capability && same_flag place.readonly usage.readonly)) ≡ false
@@ -78,11 +77,11 @@ held-for usage place fits = by (is_no place.attached) fits
         record { same_node = refl; as_capable = (same_capability-tells place.capability usage.capability).0 both.0; as_flagged = flag-same place.readonly usage.readonly both.1 }
 
 -- the entry for a use serves it
-entry-serves : (usage : KeptUsage) (row : RowShown) → AllByRecursion AreTargetsApart row.places → is_place_otherwise (usage_shown usage) (place_of row usage.node) ≡ false
+entry-serves : (usage : Usage) (row : RowShown) → AllByRecursion AreTargetsApart row.places → is_place_otherwise usage (place_of row usage.node) ≡ false
     → Serves usage (entry_for usage (place_of row usage.node))
 entry-serves usage row apart fits = by (place_of row usage.node) refl fits
   where
-    by : (o : Option PlaceShown) → place_of row usage.node ≡ o → is_place_otherwise (usage_shown usage) o ≡ false → Serves usage (entry_for usage o)
+    by : (o : Option PlaceShown) → place_of row usage.node ≡ o → is_place_otherwise usage o ≡ false → Serves usage (entry_for usage o)
     by None e fit =
         record {
           at_node = refl;
@@ -106,7 +105,7 @@ entry-serves usage row apart fits = by (place_of row usage.node) refl fits
           at_target = found.1;
         }
 
-pub distinct-entry : (usage : KeptUsage) (row : RowShown) → AreDistinct row.places → is_place_otherwise (usage_shown usage) (place_of row usage.node) ≡ false → AreDistinct (with_entry usage row).places
+pub distinct-entry : (usage : Usage) (row : RowShown) → AreDistinct row.places → is_place_otherwise usage (place_of row usage.node) ≡ false → AreDistinct (with_entry usage row).places
 distinct-entry usage row distinct fits =
     record {
       nodes = apart-put (λ (place : PlaceShown). place.node) (entry_for usage (place_of row usage.node)) row.places distinct.nodes;
@@ -116,9 +115,9 @@ distinct-entry usage row distinct fits =
     }
 
 -- a use that isn't refused may be brought about once its entry is there
-pub usable-entry : (usage : KeptUsage) (row : RowShown) → AllByRecursion AreTargetsApart row.places → row.exists ≡ Yes
-    → has_elsewhere (is_for_one_node (usage_shown usage)) usage.node row ≡ false → has_elsewhere (is_second_writer (usage_shown usage)) usage.node row ≡ false
-    → is_place_otherwise (usage_shown usage) (place_of row usage.node) ≡ false → IsUsable (wanted (Use usage) (with_entry usage row)) usage
+pub usable-entry : (usage : Usage) (row : RowShown) → AllByRecursion AreTargetsApart row.places → row.exists ≡ Yes
+    → has_elsewhere (is_for_one_node usage) usage.node row ≡ false → has_elsewhere (is_second_writer usage) usage.node row ≡ false
+    → is_place_otherwise usage (place_of row usage.node) ≡ false → IsUsable (wanted (Use usage) (with_entry usage row)) usage
 usable-entry usage row apart exists one_node second fits =
     record {
       made = exists;
@@ -133,8 +132,8 @@ usable-entry usage row apart exists one_node second fits =
             same_capability = serves.as_capable;
             same_flag = serves.as_flagged;
           };
-      shared = unmoved (is_for_one_node (usage_shown usage)) ∙ one_node;
-      one_writer = unmoved (is_second_writer (usage_shown usage)) ∙ second;
+      shared = unmoved (is_for_one_node usage) ∙ one_node;
+      one_writer = unmoved (is_second_writer usage) ∙ second;
     }
   where
     entry : PlaceShown

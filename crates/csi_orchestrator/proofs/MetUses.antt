@@ -14,7 +14,7 @@ use Rattle.csi_orchestrator.specs.Due.{Due}
 use Rattle.csi_orchestrator.specs.Moves.{Sends}
 use Rattle.csi_orchestrator.specs.RowChanges.{wanted, with_entry}
 use Rattle.csi_orchestrator.specs.RowMoves.{told, sends_as, goes_on, unless_refused, use_refusal, room_refusal, due_for_use, use_or_met, uses, IsToldAs}
-use Rattle.csi_orchestrator.specs.Shown.{RowShown, Parts, row_shown, row_of, usage_shown}
+use Rattle.csi_orchestrator.specs.Shown.{RowShown, Parts, row_shown, row_of}
 use Rattle.csi_orchestrator.proofs.ChangedEntries.{find-place}
 use Rattle.csi_orchestrator.proofs.RowsGoOn.{due-wanted}
 
@@ -34,18 +34,18 @@ none-due parts usage row (Some due) is None told =
     let then = wanted (Use usage) (with_entry usage row) in
     absurd (due-sends parts then due (next_number parts.last) (subst (λ d. IsToldAs (Sends None) (sends_as parts Sends then d (next_number parts.last))) (due-wanted (Use usage) row ∙ is) told))
 
-use-met : (parts : Parts) (usage : Usage) (row : RowShown) → IsToldAs (Sends None) (uses parts (usage_shown usage) (Some row)) → (use_refusal parts.nodes (usage_shown usage) row ≡ None) × (due_for_use usage row ≡ None)
-use-met parts usage row = by (use_refusal parts.nodes (usage_shown usage) row)
+use-met : (parts : Parts) (usage : Usage) (row : RowShown) → IsToldAs (Sends None) (uses parts usage (Some row)) → (use_refusal parts.nodes usage row ≡ None) × (due_for_use usage row ≡ None)
+use-met parts usage row = by (use_refusal parts.nodes usage row)
   where
-    by : (fault : Option OrchFault) → IsToldAs (Sends None) (unless_refused fault (use_or_met parts (usage_shown usage) row)) → (fault ≡ None) × (due_for_use usage row ≡ None)
-    by None told = (refl, none-due parts usage row (due_for_use usage row) refl (room_refusal parts (usage_shown usage) row) told)
+    by : (fault : Option OrchFault) → IsToldAs (Sends None) (unless_refused fault (use_or_met parts usage row)) → (fault ≡ None) × (due_for_use usage row ≡ None)
+    by None told = (refl, none-due parts usage row (due_for_use usage row) refl (room_refusal parts usage row) told)
     by (Some fault) told = absurd told
 
 pub met-there : (nodes read : List (List ℕ)) (last : Number) (rows : List Row) (name : List ℕ) (usage : Usage) (i : ℕ) (r : Row) → position (λ (row : Row). same_text row.name name) rows ≡ Some i → r ≡ get_or rows i r → read ≡ nodes
-    → IsToldAs (Sends None) (uses (record { nodes = nodes; last = last; rows = map row_shown rows }) (usage_shown usage) (row_of (map row_shown rows) name))
-    → (use_refusal read (usage_shown usage) (row_shown r) ≡ None) × (due_for_use usage (row_shown r) ≡ None)
+    → IsToldAs (Sends None) (uses (record { nodes = nodes; last = last; rows = map row_shown rows }) usage (row_of (map row_shown rows) name))
+    → (use_refusal read usage (row_shown r) ≡ None) × (due_for_use usage (row_shown r) ≡ None)
 met-there nodes read last rows name usage i r at there same told =
     let parts : Parts = record { nodes = nodes; last = last; rows = map row_shown rows } in
     let found = find-place row_shown (λ (row : RowShown). same_text row.name name) rows i r at there in
-    let met = use-met parts usage (row_shown r) (subst (λ o. IsToldAs (Sends None) (uses parts (usage_shown usage) o)) found told) in
-    (ap (λ n. use_refusal n (usage_shown usage) (row_shown r)) same ∙ met.0, met.1)
+    let met = use-met parts usage (row_shown r) (subst (λ o. IsToldAs (Sends None) (uses parts usage o)) found told) in
+    (ap (λ n. use_refusal n usage (row_shown r)) same ∙ met.0, met.1)

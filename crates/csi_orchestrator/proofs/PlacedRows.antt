@@ -21,7 +21,7 @@ use Rattle.csi_orchestrator.specs.Due.{Due}
 use Rattle.csi_orchestrator.specs.Moves.{Sends}
 use Rattle.csi_orchestrator.specs.RowChanges.{marked, wanted, wanted_anew, stopped_goal}
 use Rattle.csi_orchestrator.specs.RowMoves.{Told, told, put, sends_as, goes_on, unless_refused, again_fault, creates, use_refusal, room_refusal, due_for_use, uses, stop_refusal, stops, delete_refusal, busy_refusal, deletes, times_out_with, times_out}
-use Rattle.csi_orchestrator.specs.Shown.{RowShown, Parts, row_of, usage_shown, due_in, closed}
+use Rattle.csi_orchestrator.specs.Shown.{RowShown, Parts, row_of, due_in, closed}
 use Rattle.csi_orchestrator.specs.CoreMoves.{RowTold, outgoing_by, row_after, row_goes_on, row_unless, row_met, row_creates, with_entry_for, row_wants, row_use_or_met, row_uses, row_stops, row_delete_or_met, row_deletes, is_given_up, timed_out, row_times_out_with, row_times_out, frame_in, last_after}
 
 -- what becomes of a row, among the parts
@@ -70,11 +70,11 @@ placed-met parts name row found =
 pub creates-placed : (parts : Parts) (name : List ℕ) (arguments : Arguments) (row : RowShown) → creates parts name arguments (Some row) ≡ placed parts (row_creates parts arguments row)
 creates-placed parts name arguments row = placed-unless parts (again_fault parts row) _ (row_goes_on parts.last (wanted_anew arguments row)) (placed-on parts (wanted_anew arguments row))
 
-pub uses-placed : (parts : Parts) (usage : Usage) (name : List ℕ) (row : RowShown) → row_of parts.rows name ≡ Some row → uses parts (usage_shown usage) (Some row) ≡ placed parts (row_uses parts usage row)
+pub uses-placed : (parts : Parts) (usage : Usage) (name : List ℕ) (row : RowShown) → row_of parts.rows name ≡ Some row → uses parts usage (Some row) ≡ placed parts (row_uses parts usage row)
 uses-placed parts usage name row found =
-    placed-unless parts (use_refusal parts.nodes (usage_shown usage) row) _ (row_use_or_met parts usage row)
-    (placed-either parts (is_none (due_for_use usage row)) _ _ (row_met row) (row_unless (room_refusal parts (usage_shown usage) row) (row_wants parts.last (Use usage) row)) (placed-met parts name row found)
-    (placed-unless parts (room_refusal parts (usage_shown usage) row) _ (row_wants parts.last (Use usage) row) (placed-on parts (wanted (Use usage) (with_entry_for (Use usage) row)))))
+    placed-unless parts (use_refusal parts.nodes usage row) _ (row_use_or_met parts usage row)
+    (placed-either parts (is_none (due_for_use usage row)) _ _ (row_met row) (row_unless (room_refusal parts usage row) (row_wants parts.last (Use usage) row)) (placed-met parts name row found)
+    (placed-unless parts (room_refusal parts usage row) _ (row_wants parts.last (Use usage) row) (placed-on parts (wanted (Use usage) (with_entry_for (Use usage) row)))))
 
 pub stops-placed : (parts : Parts) (node target : List ℕ) (row : RowShown) → stops parts node target (Some row) ≡ placed parts (row_stops parts node target row)
 stops-placed parts node target row = placed-unless parts (stop_refusal parts node target row) _ (row_wants parts.last (Stop node target) row) (placed-on parts (wanted (Stop node target) row))
@@ -132,9 +132,9 @@ creates-keeps parts arguments row = unless-keeps row.name (again_fault parts row
 
 pub uses-keeps : (parts : Parts) (usage : Usage) (row : RowShown) → KeepsName row.name (row_uses parts usage row)
 uses-keeps parts usage row =
-    unless-keeps row.name (use_refusal parts.nodes (usage_shown usage) row) (row_use_or_met parts usage row)
-    (either-keeps row.name (is_none (due_for_use usage row)) (row_met row) (row_unless (room_refusal parts (usage_shown usage) row) (row_wants parts.last (Use usage) row)) refl
-    (unless-keeps row.name (room_refusal parts (usage_shown usage) row) (row_wants parts.last (Use usage) row) (on-keeps parts.last (wanted (Use usage) (with_entry_for (Use usage) row)))))
+    unless-keeps row.name (use_refusal parts.nodes usage row) (row_use_or_met parts usage row)
+    (either-keeps row.name (is_none (due_for_use usage row)) (row_met row) (row_unless (room_refusal parts usage row) (row_wants parts.last (Use usage) row)) refl
+    (unless-keeps row.name (room_refusal parts usage row) (row_wants parts.last (Use usage) row) (on-keeps parts.last (wanted (Use usage) (with_entry_for (Use usage) row)))))
 
 pub stops-keeps : (parts : Parts) (node target : List ℕ) (row : RowShown) → KeepsName row.name (row_stops parts node target row)
 stops-keeps parts node target row = unless-keeps row.name (stop_refusal parts node target row) (row_wants parts.last (Stop node target) row) (on-keeps parts.last (wanted (Stop node target) row))

@@ -30,7 +30,7 @@ use Rattle.csi_orchestrator.specs.Due.{attached_node, nodes_in_use, published_ta
 use Rattle.csi_orchestrator.specs.Commands.{next_number, is_spent, create_fault, held_elsewhere, is_for_one_node, is_second_writer, is_otherwise, is_held_otherwise, other_targets, use_fault, use_room_fault, stop_fault, delete_fault, delete_busy_fault, timeout_fault}
 use Rattle.csi_orchestrator.specs.Shown.{PlaceShown, RowShown, Parts, row_of, place_of, aim_of, mark_in, published_in, mark_of, goal_shown, goal_in, marks_for, use_due, held_at, held_in, others_in, AreTargetsApart, AgreesWith}
 use Rattle.csi_orchestrator.specs.Kept.{IsKept, AreKept}
-use Rattle.csi_orchestrator.specs.RowMoves.{is_last, first_fault, again_fault, is_so_elsewhere, has_elsewhere, is_place_otherwise, others_count, use_refusal, room_refusal, kept_usage, due_for_use, stop_refusal, is_attached_somewhere, delete_refusal, busy_refusal}
+use Rattle.csi_orchestrator.specs.RowMoves.{is_last, first_fault, again_fault, is_so_elsewhere, has_elsewhere, is_place_otherwise, others_count, use_refusal, room_refusal, due_for_use, stop_refusal, is_attached_somewhere, delete_refusal, busy_refusal}
 use Rattle.csi_orchestrator.proofs.Following.{touches-name}
 use Rattle.csi_orchestrator.proofs.DueCalls.{text-same, among-distinct, in-use, not_true}
 use Rattle.csi_orchestrator.proofs.Joined.{own-entry}
@@ -324,13 +324,13 @@ room-refused parts history name usage row are agrees e =
     rw (spent-alike parts history agrees, others-alike row history name usage own) refl
 
 pub use-due : (parts : Parts) (history : History) (name : List ℕ) (usage : Usage) (row : RowShown) → AreKept parts.rows → AgreesWith parts history → row_of parts.rows name ≡ Some row
-    → option_and_then (due_use history name usage) (id_of history name) ≡ due_for_use (kept_usage usage) row
+    → option_and_then (due_use history name usage) (id_of history name) ≡ due_for_use usage row
 use-due parts history name usage row are agrees e = ap (option_and_then (due_use history name usage)) own.own_id ∙ by row.id
   where
     own : IsRowOf row history name
     own = is-row-of parts history name row are agrees e
 
-    by : (o : Option ℕ) → option_and_then (due_use history name usage) o ≡ option_and_then (use_due (kept_usage usage) (marks_for row (kept.Use (kept_usage usage)))) o
+    by : (o : Option ℕ) → option_and_then (due_use history name usage) o ≡ option_and_then (use_due usage (marks_for row (kept.Use usage))) o
     by None = refl
     by (Some id) = rw (own.marks (Attached name usage.node) refl, own.marks (Staged name usage.node) refl, own.marks (Published name usage.node usage.target) refl) refl
 

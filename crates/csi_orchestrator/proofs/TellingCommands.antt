@@ -23,7 +23,7 @@ use Rattle.csi_orchestrator.specs.Moves.{Sends, Moved, met, go_on, command, use_
 use Rattle.csi_orchestrator.specs.Following.{after_noted}
 use Rattle.csi_orchestrator.specs.Shown.{RowShown, Parts, row_of, place_of, due_in, open_in_row, view_of, AgreesWith, AreAimsApart}
 use Rattle.csi_orchestrator.specs.RowChanges.{wanted, new_row, wanted_anew, with_entry}
-use Rattle.csi_orchestrator.specs.RowMoves.{Told, goes_on, unless_refused, first_fault, again_fault, creates, has_elsewhere, is_place_otherwise, use_refusal, room_refusal, kept_usage, due_for_use, use_or_met, uses, stop_refusal, stops, is_attached_somewhere, delete_refusal, busy_refusal, delete_or_met, deletes}
+use Rattle.csi_orchestrator.specs.RowMoves.{Told, goes_on, unless_refused, first_fault, again_fault, creates, has_elsewhere, is_place_otherwise, use_refusal, room_refusal, due_for_use, use_or_met, uses, stop_refusal, stops, is_attached_somewhere, delete_refusal, busy_refusal, delete_or_met, deletes}
 use Rattle.csi_orchestrator.specs.Kept.{MayBeWanted, IsKept, AreKept}
 use Rattle.csi_orchestrator.proofs.Following.{noted-follows}
 use Rattle.csi_orchestrator.proofs.GoingOn.{Tells, IsReady, goes-on-tells}
@@ -124,18 +124,18 @@ use-when-tells parts history name usage row form kept agrees e None none =
     let own = own-kept parts name row kept e in
     let quiet = idle-quiet parts name row e free.idle in
     subst (λ d. Tells history (use_or_met parts usage row) (cond (is_none d) (Ok met) (command history name (wishes.Use usage) (use_room_fault history name usage)))) (sym (use-due parts history name usage row kept agrees e))
-    (either-tells history (is_none (due_for_use (kept_usage usage) row)) _ _ _ _ (λ is. ((refl, agrees), tt))
+    (either-tells history (is_none (due_for_use usage row)) _ _ _ _ (λ is. ((refl, agrees), tt))
     (λ is.
-    subst (λ f. Tells history (unless_refused (room_refusal parts usage row) (goes_on parts Sends (wanted (Use (kept_usage usage)) (with_entry (kept_usage usage) row)))) (command history name (wishes.Use usage) f))
+    subst (λ f. Tells history (unless_refused (room_refusal parts usage row) (goes_on parts Sends (wanted (Use usage) (with_entry usage row)))) (command history name (wishes.Use usage) f))
     (sym (room-refused parts history name usage row kept agrees e))
     (command-tells history name (wishes.Use usage) (room_refusal parts usage row) _
     (λ room.
-    goes-on-tells parts history name (wanted (Use (kept_usage usage)) (with_entry (kept_usage usage) row)) _ _
-    (noted-ready parts history name (Some (wishes.Use usage)) (wanted (Use (kept_usage usage)) (with_entry (kept_usage usage) row)) form kept agrees quiet
-    (reads-wanted (Use (kept_usage usage)) (with_entry (kept_usage usage) row) (view_of parts) name
-    (reads-with-entry (kept_usage usage) row (view_of parts) name free.idle (row-reads parts name row (own-name parts name row e) e)) quiet)
-    (distinct-entry (kept_usage usage) row (kept-distinct row own) free.alike)
-    (λ due f. usable-entry (kept_usage usage) row own.aims free.made free.one_node free.one_writer free.alike)) Sends))))
+    goes-on-tells parts history name (wanted (Use usage) (with_entry usage row)) _ _
+    (noted-ready parts history name (Some (wishes.Use usage)) (wanted (Use usage) (with_entry usage row)) form kept agrees quiet
+    (reads-wanted (Use usage) (with_entry usage row) (view_of parts) name
+    (reads-with-entry usage row (view_of parts) name free.idle (row-reads parts name row (own-name parts name row e) e)) quiet)
+    (distinct-entry usage row (kept-distinct row own) free.alike)
+    (λ due f. usable-entry usage row own.aims free.made free.one_node free.one_writer free.alike)) Sends))))
 
 pub uses-tell : (parts : Parts) (history : History) (name : List ℕ) (usage : Usage) → IsWellFormed history → AreKept parts.rows → AgreesWith parts history → (o : Option RowShown) → row_of parts.rows name ≡ o
     → Tells history (uses parts usage o) (use_when history name usage (use_fault parts.nodes history name usage))

@@ -31,7 +31,7 @@ use Rattle.csi_orchestrator.specs.Due.{Due, due_call}
 use Rattle.csi_orchestrator.specs.Moves.{Input, ToCreate, ToUse, ToStop, ToDelete, TimesOut, Comes, Restarts, Sends, Hears, Restarted, Moved, go_on, is_forward, is_forward_due, stopped, closing, timeout, hears, call_replied, heard, heard_refusal, deliver, restart, moves}
 use Rattle.csi_orchestrator.specs.Agrees.{View, Agrees}
 use Rattle.csi_orchestrator.specs.Following.{after_accepted, after_closed, after_noted}
-use Rattle.csi_orchestrator.specs.Shown.{RowShown, Parts, row_of, usage_shown, due_by, goal_in, goal_shown, held_in, due_in, open_in_row, issued_as, closed, in_session, view_of, AgreesWith}
+use Rattle.csi_orchestrator.specs.Shown.{RowShown, Parts, row_of, due_by, goal_in, goal_shown, held_in, due_in, open_in_row, issued_as, closed, in_session, view_of, AgreesWith}
 use Rattle.csi_orchestrator.specs.RowChanges.{told_of, succeeded, wanted, dropped, stopped_goal}
 use Rattle.csi_orchestrator.specs.RowMoves.{told, goes_on, times_out_with, times_out, row_replied, is_issued_as, takes_nothing_more, stops_after, hears_refusal, hears_reply, receives, starts_again, row_moves}
 use Rattle.csi_orchestrator.specs.Kept.{MayBeWanted, IsKept, AreKept, RowsTell, MovesAreGuarded}
@@ -385,7 +385,7 @@ stops-tell-after parts history row number due reply by bad forward =
     usage : Usage
     usage = wish.0
 
-    goal-is : goal_of history row.name ≡ Some (wishes.Use (usage_shown usage))
+    goal-is : goal_of history row.name ≡ Some (wishes.Use usage)
     goal-is = sym ((by.agrees).same_goals row.name) ∙ ap (option_and_then goal_in) by.found ∙ ap (option_map (goal_shown row)) wish.1
 
 refusal-tells : (parts : Parts) (history : History) (row : RowShown) (number : Number) (party : Party) (call : Call) (reply : Reply) → IsHeardBy parts history row number (record { party = party; call = call }) → is_ok_status reply.status ≡ false

@@ -18,7 +18,7 @@ use Rattle.csi_orchestrator.specs.Due.{Due}
 use Rattle.csi_orchestrator.specs.Moves.{is_forward_due}
 use Rattle.csi_orchestrator.specs.RowChanges.{sent, wanted, wanted_anew, dropped, stopped_goal, with_entry}
 use Rattle.csi_orchestrator.specs.RowMoves.{again_fault, use_refusal, room_refusal, due_for_use, stop_refusal, delete_refusal, busy_refusal}
-use Rattle.csi_orchestrator.specs.Shown.{RowShown, Parts, usage_shown, marks_for, due_with, due_in, closed}
+use Rattle.csi_orchestrator.specs.Shown.{RowShown, Parts, marks_for, due_with, due_in, closed}
 
 -- the call that is due for a goal of the row, by these arguments
 abbrev pub due_for : RowShown → Arguments → Goal → Option Due
@@ -77,10 +77,10 @@ row_wants last goal row = row_goes_on last (wanted goal (with_entry_for goal row
 abbrev pub row_use_or_met : Parts → Usage → RowShown → Result RowTold OrchFault
 row_use_or_met parts usage row =
     if is_none (due_for_use usage row) then row_met row
-    else row_unless (room_refusal parts (usage_shown usage) row) (row_wants parts.last (Use usage) row)
+    else row_unless (room_refusal parts usage row) (row_wants parts.last (Use usage) row)
 
 abbrev pub row_uses : Parts → Usage → RowShown → Result RowTold OrchFault
-row_uses parts usage row = row_unless (use_refusal parts.nodes (usage_shown usage) row) (row_use_or_met parts usage row)
+row_uses parts usage row = row_unless (use_refusal parts.nodes usage row) (row_use_or_met parts usage row)
 
 -- a stop
 abbrev pub row_stops : Parts → List ℕ → List ℕ → RowShown → Result RowTold OrchFault

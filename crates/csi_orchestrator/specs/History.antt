@@ -5,19 +5,10 @@ use Rattle.csi_types.specs.declared.capability.Capability.{Capability}
 use Rattle.csi_types.specs.declared.number.Number.{Number}
 use Rattle.csi_types.specs.declared.status.Status.{Status}
 use Rattle.csi_orchestrator.specs.Thing.{Issued}
-
--- what a volume is to be created with
-pub record Arguments : Type 0 where
-  pub required : ℕ
-  pub limit : ℕ
-  pub capabilities : List Capability
-
--- where and how a volume is to be used
-pub record Usage : Type 0 where
-  pub node : List ℕ
-  pub target : List ℕ
-  pub capability : Capability
-  pub readonly : Bool
+-- what a volume is to be created with (`required`, `limit` and `capabilities`), and where and how it is to be used (`node`, `target`,
+-- `capability` and `readonly`): the two structs of `row.rt`
+pub use Rattle.csi_orchestrator.specs.declared.row.Arguments.{Arguments}
+pub use Rattle.csi_orchestrator.specs.declared.row.Usage.{Usage}
 
 -- how a volume is held at a node
 pub record Held : Type 0 where

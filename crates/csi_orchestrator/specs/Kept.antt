@@ -13,7 +13,7 @@ use Rattle.csi_orchestrator.specs.Commands.{is_for_one_node, is_second_writer}
 use Rattle.csi_orchestrator.specs.History.{History, with_items, Item, Started, Sent, Accepted, Closed, Noted}
 use Rattle.csi_orchestrator.specs.Guards.{MayIssue}
 use Rattle.csi_orchestrator.specs.Moves.{Input, Moved, moves}
-use Rattle.csi_orchestrator.specs.Shown.{PlaceShown, RowShown, Parts, place_of, aim_of, usage_shown, AreTargetsApart, AgreesWith}
+use Rattle.csi_orchestrator.specs.Shown.{PlaceShown, RowShown, Parts, place_of, aim_of, AreTargetsApart, AgreesWith}
 use Rattle.csi_orchestrator.specs.RowMoves.{Told, has_elsewhere, row_moves}
 use Rattle.csi_orchestrator.specs.WellFormed.{IsWellFormed}
 
@@ -34,8 +34,8 @@ pub record HasEntry (row : RowShown) (usage : Usage) : Type 0 where
 pub record IsUsable (row : RowShown) (usage : Usage) : Type 0 where
   pub made : row.exists ≡ Yes
   pub entry : HasEntry row usage
-  pub shared : has_elsewhere (is_for_one_node (usage_shown usage)) usage.node row ≡ false
-  pub one_writer : has_elsewhere (is_second_writer (usage_shown usage)) usage.node row ≡ false
+  pub shared : has_elsewhere (is_for_one_node usage) usage.node row ≡ false
+  pub one_writer : has_elsewhere (is_second_writer usage) usage.node row ≡ false
 
 -- what is wanted may be wanted
 abbrev pub MayBeWanted : RowShown → Option Goal → Type 0

@@ -20,7 +20,6 @@ use Rattle.csi_orchestrator.specs.declared.fault.OrchFault.{OrchFault}
 use Rattle.csi_orchestrator.specs.declared.fault.OrchFault.TheVariants as faults
 use Rattle.csi_orchestrator.specs.declared.row.Goal.{Goal}
 use Rattle.csi_orchestrator.specs.declared.row.Goal.TheVariants.{Use, Stop, Delete}
-use Rattle.csi_orchestrator.specs.declared.row.Usage.{Usage as KeptUsage}
 use Rattle.csi_orchestrator.specs.Thing.{Issued, is_yes, is_no}
 use Rattle.csi_orchestrator.specs.History.{Arguments, Usage, Held}
 use Rattle.csi_orchestrator.specs.Due.{Due}
@@ -112,18 +111,14 @@ room_refusal parts usage row =
     else if nat_le 16 (others_count usage.target (place_of row usage.node)) then Some faults.Full
     else None
 
--- a usage as a row keeps it
-abbrev pub kept_usage : Usage → KeptUsage
-kept_usage usage = record { node = usage.node; target = usage.target; capability = usage.capability; readonly = usage.readonly }
-
 -- the call that is due for a use; where none is, the use is met
-abbrev pub due_for_use : KeptUsage → RowShown → Option Due
+abbrev pub due_for_use : Usage → RowShown → Option Due
 due_for_use usage row = due_with row.name row.arguments row.id (marks_for row (Use usage)) (Use usage)
 
 abbrev pub use_or_met : Parts → Usage → RowShown → Result Told OrchFault
 use_or_met parts usage row =
-    if is_none (due_for_use (kept_usage usage) row) then told parts (Sends None)
-    else unless_refused (room_refusal parts usage row) (goes_on parts Sends (wanted (Use (kept_usage usage)) (with_entry (kept_usage usage) row)))
+    if is_none (due_for_use usage row) then told parts (Sends None)
+    else unless_refused (room_refusal parts usage row) (goes_on parts Sends (wanted (Use usage) (with_entry usage row)))
 
 abbrev pub uses : Parts → Usage → Option RowShown → Result Told OrchFault
 uses parts usage None = Err faults.NoSuchVolume

@@ -11,10 +11,8 @@ use Rattle.csi_orchestrator.specs.declared.marks.Marks.{Marks}
 use Rattle.csi_orchestrator.specs.declared.row.Goal.{Goal as KeptGoal}
 use Rattle.csi_orchestrator.specs.declared.row.Goal.TheVariants as kept
 use Rattle.csi_orchestrator.specs.declared.row.Aim.{Aim}
-use Rattle.csi_orchestrator.specs.declared.row.Arguments.{Arguments as KeptArguments}
 use Rattle.csi_orchestrator.specs.declared.row.Place.{Place}
 use Rattle.csi_orchestrator.specs.declared.row.Row.{Row}
-use Rattle.csi_orchestrator.specs.declared.row.Usage.{Usage as KeptUsage}
 use Rattle.csi_orchestrator.specs.declared.thing.Thing.{Thing}
 use Rattle.csi_orchestrator.specs.declared.thing.Thing.TheVariants.{Exists, Attached, Staged, Published}
 use Rattle.csi_orchestrator.specs.declared.thing.Known.{Known}
@@ -47,14 +45,11 @@ pub record RowShown : Type 0 where
 abbrev pub place_shown : Place → PlaceShown
 place_shown place = record { node = place.node; capability = place.capability; readonly = place.readonly; attached = place.attached; staged = place.staged; aims = place.aims.items }
 
-abbrev pub arguments_shown : KeptArguments → Arguments
-arguments_shown arguments = record { required = arguments.required; limit = arguments.limit; capabilities = arguments.capabilities }
-
 abbrev pub row_shown : Row → RowShown
 row_shown row =
     record {
       name = row.name;
-      arguments = arguments_shown row.arguments;
+      arguments = row.arguments;
       id = row.id;
       exists = row.exists;
       goal = row.goal;
@@ -95,12 +90,9 @@ mark_of (Staged name node) row = mark_in (λ place. place.staged) (place_of row 
 mark_of (Published name node target) row = mark_in (published_in target) (place_of row node)
 
 -- what is wanted of a row's volume
-abbrev pub usage_shown : KeptUsage → Usage
-usage_shown usage = record { node = usage.node; target = usage.target; capability = usage.capability; readonly = usage.readonly }
-
 abbrev pub goal_shown : RowShown → KeptGoal → Goal
 goal_shown row kept.Create = Create row.arguments
-goal_shown row (kept.Use usage) = Use (usage_shown usage)
+goal_shown row (kept.Use usage) = Use usage
 goal_shown row (kept.Stop node target) = Stop node target
 goal_shown row kept.Delete = Delete
 
@@ -145,7 +137,7 @@ create_due name arguments marks =
     if is_yes marks.exists then None
     else Some (record { party = Controller; call = calls.CreateVolume name arguments.required arguments.limit arguments.capabilities })
 
-abbrev pub use_due : KeptUsage → Marks → ℕ → Option Due
+abbrev pub use_due : Usage → Marks → ℕ → Option Due
 use_due usage marks id =
     if not (is_yes marks.attached) then
     Some (record { party = Controller; call = calls.ControllerPublishVolume id usage.node usage.capability usage.readonly })

@@ -1,6 +1,6 @@
 //! What becomes of a row.
 ghost use Rattle.std.specs.Prelude.{◌≡◌, map, Some, None, OnOk, OnErr, IfErr};
-ghost use Rattle.csi_orchestrator.specs.Shown.{row_shown, place_shown, arguments_shown, closed};
+ghost use Rattle.csi_orchestrator.specs.Shown.{row_shown, place_shown, closed};
 ghost use Rattle.csi_orchestrator.specs.RowChanges.{at_goal, attached_as, staged_as, published_as, marked, sent, told_of, id_told as id_by_kind, succeeded, wanted, wanted_anew, stopped_goal, dropped, new_row as new_row_shown, with_entry};
 
 use crate::fault::OrchFault;
@@ -117,7 +117,7 @@ pub(crate) fn want(row: &mut Row, goal: Goal)
 
 /// Wants the volume to be made, by these arguments.
 pub(crate) fn want_anew(row: &mut Row, arguments: Arguments)
-    ensures { row_shown row.new ≡ wanted_anew (arguments_shown arguments) (row_shown row.old) }
+    ensures { row_shown row.new ≡ wanted_anew arguments (row_shown row.old) }
 {
     row.arguments = arguments;
     want(row, Goal::Create);
@@ -165,7 +165,7 @@ pub(crate) fn drop_goal(row: &mut Row)
 
 /// A row of which the creation is wanted. It takes no memory.
 pub(crate) fn new_row(alloc: Global, name: Name, arguments: Arguments) -> Row
-    ensures { row_shown result ≡ new_row_shown name (arguments_shown arguments) }
+    ensures { row_shown result ≡ new_row_shown name arguments }
 {
     Row {
         name,

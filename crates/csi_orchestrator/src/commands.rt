@@ -5,7 +5,7 @@ ghost use Rattle.csi_orchestrator.specs.Core.{parts_of};
 ghost use Rattle.csi_orchestrator.specs.CoreMoves.{frame_in, last_after};
 ghost use Rattle.csi_orchestrator.specs.Moves.{ToCreate, ToUse, ToStop, ToDelete, Sends};
 ghost use Rattle.csi_orchestrator.specs.RowMoves.{IsRefusal, IsToldAs, creates, row_moves};
-ghost use Rattle.csi_orchestrator.specs.Shown.{row_shown, arguments_shown};
+ghost use Rattle.csi_orchestrator.specs.Shown.{row_shown};
 
 use crate::fault::OrchFault;
 use crate::going_on::Outgoing;
@@ -33,8 +33,8 @@ impl Core {
     // The first create of a name.
     fn create_first(&mut self, name: Name, arguments: Arguments) -> Result<Option<Frame>, OrchFault>
         requires { position (λ row. same_text row.name name) self.old.rows.items ≡ None }
-        ensures ok { IfOk result (λ sent. creates (parts_of self.old) name (arguments_shown arguments) None ≡ Ok (record { answer = Sends sent; parts = parts_of self.new })) }
-        ensures err { IfErr result (IsRefusal (creates (parts_of self.old) name (arguments_shown arguments) None)) }
+        ensures ok { IfOk result (λ sent. creates (parts_of self.old) name arguments None ≡ Ok (record { answer = Sends sent; parts = parts_of self.new })) }
+        ensures err { IfErr result (IsRefusal (creates (parts_of self.old) name arguments None)) }
         ensures stays { OnErr result (parts_of self.new ≡ parts_of self.old) }
     {
         if let Some(fault) = first_fault(&self.rows, self.last) {

@@ -3,10 +3,9 @@ ghost use Rattle.std.specs.Prelude.{◌≡◌, ℕ, List, IfOk, IfErr, IsOk, IfS
 ghost use Rattle.csi_types.specs.declared.call.Call.{Call as CallShown};
 ghost use Rattle.csi_types.specs.Call.{kind_of, is_party_of};
 ghost use Rattle.csi_orchestrator.specs.declared.fault.OrchFault.{OrchFault as Fault};
-ghost use Rattle.csi_orchestrator.specs.History.{Arguments as ArgumentsShown};
 ghost use Rattle.csi_orchestrator.specs.Commands.{next_number as number_after};
 ghost use Rattle.csi_orchestrator.specs.Moves.{is_forward as leads_on};
-ghost use Rattle.csi_orchestrator.specs.Shown.{arguments_shown, create_due as create_told, use_due as use_told, stop_due as stop_told, delete_due as delete_told, due_with};
+ghost use Rattle.csi_orchestrator.specs.Shown.{create_due as create_told, use_due as use_told, stop_due as stop_told, delete_due as delete_told, due_with};
 ghost use Rattle.csi_orchestrator.specs.Found.{due_shown, kind_due};
 
 use crate::calls::{attach_call, create_call, publish_call, stage_call};
@@ -46,7 +45,7 @@ fn to_node(node: &NodeId, call: Call) -> Result<Due, OrchFault>
 
 // The call that is due until the volume is made.
 fn create_due(name: &Name, arguments: &Arguments, marks: Marks) -> Result<Option<Due>, OrchFault>
-    ensures ok { IfOk result (λ due. option_map due_shown due ≡ create_told name.now (arguments_shown arguments.now) marks) }
+    ensures ok { IfOk result (λ due. option_map due_shown due ≡ create_told name.now arguments.now marks) }
     ensures party { IfOk result (λ due. IfSome due (λ due. IsTrue (is_party_of (kind_of due.call) due.party))) }
     ensures err { IfErr result (λ fault. fault ≡ Fault.NoMemory) }
 {
@@ -126,7 +125,7 @@ pub(crate) fn due_for(
     marks: Marks,
     goal: &Goal,
 ) -> Result<Option<Due>, OrchFault>
-    ensures ok { IfOk result (λ due. option_map due_shown due ≡ due_with name.now (arguments_shown arguments.now) id marks goal.now) }
+    ensures ok { IfOk result (λ due. option_map due_shown due ≡ due_with name.now arguments.now id marks goal.now) }
     ensures party { IfOk result (λ due. IfSome due (λ due. IsTrue (is_party_of (kind_of due.call) due.party))) }
     ensures err { IfErr result (λ fault. fault ≡ Fault.NoMemory) }
     ensures delete { goal.now ≡ Goal.Delete → IsOk result }
@@ -177,7 +176,7 @@ pub(crate) fn stop_kind(marks: Marks) -> Option<Kind>
 
 /// The kind of the call that is due, if one is. It takes no memory.
 pub(crate) fn due_kind(id: Option<VolumeId>, marks: Marks, goal: &Goal) -> Option<Kind>
-    ensures { (name : List ℕ) (arguments : ArgumentsShown) → result ≡ kind_due (due_with name arguments id marks goal.now) }
+    ensures { (name : List ℕ) (arguments : Arguments) → result ≡ kind_due (due_with name arguments id marks goal.now) }
 {
     match (goal, id) {
         (Goal::Create, _) => {
@@ -200,7 +199,7 @@ pub(crate) fn due_kind(id: Option<VolumeId>, marks: Marks, goal: &Goal) -> Optio
 
 /// Whether a call is due. It takes no memory.
 pub(crate) fn is_due(id: Option<VolumeId>, marks: Marks, goal: &Goal) -> bool
-    ensures { (name : List ℕ) (arguments : ArgumentsShown) → result ≡ is_some (due_with name arguments id marks goal.now) }
+    ensures { (name : List ℕ) (arguments : Arguments) → result ≡ is_some (due_with name arguments id marks goal.now) }
 {
     due_kind(id, marks, goal).is_some()
 }

@@ -2,9 +2,8 @@
 ghost use Rattle.std.specs.Prelude.{◌≡◌, Some, None, Ok, IsTrue, IfOk, IfErr, IsOk, OnOk, OnErr};
 ghost use Rattle.csi_types.specs.Call.{kind_of, is_party_of};
 ghost use Rattle.csi_types.specs.Replies.{call_frame};
-ghost use Rattle.csi_orchestrator.specs.History.{Arguments as ArgumentsShown};
 ghost use Rattle.csi_orchestrator.specs.Commands.{next_number as number_after};
-ghost use Rattle.csi_orchestrator.specs.Shown.{row_shown, arguments_shown, due_with, due_by};
+ghost use Rattle.csi_orchestrator.specs.Shown.{row_shown, due_with, due_by};
 ghost use Rattle.csi_orchestrator.specs.Found.{kind_due};
 ghost use Rattle.csi_orchestrator.specs.RowMoves.{IsRefusal};
 ghost use Rattle.csi_orchestrator.specs.CoreMoves.{due_for, outgoing_by, gone_on, with_entry_for, row_wants};
@@ -49,9 +48,9 @@ pub(crate) fn outgoing_as_known(
     marks: Marks,
     goal: &Goal,
 ) -> Result<Option<Outgoing>, OrchFault>
-    ensures ok { IfOk result (λ next. outgoing_by (due_with name.now (arguments_shown arguments.now) id marks goal.now) (number_after last) ≡ Ok next) }
-    ensures err { IfErr result (IsRefusal (outgoing_by (due_with name.now (arguments_shown arguments.now) id marks goal.now) (number_after last))) }
-    ensures quiet { due_with name.now (arguments_shown arguments.now) id marks goal.now ≡ None → IsOk result }
+    ensures ok { IfOk result (λ next. outgoing_by (due_with name.now arguments.now id marks goal.now) (number_after last) ≡ Ok next) }
+    ensures err { IfErr result (IsRefusal (outgoing_by (due_with name.now arguments.now id marks goal.now) (number_after last))) }
+    ensures quiet { due_with name.now arguments.now id marks goal.now ≡ None → IsOk result }
     ensures delete { goal.now ≡ Goal.Delete → IfErr result (λ fault. fault ≡ OrchFault.NoMemory → ⊥) }
 {
     let known = marks;
@@ -70,7 +69,7 @@ pub(crate) fn outgoing_as_known(
 
 /// The kind of the call that is due for this goal of the row, if one is. It takes no memory.
 pub(crate) fn kind_for(row: &Row, goal: &Goal) -> Option<Kind>
-    ensures { (arguments : ArgumentsShown) → result ≡ kind_due (due_for (row_shown row.now) arguments goal.now) }
+    ensures { (arguments : Arguments) → result ≡ kind_due (due_for (row_shown row.now) arguments goal.now) }
 {
     due_kind(row.id, known_for(row, goal), goal)
 }
@@ -82,8 +81,8 @@ pub(crate) fn outgoing_for(
     arguments: &Arguments,
     goal: &Goal,
 ) -> Result<Option<Outgoing>, OrchFault>
-    ensures ok { IfOk result (λ next. outgoing_by (due_for (row_shown row.now) (arguments_shown arguments.now) goal.now) (number_after last) ≡ Ok next) }
-    ensures err { IfErr result (IsRefusal (outgoing_by (due_for (row_shown row.now) (arguments_shown arguments.now) goal.now) (number_after last))) }
+    ensures ok { IfOk result (λ next. outgoing_by (due_for (row_shown row.now) arguments.now goal.now) (number_after last) ≡ Ok next) }
+    ensures err { IfErr result (IsRefusal (outgoing_by (due_for (row_shown row.now) arguments.now goal.now) (number_after last))) }
     ensures delete { goal.now ≡ Goal.Delete → IfErr result (λ fault. fault ≡ OrchFault.NoMemory → ⊥) }
 {
     let marks = known_for(row, goal);

@@ -1,7 +1,7 @@
 //! Why a command is refused, by the row of its volume: the first reason that holds.
 ghost use Rattle.std.specs.Prelude.{◌≡◌, length, map, nat_le, is_none};
 ghost use Rattle.csi_orchestrator.specs.Commands.{next_number as number_after};
-ghost use Rattle.csi_orchestrator.specs.Shown.{row_shown, usage_shown};
+ghost use Rattle.csi_orchestrator.specs.Shown.{row_shown};
 ghost use Rattle.csi_orchestrator.specs.RowMoves.{first_fault as first_refusal, again_fault as again_refusal, use_refusal, room_refusal, stop_refusal, delete_refusal, busy_refusal};
 ghost use Rattle.csi_orchestrator.specs.Found.{without_rows, with_last, with_rows};
 
@@ -62,7 +62,7 @@ pub(crate) fn again_fault(row: &Row, last: Number) -> Option<OrchFault>
 
 /// Why a use is refused, whether or not it is met already.
 pub(crate) fn use_fault(nodes: &[NodeId], usage: &Usage, row: &Row) -> Option<OrchFault>
-    ensures { result ≡ use_refusal nodes.now (usage_shown usage.now) (row_shown row.now) }
+    ensures { result ≡ use_refusal nodes.now usage.now (row_shown row.now) }
 {
     if !row.exists.is_yes() {
         return Some(OrchFault::NotCreated);
@@ -93,7 +93,7 @@ pub(crate) fn use_fault(nodes: &[NodeId], usage: &Usage, row: &Row) -> Option<Or
 
 /// Why a use that isn't met yet is refused.
 pub(crate) fn room_fault(last: Number, usage: &Usage, row: &Row) -> Option<OrchFault>
-    ensures { result ≡ room_refusal (with_last last) (usage_shown usage.now) (row_shown row.now) }
+    ensures { result ≡ room_refusal (with_last last) usage.now (row_shown row.now) }
 {
     if is_spent(last) {
         return Some(OrchFault::NumbersSpent);

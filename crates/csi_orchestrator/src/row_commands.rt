@@ -1,6 +1,6 @@
 //! What a command makes of the row of its name. A refusal changes nothing.
 ghost use Rattle.std.specs.Prelude.{◌≡◌, None, Ok, is_none, IfOk, IfErr, IsOk, OnErr};
-ghost use Rattle.csi_orchestrator.specs.Shown.{row_shown, arguments_shown, usage_shown};
+ghost use Rattle.csi_orchestrator.specs.Shown.{row_shown};
 ghost use Rattle.csi_orchestrator.specs.Found.{without_rows, with_last};
 ghost use Rattle.csi_orchestrator.specs.RowChanges.{new_row as new_row_shown, wanted_anew};
 ghost use Rattle.csi_orchestrator.specs.RowMoves.{IsRefusal, use_refusal, due_for_use};
@@ -30,8 +30,8 @@ pub(crate) fn begin(
     name: Name,
     arguments: Arguments,
 ) -> Result<Begun, OrchFault>
-    ensures ok { IfOk result (λ begun. row_goes_on last (new_row_shown name (arguments_shown arguments)) ≡ Ok (record { outgoing = begun.next; row = row_shown begun.row })) }
-    ensures err { IfErr result (IsRefusal (row_goes_on last (new_row_shown name (arguments_shown arguments)))) }
+    ensures ok { IfOk result (λ begun. row_goes_on last (new_row_shown name arguments) ≡ Ok (record { outgoing = begun.next; row = row_shown begun.row })) }
+    ensures err { IfErr result (IsRefusal (row_goes_on last (new_row_shown name arguments))) }
 {
     let mut row = new_row(alloc, name, arguments);
     let next = outgoing_for(last, &row, &row.arguments, &Goal::Create)?;
@@ -45,8 +45,8 @@ fn begin_again(
     last: Number,
     arguments: Arguments,
 ) -> Result<Option<Outgoing>, OrchFault>
-    ensures ok { IfOk result (λ next. row_goes_on last (wanted_anew (arguments_shown arguments) (row_shown row.old)) ≡ Ok (record { outgoing = next; row = row_shown row.new })) }
-    ensures err { IfErr result (IsRefusal (row_goes_on last (wanted_anew (arguments_shown arguments) (row_shown row.old)))) }
+    ensures ok { IfOk result (λ next. row_goes_on last (wanted_anew arguments (row_shown row.old)) ≡ Ok (record { outgoing = next; row = row_shown row.new })) }
+    ensures err { IfErr result (IsRefusal (row_goes_on last (wanted_anew arguments (row_shown row.old)))) }
     ensures stays { OnErr result (row_shown row.new ≡ row_shown row.old) }
 {
     let next = outgoing_for(last, row, &arguments, &Goal::Create)?;
@@ -61,8 +61,8 @@ pub(crate) fn create_again(
     last: Number,
     arguments: Arguments,
 ) -> Result<Option<Outgoing>, OrchFault>
-    ensures ok { IfOk result (λ next. row_creates (with_last last) (arguments_shown arguments) (row_shown row.old) ≡ Ok (record { outgoing = next; row = row_shown row.new })) }
-    ensures err { IfErr result (IsRefusal (row_creates (with_last last) (arguments_shown arguments) (row_shown row.old))) }
+    ensures ok { IfOk result (λ next. row_creates (with_last last) arguments (row_shown row.old) ≡ Ok (record { outgoing = next; row = row_shown row.new })) }
+    ensures err { IfErr result (IsRefusal (row_creates (with_last last) arguments (row_shown row.old))) }
     ensures stays { OnErr result (row_shown row.new ≡ row_shown row.old) }
 {
     if let Some(fault) = again_fault(row, last) {
@@ -112,7 +112,7 @@ pub(crate) fn use_row(
     ensures ok { IfOk result (λ next. row_uses (without_rows nodes.now last) usage (row_shown row.old) ≡ Ok (record { outgoing = next; row = row_shown row.new })) }
     ensures err { IfErr result (IsRefusal (row_uses (without_rows nodes.now last) usage (row_shown row.old))) }
     ensures stays { OnErr result (row_shown row.new ≡ row_shown row.old) }
-    ensures met { use_refusal nodes.now (usage_shown usage) (row_shown row.old) ≡ None → due_for_use usage (row_shown row.old) ≡ None → IsOk result }
+    ensures met { use_refusal nodes.now usage (row_shown row.old) ≡ None → due_for_use usage (row_shown row.old) ≡ None → IsOk result }
 {
     if let Some(fault) = use_fault(nodes, &usage, row) {
         return Err(fault);

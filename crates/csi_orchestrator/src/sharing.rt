@@ -5,7 +5,7 @@ ghost use Rattle.csi_types.specs.Same.{same_text, same_flag as is_same_flag, sam
 ghost use Rattle.csi_types.specs.Sharing.{is_single_writer, are_two_writers, allows_one_target as allows_one};
 ghost use Rattle.csi_orchestrator.specs.Thing.{is_no};
 ghost use Rattle.csi_orchestrator.specs.Commands.{is_for_one_node as is_one_node, is_second_writer as is_second, is_otherwise as is_other};
-ghost use Rattle.csi_orchestrator.specs.Shown.{row_shown, place_shown, usage_shown, place_of, mark_in, published_in, others_in, held_at};
+ghost use Rattle.csi_orchestrator.specs.Shown.{row_shown, place_shown, place_of, mark_in, published_in, others_in, held_at};
 ghost use Rattle.csi_orchestrator.specs.RowMoves.{is_so_elsewhere, is_place_otherwise, others_count as count_others};
 
 use crate::inner::{place_at, published_at};
@@ -53,7 +53,7 @@ pub(crate) fn is_capable(capabilities: &[Capability], wished: &Capability) -> bo
 
 // Whether one of the two modes is for one node.
 fn is_for_one_node(usage: &Usage, place: &Place) -> bool
-    ensures { result ≡ is_one_node (usage_shown usage.now) (held_at (place_shown place.now)) }
+    ensures { result ≡ is_one_node usage.now (held_at (place_shown place.now)) }
 {
     single_node(place.capability.mode) || single_node(usage.capability.mode)
 }
@@ -76,7 +76,7 @@ fn two_writers(mode: Mode, readonly: bool, other: Mode, other_readonly: bool) ->
 
 // Whether a use would be a second writer.
 fn is_second_writer(usage: &Usage, place: &Place) -> bool
-    ensures { result ≡ is_second (usage_shown usage.now) (held_at (place_shown place.now)) }
+    ensures { result ≡ is_second usage.now (held_at (place_shown place.now)) }
 {
     two_writers(
         place.capability.mode,
@@ -95,14 +95,14 @@ fn is_elsewhere(node: &NodeId, place: &Place) -> bool
 
 // Whether it may be attached at this other node, and one of the two modes is for one node.
 fn excludes(usage: &Usage, place: &Place) -> bool
-    ensures { result ≡ is_so_elsewhere (is_one_node (usage_shown usage.now)) usage.now.node (place_shown place.now) }
+    ensures { result ≡ is_so_elsewhere (is_one_node usage.now) usage.now.node (place_shown place.now) }
 {
     is_elsewhere(&usage.node, place) && is_for_one_node(usage, place)
 }
 
 /// Whether the volume may be attached at one of these places, of another node, and one of the two modes is for one node.
 pub(crate) fn is_held_elsewhere(places: &[Place], usage: &Usage) -> bool
-    ensures { result ≡ list_any (is_so_elsewhere (is_one_node (usage_shown usage.now)) usage.now.node) (map place_shown places.now) }
+    ensures { result ≡ list_any (is_so_elsewhere (is_one_node usage.now) usage.now.node) (map place_shown places.now) }
 {
     for place in places {
         if excludes(usage, place) {
@@ -114,7 +114,7 @@ pub(crate) fn is_held_elsewhere(places: &[Place], usage: &Usage) -> bool
 
 // Whether it may be attached at this other node, and the use would be a second writer.
 fn writes_beside(usage: &Usage, place: &Place) -> bool
-    ensures { result ≡ is_so_elsewhere (is_second (usage_shown usage.now)) usage.now.node (place_shown place.now) }
+    ensures { result ≡ is_so_elsewhere (is_second usage.now) usage.now.node (place_shown place.now) }
 {
     is_elsewhere(&usage.node, place) && is_second_writer(usage, place)
 }
@@ -122,7 +122,7 @@ fn writes_beside(usage: &Usage, place: &Place) -> bool
 /// Whether the volume may be attached at one of these places, of another node, both write, and one of the two modes has a
 /// single writer.
 pub(crate) fn is_written_elsewhere(places: &[Place], usage: &Usage) -> bool
-    ensures { result ≡ list_any (is_so_elsewhere (is_second (usage_shown usage.now)) usage.now.node) (map place_shown places.now) }
+    ensures { result ≡ list_any (is_so_elsewhere (is_second usage.now) usage.now.node) (map place_shown places.now) }
 {
     for place in places {
         if writes_beside(usage, place) {
@@ -134,7 +134,7 @@ pub(crate) fn is_written_elsewhere(places: &[Place], usage: &Usage) -> bool
 
 // Whether the volume is held so at the place.
 fn is_so(usage: &Usage, place: &Place) -> bool
-    ensures { not result ≡ is_other (usage_shown usage.now) (Some (held_at (place_shown place.now))) }
+    ensures { not result ≡ is_other usage.now (Some (held_at (place_shown place.now))) }
 {
     same_capability(&place.capability, &usage.capability)
         && same_flag(place.readonly, usage.readonly)
@@ -142,7 +142,7 @@ fn is_so(usage: &Usage, place: &Place) -> bool
 
 /// Whether the volume may be attached at this node with another capability or flag.
 pub(crate) fn is_held_otherwise(row: &Row, usage: &Usage) -> bool
-    ensures { result ≡ is_place_otherwise (usage_shown usage.now) (place_of (row_shown row.now) usage.now.node) }
+    ensures { result ≡ is_place_otherwise usage.now (place_of (row_shown row.now) usage.now.node) }
 {
     match place_at(row, &usage.node) {
         Some(place) => !place.attached.is_no() && !is_so(usage, place),

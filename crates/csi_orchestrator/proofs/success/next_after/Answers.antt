@@ -9,7 +9,7 @@ use Rattle.csi_orchestrator.specs.CoreMoves.{outgoing_by}
 use Rattle.csi_orchestrator.specs.Hearing.{marks_heard}
 use Rattle.csi_orchestrator.specs.RowChanges.{id_told}
 use Rattle.csi_orchestrator.specs.RowMoves.{IsRefusal}
-use Rattle.csi_orchestrator.specs.Shown.{row_shown, arguments_shown, due_with}
+use Rattle.csi_orchestrator.specs.Shown.{row_shown, due_with}
 use Rattle.csi_orchestrator.proofs.HeardRows.{due-after}
 use Rattle.csi_orchestrator.proofs.RowsGoOn.{none-due}
 use Rattle.csi_orchestrator.proofs.success.next_after.Goals as goal
@@ -19,8 +19,8 @@ returns-in-Some-clause-ok c =
     let row = c.args.row.now in
     let shown = row_shown row in
     subst (λ (due : Option Due). IfOk c.outgoing_as_known.result (λ next. outgoing_by due (next_number c.args.last) ≡ Ok next))
-    (ap (λ (id : Option ℕ). due_with row.name (arguments_shown row.arguments) id c.heard-marks.result c.in-Some.goal) c.id_heard-id.ensures
-    ∙ ap (λ (marks : Marks). due_with row.name (arguments_shown row.arguments) (option_or (id_told c.args.kind c.args.reply.now.id) row.id) marks c.in-Some.goal) (c.heard-marks.ensures ∙ ap (marks_heard c.args.kind) c.known_for.ensures)
+    (ap (λ (id : Option ℕ). due_with row.name row.arguments id c.heard-marks.result c.in-Some.goal) c.id_heard-id.ensures
+    ∙ ap (λ (marks : Marks). due_with row.name row.arguments (option_or (id_told c.args.kind c.args.reply.now.id) row.id) marks c.in-Some.goal) (c.heard-marks.ensures ∙ ap (marks_heard c.args.kind) c.known_for.ensures)
     ∙ sym (due-after shown c.args.kind c.args.reply.now.id c.in-Some.goal c.requires.kept c.requires.due c.in-Some.is))
     c.outgoing_as_known.ensures.ok
 
@@ -29,8 +29,8 @@ returns-in-Some-clause-err c =
     let row = c.args.row.now in
     let shown = row_shown row in
     subst (λ (due : Option Due). IfErr c.outgoing_as_known.result (λ fault. IsRefusal (outgoing_by due (next_number c.args.last)) fault))
-    (ap (λ (id : Option ℕ). due_with row.name (arguments_shown row.arguments) id c.heard-marks.result c.in-Some.goal) c.id_heard-id.ensures
-    ∙ ap (λ (marks : Marks). due_with row.name (arguments_shown row.arguments) (option_or (id_told c.args.kind c.args.reply.now.id) row.id) marks c.in-Some.goal) (c.heard-marks.ensures ∙ ap (marks_heard c.args.kind) c.known_for.ensures)
+    (ap (λ (id : Option ℕ). due_with row.name row.arguments id c.heard-marks.result c.in-Some.goal) c.id_heard-id.ensures
+    ∙ ap (λ (marks : Marks). due_with row.name row.arguments (option_or (id_told c.args.kind c.args.reply.now.id) row.id) marks c.in-Some.goal) (c.heard-marks.ensures ∙ ap (marks_heard c.args.kind) c.known_for.ensures)
     ∙ sym (due-after shown c.args.kind c.args.reply.now.id c.in-Some.goal c.requires.kept c.requires.due c.in-Some.is))
     c.outgoing_as_known.ensures.err
 
@@ -39,7 +39,7 @@ returns-in-Some-clause-quiet c = λ quiet.
     let row = c.args.row.now in
     let shown = row_shown row in
     c.outgoing_as_known.ensures.quiet
-    (ap (λ (id : Option ℕ). due_with row.name (arguments_shown row.arguments) id c.heard-marks.result c.in-Some.goal) c.id_heard-id.ensures
-    ∙ ap (λ (marks : Marks). due_with row.name (arguments_shown row.arguments) (option_or (id_told c.args.kind c.args.reply.now.id) row.id) marks c.in-Some.goal) (c.heard-marks.ensures ∙ ap (marks_heard c.args.kind) c.known_for.ensures)
+    (ap (λ (id : Option ℕ). due_with row.name row.arguments id c.heard-marks.result c.in-Some.goal) c.id_heard-id.ensures
+    ∙ ap (λ (marks : Marks). due_with row.name row.arguments (option_or (id_told c.args.kind c.args.reply.now.id) row.id) marks c.in-Some.goal) (c.heard-marks.ensures ∙ ap (marks_heard c.args.kind) c.known_for.ensures)
     ∙ sym (due-after shown c.args.kind c.args.reply.now.id c.in-Some.goal c.requires.kept c.requires.due c.in-Some.is)
     ∙ none-due _ (next_number c.args.last) quiet)

@@ -8,7 +8,7 @@ use Rattle.csi_types.specs.declared.call.Party.TheVariants.{Controller, Node}
 use Rattle.csi_types.specs.Replies.{ok_reply, ok_reply_with}
 use Rattle.csi_orchestrator.specs.declared.thing.Known.TheVariants.{Yes, No}
 use Rattle.csi_orchestrator.specs.Thing.{Issued}
-use Rattle.csi_orchestrator.specs.History.{Arguments, Usage, Held, Create, Use}
+use Rattle.csi_orchestrator.specs.History.{Held, Goal, Create, Use}
 use Rattle.csi_world.specs.Step.{Sends, Takes, Notes, Answers, frame_of}
 use Rattle.csi_world.specs.Rows.{v, n1, a, block, number}
 use Rattle.csi_world.proofs.rows.use_is_made_of_steps.Goals as goal
@@ -28,11 +28,11 @@ stage = issued 3 (Node n1) (calls.NodeStageVolume 1 block)
 abbrev publish : Issued
 publish = issued 4 (Node n1) (calls.NodePublishVolume 1 a block false)
 
-abbrev arguments : Arguments
-arguments = record { required = 10; limit = 0; capabilities = block ∷ [] }
+abbrev creation : Goal
+creation = Create (record { required = 10; limit = 0; capabilities = block ∷ [] })
 
-abbrev usage : Usage
-usage = record { node = n1; target = a; capability = block; readonly = false }
+abbrev use_there : Goal
+use_there = Use (record { node = n1; target = a; capability = block; readonly = false })
 
 abbrev here : Held
 here = record { capability = block; readonly = false }
@@ -47,8 +47,8 @@ pub returns : goal.returns
 returns c =
     record {
       choices =
-          Notes v (Some (Create arguments)) ∷ Sends create ∷ Answers (frame_of create) ∷ Takes create (ok_reply_with 1) ∷ Notes v None
-          ∷ Notes v (Some (Use usage)) ∷ Sends attach ∷ Answers (frame_of attach) ∷ Takes attach ok_reply
+          Notes v (Some creation) ∷ Sends create ∷ Answers (frame_of create) ∷ Takes create (ok_reply_with 1) ∷ Notes v None
+          ∷ Notes v (Some use_there) ∷ Sends attach ∷ Answers (frame_of attach) ∷ Takes attach ok_reply
           ∷ Sends stage ∷ Answers (frame_of stage) ∷ Takes stage ok_reply
           ∷ Sends publish ∷ Answers (frame_of publish) ∷ Takes publish ok_reply ∷ Notes v None ∷ [];
       may = (
