@@ -1,26 +1,16 @@
 -- What goes on for a row whose call is given up.
 use Rattle.std.proofs.Common.{◌≡◌, Bool, true, false, refl, sym, ◌∙◌, ap, subst}
-use Rattle.std.specs.Prelude.{Option, Some, None}
-use Rattle.csi_types.specs.declared.call.Call.{Call}
-use Rattle.csi_types.specs.declared.call.Kind.{Kind}
+use Rattle.std.specs.Prelude.{Option, Some}
 use Rattle.csi_types.specs.declared.number.Number.{Number}
-use Rattle.csi_types.specs.Call.{kind_of}
 use Rattle.csi_orchestrator.specs.declared.fault.OrchFault.{OrchFault}
 use Rattle.csi_orchestrator.specs.declared.row.Goal.{Goal}
 use Rattle.csi_orchestrator.specs.declared.row.Goal.TheVariants.{Create, Use, Stop, Delete}
 use Rattle.csi_orchestrator.specs.Commands.{next_number}
 use Rattle.csi_orchestrator.specs.Due.{Due}
-use Rattle.csi_orchestrator.specs.Found.{kind_due}
-use Rattle.csi_orchestrator.specs.Moves.{is_forward, is_forward_due}
 use Rattle.csi_orchestrator.specs.RowMoves.{IsRefusal}
 use Rattle.csi_orchestrator.specs.Shown.{RowShown, due_by, due_in}
 use Rattle.csi_orchestrator.specs.CoreMoves.{outgoing_by, is_given_up, goal_then, timed_out, row_times_out_with, row_times_out}
 use Rattle.csi_orchestrator.proofs.RowsGoOn.{goes-on-refused}
-
--- the call that is due leads to a use where its kind does
-pub forward-by-kind : (due : Option Due) (kind : Kind) (leads : Bool) → Some kind ≡ kind_due due → ((call : Call) → kind_of call ≡ kind → leads ≡ is_forward call) → leads ≡ is_forward_due due
-forward-by-kind None kind leads is by = cc
-forward-by-kind (Some due) kind leads is by = let same : kind_of due.call ≡ kind = cc in by due.call same
 
 -- the call that is due then, by the row before
 due-then : (row : RowShown) (goal : Goal) (gives_up : Bool) → row.goal ≡ Some goal → due_in (timed_out gives_up goal row) ≡ due_by row (Some (goal_then gives_up goal))
@@ -33,10 +23,10 @@ due-then row (Use usage) false own = ap (due_by row) own
 due-then row (Stop node target) false own = ap (due_by row) own
 due-then row Delete false own = ap (due_by row) own
 
-pub timeout-refused : (last : Number) (row : RowShown) (goal : Goal) (gives_up : Bool) (fault : OrchFault) → row.goal ≡ Some goal → gives_up ≡ is_given_up (due_by row (Some goal)) row
-    → IsRefusal (outgoing_by (due_by row (Some (goal_then gives_up goal))) (next_number last)) fault → IsRefusal (row_times_out last row) fault
-timeout-refused last row goal gives_up fault own is refused =
+pub timeout-refused : (last : Number) (row : RowShown) (goal : Goal) (gives_up : Bool) (due : Option Due) (fault : OrchFault) → row.goal ≡ Some goal → gives_up ≡ is_given_up (due_by row (Some goal)) row
+    → due ≡ due_by row (Some (goal_then gives_up goal)) → IsRefusal (outgoing_by due (next_number last)) fault → IsRefusal (row_times_out last row) fault
+timeout-refused last row goal gives_up due fault own is then refused =
     let given : is_given_up (due_in row) row ≡ gives_up = ap (λ g. is_given_up (due_by row g) row) own ∙ sym is in
     subst (λ g. IsRefusal (row_times_out_with last row g) fault) (sym own)
-    (goes-on-refused last (timed_out (is_given_up (due_in row) row) goal row) (due_by row (Some (goal_then gives_up goal))) fault
-    (due-then row goal (is_given_up (due_in row) row) own ∙ ap (λ b. due_by row (Some (goal_then b goal))) given) refused)
+    (goes-on-refused last (timed_out (is_given_up (due_in row) row) goal row) due fault
+    (due-then row goal (is_given_up (due_in row) row) own ∙ ap (λ b. due_by row (Some (goal_then b goal))) given ∙ sym then) refused)

@@ -31,7 +31,7 @@ use Rattle.csi_orchestrator.specs.RowChanges.{sent, succeeded, wanted}
 use Rattle.csi_orchestrator.specs.RowMoves.{Told, told, put, sends_as, goes_on, is_issued_as, stops_after, hears_refusal, hears_reply, row_replied, IsRefusal, IsToldAs}
 use Rattle.csi_orchestrator.specs.Found.{kind_due}
 use Rattle.csi_orchestrator.specs.CoreMoves.{outgoing_by, gone_on, frame_in, last_after}
-use Rattle.csi_orchestrator.specs.Hearing.{next_refused, next_heard, row_refused, row_heard}
+use Rattle.csi_orchestrator.specs.Hearing.{due_refused, next_heard, row_refused, row_heard}
 use Rattle.csi_orchestrator.specs.Kept.{IsKept, AreKept}
 use Rattle.csi_orchestrator.specs.Keyed.{put_by}
 use Rattle.csi_orchestrator.proofs.ChangedEntries.{find-place, find-none_placed}
@@ -81,12 +81,12 @@ goes-on-heard parts row (Some due) (Some number) = refl
 
 -- after another status
 Refused : Parts → RowShown → Kind → Option Goal → Type 0
-Refused parts row kind goal = hears_refusal parts row kind ≡ heard_by parts (λ next. row_refused next row goal) (next_refused (next_number parts.last) row goal)
+Refused parts row kind goal = hears_refusal parts row kind ≡ heard_by parts (λ next. row_refused next row goal) (outgoing_by (due_refused row goal) (next_number parts.last))
 
 stops-heard : (parts : Parts) (row : RowShown) (usage : Usage) → row.goal ≡ Some (Use usage)
-    → stops_after parts row row.goal ≡ heard_by parts (λ next. row_refused next row row.goal) (next_refused (next_number parts.last) row row.goal)
+    → stops_after parts row row.goal ≡ heard_by parts (λ next. row_refused next row row.goal) (outgoing_by (due_refused row row.goal) (next_number parts.last))
 stops-heard parts row usage goal =
-    subst (λ g. stops_after parts row g ≡ heard_by parts (λ next. row_refused next row g) (next_refused (next_number parts.last) row g)) (sym goal)
+    subst (λ g. stops_after parts row g ≡ heard_by parts (λ next. row_refused next row g) (outgoing_by (due_refused row g) (next_number parts.last))) (sym goal)
     (goes-on-heard parts (wanted (Stop usage.node usage.target) row) (due_in (wanted (Stop usage.node usage.target) row)) (next_number parts.last))
 
 refused-heard : (parts : Parts) (row : RowShown) (due : Due) → IsDueFor row due → Refused parts row (kind_of due.call) row.goal
@@ -115,7 +115,7 @@ reply-heard parts row kind reply is = by (is_ok_status reply.status)
   where
     by : (b : Bool) → cond b (goes_on parts hears (succeeded kind reply.id row)) (hears_refusal parts row kind)
         ≡ heard_by parts (λ next. cond b (gone_on next (succeeded kind reply.id row)) (row_refused next row row.goal))
-        (cond b (outgoing_by (due_in (succeeded kind reply.id row)) (next_number parts.last)) (next_refused (next_number parts.last) row row.goal))
+        (outgoing_by (cond b (due_in (succeeded kind reply.id row)) (due_refused row row.goal)) (next_number parts.last))
     by true = goes-on-heard parts (succeeded kind reply.id row) (due_in (succeeded kind reply.id row)) (next_number parts.last)
     by false = refused-by-kind parts row kind (due_in row) refl is
 

@@ -37,5 +37,4 @@ pub mod CalledRows
 pub mod MetUses
 pub mod GivenUp
 pub mod HeardRows
-pub mod DueParties
 pub mod HeardParts

@@ -1,15 +1,14 @@
 -- What a reply does to the row that it is to: which call is sent next, and what becomes of the row. This profile's own.
-use Rattle.std.specs.Prelude.{ℕ, List, Bool, false, not, ◌&&◌, Option, Some, None, if◌then◌else◌, Result, Ok}
+use Rattle.std.specs.Prelude.{ℕ, Bool, false, ◌&&◌, Option, Some, None, if◌then◌else◌, Result}
 use Rattle.std.specs.Option.{option_or}
 use Rattle.csi_types.specs.declared.number.Number.{Number}
 use Rattle.csi_types.specs.declared.call.Kind.{Kind}
 use Rattle.csi_types.specs.declared.call.Kind.TheVariants as kinds
 use Rattle.csi_types.specs.declared.call.Party.{Party}
-use Rattle.csi_types.specs.declared.call.Party.TheVariants.{Controller, Node}
 use Rattle.csi_types.specs.declared.reply.Reply.{Reply}
-use Rattle.csi_types.specs.Call.{kind_of, is_node_kind}
+use Rattle.csi_types.specs.Call.{kind_of}
 use Rattle.csi_types.specs.Reply.{is_ok_status}
-use Rattle.csi_types.specs.Same.{same_text, same_party, same_kind}
+use Rattle.csi_types.specs.Same.{same_party, same_kind}
 use Rattle.csi_orchestrator.specs.declared.fault.OrchFault.{OrchFault}
 use Rattle.csi_orchestrator.specs.declared.going_on.Outgoing.{Outgoing}
 use Rattle.csi_orchestrator.specs.declared.marks.Marks.{Marks}
@@ -20,18 +19,6 @@ use Rattle.csi_orchestrator.specs.Due.{Due}
 use Rattle.csi_orchestrator.specs.Shown.{RowShown, marks_for, due_with, due_by, due_in, closed}
 use Rattle.csi_orchestrator.specs.RowChanges.{succeeded, wanted, dropped, id_told}
 use Rattle.csi_orchestrator.specs.CoreMoves.{outgoing_by, gone_on}
-
--- the goal is for this node
-abbrev pub is_node_of : Goal → List ℕ → Bool
-is_node_of Create node = false
-is_node_of (Use usage) node = same_text usage.node node
-is_node_of (Stop own target) node = same_text own node
-is_node_of Delete node = false
-
--- calls of this kind for this goal are for this plugin
-abbrev pub is_to : Goal → Kind → Party → Bool
-is_to goal kind Controller = not (is_node_kind kind)
-is_to goal kind (Node id) = is_node_kind kind && is_node_of goal id
 
 -- the due call has this party and kind
 abbrev pub is_due_as : Party → Kind → Option Due → Bool
@@ -54,18 +41,18 @@ abbrev pub due_heard : Kind → Option ℕ → RowShown → Option Goal → Opti
 due_heard kind id row None = None
 due_heard kind id row (Some goal) = due_with row.name row.arguments (option_or (id_told kind id) row.id) (marks_heard kind (marks_for row goal)) goal
 
--- what is sent after a status other than OK: only a use that didn't come about is stopped
-abbrev pub next_refused : Option Number → RowShown → Option Goal → Result (Option Outgoing) OrchFault
-next_refused number row None = Ok None
-next_refused number row (Some Create) = Ok None
-next_refused number row (Some (Use usage)) = outgoing_by (due_by row (Some (Stop usage.node usage.target))) number
-next_refused number row (Some (Stop node target)) = Ok None
-next_refused number row (Some Delete) = Ok None
+-- the call that is sent after a status other than OK: only a use that didn't come about is stopped
+abbrev pub due_refused : RowShown → Option Goal → Option Due
+due_refused row None = None
+due_refused row (Some Create) = None
+due_refused row (Some (Use usage)) = due_by row (Some (Stop usage.node usage.target))
+due_refused row (Some (Stop node target)) = None
+due_refused row (Some Delete) = None
 
 -- what is sent after a reply
 abbrev pub next_heard : Kind → Reply → Option Number → RowShown → Result (Option Outgoing) OrchFault
 next_heard kind reply number row =
-    if is_ok_status reply.status then outgoing_by (due_in (succeeded kind reply.id row)) number else next_refused number row row.goal
+    outgoing_by (if is_ok_status reply.status then due_in (succeeded kind reply.id row) else due_refused row row.goal) number
 
 -- what becomes of the row after a status other than OK
 abbrev pub row_refused : Option Outgoing → RowShown → Option Goal → RowShown

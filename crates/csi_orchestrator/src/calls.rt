@@ -1,13 +1,19 @@
-//! The calls that lead to a use.
-ghost use Rattle.std.specs.Prelude.{◌≡◌, IfOk, IfErr};
+//! The call that is due, spelled.
+ghost use Rattle.std.specs.Prelude.{◌≡◌, None, IfOk, IfErr, IsOk};
+ghost use Rattle.std.specs.Option.{option_copied};
+ghost use Rattle.csi_types.specs.declared.call.Kind.TheVariants as kinds;
+ghost use Rattle.csi_types.specs.Call.{kind_of};
+ghost use Rattle.csi_types.specs.Replies.{call_frame};
 ghost use Rattle.csi_orchestrator.specs.declared.fault.OrchFault.{OrchFault as Fault};
+ghost use Rattle.csi_orchestrator.specs.Found.{node_due, party_at, call_due};
 
+use crate::due::Due;
 use crate::fault::OrchFault;
 use crate::row::{Arguments, Usage};
-use csi_types::{Call, Name, VolumeId};
+use csi_types::{Call, Frame, Name, NodeId, Number, Party, Target, VolumeId};
 
-/// CreateVolume by these arguments.
-pub(crate) fn create_call(name: &Name, arguments: &Arguments) -> Result<Call, OrchFault>
+// CreateVolume by these arguments.
+fn create_call(name: &Name, arguments: &Arguments) -> Result<Call, OrchFault>
     ensures ok { IfOk result (λ call. call ≡ Call.CreateVolume name.now arguments.now.required arguments.now.limit arguments.now.capabilities) }
     ensures err { IfErr result (λ fault. fault ≡ Fault.NoMemory) }
 {
@@ -21,8 +27,8 @@ pub(crate) fn create_call(name: &Name, arguments: &Arguments) -> Result<Call, Or
     })
 }
 
-/// ControllerPublishVolume for this use.
-pub(crate) fn attach_call(id: VolumeId, usage: &Usage) -> Result<Call, OrchFault>
+// ControllerPublishVolume for this use.
+fn attach_call(id: VolumeId, usage: &Usage) -> Result<Call, OrchFault>
     ensures ok { IfOk result (λ call. call ≡ Call.ControllerPublishVolume id usage.now.node usage.now.capability usage.now.readonly) }
     ensures err { IfErr result (λ fault. fault ≡ Fault.NoMemory) }
 {
@@ -36,8 +42,8 @@ pub(crate) fn attach_call(id: VolumeId, usage: &Usage) -> Result<Call, OrchFault
     })
 }
 
-/// NodeStageVolume for this use.
-pub(crate) fn stage_call(id: VolumeId, usage: &Usage) -> Result<Call, OrchFault>
+// NodeStageVolume for this use.
+fn stage_call(id: VolumeId, usage: &Usage) -> Result<Call, OrchFault>
     ensures ok { IfOk result (λ call. call ≡ Call.NodeStageVolume id usage.now.capability) }
     ensures err { IfErr result (λ fault. fault ≡ Fault.NoMemory) }
 {
@@ -45,8 +51,8 @@ pub(crate) fn stage_call(id: VolumeId, usage: &Usage) -> Result<Call, OrchFault>
     Ok(Call::NodeStageVolume { id, capability })
 }
 
-/// NodePublishVolume for this use.
-pub(crate) fn publish_call(id: VolumeId, usage: &Usage) -> Result<Call, OrchFault>
+// NodePublishVolume for this use.
+fn publish_call(id: VolumeId, usage: &Usage) -> Result<Call, OrchFault>
     ensures ok { IfOk result (λ call. call ≡ Call.NodePublishVolume id usage.now.target usage.now.capability usage.now.readonly) }
     ensures err { IfErr result (λ fault. fault ≡ Fault.NoMemory) }
 {
@@ -58,4 +64,66 @@ pub(crate) fn publish_call(id: VolumeId, usage: &Usage) -> Result<Call, OrchFaul
         capability,
         readonly: usage.readonly,
     })
+}
+
+// ControllerUnpublishVolume at this node.
+fn detach_call(id: VolumeId, node: &NodeId) -> Result<Call, OrchFault>
+    ensures ok { IfOk result (λ call. call ≡ Call.ControllerUnpublishVolume id node.now) }
+    ensures err { IfErr result (λ fault. fault ≡ Fault.NoMemory) }
+{
+    let node = node.clone()?;
+    Ok(Call::ControllerUnpublishVolume { id, node })
+}
+
+// NodeUnpublishVolume at this target.
+fn unpublish_call(id: VolumeId, target: &Target) -> Result<Call, OrchFault>
+    ensures ok { IfOk result (λ call. call ≡ Call.NodeUnpublishVolume id target.now) }
+    ensures err { IfErr result (λ fault. fault ≡ Fault.NoMemory) }
+{
+    let target = target.clone()?;
+    Ok(Call::NodeUnpublishVolume { id, target })
+}
+
+// The call, spelled. For a delete it takes no memory.
+fn call_of(due: &Due<'_>) -> Result<Call, OrchFault>
+    ensures ok { IfOk result (λ call. call ≡ call_due due.now) }
+    ensures err { IfErr result (λ fault. fault ≡ Fault.NoMemory) }
+    ensures delete { kind_of (call_due due.now) ≡ kinds.DeleteVolume → IsOk result }
+{
+    match due {
+        Due::Create { name, arguments } => create_call(name, arguments),
+        Due::Delete { id } => Ok(Call::DeleteVolume { id: *id }),
+        Due::Attach { id, usage } => attach_call(*id, usage),
+        Due::Detach { id, node } => detach_call(*id, node),
+        Due::Stage { id, usage } => stage_call(*id, usage),
+        Due::Unstage { id, .. } => Ok(Call::NodeUnstageVolume { id: *id }),
+        Due::Publish { id, usage } => publish_call(*id, usage),
+        Due::Unpublish { id, target, .. } => unpublish_call(*id, target),
+    }
+}
+
+// The plugin at this node, or else the controller, for which it takes no memory.
+fn party_of(node: Option<&NodeId>) -> Result<Party, OrchFault>
+    ensures ok { IfOk result (λ party. party ≡ party_at (option_copied node.entry)) }
+    ensures err { IfErr result (λ fault. fault ≡ Fault.NoMemory) }
+    ensures controller { node.entry ≡ None → IsOk result }
+{
+    match node {
+        Some(node) => {
+            let node = node.clone()?;
+            Ok(Party::Node(node))
+        }
+        None => Ok(Party::Controller),
+    }
+}
+
+/// The frame of the call under this number. For a delete it takes no memory.
+pub(crate) fn frame_of(number: Number, due: &Due<'_>) -> Result<Frame, OrchFault>
+    ensures ok { IfOk result (λ frame. frame ≡ call_frame number (party_at (node_due due.now)) (call_due due.now)) }
+    ensures err { IfErr result (λ fault. fault ≡ Fault.NoMemory) }
+    ensures delete { kind_of (call_due due.now) ≡ kinds.DeleteVolume → IsOk result }
+{
+    let party = party_of(due.node())?;
+    let call = call_of(due)?;
+    Ok(Frame::call(number, party, call).unwrap())
 }

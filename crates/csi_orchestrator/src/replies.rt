@@ -1,5 +1,5 @@
 //! What becomes of a frame that came: a reply to an open call is taken, and all else is ignored.
-ghost use Rattle.std.specs.Prelude.{◌≡◌, ◌&&◌, Option, Ok, Err, Some, None, IfOk, IfErr, OnErr, IsOk, map, position};
+ghost use Rattle.std.specs.Prelude.{◌≡◌, ◌&&◌, Option, Ok, Err, Some, None, option_map, IfOk, IfErr, OnErr, IsOk, map, position};
 ghost use Rattle.csi_types.specs.Same.{same_number as is_same_number, same_kind as is_same_kind};
 ghost use Rattle.csi_orchestrator.specs.declared.fault.OrchFault.{OrchFault as Fault};
 ghost use Rattle.csi_orchestrator.specs.declared.fault.Heard.TheVariants.{Ignored as IsIgnored};
@@ -7,20 +7,19 @@ ghost use Rattle.csi_orchestrator.specs.Commands.{next_number as number_after};
 ghost use Rattle.csi_orchestrator.specs.Moves.{Comes, Hears, hears};
 ghost use Rattle.csi_orchestrator.specs.Shown.{row_shown, due_in, due_by, open_in_row};
 ghost use Rattle.csi_orchestrator.specs.RowMoves.{is_issued_as, hears_reply, row_replied, row_moves, IsRefusal, IsToldAs};
-ghost use Rattle.csi_orchestrator.specs.Found.{kind_due};
-ghost use Rattle.csi_orchestrator.specs.Hearing.{is_node_of, is_to as is_to_told, is_due_as as is_told_as, next_refused, next_heard as next_told, row_refused, row_heard};
+ghost use Rattle.csi_orchestrator.specs.Found.{due_shown, kind_due};
+ghost use Rattle.csi_orchestrator.specs.Hearing.{is_due_as as is_told_as, due_refused as due_then, next_heard as next_told, row_refused, row_heard};
 ghost use Rattle.csi_orchestrator.specs.Kept.{IsKept, AreKept};
 ghost use Rattle.csi_orchestrator.specs.Core.{parts_of};
 
 use crate::changes::{close, drop_goal, stop_use, succeed};
-use crate::due::due_kind;
+use crate::due::Due;
 use crate::fault::{Heard, OrchFault};
-use crate::going_on::{Outgoing, go_on, outgoing_to_stop};
+use crate::going_on::{Outgoing, due_at, due_to_stop, go_on, outgoing_for};
 use crate::inner::Core;
-use crate::marks::known_for;
 use crate::row::{Goal, Row};
-use crate::success::next_after;
-use csi_types::{Body, Frame, Kind, NodeId, Number, Party, Reply, Status};
+use crate::success::due_after;
+use csi_types::{Body, Frame, Kind, Number, Party, Reply, Status};
 
 // Whether the two are the same.
 fn same_number(a: Number, b: Number) -> bool
@@ -36,33 +35,12 @@ fn same_kind(a: Kind, b: Kind) -> bool
     a == b
 }
 
-// Whether the goal is for this node.
-fn is_at(goal: &Goal, node: &NodeId) -> bool
-    ensures { result ≡ is_node_of goal.now node.now }
-{
-    match goal {
-        Goal::Use(usage) => usage.node == *node,
-        Goal::Stop { node: own, .. } => *own == *node,
-        Goal::Create | Goal::Delete => false,
-    }
-}
-
-// Whether calls of this kind for the goal are for this plugin.
-fn is_to(goal: &Goal, kind: Kind, party: &Party) -> bool
-    ensures { result ≡ is_to_told goal.now kind party.now }
-{
-    match party {
-        Party::Controller => kind.is_for(party),
-        Party::Node(node) => kind.is_for(party) && is_at(goal, node),
-    }
-}
-
 // Whether the call that is due for this goal of the row is for this plugin, and of this kind.
 fn is_due_for(row: &Row, goal: &Goal, party: &Party, kind: Kind) -> bool
     ensures { result ≡ is_told_as party.now kind (due_by (row_shown row.now) (Some goal.now)) }
 {
-    match due_kind(row.id, known_for(row, goal), goal) {
-        Some(due) => is_to(goal, due, party) && same_kind(due, kind),
+    match due_at(row, goal) {
+        Some(due) => due.is_for(party) && same_kind(due.kind(), kind),
         None => false,
     }
 }
@@ -95,15 +73,13 @@ fn index_replied(rows: &[Row], number: Number, party: &Party, kind: Kind) -> Opt
         .position(|row| is_replied(row, number, party, kind))
 }
 
-// The next call for the row once its due call had another status than `Ok`. Where none is sent it takes no memory.
-fn next_otherwise(last: Number, row: &Row) -> Result<Option<Outgoing>, OrchFault>
-    ensures ok { IfOk result (λ next. next_refused (number_after last) (row_shown row.now) row.now.goal ≡ Ok next) }
-    ensures err { IfErr result (IsRefusal (next_refused (number_after last) (row_shown row.now) row.now.goal)) }
-    ensures quiet { next_refused (number_after last) (row_shown row.now) row.now.goal ≡ Ok None → IsOk result }
+// The call that is due for the row once its due call had another status than `Ok`: only a use that didn't come about is stopped.
+fn due_refused(row: &Row) -> Option<Due<'_>>
+    ensures { option_map due_shown result ≡ due_then (row_shown row.now) row.now.goal }
 {
     match &row.goal {
-        Some(Goal::Use(usage)) => outgoing_to_stop(last, row, &usage.node, &usage.target),
-        Some(Goal::Create | Goal::Stop { .. } | Goal::Delete) | None => Ok(None),
+        Some(Goal::Use(usage)) => due_to_stop(row, &usage.node, &usage.target),
+        Some(Goal::Create | Goal::Stop { .. } | Goal::Delete) | None => None,
     }
 }
 
@@ -121,8 +97,8 @@ fn next_heard(
     ensures quiet { next_told kind reply.now (number_after last) (row_shown row.now) ≡ Ok None → IsOk result }
 {
     match reply.status {
-        Status::Ok => next_after(last, row, kind, reply),
-        _ => next_otherwise(last, row),
+        Status::Ok => outgoing_for(last, &due_after(row, kind, reply)),
+        _ => outgoing_for(last, &due_refused(row)),
     }
 }
 

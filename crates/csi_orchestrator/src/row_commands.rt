@@ -7,9 +7,9 @@ ghost use Rattle.csi_orchestrator.specs.RowMoves.{IsRefusal, use_refusal, due_fo
 ghost use Rattle.csi_orchestrator.specs.CoreMoves.{row_goes_on, row_creates, row_use_or_met, row_uses, row_stops, row_delete_or_met, row_deletes};
 
 use crate::changes::{new_row, want_anew};
-use crate::due::is_due;
+use crate::due::create_due;
 use crate::fault::OrchFault;
-use crate::going_on::{Outgoing, go_on, outgoing_for, pursue};
+use crate::going_on::{Outgoing, due_at, go_on, outgoing_for, pursue};
 use crate::marks::known_for;
 use crate::refusals::{again_fault, busy_fault, delete_fault, room_fault, stop_fault, use_fault};
 use crate::row::{Arguments, Goal, Row, Usage};
@@ -34,7 +34,7 @@ pub(crate) fn begin(
     ensures err { IfErr result (IsRefusal (row_goes_on last (new_row_shown name arguments))) }
 {
     let mut row = new_row(alloc, name, arguments);
-    let next = outgoing_for(last, &row, &row.arguments, &Goal::Create)?;
+    let next = outgoing_for(last, &due_at(&row, &Goal::Create))?;
     go_on(&mut row, &next);
     Ok(Begun { row, next })
 }
@@ -49,7 +49,8 @@ fn begin_again(
     ensures err { IfErr result (IsRefusal (row_goes_on last (wanted_anew arguments (row_shown row.old)))) }
     ensures stays { OnErr result (row_shown row.new ≡ row_shown row.old) }
 {
-    let next = outgoing_for(last, row, &arguments, &Goal::Create)?;
+    let due = create_due(&row.name, &arguments, known_for(row, &Goal::Create));
+    let next = outgoing_for(last, &due)?;
     want_anew(row, arguments);
     go_on(row, &next);
     Ok(next)
@@ -75,7 +76,7 @@ pub(crate) fn create_again(
 fn is_met(row: &Row, goal: &Goal) -> bool
     ensures { (usage : Usage) → goal.now ≡ Goal.Use usage → result ≡ is_none (due_for_use usage (row_shown row.now)) }
 {
-    !is_due(row.id, known_for(row, goal), goal)
+    due_at(row, goal).is_none()
 }
 
 // A use, where nothing refuses it. It may be so already: then it takes no memory.

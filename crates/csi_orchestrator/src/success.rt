@@ -1,21 +1,17 @@
-//! Which call is sent after a success.
-ghost use Rattle.std.specs.Prelude.{◌≡◌, Ok, Some, None, IfOk, IfErr, IsOk};
+//! Which call is due after a success.
+ghost use Rattle.std.specs.Prelude.{◌≡◌, Some, option_map};
 ghost use Rattle.std.specs.Option.{option_or};
-ghost use Rattle.csi_orchestrator.specs.Commands.{next_number as number_after};
 ghost use Rattle.csi_orchestrator.specs.Shown.{row_shown, due_in};
 ghost use Rattle.csi_orchestrator.specs.RowChanges.{id_told, succeeded};
-ghost use Rattle.csi_orchestrator.specs.RowMoves.{IsRefusal};
-ghost use Rattle.csi_orchestrator.specs.Found.{kind_due};
+ghost use Rattle.csi_orchestrator.specs.Found.{due_shown, kind_due};
 ghost use Rattle.csi_orchestrator.specs.Hearing.{marks_heard};
-ghost use Rattle.csi_orchestrator.specs.CoreMoves.{outgoing_by};
 ghost use Rattle.csi_orchestrator.specs.Kept.{IsKept};
 
-use crate::fault::OrchFault;
-use crate::going_on::{Outgoing, outgoing_as_known};
+use crate::due::{Due, due_for};
 use crate::marks::{Marks, known_for};
 use crate::row::Row;
 use crate::thing::Known;
-use csi_types::{Kind, Number, Reply, VolumeId};
+use csi_types::{Kind, Reply, VolumeId};
 
 // What is known once the call of this kind that was due succeeded.
 fn heard(marks: Marks, kind: Kind) -> Marks
@@ -67,25 +63,18 @@ fn id_heard(row: &Row, kind: Kind, reply: &Reply) -> Option<VolumeId>
     }
 }
 
-/// The next call for the row, once its due call of this kind succeeded with this reply. Where none is due it takes no memory.
-pub(crate) fn next_after(
-    last: Number,
-    row: &Row,
-    kind: Kind,
-    reply: &Reply,
-) -> Result<Option<Outgoing>, OrchFault>
+/// The call that is due for the row once its due call of this kind succeeded with this reply.
+pub(crate) fn due_after<'a>(row: &'a Row, kind: Kind, reply: &Reply) -> Option<Due<'a>>
     requires kept { IsKept (row_shown row.now) }
     requires due { kind_due (due_in (row_shown row.now)) ≡ Some kind }
-    ensures ok { IfOk result (λ next. outgoing_by (due_in (succeeded kind reply.now.id (row_shown row.now))) (number_after last) ≡ Ok next) }
-    ensures err { IfErr result (IsRefusal (outgoing_by (due_in (succeeded kind reply.now.id (row_shown row.now))) (number_after last))) }
-    ensures quiet { outgoing_by (due_in (succeeded kind reply.now.id (row_shown row.now))) (number_after last) ≡ Ok None → IsOk result }
+    ensures { option_map due_shown result ≡ due_in (succeeded kind reply.now.id (row_shown row.now)) }
 {
     match &row.goal {
         Some(goal) => {
             let id = id_heard(row, kind, reply);
             let marks = heard(known_for(row, goal), kind);
-            outgoing_as_known(last, &row.name, &row.arguments, id, marks, goal)
+            due_for(&row.name, &row.arguments, id, marks, goal)
         }
-        None => Ok(None),
+        None => None,
     }
 }

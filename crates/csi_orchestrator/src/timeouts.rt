@@ -1,66 +1,38 @@
 //! Timeouts: the open call of a volume is given up, and what is due then is sent.
-ghost use Rattle.std.specs.Prelude.{◌≡◌, Ok, Some, IfOk, IfErr, OnErr};
+ghost use Rattle.std.specs.Prelude.{◌≡◌, Ok, Some, option_map, IfOk, IfErr, OnErr};
 ghost use Rattle.csi_orchestrator.specs.declared.row.Goal.{Goal as GoalShown};
 ghost use Rattle.csi_orchestrator.specs.Core.{parts_of};
-ghost use Rattle.csi_orchestrator.specs.Commands.{next_number as number_after};
-ghost use Rattle.csi_orchestrator.specs.CoreMoves.{outgoing_by, is_given_up as gives_up, goal_then, timed_out, row_times_out};
-ghost use Rattle.csi_orchestrator.specs.Moves.{TimesOut, Sends, is_forward_due as leads_on};
-ghost use Rattle.csi_orchestrator.specs.RowChanges.{stopped_goal};
+ghost use Rattle.csi_orchestrator.specs.Found.{due_shown};
+ghost use Rattle.csi_orchestrator.specs.CoreMoves.{is_given_up as gives_up, goal_then, timed_out, row_times_out};
+ghost use Rattle.csi_orchestrator.specs.Moves.{TimesOut, Sends};
 ghost use Rattle.csi_orchestrator.specs.RowMoves.{IsRefusal, row_moves};
 ghost use Rattle.csi_orchestrator.specs.Shown.{row_shown, due_by};
 
 use crate::changes::{close, stop_use};
-use crate::due::is_forward;
+use crate::due::Due;
 use crate::fault::OrchFault;
-use crate::going_on::{Outgoing, go_on, kind_for, outgoing_for, outgoing_to_stop};
+use crate::going_on::{Outgoing, due_at, due_to_stop, go_on, outgoing_for};
 use crate::inner::{Core, row_index};
 use crate::row::{Goal, Row};
 use csi_types::{Frame, Name, Number};
-
-// Whether the call that is due for this goal leads to a use.
-fn is_forward_due(row: &Row, goal: &Goal) -> bool
-    ensures { result ≡ leads_on (due_by (row_shown row.now) (Some goal.now)) }
-{
-    match kind_for(row, goal) {
-        Some(kind) => is_forward(kind),
-        None => false,
-    }
-}
 
 // Whether the call that is due for this goal leads to a use, and was tried three times.
 fn is_given_up(row: &Row, goal: &Goal) -> bool
     ensures { result ≡ gives_up (due_by (row_shown row.now) (Some goal.now)) (row_shown row.now) }
 {
-    is_forward_due(row, goal) && row.tries == 3
-}
-
-// The call to send where this goal of the row is given up: a use is stopped.
-fn outgoing_after(last: Number, row: &Row, goal: &Goal) -> Result<Option<Outgoing>, OrchFault>
-    ensures ok { IfOk result (λ next. outgoing_by (due_by (row_shown row.now) (Some (stopped_goal goal.now))) (number_after last) ≡ Ok next) }
-    ensures err { IfErr result (IsRefusal (outgoing_by (due_by (row_shown row.now) (Some (stopped_goal goal.now))) (number_after last))) }
-{
-    match goal {
-        Goal::Use(usage) => outgoing_to_stop(last, row, &usage.node, &usage.target),
-        Goal::Create | Goal::Stop { .. } | Goal::Delete => {
-            outgoing_for(last, row, &row.arguments, goal)
-        }
+    match due_at(row, goal) {
+        Some(due) => due.is_forward() && row.tries == 3,
+        None => false,
     }
 }
 
-// The call to send after a timeout: for the goal, or for what becomes of it where it is given up.
-fn outgoing_then(
-    last: Number,
-    row: &Row,
-    goal: &Goal,
-    is_given_up: bool,
-) -> Result<Option<Outgoing>, OrchFault>
-    ensures ok { IfOk result (λ next. outgoing_by (due_by (row_shown row.now) (Some (goal_then is_given_up goal.now))) (number_after last) ≡ Ok next) }
-    ensures err { IfErr result (IsRefusal (outgoing_by (due_by (row_shown row.now) (Some (goal_then is_given_up goal.now))) (number_after last))) }
+// The call that is due after a timeout: for the goal, or, where it is given up, for the stop of a use.
+fn due_then<'a>(row: &'a Row, goal: &'a Goal, is_given_up: bool) -> Option<Due<'a>>
+    ensures { option_map due_shown result ≡ due_by (row_shown row.now) (Some (goal_then is_given_up goal.now)) }
 {
-    if is_given_up {
-        outgoing_after(last, row, goal)
-    } else {
-        outgoing_for(last, row, &row.arguments, goal)
+    match goal {
+        Goal::Use(usage) if is_given_up => due_to_stop(row, &usage.node, &usage.target),
+        _ => due_at(row, goal),
     }
 }
 
@@ -85,7 +57,7 @@ fn time_out(row: &mut Row, last: Number) -> Result<Option<Outgoing>, OrchFault>
         return Err(OrchFault::Idle);
     };
     let is_given_up = is_given_up(row, goal);
-    let next = outgoing_then(last, row, goal, is_given_up)?;
+    let next = outgoing_for(last, &due_then(row, goal, is_given_up))?;
     set_aside(row, is_given_up);
     go_on(row, &next);
     Ok(next)
