@@ -1,0 +1,153 @@
+//! The words of the command line.
+ghost use Rattle.std.specs.Prelude.{◌≡◌, IfOk, IfErr, map, option_map, is_some, string_bytes, true};
+ghost use Rattle.clap.specs.Words.{app_of, first_of, found_of, kind_of, rows_of, subcommand_of, subcommand_rows_of, takes};
+ghost use Rattle.clap.specs.declared.error.kind.ErrorKind.TheVariants.{OutOfMemory};
+ghost use Rattle.csi_words.specs.Words.{command_entered, command_in as named_in, controller_in, node_in, on_file_in, ending_of as ending_by, named_by, on_files, read, program as all_words, with_file_command as with_one_more, with_store_command as with_two_more};
+
+use clap::error::ErrorKind;
+use clap::{Arg, ArgMatches, Command, Error};
+use csi_commands::{Ending, FileCommand};
+use std::alloc::{AllocError, Global};
+
+/// What the words name: a command, with the texts behind it.
+#[derive(Clone, Copy, Debug, PartialEq, Eq)]
+pub enum CommandLine<'a> {
+    /// `answer FILE`, `show FILE` and `run FILE`: what is done, and the path of the file.
+    File(FileCommand, &'a str),
+    /// `controller DB CONFIG`: the paths of the store and of the file of the configuration.
+    Controller { store: &'a str, config: &'a str },
+    /// `node DB ID`: the path of the store, and the node's id, of which nothing is asked yet.
+    Node { store: &'a str, id: &'a str },
+}
+
+// The program with one command more, which reads a file.
+fn with_file_command<'a>(
+    alloc: Global,
+    program: Command<'a>,
+    name: &'a str,
+) -> Result<Command<'a>, AllocError>
+    ensures { IfOk result (λ command. app_of command ≡ with_one_more (app_of program.entry) name.entry.now) }
+{
+    let file = Arg::new(alloc, "FILE").required(true);
+    let command = Command::new(alloc, name).arg(file)?;
+    program.subcommand(command)
+}
+
+// The program with one command more, which serves a plugin: its store, and another word.
+fn with_store_command<'a>(
+    alloc: Global,
+    program: Command<'a>,
+    name: &'a str,
+    second: &'a str,
+) -> Result<Command<'a>, AllocError>
+    ensures { IfOk result (λ command. app_of command ≡ with_two_more (app_of program.entry) name.entry.now second.entry.now) }
+{
+    let store = Arg::new(alloc, "DB").required(true);
+    let other = Arg::new(alloc, second).required(true);
+    let one = Command::new(alloc, name).arg(store)?;
+    let command = one.arg(other)?;
+    program.subcommand(command)
+}
+
+// The program with its commands on a file.
+fn with_file_commands<'a>(alloc: Global) -> Result<Command<'a>, AllocError>
+    ensures { IfOk result (λ command. app_of command ≡ on_files) }
+{
+    let bare = Command::new(alloc, "csi-replay").subcommand_required(true);
+    let one = with_file_command(alloc, bare, "answer")?;
+    let two = with_file_command(alloc, one, "show")?;
+    with_file_command(alloc, two, "run")
+}
+
+// What the words mean to `clap`.
+fn matches_of<'a>(alloc: Global, words: &'a [String]) -> Result<ArgMatches<'a>, Error>
+    ensures read { IfOk result (λ matches. subcommand_rows_of matches ≡ subcommand_of all_words (map string_bytes words.entry.now)) }
+    ensures refused { IfErr result (λ error. takes all_words (map string_bytes words.entry.now) ≡ true → kind_of error ≡ OutOfMemory) }
+{
+    let three = with_file_commands(alloc)?;
+    let four = with_store_command(alloc, three, "controller", "CONFIG")?;
+    let program = with_store_command(alloc, four, "node", "ID")?;
+    program.try_get_matches_from(words)
+}
+
+// The ending where words are refused so.
+fn ending_of(kind: ErrorKind) -> Ending
+    ensures { result ≡ ending_by kind }
+{
+    match kind {
+        ErrorKind::OutOfMemory => Ending::Memory,
+        _ => Ending::Usage,
+    }
+}
+
+// The first text of the word that is called so.
+fn word<'a>(matches: &ArgMatches<'a>, id: &str) -> Option<&'a str>
+    ensures { option_map (λ text. text.now) result ≡ first_of id.now (rows_of (found_of matches.now)) }
+{
+    matches.get_str(id)
+}
+
+// A command on a file, and the path of its file.
+fn on_file<'a>(matches: &ArgMatches<'a>, command: FileCommand) -> Option<CommandLine<'a>>
+    ensures { option_map named_by result ≡ on_file_in command (rows_of (found_of matches.now)) }
+{
+    let path = word(matches, "FILE")?;
+    Some(CommandLine::File(command, path))
+}
+
+// The controller's store and configuration.
+fn controller<'a>(matches: &ArgMatches<'a>) -> Option<CommandLine<'a>>
+    ensures { option_map named_by result ≡ controller_in (rows_of (found_of matches.now)) }
+{
+    let store = word(matches, "DB")?;
+    let config = word(matches, "CONFIG")?;
+    Some(CommandLine::Controller { store, config })
+}
+
+// The node's store and id.
+fn node<'a>(matches: &ArgMatches<'a>) -> Option<CommandLine<'a>>
+    ensures { option_map named_by result ≡ node_in (rows_of (found_of matches.now)) }
+{
+    let store = word(matches, "DB")?;
+    let id = word(matches, "ID")?;
+    Some(CommandLine::Node { store, id })
+}
+
+// The command of this name, with its words.
+fn command_of<'a>(name: &str, matches: &ArgMatches<'a>) -> Option<CommandLine<'a>>
+    ensures { option_map named_by result ≡ named_in name.now (rows_of (found_of matches.now)) }
+{
+    match name {
+        "answer" => on_file(matches, FileCommand::Answer),
+        "show" => on_file(matches, FileCommand::Show),
+        "run" => on_file(matches, FileCommand::Run),
+        "controller" => controller(matches),
+        "node" => node(matches),
+        _ => None,
+    }
+}
+
+// The command that was entered, with its words.
+fn command_in<'a>(matches: &ArgMatches<'a>) -> Option<CommandLine<'a>>
+    ensures { option_map named_by result ≡ command_entered (subcommand_rows_of matches.now) }
+{
+    let (name, command) = matches.subcommand()?;
+    command_of(name, command)
+}
+
+/// The command that the words name, with the texts behind it; `words` begins with the program's own name. `Usage` for all other
+/// words, a call for help among them, and `Memory` where an allocation was refused. Nothing is asked of the texts.
+pub fn parse<'a>(alloc: Global, words: &'a [String]) -> Result<CommandLine<'a>, Ending>
+    ensures read { IfOk result (λ line. read (map string_bytes words.entry.now) ≡ Some (named_by line)) }
+    ensures refused { IfErr result (λ ending. is_some (read (map string_bytes words.entry.now)) ≡ true
+        → takes all_words (map string_bytes words.entry.now) ≡ true → ending ≡ Ending.Memory) }
+{
+    let matches = match matches_of(alloc, words) {
+        Ok(matches) => matches,
+        Err(error) => return Err(ending_of(error.kind())),
+    };
+    match command_in(&matches) {
+        Some(line) => Ok(line),
+        None => Err(Ending::Usage),
+    }
+}
