@@ -13,6 +13,7 @@ use sqlite::{Alter, Connection, Error, ErrorCode};
 use std::alloc::Global;
 
 mod changing;
+mod file;
 mod reading;
 
 use changing::change_at_once;
