@@ -1,0 +1,23 @@
+//! A plugin, served.
+ghost use Rattle.csi_serving.specs.Stores.{store};
+ghost use Rattle.csi_plugins.specs.Service.{IsServed, streams};
+
+use crate::ending::ending_of_serving;
+use csi_commands::Ending;
+use csi_serving::{Core, Counted, Keep, serve};
+use std::alloc::Global;
+use std::io::{Read, Write};
+
+/// Serves the reader's frames by this core over its store, each reply written after its commit, and answers how the process of
+/// the plugin ends.
+pub fn served<C: Core, K: Keep, R: Read, W: Write>(
+    alloc: Global,
+    core: C,
+    keep: &mut K,
+    reader: &mut Counted<R>,
+    writer: &mut Counted<W>,
+) -> Ending
+    ensures { IsServed C.answers C.parts_of core (store K.is_honest K.holds K.leaves K.fits K.fault_count keep.old) (store K.is_honest K.holds K.leaves K.fits K.fault_count keep.new) (streams R.remaining W.contents reader.old reader.new writer.old writer.new) result }
+{
+    ending_of_serving(serve(alloc, core, keep, reader, writer))
+}
