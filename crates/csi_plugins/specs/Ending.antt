@@ -15,6 +15,11 @@ ending_of_store NoMemory = endings.Memory
 ending_of_store (BadRecord place) = endings.RecordFault place
 ending_of_store Full = endings.Device
 
+-- where there is no store to be asked
+abbrev pub ending_unopened : KeepFault → Ending
+ending_unopened NoMemory = endings.Memory
+ending_unopened _ = endings.StoreNotOpened
+
 abbrev pub ending_of_kind : ServeFaultKind → Ending
 ending_of_kind kinds.Input = endings.Device
 ending_of_kind kinds.Output = endings.Device

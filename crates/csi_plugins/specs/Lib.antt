@@ -1,3 +1,4 @@
 pub mod Ending
 pub mod Asked
 pub mod Service
+pub mod Running

@@ -1,19 +1,30 @@
 //! How a plugin's process ends.
 ghost use Rattle.std.specs.Prelude.{◌≡◌};
-ghost use Rattle.csi_plugins.specs.Ending.{ending_of_store as by_store, ending_of_kind as by_kind, ending_of_serving as by_serving};
+ghost use Rattle.csi_plugins.specs.Ending.{ending_of_store as by_store, ending_unopened as by_opening, ending_of_kind as by_kind, ending_of_serving as by_serving};
 
 use csi_commands::Ending;
 use csi_serving::{KeepFault, ServeFault, ServeFaultKind, Served};
 
 /// The ending where the store of a plugin refuses so: a device that fails, or is full; want of memory; or the first part that
 /// is none of the plugin's record.
-pub fn ending_of_store(fault: KeepFault) -> Ending
+pub(crate) fn ending_of_store(fault: KeepFault) -> Ending
     ensures { result ≡ by_store fault }
 {
     match fault {
         KeepFault::Device | KeepFault::Full => Ending::Device,
         KeepFault::NoMemory => Ending::Memory,
         KeepFault::BadRecord(place) => Ending::RecordFault(place),
+    }
+}
+
+/// The ending where a plugin's store can't be opened, for this cause: `StoreNotOpened` for all but want of memory. This profile's
+/// own.
+pub fn ending_unopened(fault: KeepFault) -> Ending
+    ensures { result ≡ by_opening fault }
+{
+    match fault {
+        KeepFault::NoMemory => Ending::Memory,
+        _ => Ending::StoreNotOpened,
     }
 }
 
@@ -32,7 +43,7 @@ fn ending_of_kind(kind: ServeFaultKind) -> Ending
 
 /// The ending where serving answers so: a reader or a writer that fails is a device, a frame's fault has its place in the
 /// input, and a store's refusal is that of `ending_of_store`.
-pub fn ending_of_serving(served: Result<Served, ServeFault>) -> Ending
+pub(crate) fn ending_of_serving(served: Result<Served, ServeFault>) -> Ending
     ensures { result ≡ by_serving served }
 {
     match served {

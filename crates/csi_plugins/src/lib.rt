@@ -3,8 +3,9 @@
 
 mod ending;
 mod kind;
+mod running;
 mod service;
 
-pub use ending::{ending_of_serving, ending_of_store};
+pub use ending::ending_unopened;
 pub use kind::Plugin;
-pub use service::served;
+pub use running::plugin;

@@ -8,9 +8,8 @@ use csi_serving::{Core, Counted, Keep, serve};
 use std::alloc::Global;
 use std::io::{Read, Write};
 
-/// Serves the reader's frames by this core over its store, each reply written after its commit, and answers how the process of
-/// the plugin ends.
-pub fn served<C: Core, K: Keep, R: Read, W: Write>(
+/// Serves the reader's frames by this core over its store, and answers how the process of the plugin ends.
+pub(crate) fn served<C: Core, K: Keep, R: Read, W: Write>(
     alloc: Global,
     core: C,
     keep: &mut K,

@@ -1,0 +1,65 @@
+//! A plugin's process, but for what it asks of the system.
+ghost use Rattle.csi_serving.specs.Stores.{store};
+ghost use Rattle.csi_plugins.specs.Service.{streams};
+ghost use Rattle.csi_plugins.specs.Running.{ControllerRuns, NodeRuns, PluginRuns};
+
+use crate::ending::ending_of_store;
+use crate::kind::Plugin;
+use crate::service::served;
+use csi_commands::Ending;
+use csi_serving::{ControllerService, Counted, Keep, NodeService};
+use csi_types::{Config, NodeId};
+use std::alloc::Global;
+use std::io::{Read, Write};
+
+// Opens the controller from its store, and serves.
+fn run_controller<K: Keep, R: Read, W: Write>(
+    alloc: Global,
+    config: Config,
+    keep: &mut K,
+    reader: &mut Counted<R>,
+    writer: &mut Counted<W>,
+) -> Ending
+    ensures { ControllerRuns (store K.is_honest K.holds K.leaves K.fits K.fault_count) config keep.old keep.new (streams R.remaining W.contents reader.old reader.new writer.old writer.new) result }
+{
+    match ControllerService::open(alloc, config, keep) {
+        Ok(core) => served(alloc, core, keep, reader, writer),
+        Err(fault) => ending_of_store(fault),
+    }
+}
+
+// Opens the node from its store, and serves.
+fn run_node<K: Keep, R: Read, W: Write>(
+    alloc: Global,
+    id: NodeId,
+    keep: &mut K,
+    reader: &mut Counted<R>,
+    writer: &mut Counted<W>,
+) -> Ending
+    ensures { NodeRuns (store K.is_honest K.holds K.leaves K.fits K.fault_count) id keep.old keep.new (streams R.remaining W.contents reader.old reader.new writer.old writer.new) result }
+{
+    match NodeService::open(alloc, id, keep) {
+        Ok(core) => served(alloc, core, keep, reader, writer),
+        Err(fault) => ending_of_store(fault),
+    }
+}
+
+/// Opens the plugin from its store and serves the reader's frames, each reply written after its commit, until the input ends or
+/// something is refused; the answer is how that is told. Where the store can't be opened nothing is read nor written: `Device` where
+/// the device failed or the store is full, `RecordFault` with the first part that is none of this plugin's record, and `Memory`.
+/// Else `Done`, or `FrameFault` with the place in the input, `Endless`, `Memory`, or `Device` where the reader, the writer or the
+/// store failed. What was committed and written before a fault stays. This profile's own.
+pub fn plugin<K: Keep, R: Read, W: Write>(
+    alloc: Global,
+    plugin: Plugin,
+    keep: &mut K,
+    reader: &mut Counted<R>,
+    writer: &mut Counted<W>,
+) -> Ending
+    ensures { PluginRuns (store K.is_honest K.holds K.leaves K.fits K.fault_count) plugin keep.old keep.new (streams R.remaining W.contents reader.old reader.new writer.old writer.new) result }
+{
+    match plugin {
+        Plugin::Controller(config) => run_controller(alloc, config, keep, reader, writer),
+        Plugin::Node(id) => run_node(alloc, id, keep, reader, writer),
+    }
+}
