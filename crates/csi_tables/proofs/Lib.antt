@@ -2,6 +2,8 @@ mod Lists
 mod Stored
 mod Texts
 mod Answers
+mod Keys
+mod Sorted
 mod Schemas
 mod Made
 mod Read

@@ -1,6 +1,6 @@
 -- What the statement that makes the table does.
 use Rattle.sqlite.specs.Order.{Row}
-use Rattle.std.proofs.Common.{IsTrue, ◌≡◌, ◌⊎◌, inl, inr, ℕ, List, [], false, cond, None, Ok, Err, Result, OnOk, refl, sym, ap, subst, ◌∙◌}
+use Rattle.std.proofs.Common.{IsTrue, ◌≡◌, ◌⊎◌, inl, inr, ℕ, List, [], false, cond, None, Ok, Err, Result, OnOk, map, refl, sym, ap, subst, ◌∙◌}
 use Rattle.std.proofs.lemmas.List.Sorted.{IsPermutation-refl}
 use Rattle.sqlite.specs.Command.TheVariants.{CreateTable, Nothing}
 use Rattle.sqlite.specs.Change.{created, next_tree}
@@ -16,7 +16,7 @@ use Rattle.sqlite.specs.Command.{Command}
 use Rattle.sqlite.specs.Tree.{Trees}
 use Rattle.sqlite.proofs.Callers.{IsPlain, command_of, statement_of, runs_as}
 use Rattle.csi_tables.specs.Declared.{parts_table, parts_schema, no_schema}
-use Rattle.csi_tables.specs.Rows.{KeyedRow, AreRows, StoresRows, HasRows, IsBlank, IsAtRest}
+use Rattle.csi_tables.specs.Rows.{KeyedRow, cells, AreRows, StoresRows, HasRows, IsBlank, IsAtRest}
 use Rattle.csi_tables.proofs.Schemas.{nothing_listed, parts_listed}
 use Rattle.csi_tables.proofs.Texts.{make_text, make_is, make_plain, created_is, found_is, found_plain}
 
@@ -31,11 +31,11 @@ same_value e = cc
 pub no_rows : AreRows [] []
 no_rows = record { ordered = tt; numbered = tt; same = IsPermutation-refl [] }
 
-pub now_has : (new : State) (rows : List KeyedRow) (stored : List Row) → IsTrue new.is_open → IsDatabase new.now → new.now.schema ≡ parts_schema → new.now.trees 0 ≡ stored → AreRows stored rows → HasRows new rows
+pub now_has : (new : State) (rows : List KeyedRow) (stored : List Row) → IsTrue new.is_open → IsDatabase new.now → new.now.schema ≡ parts_schema → new.now.trees 0 ≡ stored → AreRows stored (map cells rows) → HasRows new rows
 now_has new rows stored is_open sound declared is are = record {
   is_open = is_open;
   declared = declared;
-  stores = record { listed = subst (λ s. IsSound s new.now.trees) declared sound; stored = subst (λ l. AreRows l rows) (sym is) are };
+  stores = record { listed = subst (λ s. IsSound s new.now.trees) declared sound; stored = subst (λ l. AreRows l (map cells rows)) (sym is) are };
 }
 
 -- ---- a statement that changes nothing

@@ -108,7 +108,7 @@ has_key-row key [] = refl
 has_key-row key (x ∷ r) = refl
 
 -- without the rows of a key
-pub are_kept : (key : List ℕ) (stored : List Row) (rows : List KeyedRow) → AreRows stored rows → AreRows (filter (λ r. not (has_key key (drop 1 r))) stored) (without key rows)
+pub are_kept : (key : List ℕ) (stored : List Row) (rows : List KeyedRow) → AreRows stored (map cells rows) → AreRows (filter (λ r. not (has_key key (drop 1 r))) stored) (map cells (without key rows))
 are_kept key stored rows are = record {
   ordered = ascending-filter _ _ stored are.ordered;
   numbered = all-filter _ _ stored are.numbered;
@@ -121,7 +121,7 @@ are_kept key stored rows are = record {
 
 -- with a row more, under a rowid that is free
 pub are_more : (new : Row) (stored : List Row) (row : KeyedRow) (rows : List KeyedRow) → IsTrue (is_int (rowid new)) → drop 1 new ≡ cells row → is_taken stored new ≡ false
-    → AreRows stored rows → AreRows (put_row new stored) (row ∷ rows)
+    → AreRows stored (map cells rows) → AreRows (put_row new stored) (map cells (row ∷ rows))
 are_more new stored row rows int is free are = record {
   ordered = IsTable-put_row new stored are.ordered;
   numbered = all-put_row _ new stored int are.numbered;

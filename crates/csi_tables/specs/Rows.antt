@@ -5,7 +5,7 @@ use Rattle.std.specs.Ordering.{nat_cmp}
 use Rattle.std.specs.declared.cmp.Ordering.TheVariants.{Less}
 use Rattle.std.specs.Cmp.Lexicographic.{slice_cmp}
 use Rattle.sqlite.specs.declared.types.Value.TheVariants.{Blob}
-use Rattle.sqlite.specs.Order.{Row}
+use Rattle.sqlite.specs.Order.{Row, column, value_cmp}
 use Rattle.sqlite.specs.Tree.{Trees, IsTable, IsAscending, rowid}
 use Rattle.sqlite_catalog.specs.Listing.{IsSound}
 use Rattle.sqlite.specs.View.{is_int}
@@ -23,22 +23,37 @@ pub record KeyedRow : Type 0 where
 abbrev pub cells : KeyedRow → Row
 cells row = Blob row.key ∷ Blob row.value ∷ []
 
--- SQLite's rows are these, in any order, each under a rowid of its own
-pub record AreRows (stored : List Row) (rows : List KeyedRow) : Type 0 where
+-- SQLite's rows have these columns, in any order, each under a rowid of its own
+pub record AreRows (stored columns : List Row) : Type 0 where
   pub ordered : IsTable stored
   pub numbered : AllByRecursion (λ r. IsTrue (is_int (rowid r))) stored
-  pub same : IsPermutation (map (drop 1) stored) (map cells rows)
+  pub same : IsPermutation (map (drop 1) stored) columns
 
--- a database whose one table is this one, with these rows
-pub record StoresRows (db : Trees) (rows : List KeyedRow) : Type 0 where
+-- a database whose one table is this one, with rows of these columns, whatever values they are
+pub record StoresColumns (db : Trees) (columns : List Row) : Type 0 where
   pub listed : IsSound parts_schema db
-  pub stored : AreRows (db 0) rows
+  pub stored : AreRows (db 0) columns
 
 -- the connection is open, and sees such a database
-pub record HasRows (s : State) (rows : List KeyedRow) : Type 0 where
+pub record HasColumns (s : State) (columns : List Row) : Type 0 where
   pub is_open : IsTrue s.is_open
   pub declared : s.now.schema ≡ parts_schema
-  pub stores : StoresRows s.now.trees rows
+  pub stores : StoresColumns s.now.trees columns
+
+-- a database whose one table is this one, with these rows
+abbrev pub StoresRows : Trees → List KeyedRow → Type 0
+StoresRows db rows = StoresColumns db (map cells rows)
+
+-- the connection is open, and sees such a database
+abbrev pub HasRows : State → List KeyedRow → Type 0
+HasRows s rows = HasColumns s (map cells rows)
+
+-- The same rows, each of two columns, by the first one: no two are equal there, and each is below the later ones in SQLite's order
+-- of values, in which numbers come before texts, and texts before BLOBs.
+pub record AreByKey (columns rows : List Row) : Type 0 where
+  pub same : IsPermutation columns rows
+  pub wide : AllByRecursion (λ row. row ≡ column row 0 ∷ column row 1 ∷ []) rows
+  pub rising : IsAscending (λ a b. value_cmp (column a 0) (column b 0) ≡ Less) rows
 
 -- the connection is open, and the database has no table, index or view
 pub record IsBlank (s : State) : Type 0 where

@@ -3,7 +3,8 @@ ghost use Rattle.std.specs.Prelude.{◌≡◌, ◌⊎◌, ◌∷◌, [], List, I
 ghost use Rattle.sqlite.specs.State.{HasCleanDisk, IsUnchanged, Survives};
 ghost use Rattle.sqlite.specs.Held.{state};
 ghost use Rattle.sqlite.specs.Tree.{Trees};
-ghost use Rattle.csi_tables.specs.Rows.{KeyedRow, cells, without, AreRising, StoresRows, HasRows, IsAtRest, IsBlank, IsInputError};
+ghost use Rattle.sqlite.specs.Order.{Row as Cells};
+ghost use Rattle.csi_tables.specs.Rows.{KeyedRow, cells, without, AreRising, AreByKey, StoresRows, HasColumns, HasRows, IsAtRest, IsBlank, IsInputError};
 
 use sqlite::{Alter, Connection, Error, Row, Transaction, params};
 
@@ -26,13 +27,14 @@ pub fn make_table<S: Alter>(connection: &mut Connection<S>) -> Result<(), Error>
     Ok(())
 }
 
-/// All rows, by rising key. Whatever the database has, nothing is written.
+/// All rows, by rising key, whatever values they are. Whatever the database has, nothing is written.
 pub fn all_rows<S: Alter>(connection: &mut Connection<S>) -> Result<Vec<Row>, Error>
+    ensures by_key { HasCleanDisk (state S.Store connection.new) → (columns : List Cells) → HasColumns (state S.Store connection.old) columns → IfOk result (λ all. AreByKey columns all.items) }
     ensures rows { HasCleanDisk (state S.Store connection.new) → (rows : List KeyedRow) → HasRows (state S.Store connection.old) rows → AreRising rows
         → IfOk result (λ all. all.items ≡ map cells rows) }
-    ensures same { HasCleanDisk (state S.Store connection.new) → (rows : List KeyedRow) → HasRows (state S.Store connection.old) rows
+    ensures same { HasCleanDisk (state S.Store connection.new) → (columns : List Cells) → HasColumns (state S.Store connection.old) columns
         → OnOk result (IsUnchanged (state S.Store connection.old) (state S.Store connection.new)) }
-    ensures known { HasCleanDisk (state S.Store connection.new) → (rows : List KeyedRow) → HasRows (state S.Store connection.old) rows → IfErr result (λ error. ¬ IsInputError error) }
+    ensures known { HasCleanDisk (state S.Store connection.new) → (columns : List Cells) → HasColumns (state S.Store connection.old) columns → IfErr result (λ error. ¬ IsInputError error) }
     ensures survives { Survives (state S.Store connection.old) (state S.Store connection.new) (λ _. ⊥) }
 {
     connection.query_all("SELECT key, value FROM parts ORDER BY key", &[])

@@ -2,7 +2,7 @@ use Rattle.sqlite.specs.Held.{state}
 use Rattle.sqlite.proofs.StateLemmas.{survives_weaker}
 use Rattle.std.proofs.Common.{Result, Ok, Err, IfOk, IfErr, OnOk}
 use Rattle.csi_tables.proofs.Answers.{reading_commits_nothing}
-use Rattle.csi_tables.proofs.Read.{reads, leaves, understands}
+use Rattle.csi_tables.proofs.Read.{reads, reads_any, leaves, understands}
 use Rattle.csi_tables.proofs.rows.all_rows.Goals as goal
 
 so : {A E : Type 0} (P Q : A → Type 0) (r : Result A E) → ((a : A) → P a → Q a) → IfOk r P → IfOk r Q
@@ -17,17 +17,21 @@ else : {A E : Type 0} (P Q : E → Type 0) (r : Result A E) → ((e : E) → P e
 else P Q (Ok a) f h = tt
 else P Q (Err e) f h = f e h
 
+pub returns-clause-by_key : goal.returns-clause-by_key
+returns-clause-by_key g c clean columns has =
+    so _ _ c.query_all.result (λ all shown. reads_any (state g.S.Store c.args.connection.now) (state g.S.Store c.query_all.new.self) columns all.items has shown) (c.query_all.ensures.ok clean)
+
 pub returns-clause-rows : goal.returns-clause-rows
 returns-clause-rows g c clean rows has rising =
     so _ _ c.query_all.result (λ all shown. reads (state g.S.Store c.args.connection.now) (state g.S.Store c.query_all.new.self) rows all.items has rising shown) (c.query_all.ensures.ok clean)
 
 pub returns-clause-same : goal.returns-clause-same
-returns-clause-same g c clean rows has =
-    then _ _ c.query_all.result (λ all shown. leaves (state g.S.Store c.args.connection.now) (state g.S.Store c.query_all.new.self) rows all.items has shown) (c.query_all.ensures.ok clean)
+returns-clause-same g c clean columns has =
+    then _ _ c.query_all.result (λ all shown. leaves (state g.S.Store c.args.connection.now) (state g.S.Store c.query_all.new.self) columns all.items has shown) (c.query_all.ensures.ok clean)
 
 pub returns-clause-known : goal.returns-clause-known
-returns-clause-known g c clean rows has =
-    else _ _ c.query_all.result (λ error failed. understands (state g.S.Store c.args.connection.now) (state g.S.Store c.query_all.new.self) rows error has failed) (c.query_all.ensures.err clean)
+returns-clause-known g c clean columns has =
+    else _ _ c.query_all.result (λ error failed. understands (state g.S.Store c.args.connection.now) (state g.S.Store c.query_all.new.self) columns error has failed) (c.query_all.ensures.err clean)
 
 pub returns-clause-survives : goal.returns-clause-survives
 returns-clause-survives g c =
