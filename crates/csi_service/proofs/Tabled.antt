@@ -1,5 +1,5 @@
 -- The parts of a store as rows of a table: changes of the one are changes of the other, and the rows have one list of parts.
-use Rattle.std.proofs.Common.{◌≡◌, ℕ, suc, zero, ◌^◌, ◌<◌, ◌≤◌, Bool, true, false, not, cond, Some, None, List, [], ◌∷◌, map, length, get_or, refl, sym, ap, ap₂, subst, ◌∙◌, arith, Less, Ordering, is_lt, IsPermutation, IsSorted, add-one, take, ◌++◌}
+use Rattle.std.proofs.Common.{◌≡◌, ℕ, suc, zero, ◌^◌, ◌<◌, ◌≤◌, Bool, true, false, not, cond, Some, None, List, [], ◌∷◌, map, refl, sym, ap, ap₂, subst, ◌∙◌, arith, Less, Ordering, is_lt, IsPermutation, IsSorted, add-one}
 use Rattle.std.specs.Prelude.{◌==◌, nat_lt}
 use Rattle.std.specs.List.{AllByRecursion}
 use Rattle.std.specs.Ordering.{nat_cmp, on, ordering_reverse}
@@ -15,9 +15,9 @@ use Rattle.sqlite_trees.specs.Tree.{Trees, IsAscending}
 use Rattle.sqlite.specs.Effect.{Database}
 use Rattle.sqlite_keyed.proofs.ListLemmas.{all-filter, filter_all}
 use Rattle.sqlite_keyed.proofs.SortLemmas.{sorted_unique}
-use Rattle.sqlite.specs.State.{State}
-use Rattle.csi_tables.specs.Rows.{KeyedRow, cells, without, AreRising, HasRows}
-use Rattle.csi_records.specs.Part.{StoredPart, put_all}
+use Rattle.sqlite.specs.State.{State, IsUnchanged}
+use Rattle.csi_tables.specs.Rows.{KeyedRow, cells, without, AreRising, StoresRows, HasRows}
+use Rattle.csi_records.specs.Part.{StoredPart}
 use Rattle.csi_serving.specs.Content.{put_in, take_out, IsRising}
 use Rattle.csi_service.specs.Tables.{row_of, AreKeys, StoresParts, HasParts, HoldsParts, LeavesParts}
 use Rattle.csi_serving.proofs.Rising.{AreAbove, rising-all}
@@ -72,6 +72,21 @@ one_content db a b are also =
 
 pub stores : (s : State) (content : List StoredPart) → HasParts s content → StoresParts s.now.trees content
 stores s content has = record { rows = has.rows.stores; rising = has.rising; keys = has.keys }
+
+-- a statement that changes nothing
+pub still_holds : (old new : State) (content : List StoredPart) → IsUnchanged old new → HoldsParts old content → HoldsParts new content
+still_holds old new content same has = (
+  record {
+    rows = record {
+      is_open = same.0.is_open;
+      declared = ap (λ (d : Database). d.schema) same.0.now_is ∙ has.0.rows.declared;
+      stores = subst (λ (d : Database). StoresRows d.trees (map row_of content)) (sym same.0.now_is) has.0.rows.stores;
+    };
+    rising = has.0.rising;
+    keys = has.0.keys;
+  },
+  record { autocommit = same.0.mode ∙ has.1.autocommit; committed = same.0.now_is ∙ has.1.committed ∙ sym same.0.committed_is },
+)
 
 -- while the database is open, a crash leaves what it holds
 pub only_left : (s : State) (content other : List StoredPart) → ((db : Trees) → s.may_leave db → db ≡ s.committed.trees) → HoldsParts s content → LeavesParts s other → other ≡ content
@@ -153,18 +168,3 @@ removed_has s key content fits rising keys h = record {
   rising = rising-all (record { key = key; value = None } ∷ []) content rising;
   keys = all-filter _ _ content keys;
 }
-
--- ---- reading row after row
-
-abbrev AtPlace : List StoredPart → List StoredPart → Row → StoredPart → Type 0
-AtPlace front more row part = (part.key < 2 ^ 64) × (row ≡ cells (row_of part)) × (put_all more ≡ put_all front ++ put_all (part ∷ []))
-
-pub at_place : (content : List StoredPart) (rows : List Row) (i : ℕ) (row : Row) → rows ≡ map cells (map row_of content) → AreKeys content → i < length rows → row ≡ get_or rows i row
-    → (part : StoredPart) × AtPlace (take i content) (take (suc i) content) row part
-at_place [] rows i row is keys within here = absurd (omega (arith, ap length is))
-at_place (part ∷ parts) [] i row is keys within here = absurd (omega arith)
-at_place (part ∷ parts) (r ∷ rows) zero row is keys within here = (part, (keys.0, (let first : r ≡ cells (row_of part) = cc in here ∙ first), refl))
-at_place (part ∷ parts) (r ∷ rows) (suc i) row is keys within here =
-    let rest : rows ≡ map cells (map row_of parts) = cc in
-    let later = at_place parts rows i row rest keys.1 (omega arith) here in
-    (later.0, (later.1.0, later.1.1, ap (λ l. record { key = part.key; value = Some part.value } ∷ l) later.1.2))

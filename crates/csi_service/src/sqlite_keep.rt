@@ -2,8 +2,11 @@
 ghost use Rattle.std.specs.Prelude.{◌≡◌, ◌≤◌, ◌⊎◌, ℕ, List, [], map, ⊤, IsTrue, IfOk, IfErr, OnOk, OnErr};
 ghost use Rattle.sqlite.specs.Held.{state};
 ghost use Rattle.sqlite.specs.State.{HasCleanDisk};
-ghost use Rattle.csi_tables.specs.Rows.{IsBlank};
-ghost use Rattle.csi_records.specs.Part.{StoredPart};
+ghost use Rattle.sqlite.specs.Order.{Row};
+ghost use Rattle.csi_tables.specs.Rows.{IsBlank, HasColumns};
+ghost use Rattle.csi_records.specs.Part.{StoredPart, change_of, put_all};
+ghost use Rattle.csi_serving.specs.Keeping.{IsLoadFault};
+ghost use Rattle.csi_service.specs.Loading.{IsLoaded};
 ghost use Rattle.csi_service.specs.Tables.{StoresParts, HoldsParts, LeavesParts, OpensOver, IsCounted};
 
 use csi_records::Part;
@@ -109,7 +112,17 @@ impl<S: Alter> Keep for SqliteKeep<S> {
 
     ghost fault_count = { λ keep. keep.faults };
 
-    fn load(&mut self) -> Result<Vec<Part>, KeepFault> {
+    fn load(&mut self) -> Result<Vec<Part>, KeepFault>
+        ensures honest { HasCleanDisk (state S.Store self.new.connection) → HasCleanDisk (state S.Store self.old.connection) }
+        ensures parts { HasCleanDisk (state S.Store self.new.connection) → (content : List StoredPart) → HoldsParts (state S.Store self.old.connection) content → IfOk result (λ parts. map change_of parts.items ≡ put_all content) }
+        ensures stays { HasCleanDisk (state S.Store self.new.connection) → (content : List StoredPart) → HoldsParts (state S.Store self.old.connection) content → OnOk result (HoldsParts (state S.Store self.new.connection) content) }
+        ensures left { HasCleanDisk (state S.Store self.new.connection) → (content : List StoredPart) → LeavesParts (state S.Store self.new.connection) content → LeavesParts (state S.Store self.old.connection) content }
+        ensures room { (content : List StoredPart) → ⊤ → ⊤ }
+        ensures no_more_room { (content : List StoredPart) → ⊤ → ⊤ }
+        ensures faults { self.old.faults ≤ self.new.faults }
+        ensures cause { IfErr result (λ fault. IsLoadFault (HasCleanDisk (state S.Store self.new.connection)) (HoldsParts (state S.Store self.old.connection)) self.old.faults self.new.faults fault) }
+        ensures judged { HasCleanDisk (state S.Store self.new.connection) → (columns : List Row) → HasColumns (state S.Store self.old.connection) columns → IsLoaded (state S.Store self.old.connection) columns result }
+    {
         match all_rows(&mut self.connection) {
             Ok(rows) => parts_of(self.alloc, &rows),
             Err(Error::SqlInputError(_)) => Err(KeepFault::BadRecord(0)),

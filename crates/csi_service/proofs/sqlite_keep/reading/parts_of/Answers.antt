@@ -1,15 +1,15 @@
-use Rattle.std.proofs.Common.{ℕ, List, [], ◌∷◌, ◌++◌, ◌∙◌, sym, ap, take, add-one}
-use Rattle.csi_records.specs.Part.{Change, put_all}
-use Rattle.csi_service.proofs.Tabled.{at_place}
+use Rattle.std.proofs.Common.{map, subst, sym, take, add-one, ℕ}
+use Rattle.csi_records.specs.Part.{change_of}
+use Rattle.csi_service.specs.Loading.{AreParts, IsTaken}
+use Rattle.csi_service.proofs.Loading.{parts_push}
 use Rattle.csi_service.proofs.sqlite_keep.reading.parts_of.Goals as goal
 
-pub returns-then-not-branch-clause-cause : goal.returns-then-not-branch-clause-cause
-returns-then-not-branch-clause-cause c content keys is =
-    let at = at_place content c.args.rows.now c.loop-place.place c.index-rows-place.result is keys c.loop-place-test.true c.index-rows-place.is in
-    absurd (let taken = (c.in_ok-take_row.ensures at.0 at.1.0 at.1.1).0 in cc)
-
 pub loop-place-preserved : goal.loop-place-preserved
-loop-place-preserved c content keys is =
-    let at = at_place content c.args.rows.now c.loop-place.place c.index-rows-place.result is keys c.loop-place-test.true c.index-rows-place.is in
-    let taken = c.in_ok-take_row.ensures at.0 at.1.0 at.1.1 in
-    taken.1 ∙ ap (λ (l : List Change). l ++ put_all (at.0 ∷ [])) (c.loop-place.invariant content keys is) ∙ sym at.1.2 ∙ ap (λ (n : ℕ). put_all (take n content)) (sym (add-one c.loop-place.place))
+loop-place-preserved c =
+    let rows = c.args.rows.now in
+    let row = c.index-rows-place.result in
+    let before = map change_of c.loop-place.parts.items in
+    let after = map change_of c.take_row.new.parts.items in
+    let taken = subst (IsTaken row before after) c.if-not-branch.false c.in_ok-take_row.ensures in
+    subst (λ (n : ℕ). AreParts (take n rows) after) (sym (add-one c.loop-place.place))
+    (parts_push rows c.loop-place.place row before after c.loop-place-test.true c.index-rows-place.is c.loop-place.invariant taken)
