@@ -27,7 +27,7 @@ use Rattle.csi_orchestrator.specs.Due.{Due}
 use Rattle.csi_orchestrator.specs.Commands.{next_number}
 use Rattle.csi_orchestrator.specs.Moves.{Answer, Hears, hears}
 use Rattle.csi_orchestrator.specs.Shown.{RowShown, Parts, row_shown, due_in, issued_as, open_in_row}
-use Rattle.csi_orchestrator.specs.RowChanges.{sent, succeeded, wanted}
+use Rattle.csi_orchestrator.specs.RowChanges.{succeeded, wanted}
 use Rattle.csi_orchestrator.specs.RowMoves.{Told, told, put, sends_as, goes_on, is_issued_as, stops_after, hears_refusal, hears_reply, row_replied, IsRefusal, IsToldAs}
 use Rattle.csi_orchestrator.specs.Found.{kind_due}
 use Rattle.csi_orchestrator.specs.CoreMoves.{outgoing_by, gone_on, frame_in, last_after}
@@ -154,27 +154,7 @@ same-there (z ∷ xs) (suc i) x y inside = same-there xs i x y (omega arith)
 -- the row keeps its name
 same-followed : (next : Option Outgoing) (row : RowShown) → (gone_on next row).name ≡ row.name
 same-followed None row = refl
-same-followed (Some next) row = same-sent next.kind
-  where
-    same-sent : (kind : Kind) → (sent next.number kind row).name ≡ row.name
-    same-sent kinds.CreateVolume = refl
-    same-sent kinds.DeleteVolume = refl
-    same-sent kinds.ControllerPublishVolume = refl
-    same-sent kinds.ControllerUnpublishVolume = refl
-    same-sent kinds.NodeStageVolume = refl
-    same-sent kinds.NodeUnstageVolume = refl
-    same-sent kinds.NodePublishVolume = refl
-    same-sent kinds.NodeUnpublishVolume = refl
-
-same-succeeded : (kind : Kind) (id : Option ℕ) (row : RowShown) → (succeeded kind id row).name ≡ row.name
-same-succeeded kinds.CreateVolume id row = refl
-same-succeeded kinds.DeleteVolume id row = refl
-same-succeeded kinds.ControllerPublishVolume id row = refl
-same-succeeded kinds.ControllerUnpublishVolume id row = refl
-same-succeeded kinds.NodeStageVolume id row = refl
-same-succeeded kinds.NodeUnstageVolume id row = refl
-same-succeeded kinds.NodePublishVolume id row = refl
-same-succeeded kinds.NodeUnpublishVolume id row = refl
+same-followed (Some next) row = refl
 
 same-refused : (next : Option Outgoing) (row : RowShown) (goal : Option Goal) → (row_refused next row goal).name ≡ row.name
 same-refused next row None = refl
@@ -186,7 +166,7 @@ same-refused next row (Some Delete) = refl
 same-heard : (kind : Kind) (reply : Reply) (row : RowShown) (next : Option Outgoing) → (row_heard kind reply row next).name ≡ row.name
 same-heard kind reply row next =
     by_if (λ (r : RowShown). r.name ≡ row.name) (is_ok_status reply.status) (gone_on next (succeeded kind reply.id row)) (row_refused next row row.goal)
-    (λ e. same-followed next (succeeded kind reply.id row) ∙ same-succeeded kind reply.id row) (λ e. same-refused next row row.goal)
+    (λ e. same-followed next (succeeded kind reply.id row)) (λ e. same-refused next row row.goal)
 
 -- the row that the reply is to, among those that are shown
 found-there : (rows : List Row) (i : ℕ) (row : Row) (number : Number) (party : Party) (kind : Kind)

@@ -1,5 +1,5 @@
 -- Why the rows stay as an orchestrator's type keeps them.
-use Rattle.std.proofs.Common.{◌≡◌, ℕ, ◌+◌, ◌^◌, List, [], ◌∷◌, Bool, true, false, cond, not, refl, sym, ◌∙◌, ap, subst}
+use Rattle.std.proofs.Common.{◌≡◌, ℕ, ◌+◌, ◌^◌, List, [], ◌∷◌, Bool, true, false, cond, not, refl, sym, subst}
 use Rattle.std.specs.Prelude.{◌==◌, find, nat_lt, ◌&&◌, Option, Some, None, is_some, is_none, Result, Ok, Err}
 use Rattle.std.specs.List.{AllByRecursion, list_any}
 use Rattle.std.proofs.lemmas.Bool.{false≢true, and_parts, or_parts}
@@ -30,12 +30,12 @@ use Rattle.csi_orchestrator.specs.History.{Arguments, Usage}
 use Rattle.csi_orchestrator.specs.Commands.{next_number, is_for_one_node, is_second_writer}
 use Rattle.csi_orchestrator.specs.Due.{Due}
 use Rattle.csi_orchestrator.specs.Moves.{Input, ToCreate, ToUse, ToStop, ToDelete, TimesOut, Comes, Restarts, Answer, Sends, Restarted, is_forward_due, hears}
-use Rattle.csi_orchestrator.specs.Shown.{PlaceShown, RowShown, Parts, row_of, place_of, due_by, due_in, issued_as, open_in_row, closed, in_session}
+use Rattle.csi_orchestrator.specs.Shown.{PlaceShown, RowShown, Parts, row_of, place_of, due_in, issued_as, open_in_row, closed, in_session}
 use Rattle.csi_orchestrator.specs.RowChanges.{succeeded, told_of, wanted, dropped, stopped_goal, new_row, wanted_anew, with_entry}
 use Rattle.csi_orchestrator.specs.RowMoves.{Told, told, put, sends_as, goes_on, unless_refused, first_fault, again_fault, creates, has_elsewhere, is_place_otherwise, use_refusal, room_refusal, due_for_use, uses, stop_refusal, stops, is_attached_somewhere, delete_refusal, busy_refusal, deletes, times_out_with, times_out, is_issued_as, row_replied, stops_after, hears_refusal, hears_reply, receives, starts_again, row_moves}
 use Rattle.csi_orchestrator.specs.Kept.{MayBeWanted, IsKept, AreKept, RowsStayKept}
 use Rattle.csi_orchestrator.proofs.KeptEntries.{by_if, each-put, apart-put, apart-map}
-use Rattle.csi_orchestrator.proofs.KeptRows.{AreDistinct, kept-distinct, FitsGoal, due-fits-goal, marked-distinct, marked-goal, kept-sent, kept-closed, kept-dropped, wanted-stopped, wanted-succeeded}
+use Rattle.csi_orchestrator.proofs.KeptRows.{AreDistinct, kept-distinct, FitsGoal, due-fits-goal, marked-distinct, kept-sent, kept-closed, kept-dropped, wanted-stopped, wanted-succeeded}
 use Rattle.csi_orchestrator.proofs.KeptUses.{distinct-entry, usable-entry}
 
 -- what is told, if anything, is kept so
@@ -187,14 +187,8 @@ reply-kept parts number party kind reply kept (Some row) e =
     by_if (KeptAfter parts) (is_ok_status reply.status) _ _
     (λ fine.
     goes-on-kept parts hears (succeeded kind reply.id row) kept (marked-distinct (told_of kind) kind row (kept-distinct row own))
-    (λ due f. after row own fits due (marked-goal (told_of kind) kind row) f))
+    (λ due f. wanted-succeeded kind reply.id row row.goal due refl fits own.goal f))
     (λ refused. refusal-kept parts row kind kept own)
-  where
-    after : (row : RowShown) → IsKept row → FitsGoal row.goal kind → (due : Due) → (succeeded kind reply.id row).goal ≡ row.goal → due_in (succeeded kind reply.id row) ≡ Some due
-        → MayBeWanted (succeeded kind reply.id row) (succeeded kind reply.id row).goal
-    after row own fits due same f =
-        subst (MayBeWanted (succeeded kind reply.id row)) (sym same)
-        (wanted-succeeded kind reply.id row row.goal due refl fits own.goal (ap (due_by (succeeded kind reply.id row)) (sym same) ∙ f))
 
 receives-kept : (parts : Parts) (number : Number) (party : Party) (body : Body) → AreKept parts.rows → KeptAfter parts (receives parts number party body)
 receives-kept parts number party (bodies.Call call) kept = (kept, refl)

@@ -21,7 +21,7 @@ use Rattle.csi_orchestrator.specs.History.{Held}
 use Rattle.csi_orchestrator.specs.Commands.{is_for_one_node, is_second_writer}
 use Rattle.csi_orchestrator.specs.Due.{Due}
 use Rattle.csi_orchestrator.specs.Shown.{PlaceShown, RowShown, place_of, aim_of, held_at, marks_for, use_due, delete_due, due_by, due_in, closed, AreTargetsApart}
-use Rattle.csi_orchestrator.specs.RowChanges.{attached_as, staged_as, aimed_as, published_as, at_goal, marked, sent, told_of, succeeded, wanted, is_aim_kept, with_kept_aims, is_place_kept, dropped, stopped_goal}
+use Rattle.csi_orchestrator.specs.RowChanges.{Aspect, Existence, Attachment, Staging, Publication, aspect_of, place_marked, marked_at, at_goal, exists_marked, places_marked, marked, sent, told_of, succeeded, wanted, is_aim_kept, with_kept_aims, is_place_kept, dropped, stopped_goal}
 use Rattle.csi_orchestrator.specs.RowMoves.{is_so_elsewhere}
 use Rattle.csi_orchestrator.specs.Keyed.{change_by}
 use Rattle.csi_orchestrator.specs.Kept.{ArePlacesApart, IsUsable, MayBeWanted, IsKept}
@@ -45,16 +45,14 @@ pub record IsMild (target : List ℕ) (change : PlaceShown → PlaceShown) : Typ
   pub still_apart : (place : PlaceShown) → AreTargetsApart place → AreTargetsApart (change place)
   pub still_aimed : (place : PlaceShown) (aim : Aim) → aim_of place target ≡ Some aim → (other : Aim) × (aim_of (change place) target ≡ Some other)
 
-mild-attached : (mark : Known) (target : List ℕ) → IsMild target (λ (place : PlaceShown). record place { attached = mark })
-mild-attached mark target =
+pub mild-marked : (mark : Known) (aspect : Aspect) (target : List ℕ) → IsMild target (place_marked mark aspect target)
+mild-marked mark Existence target =
     record { same_node = λ place. refl; same_capability = λ place. refl; same_flag = λ place. refl; still_apart = λ place apart. apart; still_aimed = λ place aim e. (aim, e) }
-
-mild-staged : (mark : Known) (target : List ℕ) → IsMild target (λ (place : PlaceShown). record place { staged = mark })
-mild-staged mark target =
+mild-marked mark Attachment target =
     record { same_node = λ place. refl; same_capability = λ place. refl; same_flag = λ place. refl; still_apart = λ place apart. apart; still_aimed = λ place aim e. (aim, e) }
-
-mild-published : (mark : Known) (target : List ℕ) → IsMild target (λ (place : PlaceShown). record place { aims = aimed_as mark target place.aims })
-mild-published mark target =
+mild-marked mark Staging target =
+    record { same_node = λ place. refl; same_capability = λ place. refl; same_flag = λ place. refl; still_apart = λ place apart. apart; still_aimed = λ place aim e. (aim, e) }
+mild-marked mark Publication target =
     record {
       same_node = λ place. refl;
       same_capability = λ place. refl;
@@ -85,45 +83,17 @@ distinct-at change keeps (Some (Use usage)) places distinct = keeps usage.node u
 distinct-at change keeps (Some (Stop node target)) places distinct = keeps node target places distinct
 distinct-at change keeps (Some Delete) places distinct = distinct
 
-attached-distinct : (mark : Known) (goal : Option Goal) (places : List PlaceShown) → AreDistinct places → AreDistinct (at_goal (attached_as mark) goal places)
-attached-distinct mark = distinct-at (attached_as mark) (λ node target places. distinct-change node target (λ (place : PlaceShown). record place { attached = mark }) places (mild-attached mark target))
+at-goal-distinct : (mark : Known) (aspect : Aspect) (goal : Option Goal) (places : List PlaceShown) → AreDistinct places → AreDistinct (at_goal (marked_at mark aspect) goal places)
+at-goal-distinct mark aspect = distinct-at (marked_at mark aspect) (λ node target places. distinct-change node target (place_marked mark aspect target) places (mild-marked mark aspect target))
 
-staged-distinct : (mark : Known) (goal : Option Goal) (places : List PlaceShown) → AreDistinct places → AreDistinct (at_goal (staged_as mark) goal places)
-staged-distinct mark = distinct-at (staged_as mark) (λ node target places. distinct-change node target (λ (place : PlaceShown). record place { staged = mark }) places (mild-staged mark target))
-
-published-distinct : (mark : Known) (goal : Option Goal) (places : List PlaceShown) → AreDistinct places → AreDistinct (at_goal (published_as mark) goal places)
-published-distinct mark =
-    distinct-at (published_as mark) (λ node target places. distinct-change node target (λ (place : PlaceShown). record place { aims = aimed_as mark target place.aims }) places (mild-published mark target))
+places-distinct : (mark : Known) (aspect : Aspect) (goal : Option Goal) (places : List PlaceShown) → AreDistinct places → AreDistinct (places_marked mark aspect goal places)
+places-distinct mark Existence goal places distinct = distinct
+places-distinct mark Attachment goal places distinct = at-goal-distinct mark Attachment goal places distinct
+places-distinct mark Staging goal places distinct = at-goal-distinct mark Staging goal places distinct
+places-distinct mark Publication goal places distinct = at-goal-distinct mark Publication goal places distinct
 
 pub marked-distinct : (mark : Known) (kind : Kind) (row : RowShown) → AreDistinct row.places → AreDistinct (marked mark kind row).places
-marked-distinct mark kinds.CreateVolume row distinct = distinct
-marked-distinct mark kinds.DeleteVolume row distinct = distinct
-marked-distinct mark kinds.ControllerPublishVolume row distinct = attached-distinct mark row.goal row.places distinct
-marked-distinct mark kinds.ControllerUnpublishVolume row distinct = attached-distinct mark row.goal row.places distinct
-marked-distinct mark kinds.NodeStageVolume row distinct = staged-distinct mark row.goal row.places distinct
-marked-distinct mark kinds.NodeUnstageVolume row distinct = staged-distinct mark row.goal row.places distinct
-marked-distinct mark kinds.NodePublishVolume row distinct = published-distinct mark row.goal row.places distinct
-marked-distinct mark kinds.NodeUnpublishVolume row distinct = published-distinct mark row.goal row.places distinct
-
-pub marked-goal : (mark : Known) (kind : Kind) (row : RowShown) → (marked mark kind row).goal ≡ row.goal
-marked-goal mark kinds.CreateVolume row = refl
-marked-goal mark kinds.DeleteVolume row = refl
-marked-goal mark kinds.ControllerPublishVolume row = refl
-marked-goal mark kinds.ControllerUnpublishVolume row = refl
-marked-goal mark kinds.NodeStageVolume row = refl
-marked-goal mark kinds.NodeUnstageVolume row = refl
-marked-goal mark kinds.NodePublishVolume row = refl
-marked-goal mark kinds.NodeUnpublishVolume row = refl
-
-marked-id : (mark : Known) (kind : Kind) (row : RowShown) → (marked mark kind row).id ≡ row.id
-marked-id mark kinds.CreateVolume row = refl
-marked-id mark kinds.DeleteVolume row = refl
-marked-id mark kinds.ControllerPublishVolume row = refl
-marked-id mark kinds.ControllerUnpublishVolume row = refl
-marked-id mark kinds.NodeStageVolume row = refl
-marked-id mark kinds.NodeUnstageVolume row = refl
-marked-id mark kinds.NodePublishVolume row = refl
-marked-id mark kinds.NodeUnpublishVolume row = refl
+marked-distinct mark kind row distinct = places-distinct mark (aspect_of kind) row.goal row.places distinct
 
 -- what is wanted of a row may be wanted of one with the same marks
 usable-alike : (row other : RowShown) (usage : Usage) → other.exists ≡ row.exists → other.places ≡ row.places → IsUsable row usage → IsUsable other usage
@@ -182,20 +152,16 @@ usable-change row usage change mild usable =
         (λ place e. here so usage.node (change place) (mild.same_node place ∙ e) ∙ sym (here so usage.node place e))
 
 -- the kinds of the calls that are due for a goal
-abbrev pub IsForUse : Kind → Type 0
-IsForUse kinds.CreateVolume = ⊥
-IsForUse kinds.DeleteVolume = ⊥
-IsForUse kinds.ControllerPublishVolume = Unit {0}
-IsForUse kinds.ControllerUnpublishVolume = ⊥
-IsForUse kinds.NodeStageVolume = Unit {0}
-IsForUse kinds.NodeUnstageVolume = ⊥
-IsForUse kinds.NodePublishVolume = Unit {0}
-IsForUse kinds.NodeUnpublishVolume = ⊥
+abbrev pub IsAtNode : Aspect → Type 0
+IsAtNode Existence = ⊥
+IsAtNode Attachment = Unit {0}
+IsAtNode Staging = Unit {0}
+IsAtNode Publication = Unit {0}
 
 abbrev pub FitsGoal : Option Goal → Kind → Type 0
 FitsGoal None kind = ⊥
 FitsGoal (Some Create) kind = kind ≡ kinds.CreateVolume
-FitsGoal (Some (Use usage)) kind = IsForUse kind
+FitsGoal (Some (Use usage)) kind = IsAtNode (aspect_of kind)
 FitsGoal (Some (Stop node target)) kind = Unit {0}
 FitsGoal (Some Delete) kind = kind ≡ kinds.DeleteVolume
 
@@ -229,26 +195,20 @@ pub due-fits-goal : (row : RowShown) (due : Due) → due_in row ≡ Some due →
 due-fits-goal row due e = subst (DueFits row.goal) e (due-fits row row.goal)
 
 -- what a call of the goal's kind does or undoes is marked
-usable-marked : (mark : Known) (kind : Kind) (row : RowShown) (usage : Usage) → row.goal ≡ Some (Use usage) → IsForUse kind → IsUsable row usage → IsUsable (marked mark kind row) usage
-usable-marked mark kinds.CreateVolume row usage e fits usable = absurd fits
-usable-marked mark kinds.DeleteVolume row usage e fits usable = absurd fits
-usable-marked mark kinds.ControllerPublishVolume row usage e fits usable =
-    subst (λ g. IsUsable (record row { places = at_goal (attached_as mark) g row.places }) usage) (sym e)
-    (usable-change row usage (λ (place : PlaceShown). record place { attached = mark }) (mild-attached mark usage.target) usable)
-usable-marked mark kinds.ControllerUnpublishVolume row usage e fits usable = absurd fits
-usable-marked mark kinds.NodeStageVolume row usage e fits usable =
-    subst (λ g. IsUsable (record row { places = at_goal (staged_as mark) g row.places }) usage) (sym e)
-    (usable-change row usage (λ (place : PlaceShown). record place { staged = mark }) (mild-staged mark usage.target) usable)
-usable-marked mark kinds.NodeUnstageVolume row usage e fits usable = absurd fits
-usable-marked mark kinds.NodePublishVolume row usage e fits usable =
-    subst (λ g. IsUsable (record row { places = at_goal (published_as mark) g row.places }) usage) (sym e)
-    (usable-change row usage (λ (place : PlaceShown). record place { aims = aimed_as mark usage.target place.aims }) (mild-published mark usage.target) usable)
-usable-marked mark kinds.NodeUnpublishVolume row usage e fits usable = absurd fits
+usable-marked : (mark : Known) (aspect : Aspect) (row : RowShown) (usage : Usage) → row.goal ≡ Some (Use usage) → IsAtNode aspect → IsUsable row usage
+    → IsUsable (record row { exists = exists_marked mark aspect row.exists; places = places_marked mark aspect row.goal row.places }) usage
+usable-marked mark Existence row usage e fits usable = absurd fits
+usable-marked mark Attachment row usage e fits usable =
+    subst (λ g. IsUsable (record row { places = at_goal (marked_at mark Attachment) g row.places }) usage) (sym e) (usable-change row usage (place_marked mark Attachment usage.target) (mild-marked mark Attachment usage.target) usable)
+usable-marked mark Staging row usage e fits usable =
+    subst (λ g. IsUsable (record row { places = at_goal (marked_at mark Staging) g row.places }) usage) (sym e) (usable-change row usage (place_marked mark Staging usage.target) (mild-marked mark Staging usage.target) usable)
+usable-marked mark Publication row usage e fits usable =
+    subst (λ g. IsUsable (record row { places = at_goal (marked_at mark Publication) g row.places }) usage) (sym e) (usable-change row usage (place_marked mark Publication usage.target) (mild-marked mark Publication usage.target) usable)
 
 wanted-marked : (mark : Known) (kind : Kind) (row : RowShown) (goal : Option Goal) → row.goal ≡ goal → FitsGoal goal kind → MayBeWanted row goal → MayBeWanted (marked mark kind row) goal
 wanted-marked mark kind row None e fits may = tt
-wanted-marked mark kind row (Some Create) e fits may = marked-id mark kind row ∙ may
-wanted-marked mark kind row (Some (Use usage)) e fits may = usable-marked mark kind row usage e fits may
+wanted-marked mark kind row (Some Create) e fits may = may
+wanted-marked mark kind row (Some (Use usage)) e fits may = usable-marked mark (aspect_of kind) row usage e fits may
 wanted-marked mark kind row (Some (Stop node target)) e fits may = tt
 wanted-marked mark kind row (Some Delete) e fits may = subst (λ k. AllByRecursion (λ (place : PlaceShown). place.attached ≡ No) (marked mark k row).places) (sym fits) may
 
@@ -260,9 +220,7 @@ kept-sent number row due e distinct may =
     record {
       places = after.nodes;
       aims = after.targets;
-      goal =
-          subst (MayBeWanted (sent number (kind_of due.call) row)) (sym (marked-goal Maybe (kind_of due.call) row))
-          (wanted-alike (marked Maybe (kind_of due.call) row) (sent number (kind_of due.call) row) row.goal refl refl refl still);
+      goal = wanted-alike (marked Maybe (kind_of due.call) row) (sent number (kind_of due.call) row) row.goal refl refl refl still;
     }
 
 -- the open call is given up
@@ -297,6 +255,6 @@ wanted-succeeded kind id row (Some Create) due e fits may next =
     clash : None ≡ Some due → ⊥
     clash h = cc
 wanted-succeeded kind id row (Some (Use usage)) due e fits may next =
-    usable-alike (marked (told_of kind) kind row) (succeeded kind id row) usage refl refl (usable-marked (told_of kind) kind row usage e fits may)
+    usable-alike (marked (told_of kind) kind row) (succeeded kind id row) usage refl refl (usable-marked (told_of kind) (aspect_of kind) row usage e fits may)
 wanted-succeeded kind id row (Some (Stop node target)) due e fits may next = tt
 wanted-succeeded kind id row (Some Delete) due e fits may next = wanted-marked (told_of kind) kind row (Some Delete) e fits may

@@ -1,11 +1,12 @@
 -- What a row tells once the thing of a call that was due for it is marked.
-use Rattle.std.proofs.Common.{◌≡◌, ℕ, List, Bool, true, false, cond, refl, sym, ◌∙◌, ap, subst}
+use Rattle.std.proofs.Common.{◌≡◌, ℕ, List, Bool, true, false, cond, not, refl, sym, ◌∙◌, ap, subst}
 use Rattle.std.specs.Prelude.{Option, Some, None, option_map, ◌&&◌}
 use Rattle.std.proofs.lemmas.Bool.{false≢true}
-use Rattle.csi_types.specs.declared.call.Kind.TheVariants as kinds
+use Rattle.std.proofs.lemmas.Option.{same_Some}
 use Rattle.csi_types.specs.Call.{kind_of}
 use Rattle.csi_types.specs.Same.{same_text}
 use Rattle.csi_types.proofs.Equality.{same_text-tells}
+use Rattle.csi_orchestrator.specs.declared.marks.Marks.{Marks}
 use Rattle.csi_orchestrator.specs.declared.row.Aim.{Aim}
 use Rattle.csi_orchestrator.specs.declared.row.Goal.{Goal}
 use Rattle.csi_orchestrator.specs.declared.row.Goal.TheVariants.{Create, Use, Stop, Delete}
@@ -14,11 +15,14 @@ use Rattle.csi_orchestrator.specs.declared.thing.Thing.TheVariants.{Exists, Atta
 use Rattle.csi_orchestrator.specs.declared.thing.Known.{Known}
 use Rattle.csi_orchestrator.specs.Thing.{name_in, same_thing, thing_at, is_thing, is_no}
 use Rattle.csi_orchestrator.specs.Due.{Due}
+use Rattle.csi_orchestrator.specs.Hearing.{marks_marked}
 use Rattle.csi_orchestrator.specs.Kept.{HasEntry}
-use Rattle.csi_orchestrator.specs.RowChanges.{attached_as, staged_as, aimed_as, published_as, at_goal, marked}
-use Rattle.csi_orchestrator.specs.Shown.{PlaceShown, RowShown, place_of, aim_of, mark_in, published_in, mark_of, held_in, held_at, others_in}
-use Rattle.csi_orchestrator.proofs.DueCases.{attaching, staging, publishing, unpublishing, unstaging, detaching, IsDueFor, ToMake, ToRemove, ToAttach, ToStage, ToPublish, ToUnpublish, ToUnstage, ToDetach}
+use Rattle.csi_orchestrator.specs.RowChanges.{Aspect, Existence, Attachment, Staging, Publication, aspect_of, place_marked, marked_at, at_goal, exists_marked, places_marked, marked}
+use Rattle.csi_orchestrator.specs.Shown.{PlaceShown, RowShown, place_of, aim_of, mark_in, published_in, mark_of, held_in, held_at, others_in, marks_of_volume, marks_at, marks_for}
+use Rattle.csi_orchestrator.proofs.DueCalls.{text-same}
+use Rattle.csi_orchestrator.proofs.DueCases.{IsDueFor, ToMake, ToRemove, ToAttach, ToStage, ToPublish, ToUnpublish, ToUnstage, ToDetach}
 use Rattle.csi_orchestrator.proofs.Following.{same_text-flip}
+use Rattle.csi_orchestrator.proofs.KeptEntries.{any-change}
 use Rattle.csi_orchestrator.proofs.Keyed.{find-change}
 
 -- a reading that the change leaves
@@ -42,65 +46,39 @@ there-too row node other place found e = (place, ap (place_of row) (sym ((same_t
 own-node : (name own other node : List ℕ) → name ≡ own → (same_text name own && same_text other node) ≡ same_text node other
 own-node name own other node is = ap (λ b. b && same_text other node) ((same_text-tells name own).1 is) ∙ same_text-flip other node
 
-attach-place : Known → PlaceShown → PlaceShown
-attach-place mark place = record place { attached = mark }
-
-stage-place : Known → PlaceShown → PlaceShown
-stage-place mark place = record place { staged = mark }
-
-aim-place : Known → List ℕ → PlaceShown → PlaceShown
-aim-place mark target place = record place { aims = aimed_as mark target place.aims }
-
 with-places : RowShown → List PlaceShown → RowShown
 with-places row places = record row { places = places }
 
-attached-there : (row : RowShown) (node target other : List ℕ) (mark : Known)
-    → place_of (with-places row (attached_as mark node target row.places)) other ≡ cond (same_text node other) (option_map (attach-place mark) (place_of row other)) (place_of row other)
-unfolding attach-place with-places
-attached-there row node target other mark = find-change (λ (p : PlaceShown). p.node) node (attach-place mark) row.places other (λ p. refl)
+-- the entry of a node stays its own, and the volume is held there as it was
+pub node-stays : (mark : Known) (aspect : Aspect) (target : List ℕ) (place : PlaceShown) → (place_marked mark aspect target place).node ≡ place.node
+node-stays mark Existence target place = refl
+node-stays mark Attachment target place = refl
+node-stays mark Staging target place = refl
+node-stays mark Publication target place = refl
 
-staged-there : (row : RowShown) (node target other : List ℕ) (mark : Known)
-    → place_of (with-places row (staged_as mark node target row.places)) other ≡ cond (same_text node other) (option_map (stage-place mark) (place_of row other)) (place_of row other)
-unfolding stage-place with-places
-staged-there row node target other mark = find-change (λ (p : PlaceShown). p.node) node (stage-place mark) row.places other (λ p. refl)
+held-stays : (mark : Known) (aspect : Aspect) (target : List ℕ) (place : PlaceShown) → held_at (place_marked mark aspect target place) ≡ held_at place
+held-stays mark Existence target place = refl
+held-stays mark Attachment target place = refl
+held-stays mark Staging target place = refl
+held-stays mark Publication target place = refl
 
-published-there : (row : RowShown) (node target other : List ℕ) (mark : Known)
-    → place_of (with-places row (published_as mark node target row.places)) other ≡ cond (same_text node other) (option_map (aim-place mark target) (place_of row other)) (place_of row other)
-unfolding aim-place with-places
-published-there row node target other mark = find-change (λ (p : PlaceShown). p.node) node (aim-place mark target) row.places other (λ p. refl)
+-- what the entries have of a node then
+there : (row : RowShown) (node target other : List ℕ) (mark : Known) (aspect : Aspect)
+    → place_of (with-places row (marked_at mark aspect node target row.places)) other ≡ cond (same_text node other) (option_map (place_marked mark aspect target) (place_of row other)) (place_of row other)
+unfolding with-places
+there row node target other mark aspect = find-change (λ (p : PlaceShown). p.node) node (place_marked mark aspect target) row.places other (node-stays mark aspect target)
 
-attached-mark : (row : RowShown) (node target : List ℕ) (mark : Known) (place : PlaceShown) → place_of row node ≡ Some place → (thing : Thing) → name_in thing ≡ row.name
-    → mark_of thing (with-places row (attached_as mark node target row.places)) ≡ cond (same_thing thing (Attached row.name node)) mark (mark_of thing row)
-unfolding attach-place with-places
-attached-mark row node target mark place found (Exists name) is = refl
-attached-mark row node target mark place found (Attached name other) is =
-    ap (mark_in (λ (p : PlaceShown). p.attached)) (attached-there row node target other mark)
-    ∙ reset (mark_in (λ (p : PlaceShown). p.attached)) (attach-place mark) mark (same_text node other) (place_of row other) (λ p. refl) (there-too row node other place found)
-    ∙ sym (ap (λ b. cond b mark (mark_in (λ (p : PlaceShown). p.attached) (place_of row other))) (own-node name row.name other node is))
-attached-mark row node target mark place found (Staged name other) is =
-    ap (mark_in (λ (p : PlaceShown). p.staged)) (attached-there row node target other mark) ∙ unread (mark_in (λ (p : PlaceShown). p.staged)) (attach-place mark) (same_text node other) (place_of row other) (λ p. refl)
-attached-mark row node target mark place found (Published name other aim) is =
-    ap (mark_in (published_in aim)) (attached-there row node target other mark) ∙ unread (mark_in (published_in aim)) (attach-place mark) (same_text node other) (place_of row other) (λ p. refl)
-
-staged-mark : (row : RowShown) (node target : List ℕ) (mark : Known) (place : PlaceShown) → place_of row node ≡ Some place → (thing : Thing) → name_in thing ≡ row.name
-    → mark_of thing (with-places row (staged_as mark node target row.places)) ≡ cond (same_thing thing (Staged row.name node)) mark (mark_of thing row)
-unfolding stage-place with-places
-staged-mark row node target mark place found (Exists name) is = refl
-staged-mark row node target mark place found (Attached name other) is =
-    ap (mark_in (λ (p : PlaceShown). p.attached)) (staged-there row node target other mark) ∙ unread (mark_in (λ (p : PlaceShown). p.attached)) (stage-place mark) (same_text node other) (place_of row other) (λ p. refl)
-staged-mark row node target mark place found (Staged name other) is =
-    ap (mark_in (λ (p : PlaceShown). p.staged)) (staged-there row node target other mark)
-    ∙ reset (mark_in (λ (p : PlaceShown). p.staged)) (stage-place mark) mark (same_text node other) (place_of row other) (λ p. refl) (there-too row node other place found)
-    ∙ sym (ap (λ b. cond b mark (mark_in (λ (p : PlaceShown). p.staged) (place_of row other))) (own-node name row.name other node is))
-staged-mark row node target mark place found (Published name other aim) is =
-    ap (mark_in (published_in aim)) (staged-there row node target other mark) ∙ unread (mark_in (published_in aim)) (stage-place mark) (same_text node other) (place_of row other) (λ p. refl)
+held-there : (row : RowShown) (node target : List ℕ) (mark : Known) (aspect : Aspect) (other : List ℕ) → held_in (with-places row (marked_at mark aspect node target row.places)) other ≡ held_in row other
+held-there row node target mark aspect other =
+    ap (option_map held_at) (there row node target other mark aspect)
+    ∙ unread (option_map held_at) (place_marked mark aspect target) (same_text node other) (place_of row other) (λ p. ap Some (held-stays mark aspect target p))
 
 aim-change : Known → Aim → Aim
 aim-change mark aim = record aim { published = mark }
 
 aim-mark : (place : PlaceShown) (target other : List ℕ) (mark : Known) (aim : Aim) → aim_of place target ≡ Some aim
-    → published_in other (aim-place mark target place) ≡ cond (same_text target other) mark (published_in other place)
-unfolding aim-place aim-change
+    → published_in other (place_marked mark Publication target place) ≡ cond (same_text target other) mark (published_in other place)
+unfolding aim-change
 aim-mark place target other mark aim found =
     ap (mark_in (λ (a : Aim). a.published)) (find-change (λ (a : Aim). a.target) target (aim-change mark) place.aims other (λ a. refl)) ∙ by (same_text target other) refl
   where
@@ -109,26 +87,63 @@ aim-mark place target other mark aim found =
     by true e = ap (λ o. mark_in (λ (a : Aim). a.published) (option_map (aim-change mark) o)) (ap (aim_of place) (sym ((same_text-tells target other).0 e)) ∙ found)
     by false e = refl
 
-published-mark : (row : RowShown) (node target : List ℕ) (mark : Known) (place : PlaceShown) (aim : Aim) → place_of row node ≡ Some place → aim_of place target ≡ Some aim → (thing : Thing) → name_in thing ≡ row.name
-    → mark_of thing (with-places row (published_as mark node target row.places)) ≡ cond (same_thing thing (Published row.name node target)) mark (mark_of thing row)
-unfolding aim-place with-places
-published-mark row node target mark place aim found aimed (Exists name) is = refl
-published-mark row node target mark place aim found aimed (Attached name other) is =
-    ap (mark_in (λ (p : PlaceShown). p.attached)) (published-there row node target other mark) ∙ unread (mark_in (λ (p : PlaceShown). p.attached)) (aim-place mark target) (same_text node other) (place_of row other) (λ p. refl)
-published-mark row node target mark place aim found aimed (Staged name other) is =
-    ap (mark_in (λ (p : PlaceShown). p.staged)) (published-there row node target other mark) ∙ unread (mark_in (λ (p : PlaceShown). p.staged)) (aim-place mark target) (same_text node other) (place_of row other) (λ p. refl)
-published-mark row node target mark place aim found aimed (Published name other t) is =
-    ap (mark_in (published_in t)) (published-there row node target other mark) ∙ by (same_text node other) refl
+-- the entry has what is to be marked
+abbrev pub HasSpot : Aspect → PlaceShown → List ℕ → Type 0
+HasSpot Existence place target = ⊥
+HasSpot Attachment place target = Unit {0}
+HasSpot Staging place target = Unit {0}
+HasSpot Publication place target = (aim : Aim) × (aim_of place target ≡ Some aim)
+
+-- the thing that is marked
+abbrev pub thing_by : Aspect → List ℕ → List ℕ → List ℕ → Thing
+thing_by Existence name node target = Exists name
+thing_by Attachment name node target = Attached name node
+thing_by Staging name node target = Staged name node
+thing_by Publication name node target = Published name node target
+
+-- a thing that is read from a node's entry, and that the mark leaves, or is
+mark-left : (row : RowShown) (node target other : List ℕ) (mark : Known) (aspect : Aspect) (read : PlaceShown → Known) → ((place : PlaceShown) → read (place_marked mark aspect target place) ≡ read place)
+    → mark_in read (place_of (with-places row (marked_at mark aspect node target row.places)) other) ≡ mark_in read (place_of row other)
+mark-left row node target other mark aspect read left =
+    ap (mark_in read) (there row node target other mark aspect) ∙ unread (mark_in read) (place_marked mark aspect target) (same_text node other) (place_of row other) left
+
+mark-set : (row : RowShown) (node target : List ℕ) (mark : Known) (aspect : Aspect) (place : PlaceShown) (name other : List ℕ) (read : PlaceShown → Known) → place_of row node ≡ Some place → name ≡ row.name
+    → ((place : PlaceShown) → read (place_marked mark aspect target place) ≡ mark)
+    → mark_in read (place_of (with-places row (marked_at mark aspect node target row.places)) other) ≡ cond (same_text name row.name && same_text other node) mark (mark_in read (place_of row other))
+mark-set row node target mark aspect place name other read found is sets =
+    ap (mark_in read) (there row node target other mark aspect)
+    ∙ reset (mark_in read) (place_marked mark aspect target) mark (same_text node other) (place_of row other) sets (there-too row node other place found)
+    ∙ sym (ap (λ b. cond b mark (mark_in read (place_of row other))) (own-node name row.name other node is))
+
+things-marked : (row : RowShown) (node target : List ℕ) (mark : Known) (aspect : Aspect) (place : PlaceShown) → place_of row node ≡ Some place → HasSpot aspect place target
+    → (thing : Thing) → name_in thing ≡ row.name
+    → mark_of thing (with-places row (marked_at mark aspect node target row.places)) ≡ cond (same_thing thing (thing_by aspect row.name node target)) mark (mark_of thing row)
+unfolding with-places
+things-marked row node target mark Existence place found spot thing is = absurd spot
+things-marked row node target mark Attachment place found spot (Exists name) is = refl
+things-marked row node target mark Attachment place found spot (Attached name other) is = mark-set row node target mark Attachment place name other (λ p. p.attached) found is (λ p. refl)
+things-marked row node target mark Attachment place found spot (Staged name other) is = mark-left row node target other mark Attachment (λ p. p.staged) (λ p. refl)
+things-marked row node target mark Attachment place found spot (Published name other aim) is = mark-left row node target other mark Attachment (published_in aim) (λ p. refl)
+things-marked row node target mark Staging place found spot (Exists name) is = refl
+things-marked row node target mark Staging place found spot (Attached name other) is = mark-left row node target other mark Staging (λ p. p.attached) (λ p. refl)
+things-marked row node target mark Staging place found spot (Staged name other) is = mark-set row node target mark Staging place name other (λ p. p.staged) found is (λ p. refl)
+things-marked row node target mark Staging place found spot (Published name other aim) is = mark-left row node target other mark Staging (published_in aim) (λ p. refl)
+things-marked row node target mark Publication place found spot (Exists name) is = refl
+things-marked row node target mark Publication place found spot (Attached name other) is = mark-left row node target other mark Publication (λ p. p.attached) (λ p. refl)
+things-marked row node target mark Publication place found spot (Staged name other) is = mark-left row node target other mark Publication (λ p. p.staged) (λ p. refl)
+things-marked row node target mark Publication place found spot (Published name other t) is =
+    ap (mark_in (published_in t)) (there row node target other mark Publication) ∙ by (same_text node other) refl
     ∙ sym (ap (λ b. cond b mark (mark_in (published_in t) (place_of row other))) (three name row.name other t is))
   where
     three : (name own other t : List ℕ) → name ≡ own → (same_text name own && same_text other node && same_text t target) ≡ (same_text node other && same_text target t)
     three name own other t is =
         ap (λ b. b && same_text other node && same_text t target) ((same_text-tells name own).1 is) ∙ ap (λ b. b && same_text t target) (same_text-flip other node) ∙ ap (λ b. same_text node other && b) (same_text-flip t target)
 
-    by : (b : Bool) → same_text node other ≡ b → mark_in (published_in t) (cond b (option_map (aim-place mark target) (place_of row other)) (place_of row other)) ≡ cond (b && same_text target t) mark (mark_in (published_in t) (place_of row other))
+    by : (b : Bool) → same_text node other ≡ b
+        → mark_in (published_in t) (cond b (option_map (place_marked mark Publication target) (place_of row other)) (place_of row other)) ≡ cond (b && same_text target t) mark (mark_in (published_in t) (place_of row other))
     by true e =
         let here : place_of row other ≡ Some place = ap (place_of row) (sym ((same_text-tells node other).0 e)) ∙ found in
-        ap (λ o. mark_in (published_in t) (option_map (aim-place mark target) o)) here ∙ aim-mark place target t mark aim aimed
+        ap (λ o. mark_in (published_in t) (option_map (place_marked mark Publication target) o)) here ∙ aim-mark place target t mark spot.0 spot.1
         ∙ sym (ap (λ o. cond (same_text target t) mark (mark_in (published_in t) o)) here)
     by false e = refl
 
@@ -165,67 +180,133 @@ GoalHasEntry row (Some (Use usage)) = HasEntry row usage
 GoalHasEntry row (Some (Stop node target)) = Unit {0}
 GoalHasEntry row (Some Delete) = Unit {0}
 
-placed : (row : RowShown) (ps : List PlaceShown) (due : Due) (mark : Known)
-    → ((thing : Thing) → name_in thing ≡ row.name → mark_of thing (with-places row ps) ≡ cond (is_thing thing (thing_at row.name due.party due.call)) mark (mark_of thing row))
-    → ((node : List ℕ) → held_in (with-places row ps) node ≡ held_in row node) → IsMarked row (with-places row ps) due mark
-unfolding with-places
-placed row ps due mark marks held = record { same_name = refl; same_arguments = refl; same_id = refl; same_goal = refl; same_tries = refl; marks = marks; held = held }
+-- where a call that is due is at work: at the volume, or at the entry of its goal's node
+pub data Spot (row : RowShown) (goal : Goal) : Aspect → Option Thing → Type 0 where
+  AtVolume : ((r : RowShown) → marks_for r goal ≡ marks_of_volume r) → Spot row goal Existence (Some (Exists row.name))
+  AtNode : (node target : List ℕ) (aspect : Aspect) (place : PlaceShown) → ((r : RowShown) → marks_for r goal ≡ marks_at r node target)
+      → ((change : List ℕ → List ℕ → List PlaceShown → List PlaceShown) (places : List PlaceShown) → at_goal change (Some goal) places ≡ change node target places)
+      → place_of row node ≡ Some place → HasSpot aspect place target → Spot row goal aspect (Some (thing_by aspect row.name node target))
 
-attached-held : (row : RowShown) (node target : List ℕ) (mark : Known) (other : List ℕ) → held_in (with-places row (attached_as mark node target row.places)) other ≡ held_in row other
-unfolding attach-place with-places
-attached-held row node target mark other = ap (option_map held_at) (attached-there row node target other mark) ∙ unread (option_map held_at) (attach-place mark) (same_text node other) (place_of row other) (λ p. refl)
+pub record IsAtWork (row : RowShown) (due : Due) : Type 0 where
+  pub goal : Goal
+  pub is : row.goal ≡ Some goal
+  pub spot : Spot row goal (aspect_of (kind_of due.call)) (thing_at row.name due.party due.call)
 
-staged-held : (row : RowShown) (node target : List ℕ) (mark : Known) (other : List ℕ) → held_in (with-places row (staged_as mark node target row.places)) other ≡ held_in row other
-unfolding stage-place with-places
-staged-held row node target mark other = ap (option_map held_at) (staged-there row node target other mark) ∙ unread (option_map held_at) (stage-place mark) (same_text node other) (place_of row other) (λ p. refl)
-
-published-held : (row : RowShown) (node target : List ℕ) (mark : Known) (other : List ℕ) → held_in (with-places row (published_as mark node target row.places)) other ≡ held_in row other
-unfolding aim-place with-places
-published-held row node target mark other = ap (option_map held_at) (published-there row node target other mark) ∙ unread (option_map held_at) (aim-place mark target) (same_text node other) (place_of row other) (λ p. refl)
-
-pub is-marked : (row : RowShown) (due : Due) (mark : Known) → GoalHasEntry row row.goal → IsDueFor row due → IsMarked row (marked mark (kind_of due.call) row) due mark
-unfolding with-places
-is-marked row _ mark entry (ToMake goal e) =
-    record { same_name = refl; same_arguments = refl; same_id = refl; same_goal = refl; same_tries = refl; marks = exists-mark row mark; held = λ node. refl }
-is-marked row _ mark entry (ToRemove id goal own e) =
-    record { same_name = refl; same_arguments = refl; same_id = refl; same_goal = refl; same_tries = refl; marks = exists-mark row mark; held = λ node. refl }
-is-marked row _ mark entry (ToAttach usage id goal own a) =
+pub at-work : (row : RowShown) (due : Due) → GoalHasEntry row row.goal → IsDueFor row due → IsAtWork row due
+at-work row _ entry (ToMake goal e) = record { goal = Create; is = goal; spot = AtVolume (λ r. refl) }
+at-work row _ entry (ToRemove id goal own e) = record { goal = Delete; is = goal; spot = AtVolume (λ r. refl) }
+at-work row _ entry (ToAttach usage id goal own a) =
     let e : HasEntry row usage = subst (GoalHasEntry row) goal entry in
-    subst (λ (r : RowShown). IsMarked row r (attaching usage id) mark) (ap (λ g. with-places row (at_goal (attached_as mark) g row.places)) (sym goal))
-    (placed row (attached_as mark usage.node usage.target row.places) (attaching usage id) mark (attached-mark row usage.node usage.target mark e.place e.at_node) (attached-held row usage.node usage.target mark))
-is-marked row _ mark entry (ToStage usage id goal own a s) =
+    record { goal = Use usage; is = goal; spot = AtNode usage.node usage.target Attachment e.place (λ r. refl) (λ change places. refl) e.at_node tt }
+at-work row _ entry (ToStage usage id goal own a s) =
     let e : HasEntry row usage = subst (GoalHasEntry row) goal entry in
-    subst (λ (r : RowShown). IsMarked row r (staging usage id) mark) (ap (λ g. with-places row (at_goal (staged_as mark) g row.places)) (sym goal))
-    (placed row (staged_as mark usage.node usage.target row.places) (staging usage id) mark (staged-mark row usage.node usage.target mark e.place e.at_node) (staged-held row usage.node usage.target mark))
-is-marked row _ mark entry (ToPublish usage id goal own a s p) =
+    record { goal = Use usage; is = goal; spot = AtNode usage.node usage.target Staging e.place (λ r. refl) (λ change places. refl) e.at_node tt }
+at-work row _ entry (ToPublish usage id goal own a s p) =
     let e : HasEntry row usage = subst (GoalHasEntry row) goal entry in
-    subst (λ (r : RowShown). IsMarked row r (publishing usage id) mark) (ap (λ g. with-places row (at_goal (published_as mark) g row.places)) (sym goal))
-    (placed row (published_as mark usage.node usage.target row.places) (publishing usage id) mark (published-mark row usage.node usage.target mark e.place e.aim e.at_node e.at_target) (published-held row usage.node usage.target mark))
-is-marked row _ mark entry (ToUnpublish node target id goal own p) =
+    record { goal = Use usage; is = goal; spot = AtNode usage.node usage.target Publication e.place (λ r. refl) (λ change places. refl) e.at_node (e.aim, e.at_target) }
+at-work row _ entry (ToUnpublish node target id goal own p) =
     let place = has-place (published_in target) (place_of row node) p in
     let aim = has-aim (aim_of place.0 target) (ap is_no (sym (ap (mark_in (published_in target)) place.1)) ∙ p) in
-    subst (λ (r : RowShown). IsMarked row r (unpublishing node target id) mark) (ap (λ g. with-places row (at_goal (published_as mark) g row.places)) (sym goal))
-    (placed row (published_as mark node target row.places) (unpublishing node target id) mark (published-mark row node target mark place.0 aim.0 place.1 aim.1) (published-held row node target mark))
-is-marked row _ mark entry (ToUnstage node target id goal own p o s) =
+    record { goal = Stop node target; is = goal; spot = AtNode node target Publication place.0 (λ r. refl) (λ change places. refl) place.1 aim }
+at-work row _ entry (ToUnstage node target id goal own p o s) =
     let place = has-place (λ (q : PlaceShown). q.staged) (place_of row node) s in
-    subst (λ (r : RowShown). IsMarked row r (unstaging node id) mark) (ap (λ g. with-places row (at_goal (staged_as mark) g row.places)) (sym goal))
-    (placed row (staged_as mark node target row.places) (unstaging node id) mark (staged-mark row node target mark place.0 place.1) (staged-held row node target mark))
-is-marked row _ mark entry (ToDetach node target id goal own p o s a) =
+    record { goal = Stop node target; is = goal; spot = AtNode node target Staging place.0 (λ r. refl) (λ change places. refl) place.1 tt }
+at-work row _ entry (ToDetach node target id goal own p o s a) =
     let place = has-place (λ (q : PlaceShown). q.attached) (place_of row node) a in
-    subst (λ (r : RowShown). IsMarked row r (detaching node id) mark) (ap (λ g. with-places row (at_goal (attached_as mark) g row.places)) (sym goal))
-    (placed row (attached_as mark node target row.places) (detaching node id) mark (attached-mark row node target mark place.0 place.1) (attached-held row node target mark))
+    record { goal = Stop node target; is = goal; spot = AtNode node target Attachment place.0 (λ r. refl) (λ change places. refl) place.1 tt }
 
--- the marks of a volume at a node leave its targets alone
-pub others-unstaging : (row : RowShown) (node target : List ℕ) (mark : Known) → row.goal ≡ Some (Stop node target)
-    → others_in target (place_of (marked mark kinds.NodeUnstageVolume row) node) ≡ others_in target (place_of row node)
-unfolding with-places stage-place
-others-unstaging row node target mark goal =
-    ap (λ g. others_in target (place_of (with-places row (at_goal (staged_as mark) g row.places)) node)) goal ∙ ap (others_in target) (staged-there row node target node mark)
-    ∙ unread (others_in target) (stage-place mark) (same_text node node) (place_of row node) (λ p. refl)
+-- what is marked by an aspect, and where that is of a node
+marked-by : Known → Aspect → RowShown → RowShown
+marked-by mark aspect row = record row { exists = exists_marked mark aspect row.exists; places = places_marked mark aspect row.goal row.places }
 
-pub others-detaching : (row : RowShown) (node target : List ℕ) (mark : Known) → row.goal ≡ Some (Stop node target)
-    → others_in target (place_of (marked mark kinds.ControllerUnpublishVolume row) node) ≡ others_in target (place_of row node)
-unfolding with-places attach-place
-others-detaching row node target mark goal =
-    ap (λ g. others_in target (place_of (with-places row (at_goal (attached_as mark) g row.places)) node)) goal ∙ ap (others_in target) (attached-there row node target node mark)
-    ∙ unread (others_in target) (attach-place mark) (same_text node node) (place_of row node) (λ p. refl)
+at-node : (row : RowShown) (goal : Goal) (node target : List ℕ) (mark : Known) (aspect : Aspect) (place : PlaceShown) → row.goal ≡ Some goal
+    → ((change : List ℕ → List ℕ → List PlaceShown → List PlaceShown) (places : List PlaceShown) → at_goal change (Some goal) places ≡ change node target places) → HasSpot aspect place target
+    → marked-by mark aspect row ≡ with-places row (marked_at mark aspect node target row.places)
+unfolding marked-by with-places
+at-node row goal node target mark Existence place is at spot = absurd spot
+at-node row goal node target mark Attachment place is at spot = ap (with-places row) (ap (λ g. at_goal (marked_at mark Attachment) g row.places) is ∙ at (marked_at mark Attachment) row.places)
+at-node row goal node target mark Staging place is at spot = ap (with-places row) (ap (λ g. at_goal (marked_at mark Staging) g row.places) is ∙ at (marked_at mark Staging) row.places)
+at-node row goal node target mark Publication place is at spot = ap (with-places row) (ap (λ g. at_goal (marked_at mark Publication) g row.places) is ∙ at (marked_at mark Publication) row.places)
+
+spot-marks : (row : RowShown) (goal : Goal) (mark : Known) (aspect : Aspect) (own : Option Thing) → Spot row goal aspect own → row.goal ≡ Some goal
+    → (thing : Thing) → name_in thing ≡ row.name → mark_of thing (marked-by mark aspect row) ≡ cond (is_thing thing own) mark (mark_of thing row)
+unfolding marked-by
+spot-marks row goal mark _ _ (AtVolume same) e thing is = exists-mark row mark thing is
+spot-marks row goal mark _ _ (AtNode node target aspect place same at found spot) e thing is =
+    ap (mark_of thing) (at-node row goal node target mark aspect place e at spot) ∙ things-marked row node target mark aspect place found spot thing is
+
+spot-held : (row : RowShown) (goal : Goal) (mark : Known) (aspect : Aspect) (own : Option Thing) → Spot row goal aspect own → row.goal ≡ Some goal → (node : List ℕ) → held_in (marked-by mark aspect row) node ≡ held_in row node
+unfolding marked-by
+spot-held row goal mark _ _ (AtVolume same) e other = refl
+spot-held row goal mark _ _ (AtNode node target aspect place same at found spot) e other =
+    ap (λ r. held_in r other) (at-node row goal node target mark aspect place e at spot) ∙ held-there row node target mark aspect other
+
+pub is-marked : (row : RowShown) (due : Due) (mark : Known) → GoalHasEntry row row.goal → IsDueFor row due → IsMarked row (marked mark (kind_of due.call) row) due mark
+unfolding marked-by
+is-marked row due mark entry case =
+    let work = at-work row due entry case in
+    record {
+      same_name = refl;
+      same_arguments = refl;
+      same_id = refl;
+      same_goal = refl;
+      same_tries = refl;
+      marks = spot-marks row work.goal mark (aspect_of (kind_of due.call)) (thing_at row.name due.party due.call) work.spot work.is;
+      held = spot-held row work.goal mark (aspect_of (kind_of due.call)) (thing_at row.name due.party due.call) work.spot work.is;
+    }
+
+-- what is known of what the goal names, by the node's entry
+marks-by : Known → List ℕ → Option PlaceShown → Marks
+marks-by exists target place =
+    record {
+      exists = exists;
+      attached = mark_in (λ p. p.attached) place;
+      staged = mark_in (λ p. p.staged) place;
+      published = mark_in (published_in target) place;
+      others = others_in target place;
+    }
+
+-- the target that is marked isn't among the others
+others-same : (place : PlaceShown) (target : List ℕ) (mark : Known) → others_in target (Some (place_marked mark Publication target place)) ≡ others_in target (Some place)
+unfolding aim-change
+others-same place target mark =
+    any-change (λ (a : Aim). not (same_text a.target target) && not (is_no a.published)) (λ (a : Aim). a.target) target (aim-change mark) place.aims same
+  where
+    same : (a : Aim) → a.target ≡ target → (not (same_text a.target target) && not (is_no mark)) ≡ (not (same_text a.target target) && not (is_no a.published))
+    same a own =
+        let is : same_text a.target target ≡ true = (same_text-tells a.target target).1 own in
+        ap (λ b. not b && not (is_no mark)) is ∙ sym (ap (λ b. not b && not (is_no a.published)) is)
+
+published-of : Marks → Known → Bool → Marks
+published-of marks mark others = record marks { published = mark; others = others }
+
+marks-changed : (exists mark : Known) (aspect : Aspect) (target : List ℕ) (place : PlaceShown) → HasSpot aspect place target
+    → marks-by exists target (Some (place_marked mark aspect target place)) ≡ marks_marked mark aspect (marks-by exists target (Some place))
+unfolding marks-by published-of
+marks-changed exists mark Existence target place spot = absurd spot
+marks-changed exists mark Attachment target place spot = refl
+marks-changed exists mark Staging target place spot = refl
+marks-changed exists mark Publication target place spot =
+    ap (λ m. published-of (marks-by exists target (Some place)) m (others_in target (Some (place_marked mark Publication target place))))
+    (aim-mark place target target mark spot.0 spot.1 ∙ ap (λ b. cond b mark (published_in target place)) (text-same target))
+    ∙ ap (published-of (marks-by exists target (Some place)) mark) (others-same place target mark)
+
+spot-known : (row : RowShown) (goal : Goal) (mark : Known) (aspect : Aspect) (own : Option Thing) → Spot row goal aspect own → row.goal ≡ Some goal
+    → marks_for (marked-by mark aspect row) goal ≡ marks_marked mark aspect (marks_for row goal)
+unfolding marked-by marks-by with-places
+spot-known row goal mark _ _ (AtVolume same) e = same (marked-by mark Existence row) ∙ sym (ap (marks_marked mark Existence) (same row))
+spot-known row goal mark _ _ (AtNode node target aspect place same at found spot) e =
+    same (marked-by mark aspect row) ∙ ap (λ r. marks_at r node target) (at-node row goal node target mark aspect place e at spot)
+    ∙ ap (marks-by row.exists target)
+    (there row node target node mark aspect ∙ ap (λ b. cond b (option_map (place_marked mark aspect target) (place_of row node)) (place_of row node)) (text-same node) ∙ ap (option_map (place_marked mark aspect target)) found)
+    ∙ marks-changed row.exists mark aspect target place spot ∙ sym (ap (λ o. marks_marked mark aspect (marks-by row.exists target o)) found) ∙ sym (ap (marks_marked mark aspect) (same row))
+
+-- what is known of what the row's goal names, once what the due call does or undoes is marked
+pub marks-then : (row : RowShown) (due : Due) (goal : Goal) (mark : Known) → GoalHasEntry row row.goal → IsDueFor row due → row.goal ≡ Some goal
+    → marks_for (marked mark (kind_of due.call) row) goal ≡ marks_marked mark (aspect_of (kind_of due.call)) (marks_for row goal)
+unfolding marked-by
+marks-then row due goal mark entry case is =
+    let work = at-work row due entry case in
+    let same : work.goal ≡ goal = same_Some work.goal goal (sym work.is ∙ is) in
+    subst (λ g. marks_for (marked mark (kind_of due.call) row) g ≡ marks_marked mark (aspect_of (kind_of due.call)) (marks_for row g)) same
+    (spot-known row work.goal mark (aspect_of (kind_of due.call)) (thing_at row.name due.party due.call) work.spot work.is)

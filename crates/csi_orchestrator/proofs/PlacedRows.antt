@@ -1,8 +1,6 @@
 -- Why a command or a timeout answers by the row of its name.
 use Rattle.std.proofs.Common.{◌≡◌, ℕ, List, [], ◌∷◌, Bool, true, false, cond, refl, sym, ap, subst}
 use Rattle.std.specs.Prelude.{Option, Some, None, find, is_none, Result, Ok, Err}
-use Rattle.csi_types.specs.declared.call.Kind.{Kind}
-use Rattle.csi_types.specs.declared.call.Kind.TheVariants as kinds
 use Rattle.csi_types.specs.declared.number.Number.{Number}
 use Rattle.csi_types.specs.Same.{same_text}
 use Rattle.csi_types.proofs.Equality.{same_text-tells}
@@ -12,14 +10,12 @@ use Rattle.csi_orchestrator.specs.declared.going_on.Outgoing.{Outgoing}
 use Rattle.csi_orchestrator.specs.declared.row.Goal.{Goal}
 use Rattle.csi_orchestrator.specs.declared.row.Goal.TheVariants.{Use, Stop, Delete}
 use Rattle.csi_orchestrator.specs.declared.row.Usage.{Usage}
-use Rattle.csi_orchestrator.specs.declared.thing.Known.{Known}
-use Rattle.csi_orchestrator.specs.declared.thing.Known.TheVariants.{Maybe}
 use Rattle.csi_orchestrator.specs.Thing.{is_no}
 use Rattle.csi_orchestrator.specs.History.{Arguments}
 use Rattle.csi_orchestrator.specs.Commands.{next_number}
 use Rattle.csi_orchestrator.specs.Due.{Due}
 use Rattle.csi_orchestrator.specs.Moves.{Sends}
-use Rattle.csi_orchestrator.specs.RowChanges.{marked, wanted, wanted_anew, stopped_goal}
+use Rattle.csi_orchestrator.specs.RowChanges.{wanted, wanted_anew, stopped_goal}
 use Rattle.csi_orchestrator.specs.RowMoves.{Told, told, put, sends_as, goes_on, unless_refused, again_fault, creates, use_refusal, room_refusal, due_for_use, uses, stop_refusal, stops, delete_refusal, busy_refusal, deletes, times_out_with, times_out}
 use Rattle.csi_orchestrator.specs.Shown.{RowShown, Parts, row_of, due_in, closed}
 use Rattle.csi_orchestrator.specs.CoreMoves.{RowTold, outgoing_by, row_after, row_goes_on, row_unless, row_met, row_creates, with_entry_for, row_wants, row_use_or_met, row_uses, row_stops, row_delete_or_met, row_deletes, is_given_up, timed_out, row_times_out_with, row_times_out, frame_in, last_after}
@@ -101,23 +97,13 @@ abbrev pub KeepsName : List ℕ → Result RowTold OrchFault → Type 0
 KeepsName name (Ok told) = (told.row).name ≡ name
 KeepsName name (Err fault) = Unit {0}
 
-name-marked : (mark : Known) (kind : Kind) (row : RowShown) → (marked mark kind row).name ≡ row.name
-name-marked mark kinds.CreateVolume row = refl
-name-marked mark kinds.DeleteVolume row = refl
-name-marked mark kinds.ControllerPublishVolume row = refl
-name-marked mark kinds.ControllerUnpublishVolume row = refl
-name-marked mark kinds.NodeStageVolume row = refl
-name-marked mark kinds.NodeUnstageVolume row = refl
-name-marked mark kinds.NodePublishVolume row = refl
-name-marked mark kinds.NodeUnpublishVolume row = refl
-
 pub on-keeps : (last : Number) (row : RowShown) → KeepsName row.name (row_goes_on last row)
 on-keeps last row = by (outgoing_by (due_in row) (next_number last))
   where
     by : (next : Result (Option Outgoing) OrchFault) → KeepsName row.name (row_after row next)
     by (Err fault) = tt
     by (Ok None) = refl
-    by (Ok (Some next)) = name-marked Maybe next.kind row
+    by (Ok (Some next)) = refl
 
 unless-keeps : (name : List ℕ) (fault : Option OrchFault) (told : Result RowTold OrchFault) → KeepsName name told → KeepsName name (row_unless fault told)
 unless-keeps name None told keeps = keeps

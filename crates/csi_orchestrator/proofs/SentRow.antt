@@ -1,8 +1,9 @@
 -- What a row tells once its due call was sent, and once that call succeeded.
 use Rattle.std.proofs.Common.{◌≡◌, ◌≢◌, ◌+◌, ℕ, List, Bool, true, false, cond, refl, sym, ◌∙◌, ap, subst}
-use Rattle.std.specs.Prelude.{Option, Some, None, min, option_map, option_and_then, ◌&&◌}
+use Rattle.std.specs.Prelude.{Option, Some, None, min, option_map, ◌&&◌}
 use Rattle.std.specs.Option.{option_or}
 use Rattle.std.proofs.lemmas.Bool.{false≢true}
+use Rattle.std.proofs.lemmas.Option.{same_Some}
 use Rattle.csi_types.specs.declared.call.Call.{Call}
 use Rattle.csi_types.specs.declared.call.Call.TheVariants as calls
 use Rattle.csi_types.specs.declared.call.Kind.{Kind}
@@ -14,7 +15,6 @@ use Rattle.csi_types.specs.Call.{kind_of}
 use Rattle.csi_types.specs.Reply.{is_ok_status}
 use Rattle.csi_types.specs.Same.{same_text}
 use Rattle.csi_types.proofs.Equality.{same_text-tells}
-use Rattle.csi_orchestrator.specs.declared.marks.Marks.{Marks}
 use Rattle.csi_orchestrator.specs.declared.row.Goal.{Goal}
 use Rattle.csi_orchestrator.specs.declared.row.Goal.TheVariants.{Create, Use, Stop, Delete}
 use Rattle.csi_orchestrator.specs.declared.row.Usage.{Usage}
@@ -22,90 +22,55 @@ use Rattle.csi_orchestrator.specs.declared.thing.Thing.{Thing}
 use Rattle.csi_orchestrator.specs.declared.thing.Thing.TheVariants.{Exists, Attached, Staged, Published}
 use Rattle.csi_orchestrator.specs.declared.thing.Known.{Known}
 use Rattle.csi_orchestrator.specs.declared.thing.Known.TheVariants.{No, Maybe}
-use Rattle.csi_orchestrator.specs.Thing.{Issued, thing_at, is_thing, touches, is_yes, is_no}
+use Rattle.csi_orchestrator.specs.Thing.{Issued, thing_at, is_thing, touches, is_no}
 use Rattle.csi_orchestrator.specs.History.{Held}
 use Rattle.csi_orchestrator.specs.History as wanted
 use Rattle.csi_orchestrator.specs.Readings.{held_by}
 use Rattle.csi_orchestrator.specs.Agrees.{View}
 use Rattle.csi_orchestrator.specs.Due.{Due}
 use Rattle.csi_orchestrator.specs.Following.{after_sent, after_accepted, told, id_brought}
+use Rattle.csi_orchestrator.specs.Hearing.{marks_marked}
 use Rattle.csi_orchestrator.specs.Kept.{HasEntry}
-use Rattle.csi_orchestrator.specs.RowChanges.{marked, opened, sent, told_of, id_told, answered, succeeded}
-use Rattle.csi_orchestrator.specs.Shown.{RowShown, place_of, mark_in, mark_of, held_in, held_at, goal_in, goal_shown, marks_for, due_by, due_in, use_due, stop_due, delete_due, issued_as}
+use Rattle.csi_orchestrator.specs.RowChanges.{aspect_of, marked, opened, sent, told_of, id_told, answered, succeeded}
+use Rattle.csi_orchestrator.specs.Shown.{RowShown, place_of, mark_in, mark_of, held_in, held_at, goal_in, goal_shown, marks_for, due_with, due_by, due_in, issued_as}
 use Rattle.csi_orchestrator.proofs.DueCalls.{text-same}
 use Rattle.csi_orchestrator.proofs.DueCases.{attaching, staging, publishing, unpublishing, unstaging, detaching, IsDueFor, ToMake, ToRemove, ToAttach, ToStage, ToPublish, ToUnpublish, ToUnstage, ToDetach}
 use Rattle.csi_orchestrator.proofs.Following.{same_text-flip, and-false}
-use Rattle.csi_orchestrator.proofs.Marked.{IsMarked, GoalHasEntry, is-marked, others-unstaging, others-detaching}
+use Rattle.csi_orchestrator.proofs.Marked.{IsMarked, GoalHasEntry, at-work, is-marked, marks-then}
 use Rattle.csi_orchestrator.proofs.RowViews.{Reads}
 
--- which call is due, by the marks
-use-attaches : (usage : Usage) (marks : Marks) (id : ℕ) → is_yes marks.attached ≡ false → use_due usage marks id ≡ Some (attaching usage id)
-use-attaches usage marks id a = rw a refl
-
-use-stages : (usage : Usage) (marks : Marks) (id : ℕ) → is_yes marks.attached ≡ true → is_yes marks.staged ≡ false → use_due usage marks id ≡ Some (staging usage id)
-use-stages usage marks id a s = rw (a, s) refl
-
-use-publishes : (usage : Usage) (marks : Marks) (id : ℕ) → is_yes marks.attached ≡ true → is_yes marks.staged ≡ true → is_yes marks.published ≡ false → use_due usage marks id ≡ Some (publishing usage id)
-use-publishes usage marks id a s p = rw (a, s, p) refl
-
-stop-unpublishes : (node target : List ℕ) (marks : Marks) (id : ℕ) → is_no marks.published ≡ false → stop_due node target marks id ≡ Some (unpublishing node target id)
-stop-unpublishes node target marks id p = rw p refl
-
-stop-unstages : (node target : List ℕ) (marks : Marks) (id : ℕ) → is_no marks.published ≡ true → marks.others ≡ false → is_no marks.staged ≡ false → stop_due node target marks id ≡ Some (unstaging node id)
-stop-unstages node target marks id p o s = rw (p, o, s) refl
-
-stop-detaches : (node target : List ℕ) (marks : Marks) (id : ℕ) → is_no marks.published ≡ true → marks.others ≡ false → is_no marks.staged ≡ true → is_no marks.attached ≡ false
-    → stop_due node target marks id ≡ Some (detaching node id)
-stop-detaches node target marks id p o s a = rw (p, o, s, a) refl
-
--- a thing is its own
-own-two : (a b : List ℕ) → (same_text a a && same_text b b) ≡ true
-own-two a b = ap (λ t. t && same_text b b) (text-same a) ∙ text-same b
-
-own-three : (a b c : List ℕ) → (same_text a a && same_text b b && same_text c c) ≡ true
-own-three a b c = ap (λ t. t && same_text c c) (own-two a b) ∙ text-same c
-
 -- the call that was sent is still the one that is due
+due-again : (row : RowShown) (due : Due) → IsDueFor row due → (goal : Goal) → row.goal ≡ Some goal
+    → due_with row.name row.arguments row.id (marks_marked Maybe (aspect_of (kind_of due.call)) (marks_for row goal)) goal ≡ Some due
+due-again row due case goal is = by due case
+  where
+    of : (due : Due) (other : Goal) → row.goal ≡ Some other → due_with row.name row.arguments row.id (marks_marked Maybe (aspect_of (kind_of due.call)) (marks_for row other)) other ≡ Some due
+        → due_with row.name row.arguments row.id (marks_marked Maybe (aspect_of (kind_of due.call)) (marks_for row goal)) goal ≡ Some due
+    of due other own same =
+        subst (λ g. due_with row.name row.arguments row.id (marks_marked Maybe (aspect_of (kind_of due.call)) (marks_for row g)) g ≡ Some due) (same_Some other goal (sym own ∙ is)) same
+
+    by : (due : Due) → IsDueFor row due → due_with row.name row.arguments row.id (marks_marked Maybe (aspect_of (kind_of due.call)) (marks_for row goal)) goal ≡ Some due
+    by _ (ToMake own e) = of _ Create own refl
+    by _ (ToRemove id own has e) = of _ Delete own (rw has refl)
+    by _ (ToAttach usage id own has a) = of _ (Use usage) own (rw has refl)
+    by _ (ToStage usage id own has a s) = of _ (Use usage) own (rw (has, a) refl)
+    by _ (ToPublish usage id own has a s p) = of _ (Use usage) own (rw (has, a, s) refl)
+    by _ (ToUnpublish node target id own has p) = of _ (Stop node target) own (rw has refl)
+    by _ (ToUnstage node target id own has p o s) = of _ (Stop node target) own (rw (has, p, o) refl)
+    by _ (ToDetach node target id own has p o s a) = of _ (Stop node target) own (rw (has, p, o, s) refl)
+
+marks-opened : (goal : Goal) (number : Number) (row : RowShown) → marks_for (opened number row) goal ≡ marks_for row goal
+marks-opened Create number row = refl
+marks-opened (Use usage) number row = refl
+marks-opened (Stop node target) number row = refl
+marks-opened Delete number row = refl
+
 pub due-stays : (row : RowShown) (due : Due) (number : Number) → GoalHasEntry row row.goal → IsDueFor row due → due_in (sent number (kind_of due.call) row) ≡ Some due
-due-stays row _ number entry (ToMake goal e) = ap (due_by (sent number kinds.CreateVolume row)) goal
-due-stays row _ number entry (ToRemove id goal own e) =
-    ap (due_by (sent number kinds.DeleteVolume row)) goal ∙ ap (option_and_then (delete_due (marks_for (sent number kinds.DeleteVolume row) Delete))) own
-due-stays row _ number entry (ToAttach usage id goal own a) =
-    let after : RowShown = sent number kinds.ControllerPublishVolume row in
-    let marks = (is-marked row (attaching usage id) Maybe entry (ToAttach usage id goal own a)).marks in
-    let now : mark_of (Attached row.name usage.node) after ≡ Maybe = marks (Attached row.name usage.node) refl ∙ ap (λ b. cond b Maybe (mark_of (Attached row.name usage.node) row)) (own-two row.name usage.node) in
-    ap (due_by after) goal ∙ ap (option_and_then (use_due usage (marks_for after (Use usage)))) own ∙ use-attaches usage (marks_for after (Use usage)) id (ap is_yes now)
-due-stays row _ number entry (ToStage usage id goal own a s) =
-    let after : RowShown = sent number kinds.NodeStageVolume row in
-    let marks = (is-marked row (staging usage id) Maybe entry (ToStage usage id goal own a s)).marks in
-    let now : mark_of (Staged row.name usage.node) after ≡ Maybe = marks (Staged row.name usage.node) refl ∙ ap (λ b. cond b Maybe (mark_of (Staged row.name usage.node) row)) (own-two row.name usage.node) in
-    ap (due_by after) goal ∙ ap (option_and_then (use_due usage (marks_for after (Use usage)))) own
-    ∙ use-stages usage (marks_for after (Use usage)) id (ap is_yes (marks (Attached row.name usage.node) refl) ∙ a) (ap is_yes now)
-due-stays row _ number entry (ToPublish usage id goal own a s p) =
-    let after : RowShown = sent number kinds.NodePublishVolume row in
-    let marks = (is-marked row (publishing usage id) Maybe entry (ToPublish usage id goal own a s p)).marks in
-    let now : mark_of (Published row.name usage.node usage.target) after ≡ Maybe = marks (Published row.name usage.node usage.target) refl
-    ∙ ap (λ b. cond b Maybe (mark_of (Published row.name usage.node usage.target) row)) (own-three row.name usage.node usage.target) in
-    ap (due_by after) goal ∙ ap (option_and_then (use_due usage (marks_for after (Use usage)))) own
-    ∙ use-publishes usage (marks_for after (Use usage)) id (ap is_yes (marks (Attached row.name usage.node) refl) ∙ a) (ap is_yes (marks (Staged row.name usage.node) refl) ∙ s) (ap is_yes now)
-due-stays row _ number entry (ToUnpublish node target id goal own p) =
-    let after : RowShown = sent number kinds.NodeUnpublishVolume row in
-    let marks = (is-marked row (unpublishing node target id) Maybe entry (ToUnpublish node target id goal own p)).marks in
-    let now : mark_of (Published row.name node target) after ≡ Maybe = marks (Published row.name node target) refl ∙ ap (λ b. cond b Maybe (mark_of (Published row.name node target) row)) (own-three row.name node target) in
-    ap (due_by after) goal ∙ ap (option_and_then (stop_due node target (marks_for after (Stop node target)))) own ∙ stop-unpublishes node target (marks_for after (Stop node target)) id (ap is_no now)
-due-stays row _ number entry (ToUnstage node target id goal own p o s) =
-    let after : RowShown = sent number kinds.NodeUnstageVolume row in
-    let marks = (is-marked row (unstaging node id) Maybe entry (ToUnstage node target id goal own p o s)).marks in
-    let now : mark_of (Staged row.name node) after ≡ Maybe = marks (Staged row.name node) refl ∙ ap (λ b. cond b Maybe (mark_of (Staged row.name node) row)) (own-two row.name node) in
-    ap (due_by after) goal ∙ ap (option_and_then (stop_due node target (marks_for after (Stop node target)))) own
-    ∙ stop-unstages node target (marks_for after (Stop node target)) id (ap is_no (marks (Published row.name node target) refl) ∙ p) (others-unstaging row node target Maybe goal ∙ o) (ap is_no now)
-due-stays row _ number entry (ToDetach node target id goal own p o s a) =
-    let after : RowShown = sent number kinds.ControllerUnpublishVolume row in
-    let marks = (is-marked row (detaching node id) Maybe entry (ToDetach node target id goal own p o s a)).marks in
-    let now : mark_of (Attached row.name node) after ≡ Maybe = marks (Attached row.name node) refl ∙ ap (λ b. cond b Maybe (mark_of (Attached row.name node) row)) (own-two row.name node) in
-    ap (due_by after) goal ∙ ap (option_and_then (stop_due node target (marks_for after (Stop node target)))) own
-    ∙ stop-detaches node target (marks_for after (Stop node target)) id (ap is_no (marks (Published row.name node target) refl) ∙ p) (others-detaching row node target Maybe goal ∙ o)
-    (ap is_no (marks (Staged row.name node) refl) ∙ s) (ap is_no now)
+due-stays row due number entry case =
+    let work = at-work row due entry case in
+    ap (due_by (sent number (kind_of due.call) row)) work.is
+    ∙ ap (λ marks. due_with row.name row.arguments row.id marks work.goal) (marks-opened work.goal number (marked Maybe (kind_of due.call) row) ∙ marks-then row due work.goal Maybe entry case work.is)
+    ∙ due-again row due case work.goal work.is
 
 -- how the volume is held, where it may be attached once the call was sent
 pub no-is-not : (k : Known) → is_no k ≡ false → k ≢ No

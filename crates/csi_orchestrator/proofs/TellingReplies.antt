@@ -31,7 +31,7 @@ use Rattle.csi_orchestrator.specs.Due.{Due, due_call}
 use Rattle.csi_orchestrator.specs.Moves.{Input, ToCreate, ToUse, ToStop, ToDelete, TimesOut, Comes, Restarts, Sends, Hears, Restarted, Moved, go_on, is_forward, is_forward_due, stopped, closing, timeout, hears, call_replied, heard, heard_refusal, deliver, restart, moves}
 use Rattle.csi_orchestrator.specs.Agrees.{View, Agrees}
 use Rattle.csi_orchestrator.specs.Following.{after_accepted, after_closed, after_noted}
-use Rattle.csi_orchestrator.specs.Shown.{RowShown, Parts, row_of, due_by, goal_in, goal_shown, held_in, due_in, open_in_row, issued_as, closed, in_session, view_of, AgreesWith}
+use Rattle.csi_orchestrator.specs.Shown.{RowShown, Parts, row_of, goal_in, goal_shown, held_in, due_in, open_in_row, issued_as, closed, in_session, view_of, AgreesWith}
 use Rattle.csi_orchestrator.specs.RowChanges.{told_of, succeeded, wanted, dropped, stopped_goal}
 use Rattle.csi_orchestrator.specs.RowMoves.{told, goes_on, times_out_with, times_out, row_replied, is_issued_as, takes_nothing_more, stops_after, hears_refusal, hears_reply, receives, starts_again, row_moves}
 use Rattle.csi_orchestrator.specs.Kept.{MayBeWanted, IsKept, AreKept, RowsTell, MovesAreGuarded}
@@ -40,7 +40,7 @@ use Rattle.csi_orchestrator.proofs.DueCases.{IsDueFor, due-cases, ToMake, ToRemo
 use Rattle.csi_orchestrator.proofs.Following.{accepted-follows, closed-follows, noted-follows, started-follows}
 use Rattle.csi_orchestrator.proofs.GoingOn.{Guards, Tells, IsReady, has-entry, goes-on-tells}
 use Rattle.csi_orchestrator.proofs.Keeping.{found-kept, replied-due}
-use Rattle.csi_orchestrator.proofs.KeptRows.{kept-distinct, FitsGoal, marked-distinct, marked-goal, kept-closed, wanted-stopped, wanted-succeeded}
+use Rattle.csi_orchestrator.proofs.KeptRows.{kept-distinct, FitsGoal, marked-distinct, kept-closed, wanted-stopped, wanted-succeeded}
 use Rattle.csi_orchestrator.proofs.NotedRow.{reads-wanted, reads-closed, reads-quiet, reads-dropped}
 use Rattle.csi_orchestrator.proofs.Refused.{timeout-unknown, timeout-refused}
 use Rattle.csi_orchestrator.proofs.Replied.{replied, replied-row}
@@ -307,15 +307,12 @@ success-tells parts history row number due reply by fine fits =
       quiet = heard-quiet parts row number due reply;
       distinct = marked-distinct (told_of (kind_of due.call)) (kind_of due.call) row (kept-distinct row own);
       aims = kept-aims parts.rows (by.kept).each;
-      may = λ next f. subst (MayBeWanted (succeeded (kind_of due.call) reply.id row)) (sym same) (wanted-succeeded (kind_of due.call) reply.id row row.goal next refl fits own.goal (ap (due_by (succeeded (kind_of due.call) reply.id row)) (sym same) ∙ f));
+      may = λ next f. wanted-succeeded (kind_of due.call) reply.id row row.goal next refl fits own.goal f;
       guarded = tt;
     }) hears
   where
     own : IsKept row
     own = own-kept parts history row number due by
-
-    same : (succeeded (kind_of due.call) reply.id row).goal ≡ row.goal
-    same = marked-goal (told_of (kind_of due.call)) (kind_of due.call) row
 
 -- a refusal after which nothing is sent
 waits-tell : (parts : Parts) (history : History) (row : RowShown) (number : Number) (due : Due) (reply : Reply) → IsHeardBy parts history row number due → is_ok_status reply.status ≡ false

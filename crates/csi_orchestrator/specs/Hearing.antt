@@ -3,7 +3,6 @@ use Rattle.std.specs.Prelude.{ℕ, Bool, false, ◌&&◌, Option, Some, None, if
 use Rattle.std.specs.Option.{option_or}
 use Rattle.csi_types.specs.declared.number.Number.{Number}
 use Rattle.csi_types.specs.declared.call.Kind.{Kind}
-use Rattle.csi_types.specs.declared.call.Kind.TheVariants as kinds
 use Rattle.csi_types.specs.declared.call.Party.{Party}
 use Rattle.csi_types.specs.declared.reply.Reply.{Reply}
 use Rattle.csi_types.specs.Call.{kind_of}
@@ -14,10 +13,10 @@ use Rattle.csi_orchestrator.specs.declared.going_on.Outgoing.{Outgoing}
 use Rattle.csi_orchestrator.specs.declared.marks.Marks.{Marks}
 use Rattle.csi_orchestrator.specs.declared.row.Goal.{Goal}
 use Rattle.csi_orchestrator.specs.declared.row.Goal.TheVariants.{Create, Use, Stop, Delete}
-use Rattle.csi_orchestrator.specs.declared.thing.Known.TheVariants.{Yes, No}
+use Rattle.csi_orchestrator.specs.declared.thing.Known.{Known}
 use Rattle.csi_orchestrator.specs.Due.{Due}
 use Rattle.csi_orchestrator.specs.Shown.{RowShown, marks_for, due_with, due_by, due_in, closed}
-use Rattle.csi_orchestrator.specs.RowChanges.{succeeded, wanted, dropped, id_told}
+use Rattle.csi_orchestrator.specs.RowChanges.{Aspect, Existence, Attachment, Staging, Publication, aspect_of, told_of, succeeded, wanted, dropped, id_told}
 use Rattle.csi_orchestrator.specs.CoreMoves.{outgoing_by, gone_on}
 
 -- the due call has this party and kind
@@ -25,16 +24,16 @@ abbrev pub is_due_as : Party → Kind → Option Due → Bool
 is_due_as party kind None = false
 is_due_as party kind (Some due) = same_party due.party party && same_kind (kind_of due.call) kind
 
--- what is known of what a goal names, once the call of this kind that was due for it succeeded
+-- what is known of what a goal names, once this is marked
+abbrev pub marks_marked : Known → Aspect → Marks → Marks
+marks_marked mark Existence marks = record marks { exists = mark }
+marks_marked mark Attachment marks = record marks { attached = mark }
+marks_marked mark Staging marks = record marks { staged = mark }
+marks_marked mark Publication marks = record marks { published = mark }
+
+-- once the call of this kind that was due for it succeeded
 abbrev pub marks_heard : Kind → Marks → Marks
-marks_heard kinds.CreateVolume marks = record marks { exists = Yes }
-marks_heard kinds.DeleteVolume marks = record marks { exists = No }
-marks_heard kinds.ControllerPublishVolume marks = record marks { attached = Yes }
-marks_heard kinds.ControllerUnpublishVolume marks = record marks { attached = No }
-marks_heard kinds.NodeStageVolume marks = record marks { staged = Yes }
-marks_heard kinds.NodeUnstageVolume marks = record marks { staged = No }
-marks_heard kinds.NodePublishVolume marks = record marks { published = Yes }
-marks_heard kinds.NodeUnpublishVolume marks = record marks { published = No }
+marks_heard kind marks = marks_marked (told_of kind) (aspect_of kind) marks
 
 -- the call that is due then
 abbrev pub due_heard : Kind → Option ℕ → RowShown → Option Goal → Option Due

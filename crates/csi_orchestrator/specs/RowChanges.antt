@@ -16,20 +16,39 @@ use Rattle.csi_orchestrator.specs.History.{Arguments}
 use Rattle.csi_orchestrator.specs.Keyed.{change_by, put_by}
 use Rattle.csi_orchestrator.specs.Shown.{PlaceShown, RowShown, place_of}
 
--- a thing of a volume is marked, if it has an entry: each of these three takes a node and a target, and only the last reads the target
-abbrev pub attached_as : Known → List ℕ → List ℕ → List PlaceShown → List PlaceShown
-attached_as mark node target places = change_by (λ place. place.node) node (λ place. record place { attached = mark }) places
+-- what a call of this kind does or undoes: that the volume is there, or that it is attached to a node, staged there, or published at a
+-- target there
+pub data Aspect : Type 0 where
+  Existence : Aspect
+  Attachment : Aspect
+  Staging : Aspect
+  Publication : Aspect
 
-abbrev pub staged_as : Known → List ℕ → List ℕ → List PlaceShown → List PlaceShown
-staged_as mark node target places = change_by (λ place. place.node) node (λ place. record place { staged = mark }) places
+abbrev pub aspect_of : Kind → Aspect
+aspect_of kinds.CreateVolume = Existence
+aspect_of kinds.DeleteVolume = Existence
+aspect_of kinds.ControllerPublishVolume = Attachment
+aspect_of kinds.ControllerUnpublishVolume = Attachment
+aspect_of kinds.NodeStageVolume = Staging
+aspect_of kinds.NodeUnstageVolume = Staging
+aspect_of kinds.NodePublishVolume = Publication
+aspect_of kinds.NodeUnpublishVolume = Publication
 
+-- it is marked in the entry of a node: only a publication reads the target
 abbrev pub aimed_as : Known → List ℕ → List Aim → List Aim
 aimed_as mark target aims = change_by (λ aim. aim.target) target (λ aim. record aim { published = mark }) aims
 
-abbrev pub published_as : Known → List ℕ → List ℕ → List PlaceShown → List PlaceShown
-published_as mark node target places = change_by (λ place. place.node) node (λ place. record place { aims = aimed_as mark target place.aims }) places
+abbrev pub place_marked : Known → Aspect → List ℕ → PlaceShown → PlaceShown
+place_marked mark Existence target place = place
+place_marked mark Attachment target place = record place { attached = mark }
+place_marked mark Staging target place = record place { staged = mark }
+place_marked mark Publication target place = record place { aims = aimed_as mark target place.aims }
 
--- such a change at the node and the target of a goal, if it has them
+-- among the entries, if the node has one
+abbrev pub marked_at : Known → Aspect → List ℕ → List ℕ → List PlaceShown → List PlaceShown
+marked_at mark aspect node target places = change_by (λ place. place.node) node (place_marked mark aspect target) places
+
+-- a change at the node and the target of a goal, if it has them
 abbrev pub at_goal : (List ℕ → List ℕ → List PlaceShown → List PlaceShown) → Option Goal → List PlaceShown → List PlaceShown
 at_goal change None places = places
 at_goal change (Some Create) places = places
@@ -38,15 +57,21 @@ at_goal change (Some (Stop node target)) places = change node target places
 at_goal change (Some Delete) places = places
 
 -- what a call of this kind for the row's goal does or undoes is marked
+abbrev pub exists_marked : Known → Aspect → Known → Known
+exists_marked mark Existence exists = mark
+exists_marked mark Attachment exists = exists
+exists_marked mark Staging exists = exists
+exists_marked mark Publication exists = exists
+
+abbrev pub places_marked : Known → Aspect → Option Goal → List PlaceShown → List PlaceShown
+places_marked mark Existence goal places = places
+places_marked mark Attachment goal places = at_goal (marked_at mark Attachment) goal places
+places_marked mark Staging goal places = at_goal (marked_at mark Staging) goal places
+places_marked mark Publication goal places = at_goal (marked_at mark Publication) goal places
+
 abbrev pub marked : Known → Kind → RowShown → RowShown
-marked mark kinds.CreateVolume row = record row { exists = mark }
-marked mark kinds.DeleteVolume row = record row { exists = mark }
-marked mark kinds.ControllerPublishVolume row = record row { places = at_goal (attached_as mark) row.goal row.places }
-marked mark kinds.ControllerUnpublishVolume row = record row { places = at_goal (attached_as mark) row.goal row.places }
-marked mark kinds.NodeStageVolume row = record row { places = at_goal (staged_as mark) row.goal row.places }
-marked mark kinds.NodeUnstageVolume row = record row { places = at_goal (staged_as mark) row.goal row.places }
-marked mark kinds.NodePublishVolume row = record row { places = at_goal (published_as mark) row.goal row.places }
-marked mark kinds.NodeUnpublishVolume row = record row { places = at_goal (published_as mark) row.goal row.places }
+marked mark kind row =
+    record row { exists = exists_marked mark (aspect_of kind) row.exists; places = places_marked mark (aspect_of kind) row.goal row.places }
 
 -- a call of this kind was sent
 abbrev pub opened : Number → RowShown → RowShown

@@ -1,44 +1,22 @@
 //! What becomes of a row.
 ghost use Rattle.std.specs.Prelude.{◌≡◌, map, Some, None, OnOk, OnErr, IfErr};
 ghost use Rattle.csi_orchestrator.specs.Shown.{row_shown, place_shown, closed};
-ghost use Rattle.csi_orchestrator.specs.RowChanges.{at_goal, attached_as, staged_as, published_as, marked, sent, told_of, id_told as id_by_kind, succeeded, wanted, wanted_anew, stopped_goal, dropped, new_row as new_row_shown, with_entry};
+ghost use Rattle.csi_orchestrator.specs.RowChanges.{at_goal, aspect_of, marked_at, marked, sent, told_of, id_told as id_by_kind, succeeded, wanted, wanted_anew, stopped_goal, dropped, new_row as new_row_shown, with_entry};
 
 use crate::fault::OrchFault;
-use crate::places::{add_place, mark_attached, mark_published, mark_staged, tidy};
+use crate::places::{add_place, mark_at, tidy};
 use crate::row::{Arguments, Goal, Place, Row, Usage};
 use crate::thing::Known;
 use csi_types::{Kind, Name, Number, VolumeId};
 use std::alloc::Global;
 
-// Marks whether the volume is attached to the goal's node.
-fn mark_attached_at(places: &mut Vec<Place>, goal: &Option<Goal>, known: Known)
-    ensures { map place_shown places.new.items ≡ at_goal (attached_as known) goal.now (map place_shown places.old.items) }
+// Marks what a call of this kind does or undoes at the goal's node and target.
+fn mark_at_goal(places: &mut Vec<Place>, goal: &Option<Goal>, kind: Kind, known: Known)
+    ensures { map place_shown places.new.items ≡ at_goal (marked_at known (aspect_of kind)) goal.now (map place_shown places.old.items) }
 {
     match goal {
-        Some(Goal::Use(usage)) => mark_attached(places, &usage.node, known),
-        Some(Goal::Stop { node, .. }) => mark_attached(places, node, known),
-        Some(Goal::Create | Goal::Delete) | None => {}
-    }
-}
-
-// Marks whether it is staged there.
-fn mark_staged_at(places: &mut Vec<Place>, goal: &Option<Goal>, known: Known)
-    ensures { map place_shown places.new.items ≡ at_goal (staged_as known) goal.now (map place_shown places.old.items) }
-{
-    match goal {
-        Some(Goal::Use(usage)) => mark_staged(places, &usage.node, known),
-        Some(Goal::Stop { node, .. }) => mark_staged(places, node, known),
-        Some(Goal::Create | Goal::Delete) | None => {}
-    }
-}
-
-// Marks whether it is published at the goal's target.
-fn mark_published_at(places: &mut Vec<Place>, goal: &Option<Goal>, known: Known)
-    ensures { map place_shown places.new.items ≡ at_goal (published_as known) goal.now (map place_shown places.old.items) }
-{
-    match goal {
-        Some(Goal::Use(usage)) => mark_published(places, &usage.node, &usage.target, known),
-        Some(Goal::Stop { node, target }) => mark_published(places, node, target, known),
+        Some(Goal::Use(usage)) => mark_at(places, &usage.node, &usage.target, kind, known),
+        Some(Goal::Stop { node, target }) => mark_at(places, node, target, kind, known),
         Some(Goal::Create | Goal::Delete) | None => {}
     }
 }
@@ -49,15 +27,12 @@ pub(crate) fn mark(row: &mut Row, kind: Kind, known: Known)
 {
     match kind {
         Kind::CreateVolume | Kind::DeleteVolume => row.exists = known,
-        Kind::ControllerPublishVolume | Kind::ControllerUnpublishVolume => {
-            mark_attached_at(&mut row.places, &row.goal, known)
-        }
-        Kind::NodeStageVolume | Kind::NodeUnstageVolume => {
-            mark_staged_at(&mut row.places, &row.goal, known)
-        }
-        Kind::NodePublishVolume | Kind::NodeUnpublishVolume => {
-            mark_published_at(&mut row.places, &row.goal, known)
-        }
+        Kind::ControllerPublishVolume
+        | Kind::ControllerUnpublishVolume
+        | Kind::NodeStageVolume
+        | Kind::NodeUnstageVolume
+        | Kind::NodePublishVolume
+        | Kind::NodeUnpublishVolume => mark_at_goal(&mut row.places, &row.goal, kind, known),
     }
 }
 
@@ -70,8 +45,8 @@ pub(crate) fn send(row: &mut Row, number: Number, kind: Kind)
     row.tries = row.tries.saturating_add(1).min(3);
 }
 
-// What a success of a call of this kind tells.
-fn told(kind: Kind) -> Known
+/// What a success of a call of this kind tells.
+pub(crate) fn told(kind: Kind) -> Known
     ensures { result ≡ told_of kind }
 {
     match kind {

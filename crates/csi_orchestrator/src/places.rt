@@ -1,13 +1,13 @@
 //! The entries of a row: where they stand, and how they are marked, tidied and added.
-ghost use Rattle.std.specs.Prelude.{◌≡◌, [], map, filter, find, position, Some, None, IfOk, OnOk, OnErr};
+ghost use Rattle.std.specs.Prelude.{◌≡◌, map, filter, find, position, Some, None, IfOk, OnOk, OnErr};
 ghost use Rattle.csi_types.specs.Same.{same_text};
 ghost use Rattle.csi_orchestrator.specs.Shown.{place_shown};
-ghost use Rattle.csi_orchestrator.specs.RowChanges.{attached_as, staged_as, published_as, aimed_as, is_aim_kept as is_kept_aim, is_place_kept as is_kept_shown, with_kept_aims, tidied, with_aim, entry_for, new_aim as new_aim_shown};
+ghost use Rattle.csi_orchestrator.specs.RowChanges.{aspect_of, place_marked, marked_at, aimed_as, is_aim_kept as is_kept_aim, is_place_kept as is_kept_shown, with_kept_aims, tidied, with_aim, entry_for, new_aim as new_aim_shown};
 ghost use Rattle.csi_orchestrator.specs.Keyed.{put_by};
 
 use crate::row::{Aim, Place, Usage};
 use crate::thing::Known;
-use csi_types::{NoMemory, NodeId, Target};
+use csi_types::{Kind, NoMemory, NodeId, Target};
 use std::alloc::Global;
 
 /// Where the entry of this node stands.
@@ -24,24 +24,6 @@ pub(crate) fn aim_index(aims: &[Aim], target: &Target) -> Option<usize>
     aims.iter().position(|aim| aim.target == *target)
 }
 
-/// Marks whether the volume is attached to the node, if the node has an entry.
-pub(crate) fn mark_attached(places: &mut Vec<Place>, node: &NodeId, known: Known)
-    ensures { map place_shown places.new.items ≡ attached_as known node.now [] (map place_shown places.old.items) }
-{
-    if let Some(index) = place_index(places, node) {
-        places[index].attached = known;
-    }
-}
-
-/// Marks whether it is staged there, if the node has an entry.
-pub(crate) fn mark_staged(places: &mut Vec<Place>, node: &NodeId, known: Known)
-    ensures { map place_shown places.new.items ≡ staged_as known node.now [] (map place_shown places.old.items) }
-{
-    if let Some(index) = place_index(places, node) {
-        places[index].staged = known;
-    }
-}
-
 // Marks whether it is published at the target, if the target has an entry.
 fn mark_aim(aims: &mut Vec<Aim>, target: &Target, known: Known)
     ensures { aims.new.items ≡ aimed_as known target.now aims.old.items }
@@ -51,12 +33,32 @@ fn mark_aim(aims: &mut Vec<Aim>, target: &Target, known: Known)
     }
 }
 
-/// Marks whether it is published at the target of the node, if both have an entry.
-pub(crate) fn mark_published(places: &mut Vec<Place>, node: &NodeId, target: &Target, known: Known)
-    ensures { map place_shown places.new.items ≡ published_as known node.now target.now (map place_shown places.old.items) }
+// Marks in the entry of a node what a call of this kind does or undoes there.
+fn mark_place(place: &mut Place, target: &Target, kind: Kind, known: Known)
+    ensures { place_shown place.new ≡ place_marked known (aspect_of kind) target.now (place_shown place.old) }
+{
+    match kind {
+        Kind::CreateVolume | Kind::DeleteVolume => {}
+        Kind::ControllerPublishVolume | Kind::ControllerUnpublishVolume => place.attached = known,
+        Kind::NodeStageVolume | Kind::NodeUnstageVolume => place.staged = known,
+        Kind::NodePublishVolume | Kind::NodeUnpublishVolume => {
+            mark_aim(&mut place.aims, target, known)
+        }
+    }
+}
+
+/// Marks what a call of this kind does or undoes at the node and the target, if the node has an entry.
+pub(crate) fn mark_at(
+    places: &mut Vec<Place>,
+    node: &NodeId,
+    target: &Target,
+    kind: Kind,
+    known: Known,
+)
+    ensures { map place_shown places.new.items ≡ marked_at known (aspect_of kind) node.now target.now (map place_shown places.old.items) }
 {
     if let Some(index) = place_index(places, node) {
-        mark_aim(&mut places[index].aims, target, known);
+        mark_place(&mut places[index], target, kind, known);
     }
 }
 

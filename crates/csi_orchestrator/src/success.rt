@@ -7,47 +7,32 @@ ghost use Rattle.csi_orchestrator.specs.Found.{due_shown, kind_due};
 ghost use Rattle.csi_orchestrator.specs.Hearing.{marks_heard};
 ghost use Rattle.csi_orchestrator.specs.Kept.{IsKept};
 
+use crate::changes::told;
 use crate::due::{Due, due_for};
 use crate::marks::{Marks, known_for};
 use crate::row::Row;
-use crate::thing::Known;
 use csi_types::{Kind, Reply, VolumeId};
 
 // What is known once the call of this kind that was due succeeded.
 fn heard(marks: Marks, kind: Kind) -> Marks
     ensures { result ≡ marks_heard kind marks }
 {
+    let known = told(kind);
     match kind {
-        Kind::CreateVolume => Marks {
-            exists: Known::Yes,
+        Kind::CreateVolume | Kind::DeleteVolume => Marks {
+            exists: known,
             ..marks
         },
-        Kind::DeleteVolume => Marks {
-            exists: Known::No,
+        Kind::ControllerPublishVolume | Kind::ControllerUnpublishVolume => Marks {
+            attached: known,
             ..marks
         },
-        Kind::ControllerPublishVolume => Marks {
-            attached: Known::Yes,
+        Kind::NodeStageVolume | Kind::NodeUnstageVolume => Marks {
+            staged: known,
             ..marks
         },
-        Kind::ControllerUnpublishVolume => Marks {
-            attached: Known::No,
-            ..marks
-        },
-        Kind::NodeStageVolume => Marks {
-            staged: Known::Yes,
-            ..marks
-        },
-        Kind::NodeUnstageVolume => Marks {
-            staged: Known::No,
-            ..marks
-        },
-        Kind::NodePublishVolume => Marks {
-            published: Known::Yes,
-            ..marks
-        },
-        Kind::NodeUnpublishVolume => Marks {
-            published: Known::No,
+        Kind::NodePublishVolume | Kind::NodeUnpublishVolume => Marks {
+            published: known,
             ..marks
         },
     }
