@@ -1,4 +1,6 @@
 pub mod FaultPlaces
 pub mod Streams
-pub mod Taken
+pub mod Answered
 pub mod Progress
+pub mod Whole
+pub mod ShownLines

@@ -1,93 +1,219 @@
--- How far a stream was answered.
-use Rattle.std.proofs.Common.{◌≡◌, ◌∙◌, sym, ap, subst, refl, ℕ, ◌+◌, ◌<◌, ◌≤◌, List, [], ◌∷◌, ◌++◌, length, take, drop, arith, length-append, append_assoc}
-use Rattle.std.specs.List.{flat_map}
-use Rattle.std.specs.Option.{option_to_list}
+-- How far a stream was handled: from one piece and one frame to the next, and where it ends.
+use Rattle.std.proofs.Common.{◌≡◌, ◌≢◌, ◌∙◌, sym, ap, subst, refl, ℕ, ◌+◌, ◌-◌, ◌^◌, ◌<◌, min, List, [], ◌∷◌, ◌++◌, length, take, drop, true, false, Option, Some, None, Ok, Err, arith, length-append, length-drop, append_assoc}
+use Rattle.std.specs.List.{flat_map, AllByRecursion}
 use Rattle.std.proofs.lemmas.List.{append-nil}
 use Rattle.std.proofs.lemmas.List.Concat.{flat_map-append}
 use Rattle.std.proofs.Math.Seq.{take-append_seam}
 use Rattle.csi_types.specs.Frame.{Frame}
-use Rattle.csi_frames.specs.Spelling.{spelling}
-use Rattle.csi_frames.specs.Stream.{FramesOf}
+use Rattle.csi_types.specs.Limits.{IsFrame}
+use Rattle.csi_frames.specs.declared.fault.FaultKind.{FaultKind}
+use Rattle.csi_frames.specs.declared.fault.FaultKind.TheVariants.{Short}
+use Rattle.csi_frames.specs.declared.fault.FrameFault.{FrameFault}
 use Rattle.csi_frames.specs.Bytes.{AreBytes}
+use Rattle.csi_frames.specs.Cutting.{Splits, begins, feeds, asks, IsLeft}
+use Rattle.csi_frames.specs.Fault.{IsFaulty, no_length, too_long, short, in_body}
+use Rattle.csi_frames.specs.Spelling.{spelling, BeginsWith}
+use Rattle.csi_frames.specs.Splitting.{Splitting, new_splitting, after_feed, after_next, IsNext, kept_after}
+use Rattle.csi_frames.specs.Stream.{FramesOf}
+use Rattle.csi_frames.proofs.Streams.{given_are}
 use Rattle.csi_streams.specs.declared.answers.AnswerFault.{AnswerFault}
 use Rattle.csi_streams.specs.declared.answers.AnswerFault.TheVariants as faults
-use Rattle.csi_controller.specs.State.{ControllerState, empty_controller}
-use Rattle.csi_controller.specs.Fenced.{fenced, after_frames}
-use Rattle.csi_controller.specs.Core.{Parts, IsShown}
-use Rattle.csi_streams.specs.Replay.{replay_config, replies_from, answered, AnswersAll, Fails, IsFaultOf}
-use Rattle.csi_streams.specs.Answering.{Advances, StopsAt}
-use Rattle.csi_streams.proofs.Streams.{IsFront}
-use Rattle.csi_streams.proofs.Taken.{Taken, nothing_taken, taken_more, front, taken_all, stopped_at}
+use Rattle.csi_streams.specs.Handling.{Handles, HandlesOn, HandlesNext, HandlesAll, StopsIn}
+use Rattle.csi_streams.specs.Progress.{Progress, Rests}
+use Rattle.csi_streams.proofs.FaultPlaces.{place_within}
+use Rattle.csi_streams.proofs.Streams.{AreBytes-both, spelling-not-empty, frames_few, splits_at, front_of, none_in_nothing}
 
-pub record Progress (input old : List ℕ) (place count : ℕ) (controller : Parts) (out : List ℕ) : Type 0 where
-  pub done : List Frame
-  pub read : Taken input done place
-  pub counted : count ≡ length done
-  pub shown : IsShown controller (after_frames replay_config empty_controller done)
-  pub config : controller.config ≡ replay_config
-  pub appended : out ≡ old ++ answered done
+each-push : (frames : List Frame) (frame : Frame) → AllByRecursion IsFrame frames → IsFrame frame → AllByRecursion IsFrame (frames ++ frame ∷ [])
+each-push [] frame each fits = (fits, tt)
+each-push (f ∷ frames) frame each fits = (each.0, each-push frames frame each.1 fits)
 
-answered-none : answered [] ≡ []
-unfolding answered
-answered-none = refl
+spellings-push : (frames : List Frame) (frame : Frame) → flat_map spelling (frames ++ frame ∷ []) ≡ flat_map spelling frames ++ spelling frame
+spellings-push frames frame = flat_map-append spelling frames (frame ∷ []) ∙ ap (λ more. flat_map spelling frames ++ more) (append-nil (spelling frame))
 
-pub start : (input old : List ℕ) (controller : Parts) → IsShown controller empty_controller → controller.config ≡ replay_config → Progress input old 0 0 controller old
-start input old controller shown config = record {
-  done = [];
-  read = nothing_taken input;
-  counted = refl;
-  shown = shown;
-  config = config;
-  appended = sym (append-nil old) ∙ ap (λ more. old ++ more) (sym answered-none);
-}
+-- a frame that a splitter gives begins what it keeps
+pub begins_kept : (fault : Option FrameFault) (kept : List ℕ) (frame : Frame) → IsNext fault kept (Ok (Some frame)) → BeginsWith kept frame (length (spelling frame))
+begins_kept None kept frame next = next
+begins_kept (Some fault) kept frame next = absurd cc
 
-after_frames-push : (state : ControllerState) (frames : List Frame) (frame : Frame) → after_frames replay_config state (frames ++ frame ∷ []) ≡ (fenced replay_config (after_frames replay_config state frames) frame).state
-after_frames-push state [] frame = refl
-after_frames-push state (f ∷ frames) frame = after_frames-push (fenced replay_config state f).state frames frame
+-- a frame that is given is taken off
+pub kept-less : (splitter : Splitting) (frame : Frame) → IsNext splitter.fault splitter.kept (Ok (Some frame)) → length (drop (length (spelling frame)) splitter.kept) < length splitter.kept
+kept-less splitter frame next =
+    omega (arith, (begins_kept splitter.fault splitter.kept frame next).within, spelling-not-empty frame, length-drop (length (spelling frame)) splitter.kept)
 
-replies_from-push : (state : ControllerState) (frames : List Frame) (frame : Frame) → replies_from state (frames ++ frame ∷ []) ≡ replies_from state frames ++ option_to_list (fenced replay_config (after_frames replay_config state frames) frame).reply
-replies_from-push state [] frame = append-nil (option_to_list (fenced replay_config state frame).reply)
-replies_from-push state (f ∷ frames) frame =
-    ap (λ more. option_to_list (fenced replay_config state f).reply ++ more) (replies_from-push (fenced replay_config state f).state frames frame)
-    ∙ sym (append_assoc (option_to_list (fenced replay_config state f).reply) (replies_from (fenced replay_config state f).state frames) _)
+pub rests-new : Rests new_splitting
+rests-new = (no_length (omega arith), λ frame next. none_in_nothing [] (omega arith) frame (length (spelling frame)) next)
 
-answered-push : (frames : List Frame) (frame : Frame) → answered (frames ++ frame ∷ []) ≡ answered frames ++ flat_map spelling (option_to_list (fenced replay_config (after_frames replay_config empty_controller frames) frame).reply)
-unfolding answered
-answered-push frames frame = ap (flat_map spelling) (replies_from-push empty_controller frames frame) ∙ flat_map-append spelling (replies_from empty_controller frames) _
+-- bytes at fault, other than too few, are there
+faulty-something : (bytes : List ℕ) (kind : FaultKind) (place : ℕ) → kind ≢ Short → IsFaulty bytes kind place → bytes ≢ []
+faulty-something bytes kind place other (no_length few) = absurd (other refl)
+faulty-something bytes kind place other (too_long long much) = λ nothing. omega (arith, ap length nothing)
+faulty-something bytes kind place other (short long fits few) = absurd (other refl)
+faulty-something bytes kind place other (in_body k p whole fits stuck) = λ nothing. omega (arith, ap length nothing)
 
-pub more : (input old : List ℕ) (place count n : ℕ) (controller controller' : Parts) (out out' : List ℕ) (p : Progress input old place count controller out) → Advances (drop place input) n (after_frames replay_config empty_controller p.done) controller' out out' → controller'.config ≡ replay_config → Progress input old (place + n) (count + 1) controller' out'
-more input old place count n controller controller' out out' p advance config =
-    let frame : Frame = advance.frame in
+kept_after-open : (fault : Option FrameFault) (kept piece : List ℕ) → fault ≡ None → kept_after fault kept piece ≡ kept ++ piece
+kept_after-open None kept piece e = refl
+kept_after-open (Some f) kept piece e = absurd cc
+
+next-open : (fault : Option FrameFault) (kept : List ℕ) (f : FrameFault) → fault ≡ None → IsNext fault kept (Err f) → (f.kind ≢ Short) × IsFaulty kept f.kind f.place
+next-open None kept f e next = next
+next-open (Some g) kept f e next = absurd cc
+
+pub waits-open : (fault : Option FrameFault) (kept : List ℕ) → fault ≡ None → IsNext fault kept (Ok None) → IsFaulty kept Short (length kept)
+waits-open None kept e next = next
+waits-open (Some g) kept e next = absurd cc
+
+left-open : (fault : Option FrameFault) (kept rest : List ℕ) → fault ≡ None → IsLeft fault kept rest → kept ≡ rest
+left-open None kept rest e left = left
+left-open (Some g) kept rest e left = absurd cc
+
+module _ {H : Type 0} (has_handled : H → List Frame → Type 0) (gives : List Frame → List ℕ → Type 0) where
+  pub begun : (splitter : Splitting) (count : ℕ) (handler : H) → splitter ≡ new_splitting → count ≡ 0 → has_handled handler [] → gives [] [] → Progress has_handled gives [] splitter count handler []
+  begun splitter count handler new none handled gave = record {
+    are = λ i. omega arith;
+    few = omega arith;
+    done = [];
+    splits = subst (Splits [] []) (sym new) begins;
+    each = tt;
+    whole = sym (ap (λ (s : Splitting). s.kept) new);
+    taken = ap (λ (s : Splitting). s.taken) new;
+    no_fault = ap (λ (s : Splitting). s.fault) new;
+    counted = none;
+    handled = handled;
+    gave = gave;
+  }
+
+  -- a piece more
+  pub fed_more : (fed piece given : List ℕ) (splitter : Splitting) (count : ℕ) (handler : H) → Progress has_handled gives fed splitter count handler given → AreBytes piece → length fed + length piece < 2 ^ 64
+      → Progress has_handled gives (fed ++ piece) (after_feed splitter piece) count handler given
+  fed_more fed piece given splitter count handler p are few = record {
+    are = AreBytes-both fed piece p.are are;
+    few = omega (arith, length-append fed piece, few);
+    done = p.done;
+    splits = feeds fed piece p.done splitter p.splits;
+    each = p.each;
+    whole =
+        ap (λ (bytes : List ℕ). bytes ++ piece) p.whole
+        ∙ append_assoc (flat_map spelling p.done) splitter.kept piece
+        ∙ ap (λ (bytes : List ℕ). flat_map spelling p.done ++ bytes) (sym (kept_after-open splitter.fault splitter.kept piece p.no_fault));
+    taken = p.taken;
+    no_fault = p.no_fault;
+    counted = p.counted;
+    handled = p.handled;
+    gave = p.gave;
+  }
+
+  -- a frame more
+  pub handled_more : (fed given before after : List ℕ) (splitter : Splitting) (count : ℕ) (handler handler' : H) (frame : Frame) (p : Progress has_handled gives fed splitter count handler given)
+      → IsNext splitter.fault splitter.kept (Ok (Some frame)) → (h : Handles has_handled gives p.done frame handler' before after)
+      → Progress has_handled gives fed (after_next splitter (Ok (Some frame))) (min (count + 1) (2 ^ 64 - 1)) handler' (given ++ h.more)
+  handled_more fed given before after splitter count handler handler' frame p next h =
+      let n = length (spelling frame) in
+      let at_front = begins_kept splitter.fault splitter.kept frame next in
+      let pushed = spellings-push p.done frame in
+      let all : length fed ≡ length (flat_map spelling p.done) + length splitter.kept = ap length p.whole ∙ length-append (flat_map spelling p.done) splitter.kept in
+      record {
+        are = p.are;
+        few = p.few;
+        done = p.done ++ frame ∷ [];
+        splits = asks fed p.done splitter (Ok (Some frame)) p.splits next;
+        each = each-push p.done frame p.each at_front.spelled.fits;
+        whole =
+            p.whole
+            ∙ ap (λ (bytes : List ℕ). flat_map spelling p.done ++ bytes) (splits_at splitter.kept frame n at_front)
+            ∙ sym (append_assoc (flat_map spelling p.done) (spelling frame) (drop n splitter.kept))
+            ∙ ap (λ (front : List ℕ). front ++ drop n splitter.kept) (sym pushed);
+        taken = omega (arith, p.taken, p.few, all, at_front.within, ap length pushed, length-append (flat_map spelling p.done) (spelling frame));
+        no_fault = p.no_fault;
+        counted = omega (arith, p.counted, p.few, all, at_front.within, spelling-not-empty frame, frames_few p.done, length-append p.done (frame ∷ []));
+        handled = h.handled;
+        gave = h.given given p.gave;
+      }
+
+  -- the bytes that are kept are at fault, whatever comes behind them
+  pub stopped_frame : (fed given : List ℕ) (splitter : Splitting) (count : ℕ) (handler : H) (kind : FaultKind) (at place : ℕ) → Progress has_handled gives fed splitter count handler given
+      → IsNext splitter.fault splitter.kept (Err (record { kind = kind; place = at })) → place ≡ min (splitter.taken + at) (2 ^ 64 - 1) → StopsIn gives fed given (faults.Frame kind place)
+  stopped_frame fed given splitter count handler kind at place p next is = λ behind rest frames are of.
+      let fault : FrameFault = record { kind = kind; place = at } in
+      let here = next-open splitter.fault splitter.kept fault p.no_fault next in
+      let stopped : Splitting = after_next splitter (Err fault) in
+      let run : Splits (fed ++ behind) (p.done ++ []) (after_feed stopped behind) = feeds fed behind (p.done ++ []) stopped (asks fed p.done splitter (Err fault) p.splits next) in
+      let same : ((p.done ++ []) ≡ frames) × IsFaulty rest kind at = given_are (fed ++ behind) rest (p.done ++ []) frames (after_feed stopped behind) are run (λ frame other. absurd cc) of in
+      let done : p.done ≡ frames = sym (append-nil p.done) ∙ same.0 in
+      let all : length fed ≡ length (flat_map spelling p.done) + length splitter.kept = ap length p.whole ∙ length-append (flat_map spelling p.done) splitter.kept in (
+        here.0,
+        record {
+          at = at;
+          something = faulty-something rest kind at here.0 same.1;
+          faulty = same.1;
+          here = omega (arith, is, p.taken, p.few, all, place_within splitter.kept kind at here.1, ap (λ (fs : List Frame). length (flat_map spelling fs)) done);
+        },
+        subst (λ (fs : List Frame). gives fs given) done p.gave,
+      )
+
+  -- what was given is given for some of the first frames, whatever comes behind them
+  pub stopped_early : (fed given : List ℕ) (splitter : Splitting) (count : ℕ) (handler : H) → Progress has_handled gives fed splitter count handler given → StopsIn gives fed given faults.NoMemory
+  stopped_early fed given splitter count handler p = λ behind rest frames are of.
+      let whole : fed ++ behind ≡ flat_map spelling p.done ++ (splitter.kept ++ behind) = ap (λ (bytes : List ℕ). bytes ++ behind) p.whole ∙ append_assoc (flat_map spelling p.done) splitter.kept behind in
+      let front = front_of p.done frames (splitter.kept ++ behind) rest p.each of.each of.longest (sym whole ∙ of.whole) (subst AreBytes whole are) in
+      (length p.done, omega (arith, ap length front.1, length-append p.done front.0), subst (λ (fs : List Frame). gives fs given) (sym (ap (take (length p.done)) front.1 ∙ take-append_seam p.done front.0)) p.gave)
+
+  -- where the splitter waits, its frames are those of the stream
+  pub all_done : (fed given : List ℕ) (splitter : Splitting) (count : ℕ) (handler : H) (p : Progress has_handled gives fed splitter count handler given) → Rests splitter → (frames : List Frame) (rest : List ℕ) → FramesOf fed frames rest
+      → (p.done ≡ frames) × (splitter.kept ≡ rest)
+  all_done fed given splitter count handler p waits frames rest of =
+      let same = given_are fed rest p.done frames splitter p.are p.splits waits.1 of in
+      (same.0, left-open splitter.fault splitter.kept rest p.no_fault same.1)
+
+  -- one frame more, or a stop, behind what was handled
+  pub going_on : (fed given before between after : List ℕ) (splitter new : Splitting) (count : ℕ) (handler handler' : H) → HandlesOn has_handled gives fed given splitter count handler before between
+      → HandlesNext has_handled gives splitter new handler handler' between after (Ok true) → HandlesOn has_handled gives fed given new (min (count + 1) (2 ^ 64 - 1)) handler' before after
+  going_on fed given before between after splitter new count handler handler' on next =
+      let p = on.progress in
+      let h = next.3 p.done p.handled in
+      record {
+        more = on.more ++ h.more;
+        appended = h.appended ∙ ap (λ (bytes : List ℕ). bytes ++ h.more) on.appended ∙ append_assoc before on.more h.more;
+        progress =
+            subst (λ (s : Splitting). Progress has_handled gives fed s (min (count + 1) (2 ^ 64 - 1)) handler' (given ++ (on.more ++ h.more))) (sym next.2)
+            (subst (λ (bytes : List ℕ). Progress has_handled gives fed (after_next splitter (Ok (Some next.0))) (min (count + 1) (2 ^ 64 - 1)) handler' bytes) (append_assoc given on.more h.more)
+            (handled_more fed (given ++ on.more) between after splitter count handler handler' next.0 p next.1 h));
+      }
+
+  pub resting : (fed given before between after : List ℕ) (splitter new : Splitting) (count : ℕ) (handler handler' : H) → HandlesOn has_handled gives fed given splitter count handler before between
+      → HandlesNext has_handled gives splitter new handler handler' between after (Ok false) → HandlesAll has_handled gives fed given new count handler' before after (Ok tt)
+  resting fed given before between after splitter new count handler handler' on next = (
     record {
-      done = p.done ++ frame ∷ [];
-      read = taken_more input p.done place n frame p.read advance.begins;
-      counted = omega (arith, p.counted, length-append p.done (frame ∷ []));
-      shown = subst (IsShown controller') (sym (after_frames-push empty_controller p.done frame)) advance.answered.shown;
-      config = config;
-      appended =
-          advance.answered.appended
-          ∙ ap (λ front. front ++ flat_map spelling (option_to_list (fenced replay_config (after_frames replay_config empty_controller p.done) frame).reply)) p.appended
-          ∙ append_assoc old (answered p.done) _
-          ∙ ap (λ bytes. old ++ bytes) (sym (answered-push p.done frame));
-    }
+      more = on.more;
+      appended = next.3 ∙ on.appended;
+      progress =
+          subst (λ (s : Splitting). Progress has_handled gives fed s count handler' (given ++ on.more)) (sym next.1)
+          (subst (λ (h : H). Progress has_handled gives fed splitter count h (given ++ on.more)) (sym next.2) on.progress);
+    },
+    subst Rests (sym next.1) next.0,
+  )
 
-pub all_answered : (input old : List ℕ) (place count : ℕ) (controller : Parts) (out : List ℕ) → Progress input old place count controller out → AreBytes input → length input ≤ place → (frames : List Frame) (rest : List ℕ) → FramesOf input frames rest → AnswersAll frames rest old out count
-all_answered input old place count controller out p are end frames rest of =
-    let read : (frames ≡ p.done) × (rest ≡ []) = taken_all input p.done place p.read are end frames rest of in
-    record {
-      whole = read.1;
-      counted = p.counted ∙ ap length (sym read.0);
-      appended = p.appended ∙ ap (λ fs. old ++ answered fs) (sym read.0);
-    }
+  pub stopping : (fed given before between after : List ℕ) (splitter new : Splitting) (count : ℕ) (handler handler' : H) (fault : AnswerFault) → HandlesOn has_handled gives fed given splitter count handler before between
+      → HandlesNext has_handled gives splitter new handler handler' between after (Err fault) → (more : List ℕ) × (after ≡ before ++ more) × StopsIn gives fed (given ++ more) fault
+  stopping fed given before between after splitter new count handler handler' (faults.Frame kind place) on next =
+      (on.more, next.3 ∙ on.appended, stopped_frame fed (given ++ on.more) splitter count handler kind next.0 place on.progress next.1 next.2)
+  stopping fed given before between after splitter new count handler handler' faults.NoMemory on next =
+      (on.more, next ∙ on.appended, stopped_early fed (given ++ on.more) splitter count handler on.progress)
 
-pub stopped : (input old : List ℕ) (place count : ℕ) (controller : Parts) (out : List ℕ) → Progress input old place count controller out → AreBytes input → place < length input → (fault : AnswerFault) → StopsAt input place fault → (frames : List Frame) (rest : List ℕ) → FramesOf input frames rest → Fails frames rest old out fault
-stopped input old place count controller out p are before (faults.Frame kind stream_place) stop frames rest of =
-    let read : (frames ≡ p.done) × IsFaultOf frames rest kind stream_place = stopped_at input p.done place p.read are before kind stream_place stop frames rest of in
-    (read.1, p.appended ∙ ap (λ fs. old ++ answered fs) (sym read.0))
-stopped input old place count controller out p are before faults.NoMemory stop frames rest of =
-    let f : IsFront p.done frames (drop place input) rest = front input p.done place p.read frames rest of are in
-    record {
-      count = length p.done;
-      within = omega (arith, ap length f.frames_are, length-append p.done f.later);
-      appended = p.appended ∙ ap (λ fs. old ++ answered fs) (sym (ap (take (length p.done)) f.frames_are ∙ take-append_seam p.done f.later));
-    }
+  pub none_yet : (fed given before : List ℕ) (splitter : Splitting) (count : ℕ) (handler : H) → Progress has_handled gives fed splitter count handler given → HandlesOn has_handled gives fed given splitter count handler before before
+  none_yet fed given before splitter count handler p = record {
+    more = [];
+    appended = sym (append-nil before);
+    progress = subst (Progress has_handled gives fed splitter count handler) (sym (append-nil given)) p;
+  }
+
+  -- a piece was refused
+  pub not_fed : (fed piece given before : List ℕ) (splitter : Splitting) (count : ℕ) (handler : H) → Progress has_handled gives fed splitter count handler given
+      → (more : List ℕ) × (before ≡ before ++ more) × StopsIn gives (fed ++ piece) (given ++ more) faults.NoMemory
+  not_fed fed piece given before splitter count handler p = (
+    [],
+    sym (append-nil before),
+    λ behind rest frames are of.
+        let joined : (fed ++ piece) ++ behind ≡ fed ++ (piece ++ behind) = append_assoc fed piece behind in
+        let stop = stopped_early fed given splitter count handler p (piece ++ behind) rest frames (subst AreBytes joined are) (subst (λ (bytes : List ℕ). FramesOf bytes frames rest) joined of) in
+        (stop.0, stop.1, subst (gives (take stop.0 frames)) (sym (append-nil given)) stop.2),
+  )

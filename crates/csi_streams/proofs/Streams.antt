@@ -1,13 +1,11 @@
 -- The frames of a stream: they are the same whoever reads them.
-use Rattle.std.proofs.Common.{◌≡◌, ◌∙◌, inl, inr, sym, ap, subst, refl, ℕ, ◌+◌, ◌<◌, ◌≤◌, zero, suc, List, [], ◌∷◌, ◌++◌, length, take, drop, arith, length-append, length-drop, append_assoc}
+use Rattle.std.proofs.Common.{◌≡◌, ◌∙◌, inl, inr, sym, ap, subst, refl, ℕ, ◌+◌, ◌<◌, ◌≤◌, zero, suc, List, [], ◌∷◌, ◌++◌, length, take, drop, arith, length-append, length-drop, append_assoc, slice_index}
 use Rattle.std.specs.List.{flat_map, AllByRecursion}
-use Rattle.std.proofs.lemmas.List.{append_cancel_left, take-append-drop, append-nil, length-take, get_or-drop}
+use Rattle.std.proofs.lemmas.List.{append_cancel_left, take-append-drop, length-take, get_or-drop}
 use Rattle.std.proofs.Math.Seq.{take-append_seam, drop-append_seam}
 use Rattle.csi_types.specs.Frame.{Frame}
 use Rattle.csi_types.specs.Limits.{IsFrame}
-use Rattle.csi_frames.specs.declared.fault.FaultKind.{FaultKind}
 use Rattle.csi_frames.specs.Spelling.{spelling, frame_body, BeginsWith}
-use Rattle.csi_frames.specs.Fault.{IsFaulty}
 use Rattle.csi_frames.specs.Stream.{FramesOf}
 use Rattle.csi_frames.specs.Bytes.{AreBytes}
 use Rattle.csi_frames.proofs.Verdicts.{one_reading_of}
@@ -20,20 +18,20 @@ same_frame bytes f g n m are first second =
       | inr fault ↦ absurd (fault.no_frame f n first)
     ]
 
--- no frame begins bytes that are at fault
-pub never_both : (bytes : List ℕ) (f : Frame) (n : ℕ) (kind : FaultKind) (place : ℕ) → AreBytes bytes → BeginsWith bytes f n → IsFaulty bytes kind place → ⊥
-never_both bytes f n kind place are begins faulty =
-    elim (one_reading_of bytes are) [
-      | inl frame ↦ frame.no_fault kind place faulty
-      | inr fault ↦ fault.no_frame f n begins
-    ]
-
 -- what is behind some bytes are bytes
 pub AreBytes-drop : (n : ℕ) (bytes : List ℕ) → AreBytes bytes → AreBytes (drop n bytes)
 AreBytes-drop n bytes are = λ i. rw (get_or-drop n bytes i 0) (are (n + i))
 
 AreBytes-behind : (xs ys : List ℕ) → AreBytes (xs ++ ys) → AreBytes ys
 AreBytes-behind xs ys are = subst AreBytes (drop-append_seam xs ys) (AreBytes-drop (length xs) (xs ++ ys) are)
+
+pub AreBytes-both : (xs ys : List ℕ) → AreBytes xs → AreBytes ys → AreBytes (xs ++ ys)
+AreBytes-both xs ys first second = λ i. by xs i first
+  where
+    by : (xs : List ℕ) (i : ℕ) → AreBytes xs → slice_index (xs ++ ys) i < 256
+    by [] i are = second i
+    by (x ∷ xs) zero are = are 0
+    by (x ∷ xs) (suc i) are = by xs i (λ j. are (suc j))
 
 pub spelling-not-empty : (f : Frame) → 0 < length (spelling f)
 unfolding spelling frame_body
@@ -47,9 +45,6 @@ frames_few (f ∷ fs) = omega (arith, frames_few fs, spelling-not-empty f, lengt
 pub count_is : (bytes : List ℕ) (f : Frame) (n : ℕ) → BeginsWith bytes f n → n ≡ length (spelling f)
 count_is bytes f n begins = let e : length (take n bytes) ≡ length (spelling f) = ap length begins.spelled.are in omega (arith, begins.within, length-take {A = ℕ})
 
-pub has_bytes : (bytes : List ℕ) (f : Frame) (n : ℕ) → BeginsWith bytes f n → (0 < n) × (n ≤ length bytes)
-has_bytes bytes f n begins = (omega (arith, count_is bytes f n begins, spelling-not-empty f), begins.within)
-
 pub splits_at : (bytes : List ℕ) (f : Frame) (n : ℕ) → BeginsWith bytes f n → bytes ≡ spelling f ++ drop n bytes
 splits_at bytes f n begins = sym (take-append-drop n bytes) ∙ ap (λ front. front ++ drop n bytes) begins.spelled.are
 
@@ -59,15 +54,9 @@ begins_so f more fits = record {
   spelled = record { fits = fits; are = take-append_seam (spelling f) more };
 }
 
--- what is read of a stream at its front are its first frames
-pub record IsFront (done frames : List Frame) (more rest : List ℕ) : Type 0 where
-  pub later : List Frame
-  pub frames_are : frames ≡ done ++ later
-  pub more_is : more ≡ flat_map spelling later ++ rest
-  pub each : AllByRecursion IsFrame later
-
-pub front_of : (done frames : List Frame) (more rest : List ℕ) → AllByRecursion IsFrame done → AllByRecursion IsFrame frames → ((frame : Frame) (n : ℕ) → BeginsWith rest frame n → ⊥) → flat_map spelling done ++ more ≡ flat_map spelling frames ++ rest → AreBytes (flat_map spelling done ++ more) → IsFront done frames more rest
-front_of [] frames more rest done_each each longest whole are = record { later = frames; frames_are = refl; more_is = whole; each = each }
+-- frames that stand at the front of a stream are its first ones
+pub front_of : (done frames : List Frame) (more rest : List ℕ) → AllByRecursion IsFrame done → AllByRecursion IsFrame frames → ((frame : Frame) (n : ℕ) → BeginsWith rest frame n → ⊥) → flat_map spelling done ++ more ≡ flat_map spelling frames ++ rest → AreBytes (flat_map spelling done ++ more) → (later : List Frame) × (frames ≡ done ++ later)
+front_of [] frames more rest done_each each longest whole are = (frames, refl)
 front_of (d ∷ ds) [] more rest done_each each longest whole are =
     let begins : BeginsWith (spelling d ++ (flat_map spelling ds ++ more)) d (length (spelling d)) = begins_so d (flat_map spelling ds ++ more) done_each.0 in
     absurd (longest d (length (spelling d)) (subst (λ bytes. BeginsWith bytes d (length (spelling d))) (sym (append_assoc (spelling d) (flat_map spelling ds) more) ∙ whole) begins))
@@ -81,21 +70,8 @@ front_of (d ∷ ds) (f ∷ fs) more rest done_each each longest whole are =
     let others : flat_map spelling ds ++ more ≡ flat_map spelling fs ++ rest =
     append_cancel_left (spelling d) (flat_map spelling ds ++ more) (flat_map spelling fs ++ rest)
     (together ∙ ap (λ g. spelling g ++ (flat_map spelling fs ++ rest)) (sym same)) in
-    let front : IsFront ds fs more rest = front_of ds fs more rest done_each.1 each.1 longest others (AreBytes-behind (spelling d) (flat_map spelling ds ++ more) are_both) in
-    record {
-      later = front.later;
-      frames_are = ap (λ gs. f ∷ gs) front.frames_are ∙ ap (λ g. g ∷ (ds ++ front.later)) (sym same);
-      more_is = front.more_is;
-      each = front.each;
-    }
-
--- where no frame begins what is left, all frames were read
-pub all_read : (done frames : List Frame) (more rest : List ℕ) → IsFront done frames more rest → ((frame : Frame) (n : ℕ) → BeginsWith more frame n → ⊥) → (frames ≡ done) × (rest ≡ more)
-all_read done frames more rest front none = by front.later front.frames_are front.more_is front.each
-  where
-    by : (later : List Frame) → frames ≡ done ++ later → more ≡ flat_map spelling later ++ rest → AllByRecursion IsFrame later → (frames ≡ done) × (rest ≡ more)
-    by [] are is each = (are ∙ append-nil done, sym is)
-    by (f ∷ fs) are is each = absurd (none f (length (spelling f)) (subst (λ bytes. BeginsWith bytes f (length (spelling f))) (sym (is ∙ append_assoc (spelling f) (flat_map spelling fs) rest)) (begins_so f (flat_map spelling fs ++ rest) each.0)))
+    let front : (later : List Frame) × (fs ≡ ds ++ later) = front_of ds fs more rest done_each.1 each.1 longest others (AreBytes-behind (spelling d) (flat_map spelling ds ++ more) are_both) in
+    (front.0, ap (λ gs. f ∷ gs) front.1 ∙ ap (λ g. g ∷ (ds ++ front.0)) (sym same))
 
 -- no frame begins where nothing is left
 pub none_in_nothing : (bytes : List ℕ) → length bytes ≤ 0 → (frame : Frame) (n : ℕ) → BeginsWith bytes frame n → ⊥

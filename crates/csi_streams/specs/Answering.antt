@@ -1,34 +1,16 @@
--- One frame of a stream, taken and answered.
-use Rattle.std.specs.Prelude.{◌≡◌, ℕ, ◌+◌, List, ◌++◌, drop}
-use Rattle.std.specs.Option.{option_to_list}
-use Rattle.std.specs.List.{flat_map}
+-- What a controller has answered, and what is given for it. Private functions alone cite it.
+use Rattle.std.specs.Prelude.{◌≡◌, ℕ, List}
 use Rattle.csi_types.specs.Frame.{Frame}
-use Rattle.csi_frames.specs.Spelling.{spelling, BeginsWith}
-use Rattle.csi_frames.specs.Fault.{IsFaulty}
-use Rattle.csi_controller.specs.State.{ControllerState}
-use Rattle.csi_controller.specs.Fenced.{fenced}
+use Rattle.csi_controller.specs.State.{empty_controller}
+use Rattle.csi_controller.specs.Fenced.{after_frames}
 use Rattle.csi_controller.specs.Core.{Parts, IsShown}
-use Rattle.csi_streams.specs.declared.answers.AnswerFault.{AnswerFault}
-use Rattle.csi_streams.specs.declared.answers.AnswerFault.TheVariants as faults
-use Rattle.csi_streams.specs.Replay.{replay_config}
+use Rattle.csi_streams.specs.Replay.{replay_config, answered}
 
--- the bytes begin with a frame of n bytes
-pub record Takes (bytes : List ℕ) (n : ℕ) : Type 0 where
-  pub frame : Frame
-  pub begins : BeginsWith bytes frame n
+-- the controller was new, and had the configuration of a replay, and answered these frames
+pub record HasAnswered (controller : Parts) (frames : List Frame) : Type 0 where
+  pub shown : IsShown controller (after_frames replay_config empty_controller frames)
+  pub config : controller.config ≡ replay_config
 
--- the controller answered the frame, and the reply was appended
-pub record IsAnswered (frame : Frame) (state : ControllerState) (controller : Parts) (old new : List ℕ) : Type 0 where
-  pub shown : IsShown controller (fenced replay_config state frame).state
-  pub appended : new ≡ old ++ flat_map spelling (option_to_list (fenced replay_config state frame).reply)
-
--- the bytes begin with a frame of n bytes, which was answered
-pub record Advances (bytes : List ℕ) (n : ℕ) (state : ControllerState) (controller : Parts) (old new : List ℕ) : Type 0 where
-  pub frame : Frame
-  pub begins : BeginsWith bytes frame n
-  pub answered : IsAnswered frame state controller old new
-
--- the first fault of the bytes from this place on
-abbrev pub StopsAt : List ℕ → ℕ → AnswerFault → Type 0
-StopsAt bytes place (faults.Frame kind stream_place) = (at : ℕ) × IsFaulty (drop place bytes) kind at × (stream_place ≡ place + at)
-StopsAt bytes place faults.NoMemory = Unit {0}
+-- these are the spellings of a new controller's replies to these frames
+abbrev pub AreReplies : List Frame → List ℕ → Type 0
+AreReplies frames bytes = bytes ≡ answered frames

@@ -1,2 +1,5 @@
 pub mod Replay
 pub mod Answering
+pub mod Showing
+pub mod Progress
+pub mod Handling

@@ -1,5 +1,5 @@
 //! A stream of frames, answered by a new controller.
-ghost use Rattle.std.specs.Prelude.{◌≡◌, ◌≤◌, ◌++◌, ℕ, List, length, drop, IfOk, IfErr, OnOk, OnErr};
+ghost use Rattle.std.specs.Prelude.{◌≡◌, ◌++◌, ℕ, List, IfOk, IfErr, OnOk, OnErr};
 ghost use Rattle.std.specs.Option.{option_to_list, option_copied};
 ghost use Rattle.std.specs.List.{flat_map};
 ghost use Rattle.csi_frames.specs.Spelling.{spelling};
@@ -8,11 +8,13 @@ ghost use Rattle.csi_frames.specs.Stream.{FramesOf};
 ghost use Rattle.csi_controller.specs.State.{ControllerState, empty_controller};
 ghost use Rattle.csi_controller.specs.Core.{IsShown};
 ghost use Rattle.csi_streams.specs.Replay.{replay_config, AnswersAll, Fails};
-ghost use Rattle.csi_streams.specs.Answering.{IsAnswered, Advances, StopsAt};
+ghost use Rattle.csi_streams.specs.Answering.{HasAnswered, AreReplies};
+ghost use Rattle.csi_streams.specs.Handling.{Handles};
 
-use crate::reading::read_at;
+use crate::handler::Handler;
+use crate::slices::handle_slice;
 use csi_controller::{Controller, CoreFault};
-use csi_frames::{FaultKind, encode};
+use csi_frames::{FaultKind, FrameRef, encode};
 use csi_types::{Config, Frame, MAX_CAPACITY, NoMemory};
 use std::alloc::{AllocError, Global};
 use thiserror::Error;
@@ -81,10 +83,7 @@ fn answer_frame(
     frame: &Frame,
     out: &mut Vec<u8>,
 ) -> Result<(), AnswerFault>
-    requires config { controller.old.config ≡ replay_config }
-    ensures config { controller.new.config ≡ replay_config }
-    ensures ok { (state : ControllerState) → IsShown controller.old state →
-        OnOk result (IsAnswered frame.now state controller.new out.old.items out.new.items) }
+    ensures ok { (frames : List FrameParts) → HasAnswered controller.old frames → OnOk result (Handles HasAnswered AreReplies frames frame.now controller.new out.old.items out.new.items) }
     ensures fault { IfErr result (λ fault. fault ≡ AnswerFault.NoMemory) }
     ensures err { OnErr result (out.new.items ≡ out.old.items) }
 {
@@ -93,25 +92,22 @@ fn answer_frame(
     Ok(())
 }
 
-// Answers the frame in this place, and gives the count of its bytes. An `Err` appends nothing.
-fn answer_one(
-    alloc: Global,
-    controller: &mut Controller,
-    input: &[u8],
-    place: usize,
-    out: &mut Vec<u8>,
-) -> Result<usize, AnswerFault>
-    requires within { place ≤ length input.now }
-    requires config { controller.old.config ≡ replay_config }
-    ensures config { controller.new.config ≡ replay_config }
-    ensures ok { (state : ControllerState) → IsShown controller.old state →
-        IfOk result (λ n. Advances (drop place input.now) n state controller.new out.old.items out.new.items) }
-    ensures fault { IfErr result (StopsAt input.now place) }
-    ensures err { OnErr result (out.new.items ≡ out.old.items) }
-{
-    let read = read_at(alloc, input, place)?;
-    answer_frame(controller, &read.0, out)?;
-    Ok(read.1)
+// Each frame is answered, and its reply is given, if there is one.
+impl Handler for Controller {
+    ghost has_handled = { HasAnswered };
+
+    ghost gives = { AreReplies };
+
+    fn handle(
+        &mut self,
+        alloc: Global,
+        _place: u64,
+        frame: &FrameRef<'_>,
+        out: &mut Vec<u8>,
+    ) -> Result<(), AnswerFault> {
+        let frame = frame.to_frame(alloc)?;
+        answer_frame(self, &frame, out)
+    }
 }
 
 // A controller that made no volume, with the configuration of a replay.
@@ -138,11 +134,5 @@ pub fn answer(alloc: Global, input: &[u8], out: &mut Vec<u8>) -> Result<u64, Ans
         IfErr result (Fails frames rest out.old.items out.new.items) }
 {
     let mut controller = new_controller(alloc);
-    let mut place = 0;
-    let mut count = 0;
-    while place < input.len() {
-        place += answer_one(alloc, &mut controller, input, place, out)?;
-        count += 1;
-    }
-    Ok(count)
+    handle_slice(alloc, &mut controller, input, out)
 }

@@ -2,9 +2,11 @@
 #![tactic(auto)]
 
 mod answers;
+mod frames;
+mod handler;
 mod lines;
-mod reading;
 mod shown;
+mod slices;
 
 pub use answers::{AnswerFault, answer};
 pub use lines::show;

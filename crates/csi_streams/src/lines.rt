@@ -1,47 +1,54 @@
 //! A stream of frames, shown in lines.
-ghost use Rattle.std.specs.Prelude.{◌≡◌, ℕ, ◌≤◌, List, [], length, drop, IfOk, IfErr, OnOk, OnErr};
+ghost use Rattle.std.specs.Prelude.{◌≡◌, ℕ, List, [], IfErr, OnOk, OnErr};
 ghost use Rattle.csi_types.specs.Frame.{Frame as FrameParts};
 ghost use Rattle.csi_frames.specs.Stream.{FramesOf};
 ghost use Rattle.csi_streams.specs.Replay.{Grows, Stops};
-ghost use Rattle.csi_streams.specs.Answering.{Takes, StopsAt};
+ghost use Rattle.csi_streams.specs.Showing.{HasShown, AreLines};
 
 use crate::answers::AnswerFault;
-use crate::reading::read_at;
+use crate::handler::Handler;
 use crate::shown::ShownFrame;
+use crate::slices::handle_slice;
+use csi_frames::FrameRef;
 use csi_types::Frame;
-use std::alloc::{AllocError, Global};
+use std::alloc::Global;
 
 // Appends the line of the frame in this place. An `Err` appends nothing.
 fn append_line(
     alloc: Global,
-    place: usize,
+    place: u64,
     frame: &Frame,
     out: &mut Vec<u8>,
-) -> Result<(), AllocError>
+) -> Result<(), AnswerFault>
     ensures ok { OnOk result (Grows out.old.items out.new.items) }
+    ensures fault { IfErr result (λ fault. fault ≡ AnswerFault.NoMemory) }
     ensures err { OnErr result (out.new.items ≡ out.old.items) }
 {
     let frame = ShownFrame(frame);
     let line = format!(in alloc; "{place} {frame}\n")?;
-    out.extend_from_slice(line.as_bytes())
+    out.extend_from_slice(line.as_bytes())?;
+    Ok(())
 }
 
-// Shows the frame in this place, and gives the count of its bytes. An `Err` appends nothing.
-fn show_one(
-    alloc: Global,
-    input: &[u8],
-    place: usize,
-    out: &mut Vec<u8>,
-) -> Result<usize, AnswerFault>
-    requires within { place ≤ length input.now }
-    ensures frame { IfOk result (λ n. Takes (drop place input.now) n) }
-    ensures ok { OnOk result (Grows out.old.items out.new.items) }
-    ensures fault { IfErr result (StopsAt input.now place) }
-    ensures err { OnErr result (out.new.items ≡ out.old.items) }
-{
-    let read = read_at(alloc, input, place)?;
-    append_line(alloc, place, &read.0, out)?;
-    Ok(read.1)
+// Each frame is shown in a line, which has its place.
+#[derive(Drop)]
+struct Lines;
+
+impl Handler for Lines {
+    ghost has_handled = { HasShown };
+
+    ghost gives = { AreLines };
+
+    fn handle(
+        &mut self,
+        alloc: Global,
+        place: u64,
+        frame: &FrameRef<'_>,
+        out: &mut Vec<u8>,
+    ) -> Result<(), AnswerFault> {
+        let frame = frame.to_frame(alloc)?;
+        append_line(alloc, place, &frame, out)
+    }
 }
 
 /// Appends a line for each frame of `input`: the place of its first byte, its number, its party and its body. At an `Err`
@@ -54,9 +61,8 @@ pub fn show(alloc: Global, input: &[u8], out: &mut Vec<u8>) -> Result<(), Answer
     ensures fault { (frames : List FrameParts) (rest : List ℕ) → FramesOf input.now frames rest →
         IfErr result (Stops frames rest) }
 {
-    let mut place = 0;
-    while place < input.len() {
-        place += show_one(alloc, input, place, out)?;
+    match handle_slice(alloc, &mut Lines, input, out) {
+        Ok(_) => Ok(()),
+        Err(fault) => Err(fault),
     }
-    Ok(())
 }

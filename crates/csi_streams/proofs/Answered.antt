@@ -1,0 +1,52 @@
+-- What a new controller answers, frame after frame.
+use Rattle.std.proofs.Common.{◌≡◌, ◌∙◌, sym, ap, subst, refl, ℕ, List, [], ◌∷◌, ◌++◌, Option, append_assoc}
+use Rattle.std.specs.List.{flat_map}
+use Rattle.std.specs.Option.{option_to_list}
+use Rattle.std.proofs.lemmas.List.{append-nil}
+use Rattle.std.proofs.lemmas.List.Concat.{flat_map-append}
+use Rattle.csi_types.specs.Config.{Config}
+use Rattle.csi_types.specs.Frame.{Frame}
+use Rattle.csi_frames.specs.Spelling.{spelling}
+use Rattle.csi_controller.specs.State.{ControllerState, empty_controller}
+use Rattle.csi_controller.specs.Fenced.{fenced, after_frames}
+use Rattle.csi_controller.specs.Core.{Parts, IsShown}
+use Rattle.csi_streams.specs.Answering.{HasAnswered, AreReplies}
+use Rattle.csi_streams.specs.Handling.{Handles}
+use Rattle.csi_streams.specs.Replay.{replay_config, replies_from, answered}
+
+pub answered-none : answered [] ≡ []
+unfolding answered
+answered-none = refl
+
+pub after_frames-push : (state : ControllerState) (frames : List Frame) (frame : Frame) → after_frames replay_config state (frames ++ frame ∷ []) ≡ (fenced replay_config (after_frames replay_config state frames) frame).state
+after_frames-push state [] frame = refl
+after_frames-push state (f ∷ frames) frame = after_frames-push (fenced replay_config state f).state frames frame
+
+replies_from-push : (state : ControllerState) (frames : List Frame) (frame : Frame) → replies_from state (frames ++ frame ∷ []) ≡ replies_from state frames ++ option_to_list (fenced replay_config (after_frames replay_config state frames) frame).reply
+replies_from-push state [] frame = append-nil (option_to_list (fenced replay_config state frame).reply)
+replies_from-push state (f ∷ frames) frame =
+    ap (λ more. option_to_list (fenced replay_config state f).reply ++ more) (replies_from-push (fenced replay_config state f).state frames frame)
+    ∙ sym (append_assoc (option_to_list (fenced replay_config state f).reply) (replies_from (fenced replay_config state f).state frames) _)
+
+pub answered-push : (frames : List Frame) (frame : Frame) → answered (frames ++ frame ∷ []) ≡ answered frames ++ flat_map spelling (option_to_list (fenced replay_config (after_frames replay_config empty_controller frames) frame).reply)
+unfolding answered
+answered-push frames frame = ap (flat_map spelling) (replies_from-push empty_controller frames frame) ∙ flat_map-append spelling (replies_from empty_controller frames) _
+
+-- one frame more was answered
+pub answered_more : (frames : List Frame) (frame : Frame) (old new : Parts) (reply : Option Frame) (before after : List ℕ) → HasAnswered old frames
+    → reply ≡ (fenced old.config (after_frames replay_config empty_controller frames) frame).reply → IsShown new (fenced old.config (after_frames replay_config empty_controller frames) frame).state → new.config ≡ old.config
+    → after ≡ before ++ flat_map spelling (option_to_list reply) → Handles HasAnswered AreReplies frames frame new before after
+answered_more frames frame old new reply before after has replied shown same appended =
+    let state : ControllerState = after_frames replay_config empty_controller frames in
+    record {
+      handled = record {
+        shown = subst (IsShown new) (sym (after_frames-push empty_controller frames frame)) (subst (λ (config : Config). IsShown new (fenced config state frame).state) has.config shown);
+        config = same ∙ has.config;
+      };
+      more = flat_map spelling (option_to_list reply);
+      appended = appended;
+      given = λ bytes is.
+          ap (λ (front : List ℕ). front ++ flat_map spelling (option_to_list reply)) is
+          ∙ ap (λ (r : Option Frame). answered frames ++ flat_map spelling (option_to_list r)) (replied ∙ ap (λ (config : Config). (fenced config state frame).reply) has.config)
+          ∙ sym (answered-push frames frame);
+    }
