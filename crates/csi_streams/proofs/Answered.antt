@@ -10,7 +10,8 @@ use Rattle.csi_frames.specs.Spelling.{spelling}
 use Rattle.csi_controller.specs.State.{ControllerState, empty_controller}
 use Rattle.csi_controller.specs.Fenced.{fenced, after_frames}
 use Rattle.csi_controller.specs.Core.{Parts, IsShown}
-use Rattle.csi_streams.specs.Answering.{HasAnswered, AreReplies}
+use Rattle.csi_streams.specs.Answering.{HasAnswered}
+use Rattle.csi_streams.specs.Streaming.{AreReplies}
 use Rattle.csi_streams.specs.Handling.{Handles}
 use Rattle.csi_streams.specs.Replay.{replay_config, replies_from, answered}
 

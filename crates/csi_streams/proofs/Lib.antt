@@ -4,3 +4,4 @@ pub mod Answered
 pub mod Progress
 pub mod Whole
 pub mod ShownLines
+pub mod Passing

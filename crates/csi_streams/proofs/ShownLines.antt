@@ -5,7 +5,8 @@ use Rattle.csi_streams.specs.declared.answers.AnswerFault.{AnswerFault}
 use Rattle.csi_streams.specs.declared.lines.Lines.{Lines}
 use Rattle.csi_streams.specs.Handling.{Handles}
 use Rattle.csi_streams.specs.Replay.{Grows}
-use Rattle.csi_streams.specs.Showing.{HasShown, AreLines}
+use Rattle.csi_streams.specs.Showing.{HasShown}
+use Rattle.csi_streams.specs.Streaming.{AreLines}
 
 pub shown_more : (frames : List Frame) (frame : Frame) (lines : Lines) (before after : List ℕ) (result : Result (Unit {0}) AnswerFault) → OnOk result (Grows before after) → OnOk result (Handles HasShown AreLines frames frame lines before after)
 shown_more frames frame lines before after (Ok done) grows = record { handled = tt; more = grows.more; appended = grows.appended; given = λ bytes given. tt }

@@ -1,5 +1,7 @@
 pub mod Replay
+pub mod Streaming
 pub mod Answering
 pub mod Showing
 pub mod Progress
 pub mod Handling
+pub mod Passing

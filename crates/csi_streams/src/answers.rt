@@ -8,15 +8,18 @@ ghost use Rattle.csi_frames.specs.Stream.{FramesOf};
 ghost use Rattle.csi_controller.specs.State.{ControllerState, empty_controller};
 ghost use Rattle.csi_controller.specs.Core.{IsShown};
 ghost use Rattle.csi_streams.specs.Replay.{replay_config, AnswersAll, Fails};
-ghost use Rattle.csi_streams.specs.Answering.{HasAnswered, AreReplies};
+ghost use Rattle.csi_streams.specs.Answering.{HasAnswered};
+ghost use Rattle.csi_streams.specs.Streaming.{AreReplies, Streams};
 ghost use Rattle.csi_streams.specs.Handling.{Handles};
 
 use crate::handler::Handler;
 use crate::slices::handle_slice;
+use crate::streaming::{StreamFault, handle_stream};
 use csi_controller::{Controller, CoreFault};
 use csi_frames::{FaultKind, FrameRef, encode};
 use csi_types::{Config, Frame, MAX_CAPACITY, NoMemory};
 use std::alloc::{AllocError, Global};
+use std::io::{Read, Write};
 use thiserror::Error;
 
 /// Why a stream wasn't answered whole.
@@ -135,4 +138,19 @@ pub fn answer(alloc: Global, input: &[u8], out: &mut Vec<u8>) -> Result<u64, Ans
 {
     let mut controller = new_controller(alloc);
     handle_slice(alloc, &mut controller, input, out)
+}
+
+/// The same of the frames that `reader` has: reads at most 4,096 bytes at a time, and writes and flushes the replies to the frames
+/// that are there before it reads on, so that it takes no more memory however long the stream. What was given before an `Err`
+/// is written: at `Frame` and `Input` all replies to the frames that were read, at `NoMemory` those to some of the first, at
+/// `Output` a front of them. Of a reader or a writer that doesn't tell its bytes nothing is said.
+pub fn answer_from<R: Read, W: Write>(
+    alloc: Global,
+    reader: &mut R,
+    writer: &mut W,
+) -> Result<u64, StreamFault>
+    ensures { Streams AreReplies (R.remaining reader.old) (R.remaining reader.new) (W.contents writer.old) (W.contents writer.new) result }
+{
+    let mut controller = new_controller(alloc);
+    handle_stream(alloc, &mut controller, reader, writer)
 }

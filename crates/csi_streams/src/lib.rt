@@ -5,8 +5,12 @@ mod answers;
 mod frames;
 mod handler;
 mod lines;
+mod output;
 mod shown;
 mod slices;
+mod streaming;
 
-pub use answers::{AnswerFault, answer};
-pub use lines::show;
+pub use answers::{AnswerFault, answer, answer_from};
+pub use lines::{show, show_from};
+pub use output::{WriteFailed, write_out};
+pub use streaming::StreamFault;

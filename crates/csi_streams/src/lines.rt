@@ -3,15 +3,18 @@ ghost use Rattle.std.specs.Prelude.{◌≡◌, ℕ, List, [], IfErr, OnOk, OnErr
 ghost use Rattle.csi_types.specs.Frame.{Frame as FrameParts};
 ghost use Rattle.csi_frames.specs.Stream.{FramesOf};
 ghost use Rattle.csi_streams.specs.Replay.{Grows, Stops};
-ghost use Rattle.csi_streams.specs.Showing.{HasShown, AreLines};
+ghost use Rattle.csi_streams.specs.Showing.{HasShown};
+ghost use Rattle.csi_streams.specs.Streaming.{AreLines, Streams};
 
 use crate::answers::AnswerFault;
 use crate::handler::Handler;
 use crate::shown::ShownFrame;
 use crate::slices::handle_slice;
+use crate::streaming::{StreamFault, handle_stream};
 use csi_frames::FrameRef;
 use csi_types::Frame;
 use std::alloc::Global;
+use std::io::{Read, Write};
 
 // Appends the line of the frame in this place. An `Err` appends nothing.
 fn append_line(
@@ -65,4 +68,18 @@ pub fn show(alloc: Global, input: &[u8], out: &mut Vec<u8>) -> Result<(), Answer
         Ok(_) => Ok(()),
         Err(fault) => Err(fault),
     }
+}
+
+/// The same of the frames that `reader` has, and gives the count of the frames: reads at most 4,096 bytes at a time, and writes
+/// and flushes the lines of the frames that are there before it reads on, so that it takes no more memory however long the
+/// stream. The lines of the frames before an `Err` are written, at `Output` a front of them. Of a reader or a writer that
+/// doesn't tell its bytes nothing is said.
+pub fn show_from<R: Read, W: Write>(
+    alloc: Global,
+    reader: &mut R,
+    writer: &mut W,
+) -> Result<u64, StreamFault>
+    ensures { Streams AreLines (R.remaining reader.old) (R.remaining reader.new) (W.contents writer.old) (W.contents writer.new) result }
+{
+    handle_stream(alloc, &mut Lines, reader, writer)
 }

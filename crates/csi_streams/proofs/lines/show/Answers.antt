@@ -1,6 +1,6 @@
 use Rattle.std.proofs.Common.{arith, Ok, Err}
 use Rattle.csi_streams.proofs.Streams.{frames_of}
-use Rattle.csi_streams.specs.Showing.{AreLines}
+use Rattle.csi_streams.specs.Streaming.{AreLines}
 use Rattle.csi_streams.proofs.Whole.{whole_grows}
 use Rattle.csi_streams.proofs.lines.show.Goals as goal
 
