@@ -154,7 +154,7 @@ module _ {H : Type 0} (has_handled : H → List Frame → Type 0) (gives : List 
   pub stopped_early : (fed given : List ℕ) (splitter : Splitting) (count : ℕ) (handler : H) → Progress has_handled gives fed splitter count handler given → StopsIn gives fed given faults.NoMemory
   stopped_early fed given splitter count handler p = λ behind rest frames are of.
       let whole : fed ++ behind ≡ flat_map spelling p.done ++ (splitter.kept ++ behind) = ap (λ (bytes : List ℕ). bytes ++ behind) p.whole ∙ append_assoc (flat_map spelling p.done) splitter.kept behind in
-      let front = front_of p.done frames (splitter.kept ++ behind) rest p.each of.each of.longest (sym whole ∙ of.whole) (subst AreBytes whole are) in
+      let front = front_of p.done frames (splitter.kept ++ behind) rest p.each of.each of.longest (sym whole ∙ of.whole) in
       (length p.done, omega (arith, ap length front.1, length-append p.done front.0), subst (λ (fs : List Frame). gives fs given) (sym (ap (take (length p.done)) front.1 ∙ take-append_seam p.done front.0)) p.gave)
 
   -- where the splitter waits, its frames are those of the stream

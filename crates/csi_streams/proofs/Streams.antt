@@ -1,29 +1,23 @@
 -- The frames of a stream: they are the same whoever reads them.
 use Rattle.std.proofs.Common.{◌≡◌, ◌∙◌, inl, inr, sym, ap, subst, refl, ℕ, ◌+◌, ◌<◌, ◌≤◌, zero, suc, List, [], ◌∷◌, ◌++◌, length, take, drop, arith, length-append, length-drop, append_assoc, slice_index}
 use Rattle.std.specs.List.{flat_map, AllByRecursion}
-use Rattle.std.proofs.lemmas.List.{append_cancel_left, take-append-drop, length-take, get_or-drop}
-use Rattle.std.proofs.Math.Seq.{take-append_seam, drop-append_seam}
+use Rattle.std.proofs.lemmas.List.{append-nil, append_cancel_left, take-append-drop, length-take, get_or-drop}
+use Rattle.std.proofs.Math.Seq.{take-append_seam}
 use Rattle.csi_types.specs.Frame.{Frame}
 use Rattle.csi_types.specs.Limits.{IsFrame}
 use Rattle.csi_frames.specs.Spelling.{spelling, frame_body, BeginsWith}
 use Rattle.csi_frames.specs.Stream.{FramesOf}
 use Rattle.csi_frames.specs.Bytes.{AreBytes}
-use Rattle.csi_frames.proofs.Verdicts.{one_reading_of}
+use Rattle.csi_frames.proofs.Front.{first_frame-begins}
+use Rattle.csi_frames.proofs.Verdicts.{one_reading_of, same_frame as one_found}
 
 -- two frames that begin the same bytes are one
-same_frame : (bytes : List ℕ) (f g : Frame) (n m : ℕ) → AreBytes bytes → BeginsWith bytes f n → BeginsWith bytes g m → f ≡ g
-same_frame bytes f g n m are first second =
-    elim (one_reading_of bytes are) [
-      | inl frame ↦ (frame.no_other f n first).0 ∙ sym (frame.no_other g m second).0
-      | inr fault ↦ absurd (fault.no_frame f n first)
-    ]
+same_frame : (bytes : List ℕ) (f g : Frame) (n m : ℕ) → BeginsWith bytes f n → BeginsWith bytes g m → f ≡ g
+same_frame bytes f g n m first second = (one_found f g n m (sym (first_frame-begins bytes f n first) ∙ first_frame-begins bytes g m second)).0
 
 -- what is behind some bytes are bytes
 pub AreBytes-drop : (n : ℕ) (bytes : List ℕ) → AreBytes bytes → AreBytes (drop n bytes)
 AreBytes-drop n bytes are = λ i. rw (get_or-drop n bytes i 0) (are (n + i))
-
-AreBytes-behind : (xs ys : List ℕ) → AreBytes (xs ++ ys) → AreBytes ys
-AreBytes-behind xs ys are = subst AreBytes (drop-append_seam xs ys) (AreBytes-drop (length xs) (xs ++ ys) are)
 
 pub AreBytes-both : (xs ys : List ℕ) → AreBytes xs → AreBytes ys → AreBytes (xs ++ ys)
 AreBytes-both xs ys first second = λ i. by xs i first
@@ -55,23 +49,35 @@ begins_so f more fits = record {
 }
 
 -- frames that stand at the front of a stream are its first ones
-pub front_of : (done frames : List Frame) (more rest : List ℕ) → AllByRecursion IsFrame done → AllByRecursion IsFrame frames → ((frame : Frame) (n : ℕ) → BeginsWith rest frame n → ⊥) → flat_map spelling done ++ more ≡ flat_map spelling frames ++ rest → AreBytes (flat_map spelling done ++ more) → (later : List Frame) × (frames ≡ done ++ later)
-front_of [] frames more rest done_each each longest whole are = (frames, refl)
-front_of (d ∷ ds) [] more rest done_each each longest whole are =
+pub front_of : (done frames : List Frame) (more rest : List ℕ) → AllByRecursion IsFrame done → AllByRecursion IsFrame frames → ((frame : Frame) (n : ℕ) → BeginsWith rest frame n → ⊥) → flat_map spelling done ++ more ≡ flat_map spelling frames ++ rest → (later : List Frame) × (frames ≡ done ++ later)
+front_of [] frames more rest done_each each longest whole = (frames, refl)
+front_of (d ∷ ds) [] more rest done_each each longest whole =
     let begins : BeginsWith (spelling d ++ (flat_map spelling ds ++ more)) d (length (spelling d)) = begins_so d (flat_map spelling ds ++ more) done_each.0 in
     absurd (longest d (length (spelling d)) (subst (λ bytes. BeginsWith bytes d (length (spelling d))) (sym (append_assoc (spelling d) (flat_map spelling ds) more) ∙ whole) begins))
-front_of (d ∷ ds) (f ∷ fs) more rest done_each each longest whole are =
-    let are_both : AreBytes (spelling d ++ (flat_map spelling ds ++ more)) = subst AreBytes (append_assoc (spelling d) (flat_map spelling ds) more) are in
+front_of (d ∷ ds) (f ∷ fs) more rest done_each each longest whole =
     let together : spelling d ++ (flat_map spelling ds ++ more) ≡ spelling f ++ (flat_map spelling fs ++ rest) =
     sym (append_assoc (spelling d) (flat_map spelling ds) more) ∙ whole ∙ append_assoc (spelling f) (flat_map spelling fs) rest in
-    let same : d ≡ f = same_frame (spelling d ++ (flat_map spelling ds ++ more)) d f (length (spelling d)) (length (spelling f)) are_both
+    let same : d ≡ f = same_frame (spelling d ++ (flat_map spelling ds ++ more)) d f (length (spelling d)) (length (spelling f))
     (begins_so d (flat_map spelling ds ++ more) done_each.0)
     (subst (λ bytes. BeginsWith bytes f (length (spelling f))) (sym together) (begins_so f (flat_map spelling fs ++ rest) each.0)) in
     let others : flat_map spelling ds ++ more ≡ flat_map spelling fs ++ rest =
     append_cancel_left (spelling d) (flat_map spelling ds ++ more) (flat_map spelling fs ++ rest)
     (together ∙ ap (λ g. spelling g ++ (flat_map spelling fs ++ rest)) (sym same)) in
-    let front : (later : List Frame) × (fs ≡ ds ++ later) = front_of ds fs more rest done_each.1 each.1 longest others (AreBytes-behind (spelling d) (flat_map spelling ds ++ more) are_both) in
+    let front : (later : List Frame) × (fs ≡ ds ++ later) = front_of ds fs more rest done_each.1 each.1 longest others in
     (front.0, ap (λ gs. f ∷ gs) front.1 ∙ ap (λ g. g ∷ (ds ++ front.0)) (sym same))
+
+nothing-more : (later : List Frame) → length later ≤ 0 → later ≡ []
+nothing-more [] few = refl
+nothing-more (f ∷ fs) few = absurd (omega arith)
+
+-- bytes are frames and a rest in one way
+pub one_stream : (bytes : List ℕ) (fs gs : List Frame) (x y : List ℕ) → FramesOf bytes fs x → FramesOf bytes gs y → (fs ≡ gs) × (x ≡ y)
+one_stream bytes fs gs x y first second =
+    let there = front_of fs gs x y first.each second.each second.longest (sym first.whole ∙ second.whole) in
+    let back = front_of gs fs y x second.each first.each first.longest (sym second.whole ∙ first.whole) in
+    let none : there.0 ≡ [] = nothing-more there.0 (omega (arith, ap length there.1, ap length back.1, length-append fs there.0, length-append gs back.0)) in
+    let same : fs ≡ gs = sym (append-nil fs) ∙ ap (λ (later : List Frame). fs ++ later) (sym none) ∙ sym there.1 in
+    (same, append_cancel_left (flat_map spelling fs) x y (sym first.whole ∙ second.whole ∙ ap (λ (hs : List Frame). flat_map spelling hs ++ y) (sym same)))
 
 -- no frame begins where nothing is left
 pub none_in_nothing : (bytes : List ℕ) → length bytes ≤ 0 → (frame : Frame) (n : ℕ) → BeginsWith bytes frame n → ⊥
