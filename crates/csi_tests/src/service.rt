@@ -52,7 +52,7 @@ fn refused_at(alloc: Global, bytes: &[u8]) -> Option<u64> {
 }
 
 #[test]
-fn a_first_volume_is_recorded_in_82_bytes(rt: HostRuntime) {
+fn write_record_succeeds_with_memory(rt: HostRuntime) {
     let bytes = written(&rt, &recorded(&rt));
     assert!(&rt; bytes.as_slice() == RECORD);
 }
@@ -148,7 +148,7 @@ fn node<K: Keep>(
 }
 
 #[test]
-fn an_empty_store_gets_the_head_of_its_plugin(rt: HostRuntime) {
+fn open_succeeds_with_memory(rt: HostRuntime) {
     let mut first = MemoryKeep::new(rt.alloc(), 1000);
     assert!(&rt; controller(&rt, &mut first).is_ok());
     assert!(&rt; has_head(&mut first, CONTROLLER_HEAD));
