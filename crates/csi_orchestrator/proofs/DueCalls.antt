@@ -3,9 +3,7 @@ use Rattle.std.proofs.Common.{◌≡◌, ◌⊎◌, ℕ, List, [], ◌∷◌, Bo
 use Rattle.std.specs.Prelude.{Option, Some, None, option_map, option_and_then, find, filter_map, ◌&&◌, ◌||◌}
 use Rattle.std.specs.List.{AllByRecursion, list_any}
 use Rattle.std.proofs.lemmas.Bool.{false≢true}
-use Rattle.csi_types.specs.declared.call.Call.{Call}
 use Rattle.csi_types.specs.declared.call.Call.TheVariants as calls
-use Rattle.csi_types.specs.declared.call.Party.{Party}
 use Rattle.csi_types.specs.declared.call.Party.TheVariants.{Controller, Node}
 use Rattle.csi_lists.specs.Members.{IsAmong}
 use Rattle.csi_lists.proofs.Members.{among-find, each_of, in_filter, in-filter_map, among-empty, empty-where, among-kept}
@@ -20,7 +18,7 @@ use Rattle.csi_orchestrator.specs.declared.thing.Thing.{Thing}
 use Rattle.csi_orchestrator.specs.declared.thing.Thing.TheVariants.{Exists, Attached, Staged, Published}
 use Rattle.csi_orchestrator.specs.declared.thing.Known.{Known}
 use Rattle.csi_orchestrator.specs.declared.thing.Known.TheVariants.{Yes, No, Maybe}
-use Rattle.csi_orchestrator.specs.Thing.{Issued, name_in, thing_of, thing_at, is_thing, touches, is_no}
+use Rattle.csi_orchestrator.specs.Thing.{Issued, name_in, thing_of, is_thing, touches, is_no}
 use Rattle.csi_orchestrator.specs.History.{Usage, History}
 use Rattle.csi_orchestrator.specs.Readings.{known, known_by, id_of, goal_of, issued_in, issued_of, distinct}
 use Rattle.csi_orchestrator.specs.Due.{Due, published_target, targets_in_use, due_use, due_leave, due_stop, due_delete, due_for, due_call}
@@ -51,17 +49,8 @@ among-distinct (first ∷ others) text among = by (list_any (same_text first) ot
     by false e (inr there) rest = inr (rest there)
 
 -- the call that does or undoes a publication has its target
-target-of : (name node target : List ℕ) (own : List ℕ) (party : Party) (call : Call) → is_thing (Published name node target) (thing_at own party call) ≡ true → published_target node (thing_at own party call) ≡ Some target
-target-of name node target own party (calls.CreateVolume create required limit capabilities) of = absurd (false≢true of)
-target-of name node target own party (calls.DeleteVolume id) of = absurd (false≢true of)
-target-of name node target own party (calls.ControllerPublishVolume id other capability readonly) of = absurd (false≢true of)
-target-of name node target own party (calls.ControllerUnpublishVolume id other) of = absurd (false≢true of)
-target-of name node target own Controller (calls.NodeStageVolume id capability) of = absurd (false≢true of)
-target-of name node target own (Node there) (calls.NodeStageVolume id capability) of = absurd (false≢true of)
-target-of name node target own Controller (calls.NodeUnstageVolume id) of = absurd (false≢true of)
-target-of name node target own (Node there) (calls.NodeUnstageVolume id) of = absurd (false≢true of)
-target-of name node target own Controller (calls.NodePublishVolume id aim capability readonly) of = absurd (false≢true of)
-target-of name node target own (Node there) (calls.NodePublishVolume id aim capability readonly) of = aimed (same_text name own) (same_text node there) (same_text target aim) refl refl of
+target-of : (name node target : List ℕ) (thing : Option Thing) → is_thing (Published name node target) thing ≡ true → published_target node thing ≡ Some target
+target-of name node target (Some (Published own there aim)) of = aimed (same_text name own) (same_text node there) (same_text target aim) refl refl of
   where
     aimed : (a b c : Bool) → same_text node there ≡ b → same_text target aim ≡ c → (a && b && c) ≡ true → cond (same_text there node) (Some aim) None ≡ Some target
     aimed true true true e f of =
@@ -69,15 +58,8 @@ target-of name node target own (Node there) (calls.NodePublishVolume id aim capa
     aimed true true false e f of = absurd (false≢true of)
     aimed true false c e f of = absurd (false≢true of)
     aimed false b c e f of = absurd (false≢true of)
-target-of name node target own Controller (calls.NodeUnpublishVolume id aim) of = absurd (false≢true of)
-target-of name node target own (Node there) (calls.NodeUnpublishVolume id aim) of = aimed (same_text name own) (same_text node there) (same_text target aim) refl refl of
-  where
-    aimed : (a b c : Bool) → same_text node there ≡ b → same_text target aim ≡ c → (a && b && c) ≡ true → cond (same_text there node) (Some aim) None ≡ Some target
-    aimed true true true e f of =
-        ap (λ t. cond t (Some aim) None) ((same_text-tells there node).1 (sym ((same_text-tells node there).0 e))) ∙ ap Some (sym ((same_text-tells target aim).0 f))
-    aimed true true false e f of = absurd (false≢true of)
-    aimed true false c e f of = absurd (false≢true of)
-    aimed false b c e f of = absurd (false≢true of)
+target-of name node target None of = absurd (false≢true of)
+target-of name node target (Some thing) of = absurd (false≢true of)
 
 -- a target at which the volume may be published is in use
 pub in-use : (history : History) (name node target : List ℕ) → is_no (known history (Published name node target)) ≡ false → IsAmong target (targets_in_use history name node)
@@ -93,7 +75,7 @@ in-use history name node target maybe =
         let of = find-passes (touches (Published name node target)) (issued_in history.items) issued e in
         in-filter_map (λ (i : Issued). published_target node (thing_of i)) (issued_of history name) issued target
         (in_filter (λ (i : Issued). same_text i.name name) (issued_in history.items) issued among (touches-name (Published name node target) issued of))
-        (target-of name node target issued.name issued.party issued.call of)
+        (target-of name node target (thing_of issued) of)
 
 pub no_is_no : (k : Known) → is_no k ≡ true → k ≡ No
 no_is_no Yes e = absurd (false≢true e)

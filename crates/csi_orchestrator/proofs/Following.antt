@@ -46,21 +46,10 @@ left-true false b e = e
 
 same_thing-name : (thing other : Thing) → same_thing thing other ≡ true → same_text (name_in thing) (name_in other) ≡ true
 same_thing-name (Exists name) (Exists other) e = e
-same_thing-name (Exists name) (Attached other there) e = absurd (false≢true e)
-same_thing-name (Exists name) (Staged other there) e = absurd (false≢true e)
-same_thing-name (Exists name) (Published other there aim) e = absurd (false≢true e)
-same_thing-name (Attached name node) (Exists other) e = absurd (false≢true e)
 same_thing-name (Attached name node) (Attached other there) e = left-true _ _ e
-same_thing-name (Attached name node) (Staged other there) e = absurd (false≢true e)
-same_thing-name (Attached name node) (Published other there aim) e = absurd (false≢true e)
-same_thing-name (Staged name node) (Exists other) e = absurd (false≢true e)
-same_thing-name (Staged name node) (Attached other there) e = absurd (false≢true e)
 same_thing-name (Staged name node) (Staged other there) e = left-true _ _ e
-same_thing-name (Staged name node) (Published other there aim) e = absurd (false≢true e)
-same_thing-name (Published name node target) (Exists other) e = absurd (false≢true e)
-same_thing-name (Published name node target) (Attached other there) e = absurd (false≢true e)
-same_thing-name (Published name node target) (Staged other there) e = absurd (false≢true e)
 same_thing-name (Published name node target) (Published other there aim) e = left-true _ _ (left-true _ _ e)
+same_thing-name thing other e = absurd (false≢true e)
 
 is_thing-name : (thing : Thing) (name : List ℕ) (party : Party) (call : Call) → is_thing thing (thing_at name party call) ≡ true → same_text (name_in thing) name ≡ true
 is_thing-name thing name party (calls.CreateVolume create required limit capabilities) e = same_thing-name thing (Exists name) e
@@ -71,10 +60,7 @@ is_thing-name thing name (Node node) (calls.NodeStageVolume id capability) e = s
 is_thing-name thing name (Node node) (calls.NodeUnstageVolume id) e = same_thing-name thing (Staged name node) e
 is_thing-name thing name (Node node) (calls.NodePublishVolume id target capability readonly) e = same_thing-name thing (Published name node target) e
 is_thing-name thing name (Node node) (calls.NodeUnpublishVolume id target) e = same_thing-name thing (Published name node target) e
-is_thing-name thing name Controller (calls.NodeStageVolume id capability) e = absurd (false≢true e)
-is_thing-name thing name Controller (calls.NodeUnstageVolume id) e = absurd (false≢true e)
-is_thing-name thing name Controller (calls.NodePublishVolume id target capability readonly) e = absurd (false≢true e)
-is_thing-name thing name Controller (calls.NodeUnpublishVolume id target) e = absurd (false≢true e)
+is_thing-name thing name Controller call e = absurd (false≢true e)
 
 -- a call of a thing is of its name
 pub touches-name : (thing : Thing) (issued : Issued) → touches thing issued ≡ true → same_text issued.name (name_in thing) ≡ true
@@ -88,13 +74,7 @@ known-quiet item items thing (Some issued) quiet = rw (quiet issued.number) refl
 -- and no id
 id-quiet : (item : Item) (items : List Item) (issued : Issued) (call : Call) → id_in issued.number item ≡ None → id_by (item ∷ items) issued call ≡ id_by items issued call
 id-quiet item items issued (calls.CreateVolume name required limit capabilities) quiet = rw quiet refl
-id-quiet item items issued (calls.DeleteVolume id) quiet = refl
-id-quiet item items issued (calls.ControllerPublishVolume id node capability readonly) quiet = refl
-id-quiet item items issued (calls.ControllerUnpublishVolume id node) quiet = refl
-id-quiet item items issued (calls.NodeStageVolume id capability) quiet = refl
-id-quiet item items issued (calls.NodeUnstageVolume id) quiet = refl
-id-quiet item items issued (calls.NodePublishVolume id target capability readonly) quiet = refl
-id-quiet item items issued (calls.NodeUnpublishVolume id target) quiet = refl
+id-quiet item items issued call quiet = refl
 
 ids-quiet : (item : Item) (items : List Item) (sent : List Issued) → ((issued : Issued) → IsAmong issued sent → id_in issued.number item ≡ None)
     → filter_map (λ (issued : Issued). id_by (item ∷ items) issued issued.call) sent ≡ filter_map (λ (issued : Issued). id_by items issued issued.call) sent
@@ -106,13 +86,7 @@ ids-quiet item items (issued ∷ others) quiet =
 -- no id was brought yet
 no-id : (items : List Item) (issued : Issued) (call : Call) → filter_map (id_in issued.number) items ≡ [] → id_by items issued call ≡ None
 no-id items issued (calls.CreateVolume name required limit capabilities) none = ap newest none
-no-id items issued (calls.DeleteVolume id) none = refl
-no-id items issued (calls.ControllerPublishVolume id node capability readonly) none = refl
-no-id items issued (calls.ControllerUnpublishVolume id node) none = refl
-no-id items issued (calls.NodeStageVolume id capability) none = refl
-no-id items issued (calls.NodeUnstageVolume id) none = refl
-no-id items issued (calls.NodePublishVolume id target capability readonly) none = refl
-no-id items issued (calls.NodeUnpublishVolume id target) none = refl
+no-id items issued call none = refl
 
 -- a session starts
 pub started-follows : (view : View) (history : History) (session : ℕ) → Agrees view history → Agrees (after_started session view) (with_items history (Started session ∷ []))
@@ -135,7 +109,6 @@ started-follows view history session agrees =
 -- a call that publishes nothing at the node, and yet is of its attachment, detaches
 attach-held : (name node : List ℕ) (own : List ℕ) (party : Party) (call : Call) → is_thing (Attached name node) (thing_at own party call) ≡ true → held_by node call ≡ None → is_doing call ≡ false
 attach-held name node own party (calls.CreateVolume create required limit capabilities) of none = absurd (false≢true of)
-attach-held name node own party (calls.DeleteVolume id) of none = refl
 attach-held name node own party (calls.ControllerPublishVolume id other capability readonly) of none =
     let there : same_text other node ≡ true = same_text-flip other node ∙ right (same_text name own) (same_text node other) of in
     absurd (clash _ (sym none ∙ ap (λ b. cond b (Some (let h : Held = record { capability = capability; readonly = readonly } in h)) None) there))
@@ -146,13 +119,11 @@ attach-held name node own party (calls.ControllerPublishVolume id other capabili
 
     clash : (h : Held) → None ≡ Some h → ⊥
     clash h e = cc
-attach-held name node own party (calls.ControllerUnpublishVolume id other) of none = refl
 attach-held name node own (Node there) (calls.NodeStageVolume id capability) of none = absurd (false≢true of)
 attach-held name node own Controller (calls.NodeStageVolume id capability) of none = absurd (false≢true of)
-attach-held name node own party (calls.NodeUnstageVolume id) of none = refl
 attach-held name node own (Node there) (calls.NodePublishVolume id target capability readonly) of none = absurd (false≢true of)
 attach-held name node own Controller (calls.NodePublishVolume id target capability readonly) of none = absurd (false≢true of)
-attach-held name node own party (calls.NodeUnpublishVolume id target) of none = refl
+attach-held name node own party call of none = refl
 
 -- a call is sent
 pub sent-follows : (view : View) (history : History) (issued : Issued) → IsWellFormed history → Agrees view history → IsNext (last_number history) issued.number
@@ -417,12 +388,7 @@ id-brought items issued (calls.CreateVolume name required limit capabilities) st
     by None = refl
     by (Some x) = refl
 id-brought items issued (calls.DeleteVolume volume) status id fine none = refl
-id-brought items issued (calls.ControllerPublishVolume volume node capability readonly) status id fine none = refl
-id-brought items issued (calls.ControllerUnpublishVolume volume node) status id fine none = refl
-id-brought items issued (calls.NodeStageVolume volume capability) status id fine none = refl
-id-brought items issued (calls.NodeUnstageVolume volume) status id fine none = refl
-id-brought items issued (calls.NodePublishVolume volume target capability readonly) status id fine none = refl
-id-brought items issued (calls.NodeUnpublishVolume volume target) status id fine none = refl
+id-brought items issued call status id fine none = refl
 
 -- a reply is taken
 pub accepted-follows : (view : View) (history : History) (issued : Issued) (status : Status) (id : Option ℕ) → IsWellFormed history → Agrees view history → open_call history issued.name ≡ Some issued

@@ -175,13 +175,10 @@ taken-keeps history reply issued is_open form =
 
     refused : (call : Call) → Keeps history (moves.heard_refusal history issued (Accepted issued.number reply.status reply.id) call)
     refused (calls.CreateVolume name required limit capabilities) = keeping history _ (tt, (is_open, form))
-    refused (calls.DeleteVolume id) = keeping history _ (is_open, form)
     refused (calls.ControllerPublishVolume id node capability readonly) = stop
-    refused (calls.ControllerUnpublishVolume id node) = keeping history _ (is_open, form)
     refused (calls.NodeStageVolume id capability) = stop
-    refused (calls.NodeUnstageVolume id) = keeping history _ (is_open, form)
     refused (calls.NodePublishVolume id target capability readonly) = stop
-    refused (calls.NodeUnpublishVolume id target) = keeping history _ (is_open, form)
+    refused call = keeping history _ (is_open, form)
 
 not_none : {X : Type 0} (x : X) → None ≡ Some x → ⊥
 not_none x h = cc

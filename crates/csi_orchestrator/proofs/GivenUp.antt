@@ -18,10 +18,7 @@ due-then row Create true own = refl
 due-then row (Use usage) true own = refl
 due-then row (Stop node target) true own = refl
 due-then row Delete true own = refl
-due-then row Create false own = ap (due_by row) own
-due-then row (Use usage) false own = ap (due_by row) own
-due-then row (Stop node target) false own = ap (due_by row) own
-due-then row Delete false own = ap (due_by row) own
+due-then row goal false own = ap (due_by row) own
 
 pub timeout-refused : (last : Number) (row : RowShown) (goal : Goal) (gives_up : Bool) (due : Option Due) (fault : OrchFault) → row.goal ≡ Some goal → gives_up ≡ is_given_up (due_by row (Some goal)) row
     → due ≡ due_by row (Some (goal_then gives_up goal)) → IsRefusal (outgoing_by due (next_number last)) fault → IsRefusal (row_times_out last row) fault

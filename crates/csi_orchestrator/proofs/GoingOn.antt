@@ -10,7 +10,7 @@ use Rattle.csi_types.specs.Same.{same_text}
 use Rattle.csi_types.proofs.Equality.{same_text-tells}
 use Rattle.csi_orchestrator.specs.declared.fault.OrchFault.{OrchFault}
 use Rattle.csi_orchestrator.specs.declared.row.Goal.{Goal}
-use Rattle.csi_orchestrator.specs.declared.row.Goal.TheVariants.{Create, Use, Stop, Delete}
+use Rattle.csi_orchestrator.specs.declared.row.Goal.TheVariants.{Use}
 use Rattle.csi_orchestrator.specs.declared.thing.Thing.TheVariants.{Attached}
 use Rattle.csi_orchestrator.specs.Thing.{Issued, touches, is_no, is_doing}
 use Rattle.csi_orchestrator.specs.History.{Item, Sent, Noted, History, with_items}
@@ -64,11 +64,8 @@ pub record IsReady (parts : Parts) (history : History) (name : List ℕ) (row : 
 
 -- the entries of a goal that may be wanted
 pub has-entry : (row : RowShown) (goal : Option Goal) → MayBeWanted row goal → GoalHasEntry row goal
-has-entry row None may = tt
-has-entry row (Some Create) may = tt
 has-entry row (Some (Use usage)) may = may.entry
-has-entry row (Some (Stop node target)) may = tt
-has-entry row (Some Delete) may = tt
+has-entry row goal may = tt
 
 -- the one call that detaches is due where the volume may be attached
 detaching-something : (row : RowShown) (due : Due) (name node : List ℕ) (number : Number) → IsDueFor row due → touches (Attached name node) (issued-by name number due) ≡ true → is_doing due.call ≡ false

@@ -19,7 +19,7 @@ use Rattle.csi_types.proofs.Equality.{same_text-tells, same_kind-tells}
 use Rattle.csi_orchestrator.specs.declared.fault.Heard.TheVariants.{Ignored}
 use Rattle.csi_orchestrator.specs.declared.fault.OrchFault.{OrchFault}
 use Rattle.csi_orchestrator.specs.declared.row.Goal.{Goal}
-use Rattle.csi_orchestrator.specs.declared.row.Goal.TheVariants.{Create, Use, Stop, Delete}
+use Rattle.csi_orchestrator.specs.declared.row.Goal.TheVariants.{Use, Stop}
 use Rattle.csi_orchestrator.specs.declared.row.Row.{Row}
 use Rattle.csi_orchestrator.specs.declared.row.Usage.{Usage}
 use Rattle.csi_orchestrator.specs.declared.going_on.Outgoing.{Outgoing}
@@ -157,11 +157,8 @@ same-followed None row = refl
 same-followed (Some next) row = refl
 
 same-refused : (next : Option Outgoing) (row : RowShown) (goal : Option Goal) → (row_refused next row goal).name ≡ row.name
-same-refused next row None = refl
-same-refused next row (Some Create) = refl
 same-refused next row (Some (Use usage)) = same-followed next (wanted (Stop usage.node usage.target) row)
-same-refused next row (Some (Stop node target)) = refl
-same-refused next row (Some Delete) = refl
+same-refused next row goal = refl
 
 same-heard : (kind : Kind) (reply : Reply) (row : RowShown) (next : Option Outgoing) → (row_heard kind reply row next).name ≡ row.name
 same-heard kind reply row next =

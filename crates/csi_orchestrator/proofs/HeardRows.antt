@@ -5,7 +5,7 @@ use Rattle.std.specs.Option.{option_or}
 use Rattle.csi_types.specs.declared.call.Kind.{Kind}
 use Rattle.csi_types.specs.Call.{kind_of}
 use Rattle.csi_orchestrator.specs.declared.row.Goal.{Goal}
-use Rattle.csi_orchestrator.specs.declared.row.Goal.TheVariants.{Create, Use, Stop, Delete}
+use Rattle.csi_orchestrator.specs.declared.row.Goal.TheVariants.{Create}
 use Rattle.csi_orchestrator.specs.Due.{Due}
 use Rattle.csi_orchestrator.specs.Found.{kind_due}
 use Rattle.csi_orchestrator.specs.Hearing.{due_heard}
@@ -18,9 +18,7 @@ use Rattle.csi_orchestrator.proofs.Marked.{marks-then}
 
 marks-answered : (goal : Goal) (kind : Kind) (id : Option ℕ) (row : RowShown) → marks_for (answered kind id row) goal ≡ marks_for row goal
 marks-answered Create kind id row = refl
-marks-answered (Use usage) kind id row = refl
-marks-answered (Stop node target) kind id row = refl
-marks-answered Delete kind id row = refl
+marks-answered goal kind id row = refl
 
 due-heard : (row : RowShown) (id : Option ℕ) (goal : Goal) (due : Due) → IsKept row → due_in row ≡ Some due → row.goal ≡ Some goal
     → due_in (succeeded (kind_of due.call) id row) ≡ due_heard (kind_of due.call) id row (Some goal)

@@ -50,13 +50,10 @@ stops-taken parts row (Some goal) = goes-on-taken parts (wanted (stopped_goal go
 
 refusal-taken : (parts : Parts) (row : RowShown) (kind : Kind) → IsTaken (hears_refusal parts row kind)
 refusal-taken parts row kinds.CreateVolume = waits-taken parts (dropped row)
-refusal-taken parts row kinds.DeleteVolume = waits-taken parts (closed row)
 refusal-taken parts row kinds.ControllerPublishVolume = stops-taken parts row row.goal
-refusal-taken parts row kinds.ControllerUnpublishVolume = waits-taken parts (closed row)
 refusal-taken parts row kinds.NodeStageVolume = stops-taken parts row row.goal
-refusal-taken parts row kinds.NodeUnstageVolume = waits-taken parts (closed row)
 refusal-taken parts row kinds.NodePublishVolume = stops-taken parts row row.goal
-refusal-taken parts row kinds.NodeUnpublishVolume = waits-taken parts (closed row)
+refusal-taken parts row kind = waits-taken parts (closed row)
 
 reply-taken : (parts : Parts) (row : RowShown) (kind : Kind) (reply : Reply) → IsTaken (hears_reply parts kind reply (Some row))
 reply-taken parts row kind reply = by (is_ok_status reply.status)

@@ -169,13 +169,10 @@ stops-after-kept parts row kept own (Some goal) e =
 
 refusal-kept : (parts : Parts) (row : RowShown) (kind : Kind) → AreKept parts.rows → IsKept row → KeptAfter parts (hears_refusal parts row kind)
 refusal-kept parts row kinds.CreateVolume kept own = (put-kept (dropped row) parts.rows kept (kept-dropped row (kept-distinct row own)), refl)
-refusal-kept parts row kinds.DeleteVolume kept own = (put-kept (closed row) parts.rows kept (kept-closed row own), refl)
 refusal-kept parts row kinds.ControllerPublishVolume kept own = stops-after-kept parts row kept own row.goal refl
-refusal-kept parts row kinds.ControllerUnpublishVolume kept own = (put-kept (closed row) parts.rows kept (kept-closed row own), refl)
 refusal-kept parts row kinds.NodeStageVolume kept own = stops-after-kept parts row kept own row.goal refl
-refusal-kept parts row kinds.NodeUnstageVolume kept own = (put-kept (closed row) parts.rows kept (kept-closed row own), refl)
 refusal-kept parts row kinds.NodePublishVolume kept own = stops-after-kept parts row kept own row.goal refl
-refusal-kept parts row kinds.NodeUnpublishVolume kept own = (put-kept (closed row) parts.rows kept (kept-closed row own), refl)
+refusal-kept parts row kind kept own = (put-kept (closed row) parts.rows kept (kept-closed row own), refl)
 
 -- a reply is heard
 reply-kept : (parts : Parts) (number : Number) (party : Party) (kind : Kind) (reply : Reply) → AreKept parts.rows → (o : Option RowShown) → row_replied parts.rows number party kind ≡ o

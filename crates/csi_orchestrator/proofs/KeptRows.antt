@@ -21,7 +21,7 @@ use Rattle.csi_orchestrator.specs.History.{Held}
 use Rattle.csi_orchestrator.specs.Commands.{is_for_one_node, is_second_writer}
 use Rattle.csi_orchestrator.specs.Due.{Due}
 use Rattle.csi_orchestrator.specs.Shown.{PlaceShown, RowShown, place_of, aim_of, held_at, marks_for, use_due, delete_due, due_by, due_in, closed, AreTargetsApart}
-use Rattle.csi_orchestrator.specs.RowChanges.{Aspect, Existence, Attachment, Staging, Publication, aspect_of, place_marked, marked_at, at_goal, exists_marked, places_marked, marked, sent, told_of, succeeded, wanted, is_aim_kept, with_kept_aims, is_place_kept, dropped, stopped_goal}
+use Rattle.csi_orchestrator.specs.RowChanges.{Aspect, Existence, Publication, aspect_of, place_marked, marked_at, at_goal, exists_marked, places_marked, marked, sent, told_of, succeeded, wanted, is_aim_kept, with_kept_aims, is_place_kept, dropped, stopped_goal}
 use Rattle.csi_orchestrator.specs.RowMoves.{is_so_elsewhere}
 use Rattle.csi_orchestrator.specs.Keyed.{change_by}
 use Rattle.csi_orchestrator.specs.Kept.{ArePlacesApart, IsUsable, MayBeWanted, IsKept}
@@ -46,12 +46,6 @@ pub record IsMild (target : List ℕ) (change : PlaceShown → PlaceShown) : Typ
   pub still_aimed : (place : PlaceShown) (aim : Aim) → aim_of place target ≡ Some aim → (other : Aim) × (aim_of (change place) target ≡ Some other)
 
 pub mild-marked : (mark : Known) (aspect : Aspect) (target : List ℕ) → IsMild target (place_marked mark aspect target)
-mild-marked mark Existence target =
-    record { same_node = λ place. refl; same_capability = λ place. refl; same_flag = λ place. refl; still_apart = λ place apart. apart; still_aimed = λ place aim e. (aim, e) }
-mild-marked mark Attachment target =
-    record { same_node = λ place. refl; same_capability = λ place. refl; same_flag = λ place. refl; still_apart = λ place apart. apart; still_aimed = λ place aim e. (aim, e) }
-mild-marked mark Staging target =
-    record { same_node = λ place. refl; same_capability = λ place. refl; same_flag = λ place. refl; still_apart = λ place apart. apart; still_aimed = λ place aim e. (aim, e) }
 mild-marked mark Publication target =
     record {
       same_node = λ place. refl;
@@ -67,6 +61,8 @@ mild-marked mark Publication target =
   where
     marks : Aim → Aim
     marks aim = record aim { published = mark }
+mild-marked mark aspect target =
+    record { same_node = λ place. refl; same_capability = λ place. refl; same_flag = λ place. refl; still_apart = λ place apart. apart; still_aimed = λ place aim e. (aim, e) }
 
 distinct-change : (node target : List ℕ) (change : PlaceShown → PlaceShown) (places : List PlaceShown) → IsMild target change → AreDistinct places → AreDistinct (change_by (λ (place : PlaceShown). place.node) node change places)
 distinct-change node target change places mild distinct =
@@ -77,20 +73,16 @@ distinct-change node target change places mild distinct =
 
 distinct-at : (change : List ℕ → List ℕ → List PlaceShown → List PlaceShown) → ((node target : List ℕ) (places : List PlaceShown) → AreDistinct places → AreDistinct (change node target places))
     → (goal : Option Goal) (places : List PlaceShown) → AreDistinct places → AreDistinct (at_goal change goal places)
-distinct-at change keeps None places distinct = distinct
-distinct-at change keeps (Some Create) places distinct = distinct
 distinct-at change keeps (Some (Use usage)) places distinct = keeps usage.node usage.target places distinct
 distinct-at change keeps (Some (Stop node target)) places distinct = keeps node target places distinct
-distinct-at change keeps (Some Delete) places distinct = distinct
+distinct-at change keeps goal places distinct = distinct
 
 at-goal-distinct : (mark : Known) (aspect : Aspect) (goal : Option Goal) (places : List PlaceShown) → AreDistinct places → AreDistinct (at_goal (marked_at mark aspect) goal places)
 at-goal-distinct mark aspect = distinct-at (marked_at mark aspect) (λ node target places. distinct-change node target (place_marked mark aspect target) places (mild-marked mark aspect target))
 
 places-distinct : (mark : Known) (aspect : Aspect) (goal : Option Goal) (places : List PlaceShown) → AreDistinct places → AreDistinct (places_marked mark aspect goal places)
 places-distinct mark Existence goal places distinct = distinct
-places-distinct mark Attachment goal places distinct = at-goal-distinct mark Attachment goal places distinct
-places-distinct mark Staging goal places distinct = at-goal-distinct mark Staging goal places distinct
-places-distinct mark Publication goal places distinct = at-goal-distinct mark Publication goal places distinct
+places-distinct mark aspect goal places distinct = at-goal-distinct mark aspect goal places distinct
 
 pub marked-distinct : (mark : Known) (kind : Kind) (row : RowShown) → AreDistinct row.places → AreDistinct (marked mark kind row).places
 marked-distinct mark kind row distinct = places-distinct mark (aspect_of kind) row.goal row.places distinct
@@ -154,9 +146,7 @@ usable-change row usage change mild usable =
 -- the kinds of the calls that are due for a goal
 abbrev pub IsAtNode : Aspect → Type 0
 IsAtNode Existence = ⊥
-IsAtNode Attachment = Unit {0}
-IsAtNode Staging = Unit {0}
-IsAtNode Publication = Unit {0}
+IsAtNode aspect = Unit {0}
 
 abbrev pub FitsGoal : Option Goal → Kind → Type 0
 FitsGoal None kind = ⊥
@@ -198,12 +188,8 @@ due-fits-goal row due e = subst (DueFits row.goal) e (due-fits row row.goal)
 usable-marked : (mark : Known) (aspect : Aspect) (row : RowShown) (usage : Usage) → row.goal ≡ Some (Use usage) → IsAtNode aspect → IsUsable row usage
     → IsUsable (record row { exists = exists_marked mark aspect row.exists; places = places_marked mark aspect row.goal row.places }) usage
 usable-marked mark Existence row usage e fits usable = absurd fits
-usable-marked mark Attachment row usage e fits usable =
-    subst (λ g. IsUsable (record row { places = at_goal (marked_at mark Attachment) g row.places }) usage) (sym e) (usable-change row usage (place_marked mark Attachment usage.target) (mild-marked mark Attachment usage.target) usable)
-usable-marked mark Staging row usage e fits usable =
-    subst (λ g. IsUsable (record row { places = at_goal (marked_at mark Staging) g row.places }) usage) (sym e) (usable-change row usage (place_marked mark Staging usage.target) (mild-marked mark Staging usage.target) usable)
-usable-marked mark Publication row usage e fits usable =
-    subst (λ g. IsUsable (record row { places = at_goal (marked_at mark Publication) g row.places }) usage) (sym e) (usable-change row usage (place_marked mark Publication usage.target) (mild-marked mark Publication usage.target) usable)
+usable-marked mark aspect row usage e fits usable =
+    subst (λ g. IsUsable (record row { places = at_goal (marked_at mark aspect) g row.places }) usage) (sym e) (usable-change row usage (place_marked mark aspect usage.target) (mild-marked mark aspect usage.target) usable)
 
 wanted-marked : (mark : Known) (kind : Kind) (row : RowShown) (goal : Option Goal) → row.goal ≡ goal → FitsGoal goal kind → MayBeWanted row goal → MayBeWanted (marked mark kind row) goal
 wanted-marked mark kind row None e fits may = tt

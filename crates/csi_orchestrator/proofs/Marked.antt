@@ -52,15 +52,11 @@ with-places row places = record row { places = places }
 -- the entry of a node stays its own, and the volume is held there as it was
 pub node-stays : (mark : Known) (aspect : Aspect) (target : List ℕ) (place : PlaceShown) → (place_marked mark aspect target place).node ≡ place.node
 node-stays mark Existence target place = refl
-node-stays mark Attachment target place = refl
-node-stays mark Staging target place = refl
-node-stays mark Publication target place = refl
+node-stays mark aspect target place = refl
 
 held-stays : (mark : Known) (aspect : Aspect) (target : List ℕ) (place : PlaceShown) → held_at (place_marked mark aspect target place) ≡ held_at place
 held-stays mark Existence target place = refl
-held-stays mark Attachment target place = refl
-held-stays mark Staging target place = refl
-held-stays mark Publication target place = refl
+held-stays mark aspect target place = refl
 
 -- what the entries have of a node then
 there : (row : RowShown) (node target other : List ℕ) (mark : Known) (aspect : Aspect)
@@ -174,11 +170,8 @@ has-aim (Some aim) e = (aim, refl)
 
 -- the entries that a goal needs
 abbrev pub GoalHasEntry : RowShown → Option Goal → Type 0
-GoalHasEntry row None = Unit {0}
-GoalHasEntry row (Some Create) = Unit {0}
 GoalHasEntry row (Some (Use usage)) = HasEntry row usage
-GoalHasEntry row (Some (Stop node target)) = Unit {0}
-GoalHasEntry row (Some Delete) = Unit {0}
+GoalHasEntry row goal = Unit {0}
 
 -- where a call that is due is at work: at the volume, or at the entry of its goal's node
 pub data Spot (row : RowShown) (goal : Goal) : Aspect → Option Thing → Type 0 where
@@ -224,9 +217,7 @@ at-node : (row : RowShown) (goal : Goal) (node target : List ℕ) (mark : Known)
     → marked-by mark aspect row ≡ with-places row (marked_at mark aspect node target row.places)
 unfolding marked-by with-places
 at-node row goal node target mark Existence place is at spot = absurd spot
-at-node row goal node target mark Attachment place is at spot = ap (with-places row) (ap (λ g. at_goal (marked_at mark Attachment) g row.places) is ∙ at (marked_at mark Attachment) row.places)
-at-node row goal node target mark Staging place is at spot = ap (with-places row) (ap (λ g. at_goal (marked_at mark Staging) g row.places) is ∙ at (marked_at mark Staging) row.places)
-at-node row goal node target mark Publication place is at spot = ap (with-places row) (ap (λ g. at_goal (marked_at mark Publication) g row.places) is ∙ at (marked_at mark Publication) row.places)
+at-node row goal node target mark aspect place is at spot = ap (with-places row) (ap (λ g. at_goal (marked_at mark aspect) g row.places) is ∙ at (marked_at mark aspect) row.places)
 
 spot-marks : (row : RowShown) (goal : Goal) (mark : Known) (aspect : Aspect) (own : Option Thing) → Spot row goal aspect own → row.goal ≡ Some goal
     → (thing : Thing) → name_in thing ≡ row.name → mark_of thing (marked-by mark aspect row) ≡ cond (is_thing thing own) mark (mark_of thing row)

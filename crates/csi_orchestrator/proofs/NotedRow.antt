@@ -14,7 +14,7 @@ use Rattle.csi_types.specs.Same.{same_text}
 use Rattle.csi_types.proofs.Equality.{same_text-tells}
 use Rattle.csi_orchestrator.specs.declared.row.Aim.{Aim}
 use Rattle.csi_orchestrator.specs.declared.row.Goal.{Goal}
-use Rattle.csi_orchestrator.specs.declared.row.Goal.TheVariants.{Create, Use, Stop, Delete}
+use Rattle.csi_orchestrator.specs.declared.row.Goal.TheVariants.{Create}
 use Rattle.csi_orchestrator.specs.declared.row.Usage.{Usage}
 use Rattle.csi_orchestrator.specs.declared.thing.Thing.{Thing}
 use Rattle.csi_orchestrator.specs.declared.thing.Thing.TheVariants.{Exists, Attached, Staged, Published}
@@ -49,21 +49,15 @@ no-call row e = ap (λ g. issued_as row.name row.open_number (due_by row g)) e �
 -- something is wanted of it
 mark-wanted : (goal : Goal) (row : RowShown) (thing : Thing) → mark_of thing (wanted goal row) ≡ mark_of thing row
 mark-wanted goal row (Exists name) = refl
-mark-wanted goal row (Attached name node) = refl
-mark-wanted goal row (Staged name node) = refl
-mark-wanted goal row (Published name node target) = refl
+mark-wanted goal row thing = refl
 
 goal-wanted : (goal : Goal) (row : RowShown) → goal_in (wanted goal row) ≡ Some (goal_shown row goal)
 goal-wanted Create row = refl
-goal-wanted (Use usage) row = refl
-goal-wanted (Stop node target) row = refl
-goal-wanted Delete row = refl
+goal-wanted goal row = refl
 
 arguments-wanted : (goal : Goal) (row : RowShown) (o : Option Arguments) → Some row.arguments ≡ o → Some row.arguments ≡ option_or (arguments_in_goal (Some (goal_shown row goal))) o
 arguments-wanted Create row o e = refl
-arguments-wanted (Use usage) row o e = e
-arguments-wanted (Stop node target) row o e = e
-arguments-wanted Delete row o e = e
+arguments-wanted goal row o e = e
 
 pub reads-wanted : (goal : Goal) (row : RowShown) (view : View) (name : List ℕ) → Reads row view name → view.open_calls name ≡ None
     → Reads (wanted goal row) (after_noted name (Some (goal_shown row goal)) view) name
@@ -82,9 +76,7 @@ reads-wanted goal row view name reads quiet =
 
 mark-anew : (arguments : Arguments) (row : RowShown) (thing : Thing) → mark_of thing (wanted_anew arguments row) ≡ mark_of thing row
 mark-anew arguments row (Exists name) = refl
-mark-anew arguments row (Attached name node) = refl
-mark-anew arguments row (Staged name node) = refl
-mark-anew arguments row (Published name node target) = refl
+mark-anew arguments row thing = refl
 
 pub reads-anew : (arguments : Arguments) (row : RowShown) (view : View) (name : List ℕ) → Reads row view name → view.open_calls name ≡ None
     → Reads (wanted_anew arguments row) (after_noted name (Some (history.Create arguments)) view) name
@@ -104,9 +96,7 @@ reads-anew arguments row view name reads quiet =
 -- a row for a name that had none
 mark-new : (name : List ℕ) (arguments : Arguments) (thing : Thing) → mark_of thing (new_row name arguments) ≡ No
 mark-new name arguments (Exists other) = refl
-mark-new name arguments (Attached other node) = refl
-mark-new name arguments (Staged other node) = refl
-mark-new name arguments (Published other node target) = refl
+mark-new name arguments thing = refl
 
 pub reads-new : (arguments : Arguments) (parts : Parts) (name : List ℕ) → row_of parts.rows name ≡ None
     → Reads (new_row name arguments) (after_noted name (Some (history.Create arguments)) (view_of parts)) name
@@ -126,9 +116,7 @@ reads-new arguments parts name none =
 -- its call was given up
 mark-closed : (row : RowShown) (thing : Thing) → mark_of thing (closed row) ≡ mark_of thing row
 mark-closed row (Exists name) = refl
-mark-closed row (Attached name node) = refl
-mark-closed row (Staged name node) = refl
-mark-closed row (Published name node target) = refl
+mark-closed row thing = refl
 
 pub reads-closed : (row : RowShown) (issued : Issued) (view : View) (name : List ℕ) → issued.name ≡ name → Reads row view name → Reads (closed row) (after_closed issued view) name
 reads-closed row issued view name is reads =

@@ -5,10 +5,6 @@ use Rattle.std.specs.List.{list_any}
 use Rattle.std.proofs.lemmas.Bool.{false≢true}
 use Rattle.std.proofs.lemmas.List.{length-map}
 use Rattle.std.proofs.lemmas.List.Sums.{length-filter}
-use Rattle.csi_types.specs.declared.call.Call.{Call}
-use Rattle.csi_types.specs.declared.call.Call.TheVariants as calls
-use Rattle.csi_types.specs.declared.call.Party.{Party}
-use Rattle.csi_types.specs.declared.call.Party.TheVariants.{Controller, Node}
 use Rattle.csi_lists.specs.Members.{IsAmong}
 use Rattle.csi_lists.proofs.Members.{among-find, each_of, in_filter, among-kept, in-filter_map, in-map, empty-where, among-filter_map, some-found, has-some, some-has, among-map}
 use Rattle.csi_lists.proofs.Pairs.{two-filter, two-map}
@@ -23,7 +19,7 @@ use Rattle.csi_orchestrator.specs.declared.row.Aim.{Aim}
 use Rattle.csi_orchestrator.specs.declared.row.Goal.TheVariants as kept
 use Rattle.csi_orchestrator.specs.declared.thing.Thing.{Thing}
 use Rattle.csi_orchestrator.specs.declared.thing.Thing.TheVariants.{Exists, Attached, Staged, Published}
-use Rattle.csi_orchestrator.specs.Thing.{Issued, name_in, thing_of, thing_at, is_thing, touches, is_no}
+use Rattle.csi_orchestrator.specs.Thing.{Issued, name_in, thing_of, is_thing, touches, is_no}
 use Rattle.csi_orchestrator.specs.History.{Usage, Held, History}
 use Rattle.csi_orchestrator.specs.Readings.{known, known_by, id_of, goal_of, arguments_of, held, issued_in, issued_of, name_noted, names_of, has_row}
 use Rattle.csi_orchestrator.specs.Due.{attached_node, nodes_in_use, published_target, targets_in_use, due_use}
@@ -67,21 +63,10 @@ spent-alike : (parts : Parts) (history : History) → AgreesWith parts history �
 spent-alike parts history agrees = ap (λ last. is_none (next_number last)) (sym agrees.same_last)
 
 -- the call that does or undoes an attachment has its node
-node-of : (name node : List ℕ) (own : List ℕ) (party : Party) (call : Call) → is_thing (Attached name node) (thing_at own party call) ≡ true → attached_node (thing_at own party call) ≡ Some node
-node-of name node own party (calls.CreateVolume create required limit capabilities) of = absurd (false≢true of)
-node-of name node own party (calls.DeleteVolume id) of = absurd (false≢true of)
-node-of name node own party (calls.ControllerPublishVolume id other capability readonly) of =
-    ap Some (sym ((same_text-tells node other).0 (both-pass (same_text name own) (same_text node other) of).1))
-node-of name node own party (calls.ControllerUnpublishVolume id other) of =
-    ap Some (sym ((same_text-tells node other).0 (both-pass (same_text name own) (same_text node other) of).1))
-node-of name node own Controller (calls.NodeStageVolume id capability) of = absurd (false≢true of)
-node-of name node own (Node there) (calls.NodeStageVolume id capability) of = absurd (false≢true of)
-node-of name node own Controller (calls.NodeUnstageVolume id) of = absurd (false≢true of)
-node-of name node own (Node there) (calls.NodeUnstageVolume id) of = absurd (false≢true of)
-node-of name node own Controller (calls.NodePublishVolume id aim capability readonly) of = absurd (false≢true of)
-node-of name node own (Node there) (calls.NodePublishVolume id aim capability readonly) of = absurd (false≢true of)
-node-of name node own Controller (calls.NodeUnpublishVolume id aim) of = absurd (false≢true of)
-node-of name node own (Node there) (calls.NodeUnpublishVolume id aim) of = absurd (false≢true of)
+node-of : (name node : List ℕ) (thing : Option Thing) → is_thing (Attached name node) thing ≡ true → attached_node thing ≡ Some node
+node-of name node (Some (Attached own other)) of = ap Some (sym ((same_text-tells node other).0 (both-pass (same_text name own) (same_text node other) of).1))
+node-of name node None of = absurd (false≢true of)
+node-of name node (Some thing) of = absurd (false≢true of)
 
 -- a node at which the volume may be attached is in use
 pub node-in-use : (history : History) (name node : List ℕ) → is_no (known history (Attached name node)) ≡ false → IsAmong node (nodes_in_use history name)
@@ -96,7 +81,7 @@ node-in-use history name node maybe =
         let of = find-passes (touches (Attached name node)) (issued_in history.items) issued e in
         in-filter_map (λ (i : Issued). attached_node (thing_of i)) (issued_of history name) issued node
         (in_filter (λ (i : Issued). same_text i.name name) (issued_in history.items) issued among (touches-name (Attached name node) issued of))
-        (node-of name node issued.name issued.party issued.call of)
+        (node-of name node (thing_of issued) of)
 
 -- and only such a one is
 pub node-may : (history : History) (name node : List ℕ) → IsAmong node (nodes_in_use history name) → is_no (known history (Attached name node)) ≡ false

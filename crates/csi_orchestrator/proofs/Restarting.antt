@@ -7,9 +7,8 @@ use Rattle.csi_orchestrator.specs.declared.fault.OrchFault.TheVariants as faults
 use Rattle.csi_types.specs.Same.{same_text}
 use Rattle.csi_lists.proofs.Searches.{find-map}
 use Rattle.csi_orchestrator.specs.declared.row.Goal.{Goal as KeptGoal}
-use Rattle.csi_orchestrator.specs.declared.row.Goal.TheVariants as kept
 use Rattle.csi_orchestrator.specs.declared.thing.Thing.{Thing}
-use Rattle.csi_orchestrator.specs.declared.thing.Thing.TheVariants.{Exists, Attached, Staged, Published}
+use Rattle.csi_orchestrator.specs.declared.thing.Thing.TheVariants.{Exists}
 use Rattle.csi_orchestrator.specs.Thing.{name_in}
 use Rattle.csi_orchestrator.specs.History.{History}
 use Rattle.csi_orchestrator.specs.Moves.{Restarts, Restarted}
@@ -27,16 +26,11 @@ closed-row rows name = find-map (λ (row : RowShown). same_text row.name name) c
 -- what a row shows but for its open call is as it was
 closed-mark : (thing : Thing) (row : RowShown) → mark_of thing (closed row) ≡ mark_of thing row
 closed-mark (Exists name) row = refl
-closed-mark (Attached name node) row = refl
-closed-mark (Staged name node) row = refl
-closed-mark (Published name node target) row = refl
+closed-mark thing row = refl
 
 closed-goal : (row : RowShown) (goal : Option KeptGoal) → option_map (goal_shown (closed row)) goal ≡ option_map (goal_shown row) goal
 closed-goal row None = refl
-closed-goal row (Some kept.Create) = refl
-closed-goal row (Some (kept.Use usage)) = refl
-closed-goal row (Some (kept.Stop node target)) = refl
-closed-goal row (Some kept.Delete) = refl
+closed-goal row goal = refl
 
 -- a reading of a row, if there is one
 read-closed : {X : Type 0} (read : RowShown → X) (o : Option RowShown) → ((row : RowShown) → read (closed row) ≡ read row) → option_map read (option_map closed o) ≡ option_map read o

@@ -10,7 +10,7 @@ use Rattle.csi_orchestrator.specs.declared.fault.OrchFault.TheVariants as faults
 use Rattle.csi_orchestrator.specs.declared.going_on.Outgoing.{Outgoing}
 use Rattle.csi_orchestrator.specs.declared.row.Aim.{Aim}
 use Rattle.csi_orchestrator.specs.declared.row.Goal.{Goal}
-use Rattle.csi_orchestrator.specs.declared.row.Goal.TheVariants.{Create, Use, Stop, Delete}
+use Rattle.csi_orchestrator.specs.declared.row.Goal.TheVariants.{Use}
 use Rattle.csi_orchestrator.specs.declared.row.Usage.{Usage}
 use Rattle.csi_orchestrator.specs.declared.thing.Thing.TheVariants.{Attached, Staged, Published}
 use Rattle.csi_orchestrator.specs.Thing.{is_no}
@@ -75,10 +75,8 @@ marks-with-entry usage row =
 
 -- the call that is due once something is wanted, by the row before
 pub due-wanted : (goal : Goal) (row : RowShown) → due_in (wanted goal (with_entry_for goal row)) ≡ due_with row.name row.arguments row.id (marks_for row goal) goal
-due-wanted Create row = refl
 due-wanted (Use usage) row = ap (λ marks. due_with row.name row.arguments row.id marks (Use usage)) (marks-with-entry usage row)
-due-wanted (Stop node target) row = refl
-due-wanted Delete row = refl
+due-wanted goal row = refl
 
 -- a row goes on by what is sent for it
 pub goes-on : (last : Number) (row : RowShown) (due : Option Due) (next : Option Outgoing) → due_in row ≡ due → outgoing_by due (next_number last) ≡ Ok next

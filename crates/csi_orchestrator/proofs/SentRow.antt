@@ -19,7 +19,7 @@ use Rattle.csi_orchestrator.specs.declared.row.Goal.{Goal}
 use Rattle.csi_orchestrator.specs.declared.row.Goal.TheVariants.{Create, Use, Stop, Delete}
 use Rattle.csi_orchestrator.specs.declared.row.Usage.{Usage}
 use Rattle.csi_orchestrator.specs.declared.thing.Thing.{Thing}
-use Rattle.csi_orchestrator.specs.declared.thing.Thing.TheVariants.{Exists, Attached, Staged, Published}
+use Rattle.csi_orchestrator.specs.declared.thing.Thing.TheVariants.{Exists, Attached}
 use Rattle.csi_orchestrator.specs.declared.thing.Known.{Known}
 use Rattle.csi_orchestrator.specs.declared.thing.Known.TheVariants.{No, Maybe}
 use Rattle.csi_orchestrator.specs.Thing.{Issued, thing_at, is_thing, touches, is_no}
@@ -61,9 +61,7 @@ due-again row due case goal is = by due case
 
 marks-opened : (goal : Goal) (number : Number) (row : RowShown) → marks_for (opened number row) goal ≡ marks_for row goal
 marks-opened Create number row = refl
-marks-opened (Use usage) number row = refl
-marks-opened (Stop node target) number row = refl
-marks-opened Delete number row = refl
+marks-opened goal number row = refl
 
 pub due-stays : (row : RowShown) (due : Due) (number : Number) → GoalHasEntry row row.goal → IsDueFor row due → due_in (sent number (kind_of due.call) row) ≡ Some due
 due-stays row due number entry case =
@@ -127,15 +125,11 @@ held-right row _ view name node entry (ToDetach here target id goal own p o s a)
 -- a row's other fields don't tell of marks and goals
 mark-opened : (thing : Thing) (number : Number) (row : RowShown) → mark_of thing (opened number row) ≡ mark_of thing row
 mark-opened (Exists name) number row = refl
-mark-opened (Attached name node) number row = refl
-mark-opened (Staged name node) number row = refl
-mark-opened (Published name node target) number row = refl
+mark-opened thing number row = refl
 
 mark-answered : (thing : Thing) (kind : Kind) (id : Option ℕ) (row : RowShown) → mark_of thing (answered kind id row) ≡ mark_of thing row
 mark-answered (Exists name) kind id row = refl
-mark-answered (Attached name node) kind id row = refl
-mark-answered (Staged name node) kind id row = refl
-mark-answered (Published name node target) kind id row = refl
+mark-answered thing kind id row = refl
 
 pub goals-same : (a b : RowShown) → a.arguments ≡ b.arguments → a.goal ≡ b.goal → goal_in a ≡ goal_in b
 goals-same a b arguments goal = ap (option_map (goal_shown a)) goal ∙ by b.goal
@@ -174,23 +168,11 @@ reads-sent row view name due number reads entry case =
 
 told-is : (call : Call) → told call ≡ told_of (kind_of call)
 told-is (calls.CreateVolume name required limit capabilities) = refl
-told-is (calls.DeleteVolume id) = refl
-told-is (calls.ControllerPublishVolume id node capability readonly) = refl
-told-is (calls.ControllerUnpublishVolume id node) = refl
-told-is (calls.NodeStageVolume id capability) = refl
-told-is (calls.NodeUnstageVolume id) = refl
-told-is (calls.NodePublishVolume id target capability readonly) = refl
-told-is (calls.NodeUnpublishVolume id target) = refl
+told-is call = refl
 
 id-told-is : (call : Call) (id : Option ℕ) → id_told (kind_of call) id ≡ id_brought call id
 id-told-is (calls.CreateVolume name required limit capabilities) id = refl
-id-told-is (calls.DeleteVolume volume) id = refl
-id-told-is (calls.ControllerPublishVolume volume node capability readonly) id = refl
-id-told-is (calls.ControllerUnpublishVolume volume node) id = refl
-id-told-is (calls.NodeStageVolume volume capability) id = refl
-id-told-is (calls.NodeUnstageVolume volume) id = refl
-id-told-is (calls.NodePublishVolume volume target capability readonly) id = refl
-id-told-is (calls.NodeUnpublishVolume volume target) id = refl
+id-told-is call id = refl
 
 -- the call that was due succeeded
 pub reads-succeeded : (row : RowShown) (view : View) (name : List ℕ) (due : Due) (number : Number) (status : Status) (id : Option ℕ) → Reads row view name → ((node : List ℕ) → held_in row node ≡ view.holdings name node)

@@ -158,13 +158,10 @@ taken-short history input reply issued is =
 
     refused : (call : Call) → AreShort history input (heard_refusal history issued (Accepted issued.number reply.status reply.id) call)
     refused (calls.CreateVolume name required limit capabilities) = a-short history input _ (record { replies = (is, tt); few = two-of-three; frames = refl })
-    refused (calls.DeleteVolume id) = wait
     refused (calls.ControllerPublishVolume id node capability readonly) = stop
-    refused (calls.ControllerUnpublishVolume id node) = wait
     refused (calls.NodeStageVolume id capability) = stop
-    refused (calls.NodeUnstageVolume id) = wait
     refused (calls.NodePublishVolume id target capability readonly) = stop
-    refused (calls.NodeUnpublishVolume id target) = wait
+    refused call = wait
 
 ignored-short : (history : History) (input : Input) → AreShort history input (Ok (let m : Moved = record { answer = Hears Ignored; items = [] } in m))
 ignored-short history input = a-short history input _ (record { replies = tt; few = no-items; frames = refl })

@@ -36,7 +36,7 @@ use Rattle.csi_orchestrator.specs.RowChanges.{told_of, succeeded, wanted, droppe
 use Rattle.csi_orchestrator.specs.RowMoves.{told, goes_on, times_out_with, times_out, row_replied, is_issued_as, takes_nothing_more, stops_after, hears_refusal, hears_reply, receives, starts_again, row_moves}
 use Rattle.csi_orchestrator.specs.Kept.{MayBeWanted, IsKept, AreKept, RowsTell, MovesAreGuarded}
 use Rattle.csi_orchestrator.proofs.DueCalls.{text-same, due-told}
-use Rattle.csi_orchestrator.proofs.DueCases.{IsDueFor, due-cases, ToMake, ToRemove, ToAttach, ToStage, ToPublish, ToUnpublish, ToUnstage, ToDetach}
+use Rattle.csi_orchestrator.proofs.DueCases.{IsDueFor, due-cases, ToAttach, ToStage, ToPublish}
 use Rattle.csi_orchestrator.proofs.Following.{accepted-follows, closed-follows, noted-follows, started-follows}
 use Rattle.csi_orchestrator.proofs.GoingOn.{Guards, Tells, IsReady, has-entry, goes-on-tells}
 use Rattle.csi_orchestrator.proofs.Keeping.{found-kept, replied-due}
@@ -51,14 +51,10 @@ use Rattle.csi_orchestrator.proofs.TellingCommands.{kept-aims, own-name, either-
 
 -- a forward call is due for a use
 forward-goal : (row : RowShown) (due : Due) → IsDueFor row due → is_forward due.call ≡ true → (usage : Usage) × (row.goal ≡ Some (Use usage))
-forward-goal row _ (ToMake goal e) forward = absurd (false≢true forward)
-forward-goal row _ (ToRemove id goal own e) forward = absurd (false≢true forward)
 forward-goal row _ (ToAttach usage id goal own a) forward = (usage, goal)
 forward-goal row _ (ToStage usage id goal own a s) forward = (usage, goal)
 forward-goal row _ (ToPublish usage id goal own a s p) forward = (usage, goal)
-forward-goal row _ (ToUnpublish node target id goal own p) forward = absurd (false≢true forward)
-forward-goal row _ (ToUnstage node target id goal own p o s) forward = absurd (false≢true forward)
-forward-goal row _ (ToDetach node target id goal own p o s a) forward = absurd (false≢true forward)
+forward-goal row _ other forward = absurd (false≢true forward)
 
 forward-due : (row : RowShown) → is_forward_due (due_in row) ≡ true → (usage : Usage) × (row.goal ≡ Some (Use usage))
 forward-due row forward = by (due_in row) refl forward
@@ -388,13 +384,10 @@ stops-tell-after parts history row number due reply by bad forward =
 refusal-tells : (parts : Parts) (history : History) (row : RowShown) (number : Number) (party : Party) (call : Call) (reply : Reply) → IsHeardBy parts history row number (record { party = party; call = call }) → is_ok_status reply.status ≡ false
     → Tells history (hears_refusal parts row (kind_of call)) (heard_refusal history (issued-by row.name number (record { party = party; call = call })) (taken number reply) call)
 refusal-tells parts history row number party (calls.CreateVolume name required limit capabilities) reply by bad = drops-tell parts history row number _ reply by bad
-refusal-tells parts history row number party (calls.DeleteVolume id) reply by bad = waits-tell parts history row number _ reply by bad
 refusal-tells parts history row number party (calls.ControllerPublishVolume id node capability readonly) reply by bad = stops-tell-after parts history row number _ reply by bad refl
-refusal-tells parts history row number party (calls.ControllerUnpublishVolume id node) reply by bad = waits-tell parts history row number _ reply by bad
 refusal-tells parts history row number party (calls.NodeStageVolume id capability) reply by bad = stops-tell-after parts history row number _ reply by bad refl
-refusal-tells parts history row number party (calls.NodeUnstageVolume id) reply by bad = waits-tell parts history row number _ reply by bad
 refusal-tells parts history row number party (calls.NodePublishVolume id target capability readonly) reply by bad = stops-tell-after parts history row number _ reply by bad refl
-refusal-tells parts history row number party (calls.NodeUnpublishVolume id target) reply by bad = waits-tell parts history row number _ reply by bad
+refusal-tells parts history row number party call reply by bad = waits-tell parts history row number _ reply by bad
 
 -- a reply to the open call of a row
 heard-tells : (parts : Parts) (history : History) (row : RowShown) (number : Number) (due : Due) (reply : Reply) → IsHeardBy parts history row number due → FitsGoal row.goal (kind_of due.call)

@@ -35,23 +35,12 @@ then-equal Equal = refl
 then-equal Greater = refl
 
 pub order-by_texts : (a b : Thing) → thing_order a b ≡ by_texts a b
-order-by_texts (Exists name) (Exists other) = refl
-order-by_texts (Exists name) (Attached other there) = refl
-order-by_texts (Exists name) (Staged other there) = refl
-order-by_texts (Exists name) (Published other there aim) = refl
-order-by_texts (Attached name node) (Exists other) = refl
-order-by_texts (Attached name node) (Attached other there) = refl
-order-by_texts (Attached name node) (Staged other there) = refl
-order-by_texts (Attached name node) (Published other there aim) = refl
-order-by_texts (Staged name node) (Exists other) = refl
-order-by_texts (Staged name node) (Attached other there) = refl
-order-by_texts (Staged name node) (Staged other there) = refl
-order-by_texts (Staged name node) (Published other there aim) = refl
-order-by_texts (Published name node target) (Exists other) = refl
-order-by_texts (Published name node target) (Attached other there) = refl
-order-by_texts (Published name node target) (Staged other there) = refl
 order-by_texts (Published name node target) (Published other there aim) =
     ap (λ r. ordering_then (text_order name other) (ordering_then (text_order node there) r)) (sym (then-equal (text_order target aim)))
+order-by_texts (Exists name) (Exists other) = refl
+order-by_texts (Attached name node) (Exists other) = refl
+order-by_texts (Staged name node) (Exists other) = refl
+order-by_texts a b = refl
 
 pub order-total : IsTotalOrder thing_order
 order-total = subst IsTotalOrder (λ i a b. sym (order-by_texts a b) i) (on_total texts_of (lists_total (lists_total nat_cmp_total)))

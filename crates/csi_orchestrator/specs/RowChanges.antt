@@ -59,15 +59,11 @@ at_goal change (Some Delete) places = places
 -- what a call of this kind for the row's goal does or undoes is marked
 abbrev pub exists_marked : Known → Aspect → Known → Known
 exists_marked mark Existence exists = mark
-exists_marked mark Attachment exists = exists
-exists_marked mark Staging exists = exists
-exists_marked mark Publication exists = exists
+exists_marked mark aspect exists = exists
 
 abbrev pub places_marked : Known → Aspect → Option Goal → List PlaceShown → List PlaceShown
 places_marked mark Existence goal places = places
-places_marked mark Attachment goal places = at_goal (marked_at mark Attachment) goal places
-places_marked mark Staging goal places = at_goal (marked_at mark Staging) goal places
-places_marked mark Publication goal places = at_goal (marked_at mark Publication) goal places
+places_marked mark aspect goal places = at_goal (marked_at mark aspect) goal places
 
 abbrev pub marked : Known → Kind → RowShown → RowShown
 marked mark kind row =
@@ -94,13 +90,7 @@ told_of kinds.NodeUnpublishVolume = No
 -- the id that it brings
 abbrev pub id_told : Kind → Option ℕ → Option ℕ
 id_told kinds.CreateVolume id = id
-id_told kinds.DeleteVolume id = None
-id_told kinds.ControllerPublishVolume id = None
-id_told kinds.ControllerUnpublishVolume id = None
-id_told kinds.NodeStageVolume id = None
-id_told kinds.NodeUnstageVolume id = None
-id_told kinds.NodePublishVolume id = None
-id_told kinds.NodeUnpublishVolume id = None
+id_told kind id = None
 
 -- a call of this kind succeeded
 abbrev pub answered : Kind → Option ℕ → RowShown → RowShown
