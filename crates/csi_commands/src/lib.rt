@@ -1,12 +1,14 @@
-//! What `csi-replay` does with the bytes of a file, without a process: frames are answered by a new controller, or shown in
-//! lines, and schedules are run. This profile's own.
+//! What `csi-replay` does with the bytes of a file or of a stream, without a process: frames are answered by a new controller, or
+//! shown in lines, and schedules are run. This profile's own.
 #![tactic(auto)]
 
 mod commands;
 mod ending;
 mod running;
+mod streaming;
 
 pub use commands::{FileCommand, file};
-pub use csi_streams::{AnswerFault, answer, show};
+pub use csi_streams::{AnswerFault, StreamFault, answer, answer_from, show, show_from};
 pub use ending::Ending;
 pub use running::run;
+pub use streaming::stream;

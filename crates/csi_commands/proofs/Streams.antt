@@ -1,0 +1,99 @@
+-- A command on a stream ends as on the bytes of it.
+use Rattle.std.proofs.Common.{◌≡◌, sym, subst, refl, inr, ℕ, List, [], length, drop, take_all, OnOk, OnErr, Option, Result, Ok, Err, arith}
+use Rattle.std.proofs.lemmas.List.{append-nil}
+use Rattle.std.specs.Io.KnownBytes.{Appends, Consumes, IsAtEnd}
+use Rattle.csi_types.specs.Frame.{Frame}
+use Rattle.csi_frames.specs.Stream.{FramesOf}
+use Rattle.csi_streams.specs.declared.output.WriteFailed.{WriteFailed}
+use Rattle.csi_streams.specs.declared.streaming.StreamFault.{StreamFault}
+use Rattle.csi_streams.specs.declared.streaming.StreamFault.TheVariants as stops
+use Rattle.csi_streams.specs.Replay.{Grows}
+use Rattle.csi_streams.specs.Streaming.{AreReplies, AreLines, GivesFront, StreamEnds, Streams, WritesFront}
+use Rattle.csi_streams.proofs.Streams.{one_stream}
+use Rattle.csi_commands.specs.declared.commands.FileCommand.TheVariants.{Answer, Show, Run}
+use Rattle.csi_commands.specs.declared.ending.Ending.{Ending}
+use Rattle.csi_commands.specs.declared.ending.Ending.TheVariants as endings
+use Rattle.csi_commands.specs.Ending.{EndsAs}
+use Rattle.csi_commands.specs.Running.{Runs, IsRefused}
+use Rattle.csi_commands.specs.Streaming.{StreamsAs, StreamEndsAs, WasCut, ending_of_stream, ending_of_written}
+
+grows-all : (bytes : List ℕ) → Grows [] bytes
+grows-all bytes = record { more = bytes; appended = refl }
+
+grows-none : (bytes : List ℕ) → Grows bytes bytes
+grows-none bytes = record { more = []; appended = sym (append-nil bytes) }
+
+-- what is said of the frames of some bytes is said of them whoever reads them
+module _ (bytes rest : List ℕ) (frames : List Frame) (of : FramesOf bytes frames rest) where
+  for_all : (P : List Frame → List ℕ → Type 0) → P frames rest → (fs : List Frame) (more : List ℕ) → FramesOf bytes fs more → P fs more
+  for_all P here fs more of' =
+      let same = one_stream bytes frames fs rest more of of' in
+      subst (λ (x : List ℕ). P fs x) same.1 (subst (λ (gs : List Frame). P gs rest) same.0 here)
+
+  all_given : (out : List ℕ) → AreReplies frames out → WasCut Answer bytes out
+  all_given out given = record {
+    all = out;
+    appended = for_all (λ fs more. GivesFront AreReplies fs out) (record { count = length frames; within = omega arith; given = subst (λ (fs : List Frame). AreReplies fs out) (sym (take_all (length frames) frames (omega arith))) given });
+    grows = grows-none out;
+  }
+
+  answer_ends : (at_end : Type 0) (out : List ℕ) (result : Result ℕ StreamFault) → StreamEnds AreReplies bytes frames rest at_end out result → StreamEndsAs Answer at_end bytes out (ending_of_stream result)
+  answer_ends at_end out (Ok count) ends = (ends.0, (for_all (λ fs more. EndsAs Answer fs more [] out endings.Done) (ends.1, ends.3), tt))
+  answer_ends at_end out (Err (stops.Frame kind place)) ends = (ends.0, (for_all (λ fs more. EndsAs Answer fs more [] out (endings.FrameFault kind place)) (ends.1, ends.2), tt))
+  answer_ends at_end out (Err stops.NoMemory) ends = (tt, (for_all (λ fs more. EndsAs Answer fs more [] out endings.Memory) (record { count = ends.count; within = ends.within; appended = ends.given }), tt))
+  answer_ends at_end out (Err stops.Input) ends = all_given out ends.1
+  answer_ends at_end out (Err stops.Output) ends = record { all = ends.0; appended = for_all (λ fs more. GivesFront AreReplies fs ends.0) ends.2; grows = ends.1 }
+  answer_ends at_end out (Err stops.Endless) ends = (ends.0, all_given out ends.2)
+
+  shown : (out : List ℕ) → WasCut Show bytes out
+  shown out = record { all = out; appended = tt; grows = grows-none out }
+
+  show_ends : (at_end : Type 0) (out : List ℕ) (result : Result ℕ StreamFault) → StreamEnds AreLines bytes frames rest at_end out result → StreamEndsAs Show at_end bytes out (ending_of_stream result)
+  show_ends at_end out (Ok count) ends = (ends.0, (for_all (λ fs more. EndsAs Show fs more [] out endings.Done) (ends.1, grows-all out), tt))
+  show_ends at_end out (Err (stops.Frame kind place)) ends = (ends.0, (for_all (λ fs more. EndsAs Show fs more [] out (endings.FrameFault kind place)) (ends.1, grows-all out), tt))
+  show_ends at_end out (Err stops.NoMemory) ends = (tt, (for_all (λ fs more. EndsAs Show fs more [] out endings.Memory) (grows-all out), tt))
+  show_ends at_end out (Err stops.Input) ends = shown out
+  show_ends at_end out (Err stops.Output) ends = shown out
+  show_ends at_end out (Err stops.Endless) ends = (ends.0, shown out)
+
+pub answers_so : (left now had has : Option (List ℕ)) (result : Result ℕ StreamFault) → Streams AreReplies left now had has result → StreamsAs Answer left now had has (ending_of_stream result)
+answers_so left now had has result s = record { bytes = s.read; consumed = s.consumed; out = s.out; written = s.written; ends = answer_ends s.read s.rest s.frames s.stream (IsAtEnd now) s.out result s.ends }
+
+pub shows_so : (left now had has : Option (List ℕ)) (result : Result ℕ StreamFault) → Streams AreLines left now had has result → StreamsAs Show left now had has (ending_of_stream result)
+shows_so left now had has result s = record { bytes = s.read; consumed = s.consumed; out = s.out; written = s.written; ends = show_ends s.read s.rest s.frames s.stream (IsAtEnd now) s.out result s.ends }
+
+-- a run that is refused writes nothing
+pub refused_so : (at_end : Type 0) (bytes : List ℕ) (ending : Ending) → at_end → IsRefused bytes ending → StreamEndsAs Run at_end bytes [] ending
+refused_so at_end bytes endings.Done end refused = absurd refused
+refused_so at_end bytes (endings.FrameFault kind place) end refused = absurd refused
+refused_so at_end bytes (endings.ScheduleFault fault) end refused = (end, (λ frames rest of. tt, (refused, refl)))
+refused_so at_end bytes endings.NotUtf8 end refused = (end, (λ frames rest of. tt, (refused, refl)))
+refused_so at_end bytes endings.ConfigRefused end refused = absurd refused
+refused_so at_end bytes (endings.RecordFault place) end refused = absurd refused
+refused_so at_end bytes endings.Usage end refused = absurd refused
+refused_so at_end bytes endings.Device end refused = absurd refused
+refused_so at_end bytes endings.StoreNotOpened end refused = absurd refused
+refused_so at_end bytes endings.Endless end refused = absurd refused
+refused_so at_end bytes endings.Memory end refused = (tt, (λ frames rest of. tt, (refused, refl)))
+
+-- what came into an empty vector was read
+pub read_in : (left now : Option (List ℕ)) (before after bytes : List ℕ) → before ≡ [] → bytes ≡ after → Consumes left now (drop (length before) after) → Consumes left now bytes
+read_in left now before after bytes none is consumed = subst (Consumes left now) (sym is) (subst (λ (front : List ℕ). Consumes left now (drop (length front) after)) none consumed)
+
+-- a report was written, or not
+pub runs_so : (left now had has : Option (List ℕ)) (bytes before report text : List ℕ) (result : Result (Unit {0}) WriteFailed) → Consumes left now bytes → IsAtEnd now → before ≡ [] → text ≡ report → Runs bytes before report
+    → OnOk result (Appends had has text) → OnErr result (WritesFront had has text) → StreamsAs Run left now had has (ending_of_written result)
+runs_so left now had has bytes before report text (Ok done) consumed end none is runs written cut = record {
+  bytes = bytes;
+  consumed = consumed;
+  out = report;
+  written = subst (Appends had has) is written;
+  ends = (end, (λ frames rest of. tt, subst (λ (old : List ℕ). Runs bytes old report) none runs));
+}
+runs_so left now had has bytes before report text (Err failed) consumed end none is runs written cut = record {
+  bytes = bytes;
+  consumed = consumed;
+  out = cut.front;
+  written = cut.appended;
+  ends = record { all = report; appended = inr (subst (λ (old : List ℕ). Runs bytes old report) none runs); grows = subst (Grows cut.front) is cut.grows };
+}

@@ -1,0 +1,67 @@
+-- What a command does with the bytes of a reader: what it does with the bytes of a file. This profile's own.
+use Rattle.std.specs.Prelude.{◌≡◌, ◌⊎◌, ℕ, ◌^◌, ◌≤◌, List, [], length, Option, Result, Ok, Err}
+use Rattle.std.specs.Io.KnownBytes.{Appends, Consumes, IsAtEnd}
+use Rattle.csi_types.specs.Frame.{Frame}
+use Rattle.csi_frames.specs.declared.fault.FaultKind.TheVariants.{Short}
+use Rattle.csi_frames.specs.Stream.{FramesOf}
+use Rattle.csi_streams.specs.declared.output.WriteFailed.{WriteFailed}
+use Rattle.csi_streams.specs.declared.streaming.StreamFault.{StreamFault}
+use Rattle.csi_streams.specs.declared.streaming.StreamFault.TheVariants as stops
+use Rattle.csi_streams.specs.Replay.{Grows}
+use Rattle.csi_streams.specs.Streaming.{AreReplies, GivesFront}
+use Rattle.csi_commands.specs.declared.commands.FileCommand.{FileCommand}
+use Rattle.csi_commands.specs.declared.commands.FileCommand.TheVariants.{Answer, Show, Run}
+use Rattle.csi_commands.specs.declared.ending.Ending.{Ending}
+use Rattle.csi_commands.specs.declared.ending.Ending.TheVariants as endings
+use Rattle.csi_commands.specs.Ending.{EndsAs, RunsAs}
+use Rattle.csi_commands.specs.Running.{Runs}
+
+-- `file` ends so on these bytes, and appends this to nothing
+abbrev pub FileEnds : FileCommand → List ℕ → List ℕ → Ending → Type 0
+FileEnds command bytes out ending = ((frames : List Frame) (rest : List ℕ) → FramesOf bytes frames rest → EndsAs command frames rest [] out ending) × RunsAs command bytes [] out ending
+
+-- what `file` appends for these bytes at some time: the replies to some of the first frames, or some lines, or the report or nothing
+abbrev pub FileAppends : FileCommand → List ℕ → List ℕ → Type 0
+FileAppends Answer bytes all = (frames : List Frame) (rest : List ℕ) → FramesOf bytes frames rest → GivesFront AreReplies frames all
+FileAppends Show bytes all = Unit {0}
+FileAppends Run bytes all = (all ≡ []) ⊎ Runs bytes [] all
+
+-- a front of it was written
+pub record WasCut (command : FileCommand) (bytes out : List ℕ) : Type 0 where
+  pub all : List ℕ
+  pub appended : FileAppends command bytes all
+  pub grows : Grows out all
+
+-- at these endings nothing is left unread
+abbrev pub ReadsAll : Type 0 → Ending → Type 0
+ReadsAll at_end endings.Done = at_end
+ReadsAll at_end (endings.FrameFault kind place) = kind ≡ Short → at_end
+ReadsAll at_end (endings.ScheduleFault fault) = at_end
+ReadsAll at_end endings.NotUtf8 = at_end
+ReadsAll at_end _ = Unit {0}
+
+-- It ends as with the bytes of a file, or a device failed, or the reader gave 2^63 bytes.
+abbrev pub StreamEndsAs : FileCommand → Type 0 → List ℕ → List ℕ → Ending → Type 0
+StreamEndsAs command at_end bytes out endings.Device = WasCut command bytes out
+StreamEndsAs command at_end bytes out endings.Endless = (2 ^ 63 ≤ length bytes) × WasCut command bytes out
+StreamEndsAs command at_end bytes out ending = ReadsAll at_end ending × FileEnds command bytes out ending
+
+-- some bytes were read, and some written, and so it ended
+pub record StreamsAs (command : FileCommand) (left_before left_after written_before written_after : Option (List ℕ)) (ending : Ending) : Type 0 where
+  pub bytes : List ℕ
+  pub consumed : Consumes left_before left_after bytes
+  pub out : List ℕ
+  pub written : Appends written_before written_after out
+  pub ends : StreamEndsAs command (IsAtEnd left_after) bytes out ending
+
+abbrev pub ending_of_stream : Result ℕ StreamFault → Ending
+ending_of_stream (Ok count) = endings.Done
+ending_of_stream (Err (stops.Frame kind place)) = endings.FrameFault kind place
+ending_of_stream (Err stops.NoMemory) = endings.Memory
+ending_of_stream (Err stops.Input) = endings.Device
+ending_of_stream (Err stops.Output) = endings.Device
+ending_of_stream (Err stops.Endless) = endings.Endless
+
+abbrev pub ending_of_written : Result (Unit {0}) WriteFailed → Ending
+ending_of_written (Ok done) = endings.Done
+ending_of_written (Err failed) = endings.Device
