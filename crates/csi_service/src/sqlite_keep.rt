@@ -112,13 +112,13 @@ impl<S: Alter> Keep for SqliteKeep<S> {
 
     ghost fault_count = { λ keep. keep.faults };
 
+    /// All parts, by rising key, where the table is as declared and each of its rows is a part. A row that is none is `BadRecord`,
+    /// with the position, from 0, of the first such row in SQLite's order of keys. Nothing is written.
     fn load(&mut self) -> Result<Vec<Part>, KeepFault>
         ensures honest { HasCleanDisk (state S.Store self.new.connection) → HasCleanDisk (state S.Store self.old.connection) }
         ensures parts { HasCleanDisk (state S.Store self.new.connection) → (content : List StoredPart) → HoldsParts (state S.Store self.old.connection) content → IfOk result (λ parts. map change_of parts.items ≡ put_all content) }
         ensures stays { HasCleanDisk (state S.Store self.new.connection) → (content : List StoredPart) → HoldsParts (state S.Store self.old.connection) content → OnOk result (HoldsParts (state S.Store self.new.connection) content) }
         ensures left { HasCleanDisk (state S.Store self.new.connection) → (content : List StoredPart) → LeavesParts (state S.Store self.new.connection) content → LeavesParts (state S.Store self.old.connection) content }
-        ensures room { (content : List StoredPart) → ⊤ → ⊤ }
-        ensures no_more_room { (content : List StoredPart) → ⊤ → ⊤ }
         ensures faults { self.old.faults ≤ self.new.faults }
         ensures cause { IfErr result (λ fault. IsLoadFault (HasCleanDisk (state S.Store self.new.connection)) (HoldsParts (state S.Store self.old.connection)) self.old.faults self.new.faults fault) }
         ensures judged { HasCleanDisk (state S.Store self.new.connection) → (columns : List Row) → HasColumns (state S.Store self.old.connection) columns → IsLoaded (state S.Store self.old.connection) columns result }
