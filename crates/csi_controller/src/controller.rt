@@ -1,5 +1,6 @@
 //! The controller plugin.
 ghost use Rattle.std.specs.Prelude.{◌≡◌, ◌%◌, ◌^◌, Some, None, [], Ok, IfOk, OnOk, OnErr, IsOk, option_map, find, ◌==◌};
+ghost use Rattle.std.specs.Option.{option_copied};
 ghost use Rattle.csi_types.specs.declared.call.Call.{Call as OneCall};
 
 mod answer;
@@ -147,6 +148,13 @@ impl Controller {
         ensures succeeds { find (λ row. row.id == id) self.now.rows ≡ None → IsOk result }
     {
         self.core.row(id)
+    }
+
+    /// The row of the volume of this id, deleted or not, as the controller has it. It takes no memory.
+    pub fn row_with_id(&self, id: VolumeId) -> Option<&ControllerRow>
+        ensures { option_copied result ≡ find (λ row. row.id == id) self.now.rows }
+    {
+        self.core.catalog.with_id(id)
     }
 
     /// The id of the volume of this call, deleted or not, and the number of the last call that was answered for it; none where there is

@@ -42,16 +42,6 @@ copy-shown None (Some new) same = absurd same
 copy-shown (Some old) None same = absurd same
 copy-shown (Some old) (Some new) same = ap Some (same-shown old new same)
 
--- the change of a row is that of its copy
-pub copied-change : (row copy : Option ControllerRow) → IsCopyOf row copy → row_change copy ≡ row_change row
-copied-change None None same = refl
-copied-change None (Some copy) same = absurd same
-copied-change (Some row) None same = absurd same
-copied-change (Some row) (Some copy) same = ap (λ (shown : VolumeRow). row_change_of shown) (same-shown row copy same)
-  where
-    row_change_of : VolumeRow → List Change
-    row_change_of shown = record { key = (volume_part shown).key; value = Some (volume_part shown).value } ∷ []
-
 -- ---- rows by rising id are parts by rising key
 
 above-shown : (id : ℕ) (rows : List ControllerRow) → AllByRecursion (λ (later : ControllerRow). id < later.id) rows → AreAbove id (map volume_part (map volume_row rows))

@@ -79,13 +79,12 @@ pub(crate) fn push_row(
     ensures { OnOk result (map change_of parts.new.items ≡ map change_of parts.old.items ++ row_change (find (λ row. row.id == id) controller.now.rows)) }
 {
     sound_law(controller);
-    match controller.row(alloc, id) {
-        Ok(Some(row)) => {
-            let value = volume_value(alloc, &row)?;
+    match controller.row_with_id(id) {
+        Some(row) => {
+            let value = volume_value(alloc, row)?;
             push_value(parts, row.id.number(), value)
         }
-        Ok(None) => Ok(()),
-        Err(_) => Err(NoMemory),
+        None => Ok(()),
     }
 }
 
@@ -100,7 +99,7 @@ pub(crate) fn answer(
     ensures parts { IfOk result (λ answer. parts_of_controller controller.new ≡ all_changed (changes_of answer.1 controller.new) (parts_of_controller controller.old)) }
     ensures nothing { (state : ControllerState) → IsShown controller.old state → (fenced controller.old.config state frame.now).state ≡ state → IfOk result (λ answer. changes_of answer.1 controller.new ≡ []) }
     ensures err { OnErr result (parts_of_controller controller.new ≡ parts_of_controller controller.old) }
-    ensures same { (changed : WhatChanged) → OnErr result (changes_of changed controller.new ≡ changes_of changed controller.old) }
+    ensures err_changes { (changed : WhatChanged) → OnErr result (changes_of changed controller.new ≡ changes_of changed controller.old) }
 {
     rows_law();
     sound_law(controller);

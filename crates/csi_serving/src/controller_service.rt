@@ -107,7 +107,7 @@ impl Core for ControllerService {
         ensures parts { OnOk result (controller_service_parts self.new ≡ all_changed (controller_service_changes self.new) (controller_service_parts self.old)) }
         ensures nothing { (state : ControllerState) → IsShown self.old.controller state → (fenced self.old.controller.config state frame.now).state ≡ state → OnOk result (controller_service_changes self.new ≡ []) }
         ensures err { OnErr result (controller_service_parts self.new ≡ controller_service_parts self.old) }
-        ensures same { OnErr result (controller_service_changes self.new ≡ controller_service_changes self.old) }
+        ensures err_changes { OnErr result (controller_service_changes self.new ≡ controller_service_changes self.old) }
     {
         let (reply, changed) = answer(&mut self.controller, frame)?;
         self.changed = changed;

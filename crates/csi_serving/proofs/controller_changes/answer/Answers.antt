@@ -33,8 +33,8 @@ returns-in-Err-clause-err c =
     let shown = c.showing_law.ensures.1 in
     same-parts c.rows_law.ensures c.args.controller.now c.step.new.self state (record { sound = c.sound_law.ensures; shown = shown }) (record { sound = c.sound_law-in-Err.ensures; shown = c.in-Err.ensures.err state shown })
 
-pub returns-in-Err-clause-same : goal.returns-in-Err-clause-same
-returns-in-Err-clause-same c = λ changed.
+pub returns-in-Err-clause-err_changes : goal.returns-in-Err-clause-err_changes
+returns-in-Err-clause-err_changes c = λ changed.
     let state = c.showing_law.ensures.0 in
     let shown = c.showing_law.ensures.1 in
     same-changes c.rows_law.ensures c.args.controller.now c.step.new.self state changed.has_new_id changed.touched
