@@ -7,7 +7,7 @@ use Rattle.csi_records.specs.Records.{controller_layout, IsRecordOf, IsRefusedAt
 use Rattle.csi_records.specs.Places.{ReadsParts}
 use Rattle.csi_records.specs.Spelling.{controller_head, controller_parts, volume_row}
 use Rattle.csi_serving.specs.Stores.{store}
-use Rattle.csi_serving.specs.Opening.{head_of, IsOpenFault, HasLoaded}
+use Rattle.csi_serving.specs.Opening.{head_of, IsOpenFault, LeavesHead, HasLoaded}
 use Rattle.csi_serving.specs.Services.{controller_service_parts}
 use Rattle.csi_serving.proofs.Opened.{none-of, cause-weaker, stop-cause, opened-new, opened-old, new-controller}
 use Rattle.csi_serving.proofs.controller_service.ControllerService.open.Goals as goal
@@ -53,3 +53,9 @@ returns-in-Err-of_parts-clause-cause g c =
     let read = subst (λ (ps : List Part). ReadsParts (IsRecordOf controller_layout) shown (all_stored_in ps) (Err c.in-Err-of_parts.stop)) c.deref.ensures.value c.in-Err-of_parts.ensures in
     subst (IsOpenFault (IsRefusedAt (IsRecordOf controller_layout)) before after (controller_head 1)) (sym c.from.ensures)
     (stop-cause (IsRecordOf controller_layout) shown before after (controller_head 1) c.in-Ok.parts c.in-Err-of_parts.stop some loaded read)
+
+pub returns-in_ok-of_record-in-Ok-of_parts-clause-left : goal.returns-in_ok-of_record-in-Ok-of_parts-clause-left
+returns-in_ok-of_record-in-Ok-of_parts-clause-left g c =
+    let before = store g.K.Keep.is_honest g.K.Keep.holds g.K.Keep.leaves g.K.Keep.fits g.K.Keep.fault_count c.args.keep.now in
+    let after = store g.K.Keep.is_honest g.K.Keep.holds g.K.Keep.leaves g.K.Keep.fits g.K.Keep.fault_count c.load_or_begin.new.keep in
+    subst (λ (h : StoredPart). LeavesHead before after h) (ap head_of c.in_ok-head.ensures) c.in-Ok.ensures.left
