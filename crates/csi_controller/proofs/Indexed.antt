@@ -9,7 +9,7 @@ use Rattle.std.proofs.lemmas.Bool.{false≢true}
 use Rattle.std.proofs.lemmas.Bool.Decides.{nat_tests}
 use Rattle.std.proofs.lemmas.List.{length-map, map_push, same_from_push, length_push}
 use Rattle.std.proofs.lemmas.Option.{get_or_from_slice_get}
-use Rattle.indexmap.proofs.CallerLemmas.{insert_entry-new}
+use Rattle.indexmap.proofs.CallerLemmas.{insert_entry-new, index_map_len-with_value_at}
 use Rattle.indexmap.specs.IndexMap.{IndexMap, values, with_value_at, insert_entry}
 use Rattle.indexmap.specs.Layout.{set_value_at}
 use Rattle.csi_controller.specs.declared.row.ControllerRow.{ControllerRow}
@@ -94,6 +94,13 @@ entries-set es rows i row new is at same = ap (λ l. set_value_at l i new) is �
 -- the rows after one was put in the place of another
 pub rows-set : {S : Type 0} (map_ : IndexMap ℕ ControllerRow S) (i : ℕ) (new : ControllerRow) → values (with_value_at map_ i new) ≡ set (values map_) i new
 rows-set map_ i new = values-set map_.entries i new
+
+-- as many rows stand there
+pub within-set : {S : Type 0} (map_ : IndexMap ℕ ControllerRow S) (i k : ℕ) (new : ControllerRow) → k < length map_.entries → k < length (with_value_at map_ i new).entries
+within-set map_ i k new inside = let long = index_map_len-with_value_at map_ i new in omega (arith, long, inside)
+
+pub rows-within : {S : Type 0} (map_ : IndexMap ℕ ControllerRow S) (i : ℕ) → i < length map_.entries → i < length (values map_)
+rows-within map_ i inside = let long = length-map map_.entries (λ (e : ℕ × ControllerRow). e.1) in omega (arith, long, inside)
 
 -- ---- one more
 

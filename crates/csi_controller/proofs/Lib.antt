@@ -5,6 +5,7 @@ pub mod Indexed
 pub mod Steps
 pub mod Fit
 pub mod Calls
+pub mod Recounted
 pub mod Placed
 pub mod Made
 pub mod Called

@@ -8,6 +8,7 @@ pub mod Core
 pub mod Wanted
 pub mod Line
 pub mod Catalog
+pub mod Counts
 pub mod CoreParts
 pub mod Views
 pub mod Exclusive

@@ -4,6 +4,7 @@ ghost use Rattle.std.specs.Option.{option_copied};
 ghost use Rattle.csi_types.specs.declared.call.Call.{Call as OneCall};
 
 mod answer;
+mod counts;
 mod fence;
 mod inner;
 mod last_call;
@@ -18,6 +19,7 @@ use crate::catalog::Catalog;
 use crate::fault::CoreFault;
 use crate::record::ControllerRecord;
 use crate::row::ControllerRow;
+use counts::counted;
 use csi_types::{Body, Call, Config, Frame, Holding, Name, Number, VolumeId};
 use inner::Core;
 use new_row::attachments;
@@ -57,12 +59,16 @@ impl Controller {
         ensures config { result.config ≡ config }
         ensures empty { IsShown result empty_controller }
     {
+        config.fit_law();
+        let catalog = Catalog::new(alloc);
+        let counts = counted(config.nodes(), catalog.rows());
         Controller {
             core: Core {
                 alloc,
                 config,
                 next_id: 1,
-                catalog: Catalog::new(alloc),
+                catalog,
+                counts,
             },
         }
     }
@@ -121,12 +127,15 @@ impl Controller {
     {
         let next_id = kept.next_id();
         let catalog = kept.into_catalog();
+        config.fit_law();
+        let counts = counted(config.nodes(), catalog.rows());
         Ok(Controller {
             core: Core {
                 alloc,
                 config,
                 next_id,
                 catalog,
+                counts,
             },
         })
     }

@@ -3,6 +3,7 @@ ghost use Rattle.std.specs.Prelude.{◌≡◌, ◌==◌, ◌<◌, ◌&&◌, ◌|
 ghost use Rattle.std.specs.List.{find, list_any};
 ghost use Rattle.std.specs.Option.{option_copied};
 ghost use Rattle.csi_controller.specs.Views.{row_if_live, AreSameRows, IsCopyOf};
+ghost use Rattle.indexmap.specs.IndexMap.{index_map_len};
 ghost use Rattle.csi_types.specs.declared.capability.Capability.{Capability as OneCapability};
 ghost use Rattle.csi_types.specs.declared.call.Kind.TheVariants.{CreateVolume as CreateKind, ControllerPublishVolume as PublishKind};
 ghost use Rattle.csi_types.specs.declared.call.Call.{Call as OneCall};
@@ -19,6 +20,7 @@ ghost use Rattle.csi_controller.specs.Wanted.{wanted_shown};
 ghost use Rattle.csi_controller.specs.Core.{made_volume, IsSameRow};
 
 use super::answer::{carried, done, said, unkept};
+use super::counts::{MAX_NODES, is_full, recount};
 use super::fence::fence;
 use super::line::{Line, refused};
 use super::lines::{argument_fault, is_held_at, publish_by_row};
@@ -45,6 +47,8 @@ pub struct Core {
     // 0 once all ids are given
     pub next_id: u64,
     pub catalog: Catalog,
+    // how many volumes are held at each node of the configuration, in its order
+    pub counts: [u64; MAX_NODES],
 }
 
 // The capacity that is asked for with this range.
@@ -66,19 +70,8 @@ impl Core {
     ghost use Rattle.csi_controller.specs.Core.{by_line, publish_line as publish_told};
     ghost use Rattle.csi_controller.specs.Core.RowChange.{RowAttaches};
     ghost use Rattle.csi_controller.specs.Catalog.{IsIndexed};
-    ghost use Rattle.csi_controller.specs.CoreParts.{parts_of, IsKept, IsMade};
+    ghost use Rattle.csi_controller.specs.CoreParts.{parts_of, IsAttached, IsKept, IsMade};
     ghost use Rattle.csi_controller.specs.Repeats.{IsPlainRepeat};
-
-    // How many volumes are held at the node.
-    fn count_at(&self, node: &NodeId) -> usize
-        ensures { result ≡ count_by (λ row. list_any (λ held. same_text held.node node.now) row.holdings.items) (parts_of self.now).rows }
-    {
-        self.catalog
-            .rows()
-            .iter()
-            .filter(|row| is_held_at(row, node))
-            .count()
-    }
 
     // Whether the node is configured.
     fn has_node(&self, node: &NodeId) -> bool
@@ -89,14 +82,11 @@ impl Core {
 
     // Whether the node takes no more volumes.
     fn is_full(&self, node: &NodeId) -> bool
+        requires { IsKept self.now }
         ensures { result ≡ list_any (λ entry. same_text entry.id node.now
             && nat_le entry.slots (count_by (λ row. list_any (λ held. same_text held.node node.now) row.holdings.items) (parts_of self.now).rows)) self.now.config.nodes }
     {
-        let count = self.count_at(node) as u64;
-        self.config
-            .nodes()
-            .iter()
-            .any(|entry| entry.id == *node && entry.slots <= count)
+        is_full(&self.counts, self.config.nodes(), node)
     }
 
     // The id and the capacity of the volume that is made for a new name, or the table's refusal.
@@ -132,13 +122,15 @@ impl Core {
         name: &Name,
         capabilities: &CapabilityList,
     ) -> Result<Frame, CoreFault>
-        requires indexed { IsIndexed self.old.catalog }
+        requires kept { IsKept self.old }
         requires new_id { find (λ row. row.id == id) (parts_of self.old).rows ≡ None }
         requires new_name { find (λ row. same_text row.name name.now) (parts_of self.old).rows ≡ None }
         ensures frame { IfOk result (λ frame. frame ≡ reply_frame number Controller CreateKind (ok_reply_with id)) }
         ensures made { OnOk result (IsMade self.old self.new number id name.now capacity capabilities.now) }
         ensures err { OnErr result (parts_of self.new ≡ parts_of self.old) }
         ensures indexed { IsIndexed self.new.catalog }
+        ensures counts { self.new.counts ≡ self.old.counts }
+        ensures config { self.new.config ≡ self.old.config }
     {
         let alloc = self.alloc;
         let row = new_row(alloc, number, id, name, capacity, capabilities)?;
@@ -230,6 +222,7 @@ impl Core {
     // What the table's lines for this row answer to ControllerPublishVolume; `None` where it is carried out. The
     // other rows are counted for the last line alone.
     fn publish_line(&self, row: &ControllerRow, wanted: Wanted) -> Result<Option<Reply>, CoreFault>
+        requires { IsKept self.now }
         ensures ok { IfOk result (λ line. publish_told row.now (wanted_shown wanted.entry) (has_node wanted.entry.node.now self.now.config.nodes)
             (list_any (λ entry. same_text entry.id wanted.entry.node.now
             && nat_le entry.slots (count_by (λ row. list_any (λ held. same_text held.node wanted.entry.node.now) row.holdings.items) (parts_of self.now).rows)) self.now.config.nodes
@@ -250,6 +243,39 @@ impl Core {
             Ok(reply) => Ok(Some(reply)),
             Err(fault) => Err(fault),
         }
+    }
+
+    // ControllerPublishVolume of the volume of the row at this place, behind the fence, by what the table's lines
+    // answer. A refusal changes nothing.
+    fn attach(
+        &mut self,
+        place: usize,
+        number: Number,
+        wanted: Wanted,
+        line: Option<Reply>,
+    ) -> Result<Frame, CoreFault>
+        requires kept { IsKept self.old }
+        requires place { place < index_map_len self.old.catalog.rows }
+        requires id { IfSome line (λ reply. IsTrue (has_id_by_rule PublishKind reply)) }
+        ensures attached { IsAttached self.old self.new place number (by_line (RowAttaches (wanted_shown wanted.entry)) line) result }
+        ensures config { self.new.config ≡ self.old.config }
+    {
+        let alloc = self.alloc;
+        let node = wanted.node;
+        let was = is_held_at(&self.catalog.rows[place], node);
+        let row = &mut self.catalog.rows[place];
+        let answer = publish(
+            row,
+            alloc,
+            number,
+            node,
+            wanted.capability,
+            wanted.readonly,
+            line,
+        );
+        let is = is_held_at(&self.catalog.rows[place], node);
+        recount(&mut self.counts, self.config.nodes(), node, was, is);
+        answer
     }
 
     // ControllerPublishVolume, behind the fence. A refusal changes nothing.
@@ -282,7 +308,7 @@ impl Core {
                     return answer;
                 }
                 match self.publish_line(row, wanted) {
-                    Ok(line) => publish(&mut self.catalog.rows[place], alloc, number, wanted, line),
+                    Ok(line) => self.attach(place, number, wanted, line),
                     Err(fault) => Err(fault),
                 }
             }
@@ -307,7 +333,13 @@ impl Core {
     {
         let alloc = self.alloc;
         match self.catalog.place_of_id(id) {
-            Some(place) => unpublish(&mut self.catalog.rows[place], alloc, number, node),
+            Some(place) => {
+                let was = is_held_at(&self.catalog.rows[place], node);
+                let answer = unpublish(&mut self.catalog.rows[place], alloc, number, node);
+                let is = is_held_at(&self.catalog.rows[place], node);
+                recount(&mut self.counts, self.config.nodes(), node, was, is);
+                answer
+            }
             None => Ok(carried(number, Kind::ControllerUnpublishVolume, done(alloc, None))),
         }
     }

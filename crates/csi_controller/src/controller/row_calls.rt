@@ -1,11 +1,12 @@
 //! What a row answers to the calls of its volume, behind the fence.
-ghost use Rattle.std.specs.Prelude.{◌≡◌, ℕ, Some, [], ◌∷◌, ◌++◌, OnOk, IfSome, IsTrue, not, filter, IfOk, IsOk, OnErr};
+ghost use Rattle.std.specs.Prelude.{◌≡◌, ℕ, List, false, Some, [], ◌∷◌, ◌++◌, OnOk, IfSome, IsTrue, not, filter, IfOk, IsOk, OnErr};
 ghost use Rattle.csi_types.specs.declared.call.Kind.TheVariants.{CreateVolume, DeleteVolume, ControllerPublishVolume, ControllerUnpublishVolume};
 ghost use Rattle.csi_types.specs.declared.fence.Verdict.TheVariants.{Fresh, Repeated};
 ghost use Rattle.csi_types.specs.declared.status.Status.TheVariants.{Ok as OkStatus};
 ghost use Rattle.csi_types.specs.Fence.{verdict_of};
 ghost use Rattle.csi_types.specs.Reply.{has_id_by_rule};
 ghost use Rattle.csi_types.specs.Same.{same_text};
+ghost use Rattle.csi_controller.specs.Counts.{is_held};
 ghost use Rattle.csi_controller.specs.Wanted.{wanted_shown};
 ghost use Rattle.csi_controller.specs.Core.{IsSoundRow, IsSameRow, RowGives, row_after, create_line as create_told, delete_line as delete_told, unpublish_line as unpublish_told, by_line};
 ghost use Rattle.csi_controller.specs.Core.RowChange.{RowAttaches};
@@ -31,6 +32,7 @@ pub fn create_again(
     requires { (next_id : ℕ) × IsSoundRow next_id row.old }
     ensures ok { IfOk result (λ frame. RowGives row.new frame (row_after number CreateVolume (create_told row.old required limit wished.now) row.old (verdict_of (Some row.old.last) number))) }
     ensures err { OnErr result (IsSameRow row.old row.new) }
+    ensures held { row.new.holdings.items ≡ row.old.holdings.items }
     ensures repeated { verdict_of (Some row.old.last) number ≡ Repeated → row.old.reply.detail ≡ [] → IsOk result }
 {
     if let Some(answer) = fence(row, alloc, number, Kind::CreateVolume) {
@@ -47,6 +49,7 @@ pub fn delete(row: &mut ControllerRow, alloc: Global, number: Number) -> Result<
     requires { (next_id : ℕ) × IsSoundRow next_id row.old }
     ensures ok { IfOk result (λ frame. RowGives row.new frame (row_after number DeleteVolume (delete_told row.old) row.old (verdict_of (Some row.old.last) number))) }
     ensures err { OnErr result (IsSameRow row.old row.new) }
+    ensures held { row.new.holdings.items ≡ row.old.holdings.items }
     ensures succeeds { verdict_of (Some row.old.last) number ≡ Fresh → (delete_told row.old).reply.status ≡ OkStatus → IsOk result }
     ensures repeated { verdict_of (Some row.old.last) number ≡ Repeated → row.old.reply.detail ≡ [] → IsOk result }
 {
@@ -86,16 +89,24 @@ pub fn publish(
     row: &mut ControllerRow,
     alloc: Global,
     number: Number,
-    wanted: Wanted,
+    node: &NodeId,
+    capability: &Capability,
+    readonly: bool,
     line: Option<Reply>,
 ) -> Result<Frame, CoreFault>
     requires { IfSome line (λ reply. IsTrue (has_id_by_rule ControllerPublishVolume reply)) }
-    ensures ok { IfOk result (λ frame. RowGives row.new frame (row_after number ControllerPublishVolume (by_line (RowAttaches (wanted_shown wanted.entry)) line) row.old Fresh)) }
+    ensures ok { IfOk result (λ frame. RowGives row.new frame (row_after number ControllerPublishVolume (by_line (RowAttaches (record { node = node.now; capability = capability.now; readonly = readonly })) line) row.old Fresh)) }
     ensures err { OnErr result (IsSameRow row.old row.new) }
+    ensures others { (other : List ℕ) → same_text node.now other ≡ false → is_held other row.new ≡ is_held other row.old }
 {
     if let Some(reply) = line {
         return keep(row, alloc, number, Kind::ControllerPublishVolume, reply);
     }
+    let wanted = Wanted {
+        node,
+        capability,
+        readonly,
+    };
     match add(&mut row.holdings, wanted) {
         Ok(()) => Ok(keep_done(row, alloc, number, Kind::ControllerPublishVolume)),
         Err(fault) => Err(fault),
@@ -120,6 +131,7 @@ pub fn unpublish(
     requires { (next_id : ℕ) × IsSoundRow next_id row.old }
     ensures ok { IfOk result (λ frame. RowGives row.new frame (row_after number ControllerUnpublishVolume (unpublish_told row.old node.now) row.old (verdict_of (Some row.old.last) number))) }
     ensures err { OnErr result (IsSameRow row.old row.new) }
+    ensures others { (other : List ℕ) → same_text node.now other ≡ false → is_held other row.new ≡ is_held other row.old }
     ensures succeeds { verdict_of (Some row.old.last) number ≡ Fresh → IsOk result }
     ensures repeated { verdict_of (Some row.old.last) number ≡ Repeated → row.old.reply.detail ≡ [] → IsOk result }
 {

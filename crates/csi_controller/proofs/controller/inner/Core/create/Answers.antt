@@ -7,10 +7,12 @@ use Rattle.csi_types.specs.Fence.{verdict_of}
 use Rattle.csi_types.specs.Same.{same_text}
 use Rattle.csi_controller.specs.declared.row.ControllerRow.{ControllerRow}
 use Rattle.csi_controller.specs.Core.{create_line}
+use Rattle.csi_lists.proofs.Places.{FirstAt-within}
 use Rattle.csi_controller.specs.Catalog.{rows_of}
 use Rattle.csi_controller.proofs.Fit.{create-good}
 use Rattle.csi_controller.proofs.Calls.{at-place, repeat-there, repeat-nowhere, create-answers, nowhere, shown-refused, either_way}
 use Rattle.csi_controller.proofs.Indexed.{read-at}
+use Rattle.csi_controller.proofs.Recounted.{same-counted}
 use Rattle.csi_controller.proofs.Placed.{answers-set, shown-set, kept-gives, kept-refused}
 use Rattle.csi_controller.proofs.controller.inner.Core.create.Goals as goal
 
@@ -36,10 +38,13 @@ pub returns-in-Some-clause-kept : goal.returns-in-Some-clause-kept
 returns-in-Some-clause-kept c =
     let core = c.args.self.now in
     let row = c.index_mut.result.now in
+    let rows = rows_of core.catalog in
+    let at = at-place (λ (r : ControllerRow). same_text r.name c.args.name.now) rows c.in-Some.place row c.in-Some.ensures.place (read-at rows c.in-Some.place row c.index_mut.ensures.value) in
+    let counted = same-counted core.config.nodes rows c.in-Some.place row c.create_again.new.row core.counts c.requires.kept.counted (FirstAt-within (λ (r : ControllerRow). same_text r.name c.args.name.now) rows c.in-Some.place row at) (read-at rows c.in-Some.place row c.index_mut.ensures.value) c.create_again.ensures.held in
     either_way c.create_again.result _ _ _
     (λ frame gives. kept-gives (λ (r : ControllerRow). same_text r.name c.args.name.now) core c.in-Some.place row c.create_again.new.row frame c.args.number CreateVolume (create_line row c.args.required c.args.limit c.as_slice-wished.result.now) c.requires.kept c.in-Some.ensures.place c.index_mut.ensures.value refl
-    (create-good row c.args.required c.args.limit c.as_slice-wished.result.now) (verdict_of (Some row.last) c.args.number) gives)
-    (λ same. kept-refused (λ (r : ControllerRow). same_text r.name c.args.name.now) core c.in-Some.place row c.create_again.new.row c.requires.kept c.in-Some.ensures.place c.index_mut.ensures.value same)
+    (create-good row c.args.required c.args.limit c.as_slice-wished.result.now) (verdict_of (Some row.last) c.args.number) gives core.counts counted)
+    (λ same. kept-refused (λ (r : ControllerRow). same_text r.name c.args.name.now) core c.in-Some.place row c.create_again.new.row c.requires.kept c.in-Some.ensures.place c.index_mut.ensures.value same core.counts counted)
     c.create_again.ensures.ok c.create_again.ensures.err
 
 pub returns-in-Some-clause-repeated : goal.returns-in-Some-clause-repeated

@@ -11,6 +11,7 @@ use Rattle.csi_controller.proofs.Made.{fault-answers, refused-answers, made-answ
 use Rattle.std.specs.Prelude.{option_map}
 use Rattle.csi_controller.specs.Line.{line_told}
 use Rattle.csi_lists.proofs.Options.{none-where}
+use Rattle.csi_controller.proofs.Recounted.{made-counted, same-parts-counted}
 use Rattle.csi_controller.proofs.controller.inner.Core.create_new.Goals as goal
 
 pub make-requires-clause-new_id : goal.make-requires-clause-new_id
@@ -55,6 +56,11 @@ returns-in-Ok-clause-kept c =
           (λ (same : parts_of c.make.new.self ≡ parts_of core). subst (λ (k : Parts). IsSound k.next_id k.rows) (sym same) c.requires.kept.sound)
           c.make.ensures.made c.make.ensures.err;
       indexed = c.make.ensures.indexed;
+      counted =
+          either_way c.make.result _ _ _
+          (λ x made. made-counted core c.make.new.self made.row c.make.ensures.config made.rows made.items c.make.ensures.counts c.requires.kept.counted)
+          (λ (same : parts_of c.make.new.self ≡ parts_of core). same-parts-counted core c.make.new.self same c.make.ensures.counts c.requires.kept.counted)
+          c.make.ensures.made c.make.ensures.err;
     }
 
 pub returns-in-Err-clause-ok : goal.returns-in-Err-clause-ok

@@ -10,10 +10,12 @@ use Rattle.csi_types.specs.Fence.{verdict_of}
 use Rattle.csi_types.specs.Replies.{reply_frame}
 use Rattle.csi_controller.specs.declared.row.ControllerRow.{ControllerRow}
 use Rattle.csi_controller.specs.Core.{delete_line}
+use Rattle.csi_lists.proofs.Places.{FirstAt-within}
 use Rattle.csi_controller.specs.Catalog.{rows_of}
 use Rattle.csi_controller.proofs.Fit.{delete-good}
 use Rattle.csi_controller.proofs.Calls.{at-place, repeat-there, delete-answers, delete-nowhere, delete-let_through, shown-refused, either_way}
 use Rattle.csi_controller.proofs.Indexed.{read-at}
+use Rattle.csi_controller.proofs.Recounted.{same-counted}
 use Rattle.csi_controller.proofs.Placed.{answers-set, shown-set, kept-gives, kept-refused}
 use Rattle.csi_controller.proofs.controller.inner.Core.delete.Goals as goal
 
@@ -35,10 +37,13 @@ pub returns-in-Some-clause-kept : goal.returns-in-Some-clause-kept
 returns-in-Some-clause-kept c =
     let core = c.args.self.now in
     let row = c.index_mut.result.now in
+    let rows = rows_of core.catalog in
+    let at = at-place (λ (r : ControllerRow). r.id == c.args.id) rows c.in-Some.place row c.in-Some.ensures.place (read-at rows c.in-Some.place row c.index_mut.ensures.value) in
+    let counted = same-counted core.config.nodes rows c.in-Some.place row c.delete.new.row core.counts c.requires.kept.counted (FirstAt-within (λ (r : ControllerRow). r.id == c.args.id) rows c.in-Some.place row at) (read-at rows c.in-Some.place row c.index_mut.ensures.value) c.delete.ensures.held in
     either_way c.delete.result _ _ _
     (λ frame gives. kept-gives (λ (r : ControllerRow). r.id == c.args.id) core c.in-Some.place row c.delete.new.row frame c.args.number DeleteVolume (delete_line row) c.requires.kept c.in-Some.ensures.place c.index_mut.ensures.value refl
-    (delete-good row) (verdict_of (Some row.last) c.args.number) gives)
-    (λ same. kept-refused (λ (r : ControllerRow). r.id == c.args.id) core c.in-Some.place row c.delete.new.row c.requires.kept c.in-Some.ensures.place c.index_mut.ensures.value same)
+    (delete-good row) (verdict_of (Some row.last) c.args.number) gives core.counts counted)
+    (λ same. kept-refused (λ (r : ControllerRow). r.id == c.args.id) core c.in-Some.place row c.delete.new.row c.requires.kept c.in-Some.ensures.place c.index_mut.ensures.value same core.counts counted)
     c.delete.ensures.ok c.delete.ensures.err
 
 pub returns-in-Some-clause-succeeds : goal.returns-in-Some-clause-succeeds

@@ -1,0 +1,92 @@
+//! How many volumes are held at each configured node.
+ghost use Rattle.std.specs.Prelude.{◌≡◌, ◌≤◌, ◌&&◌, nat_le, length, true, List};
+ghost use Rattle.std.specs.List.{list_any};
+ghost use Rattle.csi_types.specs.Same.{same_text};
+ghost use Rattle.csi_controller.specs.declared.row.ControllerRow.{ControllerRow as OneRow};
+ghost use Rattle.csi_controller.specs.Counts.{place_of, count_held, AreCounted, recounted};
+
+use super::lines::is_held_at;
+use crate::row::ControllerRow;
+use csi_types::{NodeId, NodeSlots};
+
+/// The most nodes that are configured.
+pub const MAX_NODES: usize = 64;
+
+// Where the node is configured.
+fn place_of_node(nodes: &[NodeSlots], node: &NodeId) -> Option<usize>
+    ensures { result ≡ place_of node.now nodes.now }
+{
+    nodes.iter().position(|entry| entry.id == *node)
+}
+
+// How many volumes are held at the node.
+fn count_in(rows: &[ControllerRow], node: &NodeId) -> usize
+    ensures { result ≡ count_held node.now rows.now }
+{
+    rows.iter().filter(|row| is_held_at(row, node)).count()
+}
+
+/// The count of each of these nodes.
+pub fn counted(nodes: &[NodeSlots], rows: &[ControllerRow]) -> [u64; MAX_NODES]
+    requires { length nodes.now ≤ 64 }
+    ensures { AreCounted nodes.now rows.now result }
+{
+    let mut counts = [0; MAX_NODES];
+    for (place, entry) in nodes.iter().enumerate() {
+        counts[place] = count_in(rows, &entry.id) as u64;
+    }
+    counts
+}
+
+// How many volumes are held at the node, where it is configured.
+fn count_at(counts: &[u64; MAX_NODES], nodes: &[NodeSlots], node: &NodeId) -> u64
+    requires { length nodes.now ≤ 64 }
+    ensures { (rows : List OneRow) → AreCounted nodes.now rows counts.now → list_any (λ entry. same_text entry.id node.now) nodes.now ≡ true → result ≡ count_held node.now rows }
+{
+    match place_of_node(nodes, node) {
+        Some(place) => counts[place],
+        None => 0,
+    }
+}
+
+// Whether the node is configured, with at most so many slots.
+fn has_at_most(nodes: &[NodeSlots], node: &NodeId, count: u64) -> bool
+    ensures { result ≡ list_any (λ entry. same_text entry.id node.now && nat_le entry.slots count) nodes.now }
+{
+    nodes
+        .iter()
+        .any(|entry| entry.id == *node && entry.slots <= count)
+}
+
+/// Whether the node takes no more volumes.
+pub fn is_full(counts: &[u64; MAX_NODES], nodes: &[NodeSlots], node: &NodeId) -> bool
+    requires { length nodes.now ≤ 64 }
+    ensures { (rows : List OneRow) → AreCounted nodes.now rows counts.now
+        → result ≡ list_any (λ entry. same_text entry.id node.now && nat_le entry.slots (count_held node.now rows)) nodes.now }
+{
+    has_at_most(nodes, node, count_at(counts, nodes, node))
+}
+
+/// Counts a volume that was held at the node, or wasn't, and is held there, or isn't.
+pub fn recount(
+    counts: &mut [u64; MAX_NODES],
+    nodes: &[NodeSlots],
+    node: &NodeId,
+    was: bool,
+    is: bool,
+)
+    requires { length nodes.now ≤ 64 }
+    ensures { counts.new ≡ recounted nodes.now node.now was is counts.old }
+{
+    if was == is {
+        return;
+    }
+    if let Some(place) = place_of_node(nodes, node) {
+        let count = counts[place];
+        counts[place] = if is {
+            count.wrapping_add(1)
+        } else {
+            count.wrapping_sub(1)
+        };
+    }
+}
