@@ -1,4 +1,6 @@
 //! Records as bytes, and stores that plugins are opened from.
+mod devices;
+mod pieces;
 mod stores;
 
 use crate::values::{config, node_id};

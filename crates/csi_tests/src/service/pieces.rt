@@ -1,0 +1,246 @@
+//! Serving a controller whose input comes in pieces, over readers, writers and a store that fail.
+use super::devices::{Device, Sink, Source};
+use super::{controller, is_part};
+use Content::{Gone, Live, Nothing};
+use csi_frames::FaultKind;
+use csi_service::{
+    Counted, Keep, KeepFault, MemoryKeep, Part, ServeFault, ServeFaultKind, Served, serve,
+};
+use std::alloc::Global;
+use std::process::Abort;
+
+// Creates `v`, deletes it, and asks for that once more under the same number.
+const STREAM: &[u8] = &[
+    0, 0, 0, 40, 1, 1, 0, 0, 0, 0, 0, 0, 0, 1, 0, 0, 0, 0, 0, 0, 0, 1, 0, 1, 118, 0, 0, 0, 0, 0, 0,
+    0, 10, 0, 0, 0, 0, 0, 0, 0, 0, 1, 0, 1, //
+    0, 0, 0, 27, 1, 2, 0, 0, 0, 0, 0, 0, 0, 1, 0, 0, 0, 0, 0, 0, 0, 2, 0, 0, 0, 0, 0, 0, 0, 0, 1, //
+    0, 0, 0, 27, 1, 2, 0, 0, 0, 0, 0, 0, 0, 1, 0, 0, 0, 0, 0, 0, 0, 2, 0, 0, 0, 0, 0, 0, 0, 0, 1,
+];
+
+// What these are replied, each in 33 bytes.
+const REPLIES: &[u8] = &[
+    0, 0, 0, 29, 1, 129, 0, 0, 0, 0, 0, 0, 0, 1, 0, 0, 0, 0, 0, 0, 0, 1, 0, 0, 0, 0, 0, 0, 0, 0, 0,
+    1, 0, //
+    0, 0, 0, 29, 1, 130, 0, 0, 0, 0, 0, 0, 0, 1, 0, 0, 0, 0, 0, 0, 0, 2, 0, 0, 0, 0, 0, 0, 0, 0, 0,
+    0, 0, //
+    0, 0, 0, 29, 1, 130, 0, 0, 0, 0, 0, 0, 0, 1, 0, 0, 0, 0, 0, 0, 0, 2, 0, 0, 0, 0, 0, 0, 0, 0, 0,
+    0, 0,
+];
+
+// The deletion, three times: the controller knows no such volume.
+const DELETES: &[u8] = &[
+    0, 0, 0, 27, 1, 2, 0, 0, 0, 0, 0, 0, 0, 1, 0, 0, 0, 0, 0, 0, 0, 2, 0, 0, 0, 0, 0, 0, 0, 0, 1, //
+    0, 0, 0, 27, 1, 2, 0, 0, 0, 0, 0, 0, 0, 1, 0, 0, 0, 0, 0, 0, 0, 2, 0, 0, 0, 0, 0, 0, 0, 0, 1, //
+    0, 0, 0, 27, 1, 2, 0, 0, 0, 0, 0, 0, 0, 1, 0, 0, 0, 0, 0, 0, 0, 2, 0, 0, 0, 0, 0, 0, 0, 0, 1,
+];
+
+// The creation, a deletion whose length is one too many, and more.
+const FAULTY: &[u8] = &[
+    0, 0, 0, 40, 1, 1, 0, 0, 0, 0, 0, 0, 0, 1, 0, 0, 0, 0, 0, 0, 0, 1, 0, 1, 118, 0, 0, 0, 0, 0, 0,
+    0, 10, 0, 0, 0, 0, 0, 0, 0, 0, 1, 0, 1, //
+    0, 0, 0, 28, 1, 2, 0, 0, 0, 0, 0, 0, 0, 1, 0, 0, 0, 0, 0, 0, 0, 2, 0, 0, 0, 0, 0, 0, 0, 0, 1,
+    0, //
+    0, 0, 0, 27, 1, 2, 0, 0, 0, 0, 0, 0, 0, 1, 0, 0, 0, 0, 0, 0, 0, 2, 0, 0, 0, 0, 0, 0, 0, 0, 1,
+];
+
+// The creation, and the first three bytes of a frame.
+const CUT: &[u8] = &[
+    0, 0, 0, 40, 1, 1, 0, 0, 0, 0, 0, 0, 0, 1, 0, 0, 0, 0, 0, 0, 0, 1, 0, 1, 118, 0, 0, 0, 0, 0, 0,
+    0, 10, 0, 0, 0, 0, 0, 0, 0, 0, 1, 0, 1, 0, 0, 0,
+];
+
+// The heads before and after the creation, and the row after it and after the deletion.
+const FIRST_HEAD: &[u8] = &[1, 0, 0, 0, 0, 0, 0, 0, 0, 1];
+
+const NEXT_HEAD: &[u8] = &[1, 0, 0, 0, 0, 0, 0, 0, 0, 2];
+
+const LIVE_ROW: &[u8] = &[
+    1, 1, 1, 118, 0, 0, 0, 0, 0, 0, 0, 10, 1, 0, 1, 0, 0, 0, 0, 0, 0, 0, 0, 1, 0, 0, 0, 0, 0, 0, 0,
+    1, 129, 0, 0, 0, 0, 0, 0, 0, 0, 1, 0,
+];
+
+const GONE_ROW: &[u8] = &[
+    1, 2, 1, 118, 0, 0, 0, 0, 0, 0, 0, 10, 1, 0, 1, 0, 0, 0, 0, 0, 0, 0, 0, 1, 0, 0, 0, 0, 0, 0, 0,
+    2, 130, 0, 0, 0, 0, 0, 0, 0, 0, 0, 0,
+];
+
+// What a store has.
+#[derive(Clone, Copy)]
+enum Content {
+    Nothing,
+    Live,
+    Gone,
+}
+
+fn has_row(parts: &[Part], row: &[u8]) -> bool {
+    match parts {
+        [head, first] => is_part(head, 0, NEXT_HEAD) && is_part(first, 1, row),
+        _ => false,
+    }
+}
+
+fn has_no_row(parts: &[Part]) -> bool {
+    match parts {
+        [head] => is_part(head, 0, FIRST_HEAD),
+        _ => false,
+    }
+}
+
+fn has_content(keep: &mut Device, content: Content) -> bool {
+    match keep.load() {
+        Ok(parts) => match content {
+            Nothing => has_no_row(&parts),
+            Live => has_row(&parts, LIVE_ROW),
+            Gone => has_row(&parts, GONE_ROW),
+        },
+        Err(_) => false,
+    }
+}
+
+// How many bytes a reader gives, or a writer takes, at a call at most, and the call that fails, if one does.
+type Calls = (usize, u64);
+
+// The commit that fails, if one does, and whether what was to be kept is kept all the same.
+type Commits = (u64, bool);
+
+// What is served, and by what.
+type Given = (&'static [u8], Calls, Calls, Commits);
+
+// What comes of it: how many frames are counted and why serving ends, if not at the end of the stream; how many bytes of
+// the replies are written, what is kept, and how often the reader was asked.
+type Outcome = (u64, Option<ServeFaultKind>, usize, Content, u64);
+
+// All at once.
+const ALL: Calls = (4096, 0);
+
+const NONE_FAILS: Commits = (0, false);
+
+fn is_end(ended: &Result<Served, ServeFault>, frames: u64, fault: Option<ServeFaultKind>) -> bool {
+    match (ended, fault) {
+        (Ok(served), None) => served.frames == frames && served.replies == frames,
+        (Err(stop), Some(kind)) => stop.frames == frames && stop.kind == kind,
+        _ => false,
+    }
+}
+
+// Whether a new controller is served so.
+fn comes_to(rt: &(impl Abort + AllocGlobal), given: &Given, wanted: &Outcome) -> bool {
+    let mut inner = MemoryKeep::new(rt.alloc(), 1000);
+    let service = controller(rt, &mut inner).expect(rt, "a controller");
+    let mut keep = Device::new(inner, given.3.0, given.3.1);
+    let mut reader = Counted::new(Source::new(given.0, given.1.0, given.1.1));
+    let mut writer = Counted::new(Sink::new(rt.alloc(), given.2.0, given.2.1));
+    let ended = serve(rt.alloc(), service, &mut keep, &mut reader, &mut writer);
+    let written = writer.into_inner().bytes;
+    is_end(&ended, wanted.0, wanted.1)
+        && written.as_slice() == &REPLIES[..wanted.2.min(REPLIES.len())]
+        && has_content(&mut keep, wanted.3)
+        && reader.into_inner().calls == wanted.4
+}
+
+fn all_come(rt: &(impl Abort + AllocGlobal), rows: &[(Given, Outcome)]) {
+    for (given, wanted) in rows {
+        assert!(rt; comes_to(rt, given, wanted));
+    }
+}
+
+const CUTTINGS: &[(Given, Outcome)] = &[
+    ((STREAM, ALL, ALL, NONE_FAILS), (3, None, 99, Gone, 2)),
+    ((STREAM, (1, 0), ALL, NONE_FAILS), (3, None, 99, Gone, 107)),
+    ((STREAM, (31, 0), ALL, NONE_FAILS), (3, None, 99, Gone, 5)),
+    ((STREAM, ALL, (1, 0), NONE_FAILS), (3, None, 99, Gone, 2)),
+    ((&[], ALL, ALL, NONE_FAILS), (0, None, 0, Nothing, 1)),
+];
+
+#[test]
+fn serve_succeeds_with_memory(rt: HostRuntime) {
+    all_come(&rt, CUTTINGS);
+}
+
+const DIFFERS: Option<ServeFaultKind> = Some(ServeFaultKind::Frame(FaultKind::LengthDiffers, 75));
+
+const SHORT: Option<ServeFaultKind> = Some(ServeFaultKind::Frame(FaultKind::Short, 47));
+
+const FAULTS: &[(Given, Outcome)] = &[
+    ((FAULTY, ALL, ALL, NONE_FAILS), (1, DIFFERS, 33, Live, 1)),
+    (
+        (FAULTY, (1, 0), ALL, NONE_FAILS),
+        (1, DIFFERS, 33, Live, 76),
+    ),
+    ((CUT, ALL, ALL, NONE_FAILS), (1, SHORT, 33, Live, 2)),
+    ((CUT, (1, 0), ALL, NONE_FAILS), (1, SHORT, 33, Live, 48)),
+];
+
+#[test]
+fn serving_stops_at_a_frame_fault_and_reads_no_more(rt: HostRuntime) {
+    all_come(&rt, FAULTS);
+}
+
+const INPUT: Option<ServeFaultKind> = Some(ServeFaultKind::Input);
+
+const FAILING_READERS: &[(Given, Outcome)] = &[
+    (
+        (STREAM, (4096, 1), ALL, NONE_FAILS),
+        (0, INPUT, 0, Nothing, 1),
+    ),
+    ((STREAM, (50, 2), ALL, NONE_FAILS), (1, INPUT, 33, Live, 2)),
+    ((STREAM, (31, 4), ALL, NONE_FAILS), (2, INPUT, 66, Gone, 4)),
+    (
+        (STREAM, (4096, 2), ALL, NONE_FAILS),
+        (3, INPUT, 99, Gone, 2),
+    ),
+    (
+        (FAULTY, (80, 2), ALL, NONE_FAILS),
+        (1, DIFFERS, 33, Live, 1),
+    ),
+];
+
+#[test]
+fn frames_before_a_failing_read_are_answered(rt: HostRuntime) {
+    all_come(&rt, FAILING_READERS);
+}
+
+const OUTPUT: Option<ServeFaultKind> = Some(ServeFaultKind::Output);
+
+// The last line: a frame at each of three reads, and a writer that takes no byte.
+const FAILING_WRITERS: &[(Given, Outcome)] = &[
+    (
+        (STREAM, ALL, (4096, 1), NONE_FAILS),
+        (1, OUTPUT, 0, Live, 1),
+    ),
+    (
+        (STREAM, ALL, (4096, 2), NONE_FAILS),
+        (2, OUTPUT, 33, Gone, 1),
+    ),
+    (
+        (STREAM, ALL, (4096, 3), NONE_FAILS),
+        (3, OUTPUT, 66, Gone, 1),
+    ),
+    ((STREAM, ALL, (1, 40), NONE_FAILS), (2, OUTPUT, 39, Gone, 1)),
+    ((STREAM, ALL, (0, 0), NONE_FAILS), (1, OUTPUT, 0, Live, 1)),
+    (
+        (DELETES, (31, 0), (0, 0), NONE_FAILS),
+        (1, OUTPUT, 0, Nothing, 1),
+    ),
+];
+
+#[test]
+fn a_frame_whose_reply_is_not_written_is_committed(rt: HostRuntime) {
+    all_come(&rt, FAILING_WRITERS);
+}
+
+const DEVICE: Option<ServeFaultKind> = Some(ServeFaultKind::Keep(KeepFault::Device));
+
+const FAILING_STORES: &[(Given, Outcome)] = &[
+    ((STREAM, ALL, ALL, (1, false)), (0, DEVICE, 0, Nothing, 1)),
+    ((STREAM, ALL, ALL, (1, true)), (0, DEVICE, 0, Live, 1)),
+    ((STREAM, ALL, ALL, (2, false)), (1, DEVICE, 33, Live, 1)),
+    ((STREAM, ALL, ALL, (2, true)), (1, DEVICE, 33, Gone, 1)),
+    ((STREAM, ALL, ALL, (3, false)), (2, DEVICE, 66, Gone, 1)),
+    ((STREAM, ALL, ALL, (3, true)), (2, DEVICE, 66, Gone, 1)),
+];
+
+#[test]
+fn a_frame_that_is_not_committed_is_not_replied(rt: HostRuntime) {
+    all_come(&rt, FAILING_STORES);
+}
