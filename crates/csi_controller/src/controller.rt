@@ -12,6 +12,7 @@ mod line;
 pub(crate) mod lines;
 mod listing;
 pub(crate) mod new_row;
+mod readers;
 mod row_calls;
 pub(crate) mod wanted;
 

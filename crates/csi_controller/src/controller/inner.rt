@@ -1,8 +1,6 @@
 //! A controller's parts, and what it does with a call.
 ghost use Rattle.std.specs.Prelude.{◌≡◌, ◌==◌, ◌<◌, ◌&&◌, ◌||◌, ◌∷◌, ℕ, true, false, List, Some, None, [], length, position, count_by, nat_le, IfOk, OnErr, OnOk, IsOk, IfSome, IfNone, IsTrue, IfErr, MatchResult, option_map};
 ghost use Rattle.std.specs.List.{find, list_any};
-ghost use Rattle.std.specs.Option.{option_copied};
-ghost use Rattle.csi_controller.specs.Views.{row_if_live, AreSameRows, IsCopyOf};
 ghost use Rattle.indexmap.specs.IndexMap.{index_map_len};
 ghost use Rattle.csi_types.specs.declared.capability.Capability.{Capability as OneCapability};
 ghost use Rattle.csi_types.specs.declared.call.Kind.TheVariants.{CreateVolume as CreateKind, ControllerPublishVolume as PublishKind};
@@ -24,7 +22,7 @@ use super::counts::{MAX_NODES, is_full, recount};
 use super::fence::fence;
 use super::line::{Line, refused};
 use super::lines::{argument_fault, is_held_at, publish_by_row};
-use super::new_row::{copied_row, new_row};
+use super::new_row::new_row;
 use super::row_calls::{create_again, delete, publish, unpublish};
 use super::wanted::Wanted;
 use crate::catalog::Catalog;
@@ -398,45 +396,5 @@ impl Core {
             return Ok(None);
         };
         self.answer(number, call).transpose()
-    }
-
-    /// Id and capacity of the volume of this name, unless it was deleted.
-    pub fn volume(&self, name: &Name) -> Option<(VolumeId, u64)>
-        requires { IsKept self.now }
-        ensures { result ≡ row_if_live (find (λ row. same_text row.name name.now) (parts_of self.now).rows) }
-    {
-        match self.catalog.named(name) {
-            Some(row) => {
-                if row.live {
-                    Some((row.id, row.capacity))
-                } else {
-                    None
-                }
-            }
-            None => None,
-        }
-    }
-
-    /// The id of the volume of this name, deleted or not.
-    pub fn id_of(&self, name: &Name) -> Option<VolumeId>
-        requires { IsKept self.now }
-        ensures { result ≡ option_map (λ row. row.id) (find (λ row. same_text row.name name.now) (parts_of self.now).rows) }
-    {
-        self.catalog.id_of(name)
-    }
-
-    /// A copy of the row of this id. Without one it takes no memory.
-    pub fn row(&self, id: VolumeId) -> Result<Option<ControllerRow>, CoreFault>
-        requires { IsKept self.now }
-        ensures copy { IfOk result (λ copy. IsCopyOf (find (λ row. row.id == id) (parts_of self.now).rows) copy) }
-        ensures succeeds { find (λ row. row.id == id) (parts_of self.now).rows ≡ None → IsOk result }
-    {
-        match self.catalog.place_of_id(id) {
-            Some(place) => match copied_row(&self.catalog.rows[place]) {
-                Ok(copy) => Ok(Some(copy)),
-                Err(fault) => Err(fault),
-            },
-            None => Ok(None),
-        }
     }
 }
