@@ -1,10 +1,8 @@
 -- Why the call that is due for a row may be sent.
-use Rattle.std.proofs.Common.{◌≡◌, ◌≢◌, ℕ, List, Bool, true, false, cond, not, refl, sym, ◌∙◌, ap, subst, inr}
+use Rattle.std.proofs.Common.{◌≡◌, ◌≢◌, ℕ, List, Bool, true, false, not, refl, sym, ◌∙◌, ap, subst, inr}
 use Rattle.std.specs.Prelude.{Option, Some, None, option_map, option_and_then, ◌&&◌, ◌||◌}
 use Rattle.std.specs.List.{AllByRecursion}
 use Rattle.std.proofs.lemmas.Bool.{false≢true}
-use Rattle.csi_types.specs.declared.call.Call.TheVariants as calls
-use Rattle.csi_types.specs.declared.call.Party.TheVariants.{Controller, Node}
 use Rattle.csi_types.specs.Holding.{CanHoldBoth}
 use Rattle.csi_lists.specs.Members.{IsAmong}
 use Rattle.csi_lists.proofs.Members.{among-find, each_of}
@@ -15,8 +13,6 @@ use Rattle.csi_types.specs.Same.{same_text}
 use Rattle.csi_types.specs.Sharing.{is_single_node}
 use Rattle.csi_types.proofs.Equality.{same_text-tells}
 use Rattle.csi_orchestrator.specs.declared.row.Aim.{Aim}
-use Rattle.csi_orchestrator.specs.declared.row.Goal.{Goal as KeptGoal}
-use Rattle.csi_orchestrator.specs.declared.row.Goal.TheVariants as kept
 use Rattle.csi_orchestrator.specs.declared.thing.Thing.{Thing}
 use Rattle.csi_orchestrator.specs.declared.thing.Thing.TheVariants.{Exists, Attached, Staged, Published}
 use Rattle.csi_orchestrator.specs.declared.thing.Known.{Known}
@@ -27,9 +23,10 @@ use Rattle.csi_orchestrator.specs.Readings.{known, id_of, held, open_call}
 use Rattle.csi_orchestrator.specs.Due.{Due}
 use Rattle.csi_orchestrator.specs.Commands.{is_for_one_node, is_second_writer}
 use Rattle.csi_orchestrator.specs.Guards.{CanBeHeldToo, holding_by, IsGuarded, MayIssue}
-use Rattle.csi_orchestrator.specs.Shown.{PlaceShown, RowShown, Parts, row_of, place_of, aim_of, mark_in, published_in, mark_of, held_at, held_in, others_in, marks_for, use_due, stop_due, delete_due, due_by, due_in, AgreesWith}
+use Rattle.csi_orchestrator.specs.Shown.{PlaceShown, RowShown, Parts, row_of, place_of, aim_of, mark_in, published_in, mark_of, held_at, held_in, others_in, due_in, AgreesWith}
 use Rattle.csi_orchestrator.specs.RowMoves.{is_so_elsewhere, has_elsewhere}
 use Rattle.csi_orchestrator.specs.Kept.{ArePlacesApart, IsUsable, MayBeWanted}
+use Rattle.csi_orchestrator.proofs.DueCases.{IsDueFor, due-cases, ToMake, ToRemove, ToAttach, ToStage, ToPublish, ToUnpublish, ToUnstage, ToDetach}
 use Rattle.csi_orchestrator.proofs.DueCalls.{no_is_no}
 
 yes_is_yes : (k : Known) → is_yes k ≡ true → k ≡ Yes
@@ -105,50 +102,26 @@ not-so row so node other place none e apart maybe = by (so (held_at place)) refl
         (ap (λ b. not b && not (is_no place.attached) && so (held_at place)) elsewhere ∙ ap (λ b. not b && so (held_at place)) (is_not_no place.attached maybe) ∙ f)))
     by false f = refl
 
--- CreateVolume
-create-guarded : (row : RowShown) (history : History) (due : Due) → ToldBy row history → row.id ≡ None → due_by row (Some kept.Create) ≡ Some due → Guarded history row.name due
-unfolding Guarded
-create-guarded row history due told no_id e = by (is_yes row.exists) refl e
+-- what is known of a thing of the row's name
+known-yes : (row : RowShown) (history : History) (thing : Thing) → ToldBy row history → name_in thing ≡ row.name → is_yes (mark_of thing row) ≡ true → known history thing ≡ Yes
+known-yes row history thing told own e = sym (told.marks thing own) ∙ yes_is_yes (mark_of thing row) e
+
+known-no : (row : RowShown) (history : History) (thing : Thing) → ToldBy row history → name_in thing ≡ row.name → is_no (mark_of thing row) ≡ true → known history thing ≡ No
+known-no row history thing told own e = sym (told.marks thing own) ∙ no_is_no (mark_of thing row) e
+
+known-not-yes : (row : RowShown) (history : History) (thing : Thing) → ToldBy row history → name_in thing ≡ row.name → is_yes (mark_of thing row) ≡ false → known history thing ≢ Yes
+known-not-yes row history thing told own e = not_yes (known history thing) (ap is_yes (sym (told.marks thing own)) ∙ e)
+
+known-not-no : (row : RowShown) (history : History) (thing : Thing) → ToldBy row history → name_in thing ≡ row.name → is_no (mark_of thing row) ≡ false → known history thing ≢ No
+known-not-no row history thing told own e = not_no (known history thing) (ap is_no (sym (told.marks thing own)) ∙ e)
+
+-- nowhere may it be attached
+detached-there : (row : RowShown) (node : List ℕ) → AllByRecursion (λ (place : PlaceShown). place.attached ≡ No) row.places → mark_of (Attached row.name node) row ≡ No
+detached-there row node detached = by (place_of row node) refl
   where
-    create : Due
-    create = record { party = Controller; call = calls.CreateVolume row.name row.arguments.required row.arguments.limit row.arguments.capabilities }
-
-    by : (b : Bool) → is_yes row.exists ≡ b → cond b None (Some create) ≡ Some due → Guarded history row.name due
-    by true f g = absurd (none-some due g)
-    by false f g =
-        subst (Guarded history row.name) (same_Some create due g)
-        (record {
-          own_name = refl;
-          not_made = not_yes (known history (Exists row.name)) (ap is_yes (sym (told.marks (Exists row.name) refl)) ∙ f);
-          no_id = sym told.own_id ∙ no_id;
-        })
-
--- DeleteVolume
-delete-guarded : (row : RowShown) (history : History) (due : Due) → ToldBy row history → AllByRecursion (λ (place : PlaceShown). place.attached ≡ No) row.places → due_by row (Some kept.Delete) ≡ Some due → Guarded history row.name due
-unfolding Guarded
-delete-guarded row history due told detached e = by_id row.id refl e
-  where
-    delete : ℕ → Due
-    delete id = record { party = Controller; call = calls.DeleteVolume id }
-
-    none : (node : List ℕ) (o : Option PlaceShown) → place_of row node ≡ o → mark_in (λ (place : PlaceShown). place.attached) o ≡ No
-    none node None f = refl
-    none node (Some place) f = each_of (λ (p : PlaceShown). p.attached ≡ No) row.places place detached (place-there row node place f).0
-
-    by : (id : ℕ) → row.id ≡ Some id → (b : Bool) → is_no row.exists ≡ b → cond b None (Some (delete id)) ≡ Some due → Guarded history row.name due
-    by id own true f g = absurd (none-some due g)
-    by id own false f g =
-        subst (Guarded history row.name) (same_Some (delete id) due g) (
-          sym told.own_id ∙ own,
-          record {
-            made = not_no (known history (Exists row.name)) (ap is_no (sym (told.marks (Exists row.name) refl)) ∙ f);
-            detached = λ node. sym (told.marks (Attached row.name node) refl) ∙ none node (place_of row node) refl;
-          },
-        )
-
-    by_id : (o : Option ℕ) → row.id ≡ o → option_and_then (delete_due (marks_for row kept.Delete)) o ≡ Some due → Guarded history row.name due
-    by_id None own g = absurd (none-some due g)
-    by_id (Some id) own g = by id own (is_no row.exists) refl g
+    by : (o : Option PlaceShown) → place_of row node ≡ o → mark_in (λ (place : PlaceShown). place.attached) o ≡ No
+    by None f = refl
+    by (Some place) f = each_of (λ (p : PlaceShown). p.attached ≡ No) row.places place detached (place-there row node place f).0
 
 -- how a usage holds the volume
 abbrev held-so : Usage → Held
@@ -175,72 +148,13 @@ shared-so row history usage id told usable other there apart maybe holds = by (p
     by None e same = absurd (not_none same)
     by (Some place) e same = alike place e (same_Some (held_at place) there same)
 
--- ControllerPublishVolume, NodeStageVolume and NodePublishVolume
-use-guarded : (row : RowShown) (history : History) (usage : Usage) (id : ℕ) (due : Due) → ToldBy row history → IsUsable row usage → row.id ≡ Some id → use_due usage (marks_for row (kept.Use usage)) id ≡ Some due → Guarded history row.name due
-unfolding Guarded
-use-guarded row history usage id due told usable own e = by (is_yes attached) refl (is_yes staged) refl (is_yes published) refl e
-  where
-    attached : Known
-    attached = mark_of (Attached row.name usage.node) row
-
-    staged : Known
-    staged = mark_of (Staged row.name usage.node) row
-
-    published : Known
-    published = mark_of (Published row.name usage.node usage.target) row
-
-    attach : Due
-    attach = record { party = Controller; call = calls.ControllerPublishVolume id usage.node usage.capability usage.readonly }
-
-    stage : Due
-    stage = record { party = Node usage.node; call = calls.NodeStageVolume id usage.capability }
-
-    publish : Due
-    publish = record { party = Node usage.node; call = calls.NodePublishVolume id usage.target usage.capability usage.readonly }
-
-    has_id : id_of history row.name ≡ Some id
-    has_id = sym told.own_id ∙ own
-
-    is_attached : is_yes attached ≡ true → known history (Attached row.name usage.node) ≡ Yes
-    is_attached f = sym (told.marks (Attached row.name usage.node) refl) ∙ yes_is_yes attached f
-
-    -- the place holds the volume as the use asks
-    holds : is_yes attached ≡ true → held history row.name usage.node ≡ Some (held-so usage)
-    holds f =
-        sym (told.holdings usage.node (yes_not_no (known history (Attached row.name usage.node)) (is_attached f)))
-        ∙ ap (option_map held_at) usable.entry.at_node
-        ∙ (λ i. Some (record { capability = usable.entry.same_capability i; readonly = usable.entry.same_flag i }))
-
-    by : (a : Bool) → is_yes attached ≡ a → (s : Bool) → is_yes staged ≡ s → (p : Bool) → is_yes published ≡ p
-        → cond (not a) (Some attach) (cond (not s) (Some stage) (cond (not p) (Some publish) None)) ≡ Some due → Guarded history row.name due
-    by false f s g p h is =
-        subst (Guarded history row.name) (same_Some attach due is) (
-          has_id,
-          record {
-            made = sym (told.marks (Exists row.name) refl) ∙ usable.made;
-            not_attached = not_yes (known history (Attached row.name usage.node)) (ap is_yes (sym (told.marks (Attached row.name usage.node) refl)) ∙ f);
-            shared = shared-so row history usage id told usable;
-          },
-        )
-    by true f false g p h is =
-        subst (Guarded history row.name) (same_Some stage due is) (
-          has_id,
-          record {
-            attached = is_attached f;
-            not_staged = not_yes (known history (Staged row.name usage.node)) (ap is_yes (sym (told.marks (Staged row.name usage.node) refl)) ∙ g);
-            as_held = (held-so usage, holds f, refl);
-          },
-        )
-    by true f true g false h is =
-        subst (Guarded history row.name) (same_Some publish due is) (
-          has_id,
-          record {
-            staged = sym (told.marks (Staged row.name usage.node) refl) ∙ yes_is_yes staged g;
-            not_published = not_yes (known history (Published row.name usage.node usage.target)) (ap is_yes (sym (told.marks (Published row.name usage.node usage.target) refl)) ∙ h);
-            as_held = holds f;
-          },
-        )
-    by true f true g true h is = absurd (none-some due is)
+-- the volume is held at the node as the use asks
+held-there : (row : RowShown) (history : History) (usage : Usage) → ToldBy row history → IsUsable row usage → is_yes (mark_of (Attached row.name usage.node) row) ≡ true
+    → held history row.name usage.node ≡ Some (held-so usage)
+held-there row history usage told usable e =
+    sym (told.holdings usage.node (yes_not_no (known history (Attached row.name usage.node)) (known-yes row history (Attached row.name usage.node) told refl e)))
+    ∙ ap (option_map held_at) usable.entry.at_node
+    ∙ (λ i. Some (record { capability = usable.entry.same_capability i; readonly = usable.entry.same_flag i }))
 
 -- no target of the node is published where the goal's own isn't, and no other is
 quiet-targets : (row : RowShown) (node target other : List ℕ) → is_no (mark_in (published_in target) (place_of row node)) ≡ true → others_in target (place_of row node) ≡ false → mark_in (published_in other) (place_of row node) ≡ No
@@ -273,63 +187,51 @@ quiet-targets row node target other this others = by (place_of row node) this ot
     by None own rest = refl
     by (Some place) own rest = aimed place own rest (aim_of place other) refl
 
--- NodeUnpublishVolume, NodeUnstageVolume and ControllerUnpublishVolume
-stop-guarded : (row : RowShown) (history : History) (node target : List ℕ) (id : ℕ) (due : Due) → ToldBy row history → row.id ≡ Some id → stop_due node target (marks_for row (kept.Stop node target)) id ≡ Some due → Guarded history row.name due
+-- call by call
+guarded : (row : RowShown) (history : History) (due : Due) → ToldBy row history → MayBeWanted row row.goal → IsDueFor row due → Guarded history row.name due
 unfolding Guarded
-stop-guarded row history node target id due told own e = by (is_no published) refl (others_in target (place_of row node)) refl (is_no staged) refl (is_no attached) e
-  where
-    attached : Known
-    attached = mark_of (Attached row.name node) row
-
-    staged : Known
-    staged = mark_of (Staged row.name node) row
-
-    published : Known
-    published = mark_of (Published row.name node target) row
-
-    unpublish : Due
-    unpublish = record { party = Node node; call = calls.NodeUnpublishVolume id target }
-
-    unstage : Due
-    unstage = record { party = Node node; call = calls.NodeUnstageVolume id }
-
-    detach : Due
-    detach = record { party = Controller; call = calls.ControllerUnpublishVolume id node }
-
-    has_id : id_of history row.name ≡ Some id
-    has_id = sym told.own_id ∙ own
-
-    by : (p : Bool) → is_no published ≡ p → (others : Bool) → others_in target (place_of row node) ≡ others → (s : Bool) → is_no staged ≡ s → (a : Bool)
-        → cond (not p) (Some unpublish) (cond others None (cond (not s) (Some unstage) (cond (not a) (Some detach) None))) ≡ Some due → Guarded history row.name due
-    by false f others g s h a is = subst (Guarded history row.name) (same_Some unpublish due is) has_id
-    by true f true g s h a is = absurd (none-some due is)
-    by true f false g false h a is =
-        subst (Guarded history row.name) (same_Some unstage due is)
-        (has_id, record { not_published = λ other. sym (told.marks (Published row.name node other) refl) ∙ quiet-targets row node target other f g })
-    by true f false g true h false is =
-        subst (Guarded history row.name) (same_Some detach due is)
-        (has_id, record { not_staged = sym (told.marks (Staged row.name node) refl) ∙ no_is_no staged h })
-    by true f false g true h true is = absurd (none-some due is)
-
--- goal by goal
-goal-guarded : (row : RowShown) (history : History) (due : Due) → ToldBy row history → (goal : Option KeptGoal) → MayBeWanted row goal → due_by row goal ≡ Some due → Guarded history row.name due
-goal-guarded row history due told None wanted e = absurd (none-some due e)
-goal-guarded row history due told (Some kept.Create) wanted e = create-guarded row history due told wanted e
-goal-guarded row history due told (Some (kept.Use usage)) wanted e = by row.id refl e
-  where
-    by : (o : Option ℕ) → row.id ≡ o → option_and_then (use_due usage (marks_for row (kept.Use usage))) o ≡ Some due → Guarded history row.name due
-    by None own f = absurd (none-some due f)
-    by (Some id) own f = use-guarded row history usage id due told wanted own f
-goal-guarded row history due told (Some (kept.Stop node target)) wanted e = by row.id refl e
-  where
-    by : (o : Option ℕ) → row.id ≡ o → option_and_then (stop_due node target (marks_for row (kept.Stop node target))) o ≡ Some due → Guarded history row.name due
-    by None own f = absurd (none-some due f)
-    by (Some id) own f = stop-guarded row history node target id due told own f
-goal-guarded row history due told (Some kept.Delete) wanted e = delete-guarded row history due told wanted e
+guarded row history _ told wanted (ToMake goal e) =
+    record { own_name = refl; not_made = known-not-yes row history (Exists row.name) told refl e; no_id = sym told.own_id ∙ subst (MayBeWanted row) goal wanted }
+guarded row history _ told wanted (ToRemove id goal own e) = (
+  sym told.own_id ∙ own,
+  record {
+    made = known-not-no row history (Exists row.name) told refl e;
+    detached = λ node. sym (told.marks (Attached row.name node) refl) ∙ detached-there row node (subst (MayBeWanted row) goal wanted);
+  },
+)
+guarded row history _ told wanted (ToAttach usage id goal own a) =
+    let usable : IsUsable row usage = subst (MayBeWanted row) goal wanted in (
+      sym told.own_id ∙ own,
+      record {
+        made = sym (told.marks (Exists row.name) refl) ∙ usable.made;
+        not_attached = known-not-yes row history (Attached row.name usage.node) told refl a;
+        shared = shared-so row history usage id told usable;
+      },
+    )
+guarded row history _ told wanted (ToStage usage id goal own a s) = (
+  sym told.own_id ∙ own,
+  record {
+    attached = known-yes row history (Attached row.name usage.node) told refl a;
+    not_staged = known-not-yes row history (Staged row.name usage.node) told refl s;
+    as_held = (held-so usage, held-there row history usage told (subst (MayBeWanted row) goal wanted) a, refl);
+  },
+)
+guarded row history _ told wanted (ToPublish usage id goal own a s p) = (
+  sym told.own_id ∙ own,
+  record {
+    staged = known-yes row history (Staged row.name usage.node) told refl s;
+    not_published = known-not-yes row history (Published row.name usage.node usage.target) told refl p;
+    as_held = held-there row history usage told (subst (MayBeWanted row) goal wanted) a;
+  },
+)
+guarded row history _ told wanted (ToUnpublish node target id goal own p) = sym told.own_id ∙ own
+guarded row history _ told wanted (ToUnstage node target id goal own p o s) =
+    (sym told.own_id ∙ own, record { not_published = λ other. sym (told.marks (Published row.name node other) refl) ∙ quiet-targets row node target other p o })
+guarded row history _ told wanted (ToDetach node target id goal own p o s a) = (sym told.own_id ∙ own, record { not_staged = known-no row history (Staged row.name node) told refl s })
 
 -- the call that is due for a row may be sent, where none is open
 pub due-guarded : (parts : Parts) (history : History) (row : RowShown) (due : Due) → AgreesWith parts history → row_of parts.rows row.name ≡ Some row → ArePlacesApart row.places
     → MayBeWanted row row.goal → open_call history row.name ≡ None → due_in row ≡ Some due → MayIssue history row.name due.party due.call
 unfolding Guarded
 due-guarded parts history row due agrees there apart wanted none_open e =
-    record { none_open = none_open; guarded = goal-guarded row history due (told-by parts history row agrees there) row.goal wanted e }
+    record { none_open = none_open; guarded = guarded row history due (told-by parts history row agrees there) wanted (due-cases row due e) }

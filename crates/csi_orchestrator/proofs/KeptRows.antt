@@ -1,6 +1,6 @@
 -- What holds of a row after it was changed.
 use Rattle.std.proofs.Common.{◌≡◌, ℕ, List, Bool, false, cond, not, map, refl, sym, ◌∙◌, ap, subst}
-use Rattle.std.specs.Prelude.{Option, Some, None, option_map, option_and_then, find, ◌&&◌}
+use Rattle.std.specs.Prelude.{Option, Some, None, option_map, find, ◌&&◌}
 use Rattle.std.specs.List.{AllByRecursion, list_any}
 use Rattle.csi_types.specs.declared.call.Kind.{Kind}
 use Rattle.csi_types.specs.declared.call.Kind.TheVariants as kinds
@@ -16,18 +16,19 @@ use Rattle.csi_orchestrator.specs.declared.row.Goal.TheVariants.{Create, Use, St
 use Rattle.csi_orchestrator.specs.declared.row.Usage.{Usage}
 use Rattle.csi_orchestrator.specs.declared.thing.Known.{Known}
 use Rattle.csi_orchestrator.specs.declared.thing.Known.TheVariants.{No, Maybe}
-use Rattle.csi_orchestrator.specs.Thing.{is_yes, is_no}
+use Rattle.csi_orchestrator.specs.Thing.{is_no}
 use Rattle.csi_orchestrator.specs.History.{Held}
 use Rattle.csi_orchestrator.specs.Commands.{is_for_one_node, is_second_writer}
 use Rattle.csi_orchestrator.specs.Due.{Due}
-use Rattle.csi_orchestrator.specs.Shown.{PlaceShown, RowShown, place_of, aim_of, held_at, marks_for, use_due, delete_due, due_by, due_in, closed, AreTargetsApart}
+use Rattle.csi_orchestrator.specs.Shown.{PlaceShown, RowShown, place_of, aim_of, held_at, due_by, due_in, closed, AreTargetsApart}
 use Rattle.csi_orchestrator.specs.RowChanges.{Aspect, Existence, Publication, aspect_of, place_marked, marked_at, at_goal, exists_marked, places_marked, marked, sent, told_of, succeeded, wanted, is_aim_kept, with_kept_aims, is_place_kept, dropped, stopped_goal}
 use Rattle.csi_orchestrator.specs.RowMoves.{is_so_elsewhere}
 use Rattle.csi_orchestrator.specs.Keyed.{change_by}
 use Rattle.csi_orchestrator.specs.Kept.{ArePlacesApart, IsUsable, MayBeWanted, IsKept}
 use Rattle.csi_orchestrator.proofs.DueCalls.{text-same}
+use Rattle.csi_orchestrator.proofs.DueCases.{IsDueFor, due-cases, ToMake, ToRemove, ToAttach, ToStage, ToPublish, ToUnpublish, ToUnstage, ToDetach}
 use Rattle.csi_orchestrator.proofs.Keyed.{find-change}
-use Rattle.csi_orchestrator.proofs.KeptEntries.{by_if, each-change, apart-change, any-change, apart-map}
+use Rattle.csi_orchestrator.proofs.KeptEntries.{each-change, apart-change, any-change, apart-map}
 
 -- a node has one entry, and so has each target there
 pub record AreDistinct (places : List PlaceShown) : Type 0 where
@@ -155,34 +156,18 @@ FitsGoal (Some (Use usage)) kind = IsAtNode (aspect_of kind)
 FitsGoal (Some (Stop node target)) kind = Unit {0}
 FitsGoal (Some Delete) kind = kind ≡ kinds.DeleteVolume
 
-abbrev pub DueFits : Option Goal → Option Due → Type 0
-DueFits goal None = Unit {0}
-DueFits goal (Some due) = FitsGoal goal (kind_of due.call)
-
-due-fits : (row : RowShown) (goal : Option Goal) → DueFits goal (due_by row goal)
-due-fits row None = tt
-due-fits row (Some Create) = by_if (DueFits (Some Create)) (is_yes row.exists) None _ (λ e. tt) (λ e. refl)
-due-fits row (Some (Use usage)) = by row.id
-  where
-    by : (o : Option ℕ) → DueFits (Some (Use usage)) (option_and_then (use_due usage (marks_for row (Use usage))) o)
-    by None = tt
-    by (Some id) =
-        by_if (DueFits (Some (Use usage))) (not (is_yes (marks_for row (Use usage)).attached)) _ _ (λ e. tt)
-        (λ e. by_if (DueFits (Some (Use usage))) (not (is_yes (marks_for row (Use usage)).staged)) _ _ (λ e. tt)
-        (λ e. by_if (DueFits (Some (Use usage))) (not (is_yes (marks_for row (Use usage)).published)) _ None (λ e. tt) (λ e. tt)))
-due-fits row (Some (Stop node target)) = stops (due_by row (Some (Stop node target)))
-  where
-    stops : (o : Option Due) → DueFits (Some (Stop node target)) o
-    stops None = tt
-    stops (Some due) = tt
-due-fits row (Some Delete) = by row.id
-  where
-    by : (o : Option ℕ) → DueFits (Some Delete) (option_and_then (delete_due (marks_for row Delete)) o)
-    by None = tt
-    by (Some id) = by_if (DueFits (Some Delete)) (is_no row.exists) None _ (λ e. tt) (λ e. refl)
+fits : (row : RowShown) (due : Due) → IsDueFor row due → FitsGoal row.goal (kind_of due.call)
+fits row _ (ToMake goal e) = subst (λ g. FitsGoal g kinds.CreateVolume) (sym goal) refl
+fits row _ (ToRemove id goal own e) = subst (λ g. FitsGoal g kinds.DeleteVolume) (sym goal) refl
+fits row _ (ToAttach usage id goal own a) = subst (λ g. FitsGoal g kinds.ControllerPublishVolume) (sym goal) tt
+fits row _ (ToStage usage id goal own a s) = subst (λ g. FitsGoal g kinds.NodeStageVolume) (sym goal) tt
+fits row _ (ToPublish usage id goal own a s p) = subst (λ g. FitsGoal g kinds.NodePublishVolume) (sym goal) tt
+fits row _ (ToUnpublish node target id goal own p) = subst (λ g. FitsGoal g kinds.NodeUnpublishVolume) (sym goal) tt
+fits row _ (ToUnstage node target id goal own p o s) = subst (λ g. FitsGoal g kinds.NodeUnstageVolume) (sym goal) tt
+fits row _ (ToDetach node target id goal own p o s a) = subst (λ g. FitsGoal g kinds.ControllerUnpublishVolume) (sym goal) tt
 
 pub due-fits-goal : (row : RowShown) (due : Due) → due_in row ≡ Some due → FitsGoal row.goal (kind_of due.call)
-due-fits-goal row due e = subst (DueFits row.goal) e (due-fits row row.goal)
+due-fits-goal row due e = fits row due (due-cases row due e)
 
 -- what a call of the goal's kind does or undoes is marked
 usable-marked : (mark : Known) (aspect : Aspect) (row : RowShown) (usage : Usage) → row.goal ≡ Some (Use usage) → IsAtNode aspect → IsUsable row usage
