@@ -81,7 +81,7 @@ pub(crate) fn succeed(row: &mut Row, kind: Kind, id: Option<VolumeId>)
     row.tries = 0;
 }
 
-/// Wants something now. No call is open.
+/// Sets the goal. No call is open.
 pub(crate) fn want(row: &mut Row, goal: Goal)
     ensures { row_shown row.new ≡ wanted goal (row_shown row.old) }
 {
@@ -90,7 +90,7 @@ pub(crate) fn want(row: &mut Row, goal: Goal)
     row.tries = 0;
 }
 
-/// Wants the volume to be made, by these arguments.
+/// Sets creation as the goal, by these arguments.
 pub(crate) fn want_anew(row: &mut Row, arguments: Arguments)
     ensures { row_shown row.new ≡ wanted_anew arguments (row_shown row.old) }
 {
@@ -105,7 +105,7 @@ pub(crate) fn close(row: &mut Row)
     row.open_number = None;
 }
 
-// What is wanted once this goal is given up: a use that didn't come about is stopped.
+// The goal once this one is given up: a use that didn't come about is stopped.
 fn stopped(goal: Goal) -> Goal
     ensures { result ≡ stopped_goal goal }
 {
@@ -118,7 +118,7 @@ fn stopped(goal: Goal) -> Goal
     }
 }
 
-/// Stops the use that is wanted. Without a goal nothing changes.
+/// Gives the goal up: a use is stopped. Without a goal nothing changes.
 pub(crate) fn stop_use(row: &mut Row)
     ensures goal { (goal : Goal) → row.old.goal ≡ Some goal → row_shown row.new ≡ wanted (stopped_goal goal) (row_shown row.old) }
     ensures none { row.old.goal ≡ None → row_shown row.new ≡ row_shown row.old }
@@ -128,7 +128,7 @@ pub(crate) fn stop_use(row: &mut Row)
     }
 }
 
-/// Wants nothing now. No call is open, and only entries of which something may be so are kept.
+/// Drops the goal. No call is open, and only entries of which something may be so are kept.
 pub(crate) fn drop_goal(row: &mut Row)
     ensures { row_shown row.new ≡ dropped (row_shown row.old) }
 {
@@ -138,7 +138,7 @@ pub(crate) fn drop_goal(row: &mut Row)
     tidy(&mut row.places);
 }
 
-/// A row of which the creation is wanted. It takes no memory.
+/// A row with creation as its goal. It takes no memory.
 pub(crate) fn new_row(alloc: Global, name: Name, arguments: Arguments) -> Row
     ensures { row_shown result ≡ new_row_shown name arguments }
 {

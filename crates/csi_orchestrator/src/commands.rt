@@ -45,7 +45,7 @@ impl Core {
         Ok(self.issue(begun.next))
     }
 
-    /// Wants a volume of this name to be made.
+    /// Requests creation of a volume of this name.
     pub fn create(
         &mut self,
         name: Name,
@@ -71,7 +71,7 @@ impl Core {
         }
     }
 
-    /// Wants the volume of this name to be published so. Where it is so already it takes no memory.
+    /// Requests publication of the volume of this name. Where it is so already it takes no memory.
     pub fn use_at(
         &mut self,
         name: &Name,
@@ -101,7 +101,7 @@ impl Core {
         }
     }
 
-    /// Wants it not to be published at the target of the node.
+    /// Requests that it is unpublished at the target of the node.
     pub fn stop(
         &mut self,
         name: &Name,
@@ -122,7 +122,7 @@ impl Core {
         }
     }
 
-    /// Wants the volume not to be there. It takes no memory.
+    /// Requests deletion. It takes no memory.
     pub fn delete(&mut self, name: &Name) -> Result<Option<Frame>, OrchFault>
         ensures ok { IfOk result (λ sent. row_moves (parts_of self.old) (ToDelete name.now) ≡ Ok (record { answer = Sends sent; parts = parts_of self.new })) }
         ensures err { IfErr result (IsRefusal (row_moves (parts_of self.old) (ToDelete name.now))) }

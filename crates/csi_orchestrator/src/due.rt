@@ -103,7 +103,7 @@ pub(crate) fn stop_due<'a>(
     None
 }
 
-// The call that is due until the volume isn't there.
+// The call that is due until the volume is deleted.
 fn delete_due<'a>(id: VolumeId, marks: Marks) -> Option<Due<'a>>
     ensures { option_map due_shown result ≡ delete_told marks id }
 {

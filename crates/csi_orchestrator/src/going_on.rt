@@ -1,4 +1,4 @@
-//! What goes on for a row: the call that is sent next, or that nothing is wanted any more.
+//! What is sent next for a row, and what the row keeps of it.
 ghost use Rattle.std.specs.Prelude.{◌≡◌, Some, None, Ok, option_map, IfOk, IfErr, IsOk, OnOk, OnErr};
 ghost use Rattle.csi_orchestrator.specs.Commands.{next_number as number_after};
 ghost use Rattle.csi_orchestrator.specs.Shown.{row_shown, due_by};
@@ -69,7 +69,7 @@ pub(crate) fn due_to_stop<'a>(row: &'a Row, node: &'a NodeId, target: &'a Target
 }
 
 /// Keeps that the call is sent. Where none is due, the goal is dropped.
-pub(crate) fn go_on(row: &mut Row, next: &Option<Outgoing>)
+pub(crate) fn send_or_drop(row: &mut Row, next: &Option<Outgoing>)
     ensures { row_shown row.new ≡ gone_on next.now (row_shown row.old) }
 {
     match next {
@@ -91,8 +91,8 @@ fn add_entry_for(alloc: Global, row: &mut Row, goal: &Goal) -> Result<(), OrchFa
     }
 }
 
-/// Wants something of the row's volume, and goes on. A refusal changes nothing. For a delete it takes no memory.
-pub(crate) fn pursue(
+/// Sets the row's goal, and sends its due call. A refusal changes nothing. For a delete it takes no memory.
+pub(crate) fn set_goal_and_send(
     alloc: Global,
     row: &mut Row,
     last: Number,
@@ -106,6 +106,6 @@ pub(crate) fn pursue(
     let next = outgoing_for(last, &due_at(row, &goal))?;
     add_entry_for(alloc, row, &goal)?;
     want(row, goal);
-    go_on(row, &next);
+    send_or_drop(row, &next);
     Ok(next)
 }

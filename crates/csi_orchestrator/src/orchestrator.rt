@@ -89,9 +89,9 @@ impl Orchestrator {
         known_in(&self.core.rows, thing)
     }
 
-    /// Wants a volume of this name to be made, with a capacity in bytes of at least `required` and, unless `limit` is 0, at
+    /// Requests creation of a volume of this name, with a capacity in bytes of at least `required` and, unless `limit` is 0, at
     /// most `limit`, for each of these capabilities (CSI's spec.md, "CreateVolume"): the CreateVolume to send. Refused
-    /// with the first that holds of `NameUsed` (the name has an id, or something is wanted of it), `NumbersSpent`, `Full`
+    /// with the first that holds of `NameUsed` (the name has an id, or a request for it is unfinished), `NumbersSpent`, `Full`
     /// (4,096 other names) and `NoMemory`. A refusal changes nothing.
     pub fn create(
         &mut self,
@@ -108,7 +108,7 @@ impl Orchestrator {
         self.core.create(name, required, limit, capabilities)
     }
 
-    /// Wants the volume to be published at a target of a node, with this capability (CSI's spec.md,
+    /// Requests publication of the volume at a target of a node, with this capability (CSI's spec.md,
     /// "ControllerPublishVolume", "NodeStageVolume" and "NodePublishVolume"): the call to send, or `None` where it is so
     /// already. Refused with the first that holds of `NoSuchVolume`, `NotCreated`, `Busy`, `NoSuchNode`, `NotCapable`,
     /// `HeldElsewhere`, `WriterElsewhere`, `HeldOtherwise` and `TargetTaken`, and, where it isn't so already, of
@@ -130,8 +130,8 @@ impl Orchestrator {
         self.core.use_at(name, node, target, capability, readonly)
     }
 
-    /// Wants the volume not to be published at the target, and then, where it is at no other target of the node, not to be at
-    /// the node (CSI's spec.md, "NodeUnpublishVolume", "NodeUnstageVolume" and "ControllerUnpublishVolume"): the call to
+    /// Requests that the volume is unpublished at the target, and then, where it is at no other target of the node, unstaged and
+    /// detached there (CSI's spec.md, "NodeUnpublishVolume", "NodeUnstageVolume" and "ControllerUnpublishVolume"): the call to
     /// send. Refused with the first that holds of `NoSuchVolume`, `NotCreated`, `Busy`, `NoSuchNode`, `NoSuchTarget`,
     /// `NumbersSpent` and `NoMemory`. A refusal changes nothing.
     pub fn stop(
@@ -148,7 +148,7 @@ impl Orchestrator {
         self.core.stop(name, node, target)
     }
 
-    /// Wants the volume not to be there (CSI's spec.md, "DeleteVolume"): the DeleteVolume to send, or `None` where it isn't.
+    /// Requests deletion (CSI's spec.md, "DeleteVolume"): the DeleteVolume to send, or `None` where the volume doesn't exist.
     /// Refused with the first that holds of `NoSuchVolume`, `NotCreated` (no id was heard) and `InUse`, and, where it may be
     /// there, of `Busy` and `NumbersSpent`. A refusal changes nothing. It takes no memory.
     pub fn delete(&mut self, name: &Name) -> Result<Option<Frame>, OrchFault>
@@ -161,7 +161,7 @@ impl Orchestrator {
         self.core.delete(name)
     }
 
-    /// Waited long enough for the open call about a volume: it is given up, and the call that is due is sent under a new
+    /// The open call of a volume timed out: it is given up, and the call that is due is sent under a new
     /// number. A ControllerPublishVolume, NodeStageVolume or NodePublishVolume that was sent three times isn't sent again:
     /// what it was for is undone. Refused with the first that holds of `NoSuchVolume`, `Idle`, `NumbersSpent` and
     /// `NoMemory`. A refusal changes nothing, the open call included.

@@ -15,7 +15,7 @@ ghost use Rattle.csi_orchestrator.specs.Core.{parts_of};
 use crate::changes::{close, drop_goal, stop_use, succeed};
 use crate::due::Due;
 use crate::fault::{Heard, OrchFault};
-use crate::going_on::{Outgoing, due_at, due_to_stop, go_on, outgoing_for};
+use crate::going_on::{Outgoing, due_at, due_to_stop, outgoing_for, send_or_drop};
 use crate::inner::Core;
 use crate::row::{Goal, Row};
 use crate::success::due_after;
@@ -103,7 +103,7 @@ fn next_heard(
 }
 
 // Keeps that the due call had another status than `Ok`, and that the next one is sent.
-fn otherwise(row: &mut Row, next: &Option<Outgoing>)
+fn keep_refusal(row: &mut Row, next: &Option<Outgoing>)
     ensures { row_shown row.new ≡ row_refused next.now (row_shown row.old) row.old.goal }
 {
     match &row.goal {
@@ -111,7 +111,7 @@ fn otherwise(row: &mut Row, next: &Option<Outgoing>)
             Goal::Create => drop_goal(row),
             Goal::Use(_) => {
                 stop_use(row);
-                go_on(row, next);
+                send_or_drop(row, next);
             }
             Goal::Stop { .. } | Goal::Delete => close(row),
         },
@@ -120,15 +120,15 @@ fn otherwise(row: &mut Row, next: &Option<Outgoing>)
 }
 
 // Keeps what the reply tells, and that the next call is sent.
-fn settle(row: &mut Row, kind: Kind, reply: &Reply, next: &Option<Outgoing>)
+fn keep_reply(row: &mut Row, kind: Kind, reply: &Reply, next: &Option<Outgoing>)
     ensures { row_shown row.new ≡ row_heard kind reply.now (row_shown row.old) next.now }
 {
     match reply.status {
         Status::Ok => {
             succeed(row, kind, reply.id);
-            go_on(row, next);
+            send_or_drop(row, next);
         }
-        _ => otherwise(row, next),
+        _ => keep_refusal(row, next),
     }
 }
 
@@ -152,7 +152,7 @@ impl Core {
         match index_replied(&self.rows, number, party, kind) {
             Some(index) => {
                 let next = next_heard(self.last, &self.rows[index], kind, reply)?;
-                settle(&mut self.rows[index], kind, reply, &next);
+                keep_reply(&mut self.rows[index], kind, reply, &next);
                 Ok(Heard::Taken(self.issue(next)))
             }
             None => Ok(Heard::Ignored),

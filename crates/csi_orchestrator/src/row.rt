@@ -20,7 +20,7 @@ pub(crate) struct Usage {
     pub readonly: bool,
 }
 
-/// What is wanted of a volume.
+/// What is requested of a volume.
 #[derive(Drop)]
 pub(crate) enum Goal {
     /// That it is there, by the row's arguments.
@@ -29,7 +29,7 @@ pub(crate) enum Goal {
     Use(Usage),
     /// That it isn't published there, and then isn't at the node.
     Stop { node: NodeId, target: Target },
-    /// That it isn't there.
+    /// That it is deleted.
     Delete,
 }
 

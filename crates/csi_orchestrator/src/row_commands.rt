@@ -9,7 +9,7 @@ ghost use Rattle.csi_orchestrator.specs.CoreMoves.{row_goes_on, row_creates, row
 use crate::changes::{new_row, want_anew};
 use crate::due::create_due;
 use crate::fault::OrchFault;
-use crate::going_on::{Outgoing, due_at, go_on, outgoing_for, pursue};
+use crate::going_on::{Outgoing, due_at, outgoing_for, send_or_drop, set_goal_and_send};
 use crate::marks::known_for;
 use crate::refusals::{again_fault, busy_fault, delete_fault, room_fault, stop_fault, use_fault};
 use crate::row::{Arguments, Goal, Row, Usage};
@@ -35,7 +35,7 @@ pub(crate) fn begin(
 {
     let mut row = new_row(alloc, name, arguments);
     let next = outgoing_for(last, &due_at(&row, &Goal::Create))?;
-    go_on(&mut row, &next);
+    send_or_drop(&mut row, &next);
     Ok(Begun { row, next })
 }
 
@@ -52,7 +52,7 @@ fn begin_again(
     let due = create_due(&row.name, &arguments, known_for(row, &Goal::Create));
     let next = outgoing_for(last, &due)?;
     want_anew(row, arguments);
-    go_on(row, &next);
+    send_or_drop(row, &next);
     Ok(next)
 }
 
@@ -99,7 +99,7 @@ fn use_or_met(
     if let Some(fault) = room {
         return Err(fault);
     }
-    pursue(alloc, row, last, goal)
+    set_goal_and_send(alloc, row, last, goal)
 }
 
 /// A use of the row's volume. Where it is so already it takes no memory.
@@ -137,7 +137,7 @@ pub(crate) fn stop_row(
     if let Some(fault) = stop_fault(nodes, last, &node, &target, row) {
         return Err(fault);
     }
-    pursue(alloc, row, last, Goal::Stop { node, target })
+    set_goal_and_send(alloc, row, last, Goal::Stop { node, target })
 }
 
 // A delete, where nothing refuses it. It may be so already. It takes no memory.
@@ -153,7 +153,7 @@ fn delete_or_met(alloc: Global, row: &mut Row, last: Number) -> Result<Option<Ou
     if let Some(fault) = busy_fault(last, row) {
         return Err(fault);
     }
-    pursue(alloc, row, last, Goal::Delete)
+    set_goal_and_send(alloc, row, last, Goal::Delete)
 }
 
 /// A delete of the row's volume. It takes no memory.

@@ -11,7 +11,7 @@ ghost use Rattle.csi_orchestrator.specs.Shown.{row_shown, due_by};
 use crate::changes::{close, stop_use};
 use crate::due::Due;
 use crate::fault::OrchFault;
-use crate::going_on::{Outgoing, due_at, due_to_stop, go_on, outgoing_for};
+use crate::going_on::{Outgoing, due_at, due_to_stop, outgoing_for, send_or_drop};
 use crate::inner::{Core, row_index};
 use crate::row::{Goal, Row};
 use csi_types::{Frame, Name, Number};
@@ -37,7 +37,7 @@ fn due_then<'a>(row: &'a Row, goal: &'a Goal, is_given_up: bool) -> Option<Due<'
 }
 
 // Gives up the open call, or, where the goal is given up, the goal too: a use is stopped.
-fn set_aside(row: &mut Row, is_given_up: bool)
+fn give_up(row: &mut Row, is_given_up: bool)
     ensures { (goal : GoalShown) → row.old.goal ≡ Some goal → row_shown row.new ≡ timed_out is_given_up goal (row_shown row.old) }
 {
     if is_given_up {
@@ -58,13 +58,13 @@ fn time_out(row: &mut Row, last: Number) -> Result<Option<Outgoing>, OrchFault>
     };
     let is_given_up = is_given_up(row, goal);
     let next = outgoing_for(last, &due_then(row, goal, is_given_up))?;
-    set_aside(row, is_given_up);
-    go_on(row, &next);
+    give_up(row, is_given_up);
+    send_or_drop(row, &next);
     Ok(next)
 }
 
 impl Core {
-    /// No reply came to the open call of this name.
+    /// The open call of this name timed out.
     pub fn timeout(&mut self, name: &Name) -> Result<Option<Frame>, OrchFault>
         ensures ok { IfOk result (λ sent. row_moves (parts_of self.old) (TimesOut name.now) ≡ Ok (record { answer = Sends sent; parts = parts_of self.new })) }
         ensures err { IfErr result (IsRefusal (row_moves (parts_of self.old) (TimesOut name.now))) }

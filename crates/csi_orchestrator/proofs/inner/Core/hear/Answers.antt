@@ -32,8 +32,8 @@ returns-in_err-next-in-Some-clause-ignored c = λ none.
 
 pub returns-in_ok-next-in-Some-clause-ok : goal.returns-in_ok-next-in-Some-clause-ok
 returns-in_ok-next-in-Some-clause-ok c =
-    heard-there (parts_of c.args.self.now) c.args.self.now.rows.items c.in-Some.index c.index.result.now c.index_mut.result.now c.settle.new.row c.args.number (last_after c.args.self.now.last c.in_ok-next-in-Some.next) c.args.party.now c.args.kind c.args.reply.now
-    c.in_ok-next-in-Some.next c.issue.result refl c.requires (cc) (cc) (cc) c.in_ok-next-in-Some.ensures.ok c.settle.ensures refl c.issue.ensures.frame
+    heard-there (parts_of c.args.self.now) c.args.self.now.rows.items c.in-Some.index c.index.result.now c.index_mut.result.now c.keep_reply.new.row c.args.number (last_after c.args.self.now.last c.in_ok-next-in-Some.next) c.args.party.now c.args.kind c.args.reply.now
+    c.in_ok-next-in-Some.next c.issue.result refl c.requires (cc) (cc) (cc) c.in_ok-next-in-Some.ensures.ok c.keep_reply.ensures refl c.issue.ensures.frame
     ∙ ap (λ (parts : Parts). told parts (hears c.issue.result)) (sym c.issue.ensures.parts)
 
 pub returns-in-None-clause-ok : goal.returns-in-None-clause-ok

@@ -6,7 +6,7 @@ use Rattle.csi_orchestrator.specs.RowMoves.{IsRefusal}
 use Rattle.csi_orchestrator.specs.Shown.{row_shown}
 use Rattle.csi_orchestrator.specs.CoreMoves.{RowTold, gone_on, with_entry_for, row_wants}
 use Rattle.csi_orchestrator.proofs.RowsGoOn.{passed-on, due-wanted, goes-on, goes-on-refused, wants-memory}
-use Rattle.csi_orchestrator.proofs.going_on.pursue.Goals as goal
+use Rattle.csi_orchestrator.proofs.going_on.set_goal_and_send.Goals as goal
 
 pub returns-in_err-next-clause-err : goal.returns-in_err-next-clause-err
 returns-in_err-next-clause-err c =
@@ -26,4 +26,4 @@ returns-clause-ok c =
     let row = row_shown c.args.row.now in
     goes-on c.args.last (wanted c.args.goal (with_entry_for c.args.goal row)) _ c.in_ok-next.next (due-wanted c.args.goal row ∙ sym c.due_at.ensures) c.in_ok-next.ensures.ok
     ∙ ap (λ r. let told : RowTold = record { outgoing = c.in_ok-next.next; row = r } in Ok told)
-    (sym (c.go_on.ensures ∙ ap (gone_on c.in_ok-next.next) (c.want.ensures ∙ ap (wanted c.args.goal) c.in_ok-add_entry_for.ensures.ok)))
+    (sym (c.send_or_drop.ensures ∙ ap (gone_on c.in_ok-next.next) (c.want.ensures ∙ ap (wanted c.args.goal) c.in_ok-add_entry_for.ensures.ok)))
