@@ -1,5 +1,5 @@
 //! A controller's parts, and what it does with a call.
-ghost use Rattle.std.specs.Prelude.{◌≡◌, ◌==◌, ◌<◌, ◌&&◌, ◌||◌, ◌∷◌, ℕ, true, false, List, Some, None, [], length, position, count_by, nat_le, IfOk, OnErr, OnOk, IsOk, IfSome, IfNone, IsTrue, IfErr, MatchResult, option_map};
+ghost use Rattle.std.specs.Prelude.{◌≡◌, ◌==◌, ◌<◌, ◌&&◌, ◌||◌, ◌∷◌, ℕ, true, false, List, Some, None, [], length, count_by, nat_le, IfOk, OnErr, OnOk, IsOk, IfSome, IfNone, IsTrue, IfErr, MatchResult};
 ghost use Rattle.std.specs.List.{find, list_any};
 ghost use Rattle.indexmap.specs.IndexMap.{index_map_len};
 ghost use Rattle.csi_types.specs.declared.capability.Capability.{Capability as OneCapability};
@@ -12,10 +12,8 @@ ghost use Rattle.csi_types.specs.Config.{has_node};
 ghost use Rattle.csi_types.specs.Reply.{has_id_by_rule};
 ghost use Rattle.csi_types.specs.Replies.{ok_reply_with, reply_frame};
 ghost use Rattle.csi_types.specs.Same.{same_text};
-ghost use Rattle.csi_controller.specs.Shown.{volume_of_row};
 ghost use Rattle.csi_controller.specs.Line.{line_told};
 ghost use Rattle.csi_controller.specs.Wanted.{wanted_shown};
-ghost use Rattle.csi_controller.specs.Core.{made_volume, IsSameRow};
 
 use super::answer::{carried, done, said, unkept};
 use super::counts::{MAX_NODES, is_full, recount};
