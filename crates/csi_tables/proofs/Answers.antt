@@ -2,12 +2,13 @@
 use Rattle.std.proofs.Common.{◌≡◌, ℕ, ◌+◌, Bool, true, false, ◌&&◌, cond, List, [], ◌∷◌, ◌++◌, map, drop, filter, flat_map, None, Result, Ok, Err, IfOk, refl, sym, ap, subst, ◌∙◌, inl, inr, IsPermutation}
 use Rattle.std.proofs.lemmas.List.Sorted.{IsPermutation-map, IsPermutation-sym}
 use Rattle.sqlite_value.specs.declared.value.Value.TheVariants.{Blob}
-use Rattle.sqlite_value.specs.Order.{Row}
+use Rattle.sqlite_value.specs.Order.{Row, column}
 use Rattle.sqlite_trees.specs.Tree.{Trees, rowid}
 use Rattle.sqlite_sql.specs.Term.{Term, op2, col, holds}
 use Rattle.sqlite_sql.specs.declared.ops.BinaryOp.TheVariants.{Compare}
 use Rattle.sqlite_sql.specs.declared.ops.CompareOp.TheVariants.{Eq}
 use Rattle.sqlite_value.specs.declared.keys.Collation.TheVariants.{Binary}
+use Rattle.sqlite_sql.specs.Ops.{binary, is_true}
 use Rattle.sqlite_sql.specs.Query.{Output, output, IsAnswer}
 use Rattle.sqlite_sql.specs.Program.{overlay}
 use Rattle.sqlite_schema.specs.declared.schema.Schema.{Schema}
@@ -26,7 +27,7 @@ use Rattle.sqlite_keyed.proofs.ListLemmas.{map-map, filter_same, along_permutati
 use Rattle.sqlite.specs.Listing.{understood, reads_listing, listing_schema, if_select, is_select}
 use Rattle.sqlite.specs.State.{State, CommitsShowing}
 use Rattle.sqlite_tied.specs.Compute.{everything}
-use Rattle.csi_tables.proofs.Texts.{read_text, remove_query}
+use Rattle.csi_tables.proofs.Texts.{read_text, remove_query, update_query}
 use Rattle.csi_tables.proofs.Stored.{has_key, has_key-row, AreIdsOf}
 
 -- ---- members
@@ -89,6 +90,26 @@ removed_ids db key found a =
           let kept = has_filtered passes (db 0) r.0 r.1 in
           (r.0, kept.0, kept.1, x.2 ∙ ap id r.2);
     }
+
+-- ---- the row of a rowid
+
+abbrev pub updated : Row → Row → Row
+updated params r = rowid r ∷ rowid r ∷ column r 1 ∷ column params 5 ∷ []
+
+abbrev pub is_numbered : Row → Row → Bool
+is_numbered params r = is_true (binary (Compare Eq Binary) (column r 0) (column params 2))
+
+pub updated_rows : (db : Trees) (params : Row) (found : List Row) → IsAnswer update_query (overlay db []) params found
+    → IsPermutation (map (updated params) (filter (is_numbered params) (db 0))) found
+updated_rows db params found a =
+    let left = filter (is_numbered params) (db 0) in
+    let staged = a.grouped ∙ one_match params (op2 (Compare Eq Binary) (col 1 0) (col 0 2)) (db 0) in
+    let shown : map (λ (o : Output). o.1) a.kept ≡ map (updated params) left =
+    ap (map (λ (o : Output). o.1)) (a.distinct ∙ ap (map (output update_query)) staged)
+    ∙ map-map (λ (o : Output). o.1) (output update_query) (map (λ r. params ∷ r ∷ []) left)
+    ∙ map-map (λ e. (output update_query e).1) (λ r. params ∷ r ∷ []) left in
+    subst (IsPermutation (map (updated params) left)) (sym a.shown)
+    (subst (λ l. IsPermutation l (map (λ (o : Output). o.1) a.ordered)) shown (IsPermutation-map (λ (o : Output). o.1) _ _ a.same))
 
 -- ---- a text that only reads
 

@@ -1,7 +1,7 @@
 -- Rows of the table as it is declared: each has two columns, neither of them NULL, and no two rows have one key.
-use Rattle.std.proofs.Common.{◌≡◌, ℤ, true, false, ◌&&◌, List, [], ◌∷◌, drop, None, Some, refl, sym, ap₂, ◌∙◌, inl, inr, true≢false, Less}
-use Rattle.std.specs.Ordering.{is_eq}
-use Rattle.std.proofs.lemmas.Bool.{and_parts, and_from, not-true, false_from_ne_true}
+use Rattle.std.proofs.Common.{◌≡◌, ℤ, true, false, ◌&&◌, List, [], ◌∷◌, drop, None, Some, refl, sym, ap, ap₂, ◌∙◌, inl, inr, true≢false, Ordering, Less, Equal, Greater}
+use Rattle.std.specs.Ordering.{is_eq, is_ne}
+use Rattle.std.proofs.lemmas.Bool.{cases_Bool, and_parts, and_from, not-true, false_from_ne_true}
 use Rattle.sqlite_value.specs.declared.value.Value.{Value}
 use Rattle.sqlite_value.specs.declared.value.Value.TheVariants.{Int}
 use Rattle.sqlite_value.specs.declared.keys.Collation.TheVariants.{Binary}
@@ -14,6 +14,7 @@ use Rattle.sqlite_schema.specs.Rules.{are_typed, are_present, equal, differ, agr
 use Rattle.sqlite_rules.specs.Lists.{Has}
 use Rattle.sqlite_rules.proofs.ListLemmas.{all_has, all_from, some_from}
 use Rattle.sqlite_rules.proofs.RuleLemmas.{keeps_at}
+use Rattle.sqlite_rules.proofs.PlaceLemmas.{tied_same}
 use Rattle.sqlite_catalog.specs.Listing.{IsSound}
 use Rattle.csi_tables.specs.Declared.{parts_table, parts_schema}
 use Rattle.csi_tables.proofs.Stored.{AreInts, id_of, keyed}
@@ -22,14 +23,18 @@ use Rattle.csi_tables.proofs.Stored.{AreInts, id_of, keyed}
 abbrev pub IsPair : Row → Type 0
 IsPair columns = columns ≡ column columns 0 ∷ column columns 1 ∷ []
 
+pub first_column : (r : Row) → column (drop 1 r) 0 ≡ column r 1
+first_column [] = refl
+first_column (x ∷ r) = refl
+
 -- SQL's = of values that aren't NULL, and its <> of rowids that rise
 equal_is : (a b : Value) → is_null a ≡ false → is_null b ≡ false → equal Binary a b ≡ is_eq (value_cmp a b)
 unfolding binary
 equal_is a b p q = rw (p, q) (elim (is_eq (value_cmp a b)) as (λ t. is_true (from_truth (Some t)) ≡ t) [ true ↦ refl | false ↦ refl ])
 
-differ_from : (m n : ℤ) → value_cmp (Int m) (Int n) ≡ Less → differ (Int m) (Int n) ≡ true
+differ_from : (m n : ℤ) → is_ne (value_cmp (Int m) (Int n)) ≡ true → differ (Int m) (Int n) ≡ true
 unfolding binary
-differ_from m n less = rw less refl
+differ_from m n other = rw other refl
 
 pair_from : (r : Row) → are_typed None 0 parts_table.columns (drop 1 r) ≡ true → are_present None 0 parts_table.columns r ≡ true → IsPair (drop 1 r)
 unfolding parts_table
@@ -67,9 +72,24 @@ module _ (db : Trees) (sound : IsSound parts_schema db) where
         let first = keyed (db 0) table ints a (within a (inl refl)) in
         let second = keyed (db 0) table ints b (within b (inr h)) in
         let less : value_cmp (Int (id_of a)) (Int (id_of b)) ≡ Less = sym (ap₂ value_cmp first second) ∙ all_has _ rows b up.0 h in
-        apart a b (within a (inl refl)) (within b (inr h)) (ap₂ differ first second ∙ differ_from (id_of a) (id_of b) less)),
+        apart a b (within a (inl refl)) (within b (inr h)) (ap₂ differ first second ∙ differ_from (id_of a) (id_of b) (ap is_ne less))),
     apart_among ints table rows (λ r h. within r (inr h)) up.1,
   )
 
   pub keys_apart : AreInts (db 0) → IsTable (db 0) → IsAscending (λ a b. is_eq (value_cmp (column a 1) (column b 1)) ≡ false) (db 0)
   keys_apart ints table = apart_among ints table (db 0) (λ r h. h) table
+
+  -- rows of one key are one
+  pub one_key : AreInts (db 0) → IsTable (db 0) → (a b : Row) → Has (db 0) a → Has (db 0) b → is_eq (value_cmp (column a 1) (column b 1)) ≡ true → a ≡ b
+  one_key ints table a b h k tie = elim (cases_Bool (is_ne (value_cmp (rowid a) (rowid b)))) [
+    | inl other ↦
+        let first = keyed (db 0) table ints a h in
+        let second = keyed (db 0) table ints b k in
+        absurd (true≢false (sym tie ∙ apart a b h k (ap₂ differ first second ∙ differ_from (id_of a) (id_of b) (sym (ap is_ne (ap₂ value_cmp first second)) ∙ other))))
+    | inr same ↦ tied_same (db 0) a b table h k (equal_from (value_cmp (rowid a) (rowid b)) same)
+  ]
+    where
+      equal_from : (o : Ordering) → is_ne o ≡ false → o ≡ Equal
+      equal_from Less e = absurd (true≢false e)
+      equal_from Equal e = refl
+      equal_from Greater e = absurd (true≢false e)

@@ -28,7 +28,7 @@ use Rattle.csi_tables.specs.Declared.{parts_schema}
 use Rattle.csi_tables.specs.Rows.{KeyedRow, cells, AreRows, AreByKey, HasColumns, HasRows, AreRising, IsInputError}
 use Rattle.csi_tables.proofs.Texts.{read_text, read_query, read_is, read_plain}
 use Rattle.csi_tables.proofs.Answers.{all_match, has_permuted, unmapped}
-use Rattle.csi_tables.proofs.Keys.{IsPair, pairs, keys_apart}
+use Rattle.csi_tables.proofs.Keys.{IsPair, first_column, pairs, keys_apart}
 use Rattle.csi_tables.proofs.Sorted.{pairwise-permutation, untied_back, rising_from}
 
 -- a row's columns as they are sorted and shown
@@ -53,10 +53,6 @@ answers db rows found are rising a =
     a.shown ∙ ap (map (λ (o : Output). o.1)) ordered ∙ map-map (λ (o : Output). o.1) out (map cells rows) ∙ map-map (λ c. (out c).1) cells rows
 
 -- ---- rows of any values
-
-first_column : (r : Row) → column (drop 1 r) 0 ≡ column r 1
-first_column [] = refl
-first_column (x ∷ r) = refl
 
 unchanged : {X : Type 0} (f : X → X) (xs : List X) → AllByRecursion (λ x. f x ≡ x) xs → map f xs ≡ xs
 unchanged f [] h = refl

@@ -1,5 +1,5 @@
 -- What the four texts mean, and that none of them shows rows but the one that reads.
-use Rattle.std.proofs.Common.{◌≡◌, ℕ, pos, negsuc, List, [], ◌∷◌, codes, false, None, Ok, refl}
+use Rattle.std.proofs.Common.{◌≡◌, ℕ, pos, negsuc, List, [], ◌∷◌, codes, false, None, Some, Ok, refl}
 use Rattle.sqlite.specs.declared.types.Value.TheVariants.{Null, Int}
 use Rattle.sqlite.specs.Collation.TheVariants.{Binary}
 use Rattle.sqlite.specs.Term.{Term, lit, col, op2}
@@ -8,7 +8,8 @@ use Rattle.sqlite_sql.specs.declared.ops.BinaryOp.TheVariants.{Compare}
 use Rattle.sqlite_sql.specs.declared.ops.CompareOp.TheVariants.{Eq}
 use Rattle.sqlite.specs.Source.TheVariants.{Values}
 use Rattle.sqlite.specs.Command.TheVariants.{InsertOr, Delete, Select, CreateTable, Nothing}
-use Rattle.sqlite_schema.specs.declared.command.Conflict.TheVariants.{Replace}
+use Rattle.sqlite_schema.specs.declared.command.Conflict.TheVariants.{Abort}
+use Rattle.sqlite_schema.specs.declared.command.Upsert.{Upsert}
 use Rattle.sqlite.specs.Compile.{table_defined_by}
 use Rattle.sqlite.specs.Change.{created}
 use Rattle.sqlite_tied.specs.Compute.{everything}
@@ -23,7 +24,7 @@ abbrev pub read_text : List ℕ
 read_text = codes "SELECT key, value FROM parts ORDER BY key"
 
 abbrev pub put_text : List ℕ
-put_text = codes "INSERT OR REPLACE INTO parts (key, value) VALUES (?1, ?2)"
+put_text = codes "INSERT INTO parts (key, value) VALUES (?1, ?2) ON CONFLICT (key) DO UPDATE SET value = excluded.value"
 
 abbrev pub remove_text : List ℕ
 remove_text = codes "DELETE FROM parts WHERE key = ?1"
@@ -60,6 +61,24 @@ remove_query = record {
   offset = lit (Int (pos 0));
 }
 
+-- the row of a rowid, with the new row's value in place of its own
+abbrev pub update_query : Query
+update_query = record {
+  from = inner 0 end;
+  filter = op2 (Compare Eq Binary) (col 1 0) (col 0 2) ∷ [];
+  group = None;
+  project = col 1 0 ∷ col 1 0 ∷ col 1 1 ∷ col 0 5 ∷ [];
+  distinct = false;
+  collations = [];
+  order = [];
+  limit = lit (Int (negsuc 0));
+  offset = lit (Int (pos 0));
+}
+
+-- a row of the same key is updated
+abbrev pub put_clause : Upsert
+put_clause = record { target = Some (1 ∷ []); update = Some (record { lets = []; body = update_query }) }
+
 pub make_is : (command_of (understood no_schema make_text) ≡ CreateTable) × (statement_of make_text (understood no_schema make_text) ≡ make_text) × (table_defined_by make_text ≡ Ok parts_table)
 unfolding understood everything parts_table
 make_is = (refl, refl, refl)
@@ -88,7 +107,7 @@ pub read_plain : IsPlain (understood parts_schema read_text)
 unfolding understood everything parts_table parts_schema
 read_plain = (refl, refl)
 
-pub put_is : command_of (understood parts_schema put_text) ≡ InsertOr 0 Replace (Values put_terms 3) []
+pub put_is : command_of (understood parts_schema put_text) ≡ InsertOr 0 Abort (Values put_terms 3) (put_clause ∷ [])
 unfolding understood everything parts_table parts_schema
 put_is = refl
 

@@ -52,7 +52,7 @@ pub fn put_row<S: Alter>(
     ensures survives { Survives (state S.Store transaction.old.conn.now) (state S.Store transaction.new.conn.now) (λ _. ⊥) }
 {
     transaction.execute(
-        "INSERT OR REPLACE INTO parts (key, value) VALUES (?1, ?2)",
+        "INSERT INTO parts (key, value) VALUES (?1, ?2) ON CONFLICT (key) DO UPDATE SET value = excluded.value",
         params![key, value],
     )?;
     Ok(())
