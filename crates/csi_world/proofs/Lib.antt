@@ -2,6 +2,7 @@ pub mod MarksTold
 pub mod PartsSafe
 pub mod Laid
 pub mod Likeness
+pub mod Search
 pub mod Halved
 pub mod ThingsHeld
 pub mod ThingsFound
