@@ -6,7 +6,7 @@ ghost use Rattle.std.specs.Option.{option_copied};
 ghost use Rattle.csi_types.specs.declared.call.Kind.TheVariants.{CreateVolume, DeleteVolume, ControllerPublishVolume};
 ghost use Rattle.csi_types.specs.Capacity.{is_bad_range as is_bad, is_empty_range as is_empty};
 ghost use Rattle.csi_types.specs.Holding.{same_holding, is_compatible};
-ghost use Rattle.csi_types.specs.Same.{same_text, same_capability as is_same_capability, same_access as is_same_access, has_capability};
+ghost use Rattle.csi_types.specs.Same.{same_text, same_capability as is_same_capability, has_capability};
 ghost use Rattle.csi_types.specs.Reply.{has_id_by_rule};
 ghost use Rattle.csi_controller.specs.Table.{serves as is_served};
 ghost use Rattle.csi_controller.specs.Shown.{volume_of_row};
@@ -18,24 +18,13 @@ ghost use Rattle.csi_controller.specs.Core.RowChange.{RowStays, RowEnds};
 use super::line::{Line, met, refused};
 use super::wanted::Wanted;
 use crate::row::{ControllerRow, NodeHolding};
-use csi_types::{Access, Capability, MAX_CAPACITY, Mode, NodeId, Status, single_node, writes};
-
-// Whether both are block, or both mount the same type.
-fn same_access(a: &Access, b: &Access) -> bool
-    ensures { result ≡ is_same_access a.now b.now }
-{
-    match (a, b) {
-        (Access::Block, Access::Block) => true,
-        (Access::Mount(a), Access::Mount(b)) => a == b,
-        _ => false,
-    }
-}
+use csi_types::{Capability, MAX_CAPACITY, Mode, NodeId, Status, single_node, writes};
 
 // Whether access and mode are the same.
 fn same_capability(a: &Capability, b: &Capability) -> bool
     ensures { result ≡ is_same_capability a.now b.now }
 {
-    same_access(&a.access, &b.access) && a.mode.number() == b.mode.number()
+    a == b
 }
 
 /// Whether the list has the capability.
