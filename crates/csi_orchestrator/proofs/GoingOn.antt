@@ -70,15 +70,10 @@ has-entry row goal may = tt
 -- the one call that detaches is due where the volume may be attached
 detaching-something : (row : RowShown) (due : Due) (name node : List ℕ) (number : Number) → IsDueFor row due → touches (Attached name node) (issued-by name number due) ≡ true → is_doing due.call ≡ false
     → is_no (mark_in (λ place. place.attached) (place_of row node)) ≡ false
-detaching-something row _ name node number (ToMake goal e) of undoes = absurd (false≢true of)
-detaching-something row _ name node number (ToRemove id goal own e) of undoes = absurd (false≢true of)
 detaching-something row _ name node number (ToAttach usage id goal own a) of undoes = absurd (false≢true (sym undoes))
-detaching-something row _ name node number (ToStage usage id goal own a s) of undoes = absurd (false≢true of)
-detaching-something row _ name node number (ToPublish usage id goal own a s p) of undoes = absurd (false≢true of)
-detaching-something row _ name node number (ToUnpublish here target id goal own p) of undoes = absurd (false≢true of)
-detaching-something row _ name node number (ToUnstage here target id goal own p o s) of undoes = absurd (false≢true of)
 detaching-something row _ name node number (ToDetach here target id goal own p o s a) of undoes =
     ap (λ n. is_no (mark_in (λ place. place.attached) (place_of row n))) ((same_text-tells node here).0 (and_parts (same_text name name) (same_text node here) of).1) ∙ a
+detaching-something row _ name node number other of undoes = absurd (false≢true of)
 
 -- the row stands among the others
 shown : Parts → RowShown → Parts
