@@ -7,6 +7,7 @@ mod examples;
 mod files;
 mod listed;
 mod long;
+mod pieces;
 mod running;
 mod runs;
 mod schedules;
