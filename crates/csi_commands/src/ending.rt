@@ -8,6 +8,7 @@ use csi_types::NoMemory;
 use std::alloc::AllocError;
 use std::fmt;
 use std::io::ErrorKind;
+use std::process::ExitCode;
 
 /// How a run of the program ends. Its text is the program's line on standard error, without the newline, and none for
 /// `Done`. This profile's own.
@@ -94,6 +95,19 @@ impl From<NoMemory> for Ending {
 
     fn from(_refused: NoMemory) -> Ending {
         Ending::Memory
+    }
+}
+
+// What a process that ends so ends with: its exit status.
+impl From<Ending> for ExitCode {
+    ghost use Rattle.std.specs.Prelude.{◌≡◌};
+    ghost use Rattle.std.specs.Process.{exit_status as process_status};
+    ghost use Rattle.csi_commands.specs.Ending.{exit_status};
+
+    ghost from_gives = { λ ending code. process_status code ≡ exit_status ending };
+
+    fn from(ending: Ending) -> ExitCode {
+        ExitCode::from(ending.status())
     }
 }
 

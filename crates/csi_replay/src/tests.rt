@@ -1,5 +1,5 @@
 //! What the process ends with. The words that a test is started with are no command of the program.
-use crate::ended;
+use csi_process::ended;
 use std::process::ExitCode;
 
 #[test]

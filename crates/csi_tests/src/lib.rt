@@ -13,6 +13,8 @@ mod node;
 #[cfg(test)]
 mod orchestrator;
 #[cfg(test)]
+mod plugins;
+#[cfg(test)]
 mod replay;
 #[cfg(test)]
 mod replies;
@@ -22,5 +24,7 @@ mod service;
 mod types;
 #[cfg(test)]
 mod values;
+#[cfg(test)]
+mod words;
 #[cfg(test)]
 mod world;

@@ -1,0 +1,65 @@
+//! What a process does that was started with some words.
+use csi_commands::{Ending, FileCommand, stream};
+use csi_plugins::{Plugin, ending_unopened, plugin};
+use csi_service::{Counted, SqliteKeep};
+use csi_words::{CommandLine, parse};
+use sqlite::{Start, Unknown};
+use std::process::ExitCode;
+use std::rt::Files;
+use std::{fs, io};
+
+// Carries a command out on a file, piece by piece.
+fn over_file(
+    rt: &(impl Files + Print + AllocGlobal),
+    command: FileCommand,
+    path: &str,
+) -> Result<Ending, Ending> {
+    let mut input = fs::open(rt, path).map_err(|error| Ending::of_device(error.kind()))?;
+    let mut out = io::writer(rt);
+    Ok(stream(rt.alloc(), command, &mut input, &mut out))
+}
+
+// The controller plugin under the configuration in this file.
+fn controller_of(rt: &(impl Files + AllocGlobal), path: &str) -> Result<Plugin, Ending> {
+    let input = fs::read(rt, path).map_err(|error| Ending::of_device(error.kind()))?;
+    Plugin::of_config(rt.alloc(), input.as_slice())
+}
+
+// Serves standard input to standard output, by the plugin of the store in this file.
+fn from_store<S: Start>(rt: &HostRuntime, path: &str, start: S, asked: Plugin) -> Ending {
+    let mut keep = match SqliteKeep::open_file(rt, path, start) {
+        Ok(keep) => keep,
+        Err(fault) => return ending_unopened(fault),
+    };
+    let mut reader = Counted::new(rt.stdin());
+    let mut writer = Counted::new(rt.stdout());
+    plugin(rt.alloc(), asked, &mut keep, &mut reader, &mut writer)
+}
+
+// Does what the words name. A store's file is read after a crash as SQLite reads it: a write that was cut short left each byte
+// old or new.
+fn run(rt: &HostRuntime) -> Result<Ending, Ending> {
+    let words = std::env::args(rt).map_err(|error| Ending::of_words(error.kind()))?;
+    let words: Vec<String> = words.collect(rt.alloc())?;
+    match parse(rt.alloc(), words.as_slice())? {
+        CommandLine::File(command, path) => over_file(rt, command, path),
+        CommandLine::Controller { store, config } => {
+            let asked = controller_of(rt, config)?;
+            Ok(from_store(rt, store, Unknown, asked))
+        }
+        CommandLine::Node { store, id } => {
+            let asked = Plugin::of_id(rt.alloc(), id)?;
+            Ok(from_store(rt, store, Unknown, asked))
+        }
+    }
+}
+
+/// Does what the words of this process name, and says on standard error how it ended, unless all was done; the answer is the exit
+/// status. A store is opened after the words, the configuration or the id were taken, and standard input is read after that.
+pub fn ended(rt: &HostRuntime) -> ExitCode {
+    let ending = run(rt).unwrap_or_else(|ending| ending);
+    if ending != Ending::Done {
+        let _ = eprintln!(rt; "{ending}");
+    }
+    ExitCode::from(ending)
+}

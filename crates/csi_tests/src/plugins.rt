@@ -1,0 +1,159 @@
+//! Plugins, opened from their stores and served, as a process does.
+use Asked::{Controller, Node};
+use csi_commands::Ending;
+use csi_frames::FaultKind;
+use csi_plugins::{Plugin, plugin};
+use csi_service::{Counted, Keep, MemoryKeep, SqliteKeep};
+use sqlite::Connection;
+use std::alloc::Global;
+use std::process::Abort;
+
+const CONFIG: &[u8] = b"{\"greatest\":1000,\"nodes\":[]}";
+
+// Creates `v` with at least 10 bytes, for one writing node; and deletes volume 1.
+const CALLS: &[u8] = &[
+    0, 0, 0, 40, 1, 1, 0, 0, 0, 0, 0, 0, 0, 1, 0, 0, 0, 0, 0, 0, 0, 1, 0, 1, 118, 0, 0, 0, 0, 0, 0,
+    0, 10, 0, 0, 0, 0, 0, 0, 0, 0, 1, 0, 1, 0, 0, 0, 27, 1, 2, 0, 0, 0, 0, 0, 0, 0, 1, 0, 0, 0, 0,
+    0, 0, 0, 2, 0, 0, 0, 0, 0, 0, 0, 0, 1,
+];
+
+// What they are replied, and what they are replied once more: the first one's number is older than the row's last.
+const REPLIES: &[u8] = &[
+    0, 0, 0, 29, 1, 129, 0, 0, 0, 0, 0, 0, 0, 1, 0, 0, 0, 0, 0, 0, 0, 1, 0, 0, 0, 0, 0, 0, 0, 0, 0,
+    1, 0, 0, 0, 0, 29, 1, 130, 0, 0, 0, 0, 0, 0, 0, 1, 0, 0, 0, 0, 0, 0, 0, 2, 0, 0, 0, 0, 0, 0, 0,
+    0, 0, 0, 0,
+];
+
+const LATER_REPLIES: &[u8] = &[
+    0, 0, 0, 34, 1, 129, 0, 0, 0, 0, 0, 0, 0, 1, 0, 0, 0, 0, 0, 0, 0, 1, 0, 10, 0, 0, 0, 0, 0, 0,
+    0, 0, 5, 115, 116, 97, 108, 101, 0, 0, 0, 29, 1, 130, 0, 0, 0, 0, 0, 0, 0, 1, 0, 0, 0, 0, 0, 0,
+    0, 2, 0, 0, 0, 0, 0, 0, 0, 0, 0, 0, 0,
+];
+
+// The deletion, whose body is a byte too long.
+const TOO_LONG: &[u8] = &[
+    0, 0, 0, 28, 1, 2, 0, 0, 0, 0, 0, 0, 0, 1, 0, 0, 0, 0, 0, 0, 0, 2, 0, 0, 0, 0, 0, 0, 0, 0, 1, 0,
+];
+
+// Takes volume 1 from the staging of `n1`, which never had it; and what that is replied, each time.
+const UNSTAGE: &[u8] = &[
+    0, 0, 0, 30, 1, 6, 0, 0, 0, 0, 0, 0, 0, 1, 0, 0, 0, 0, 0, 0, 0, 1, 1, 2, 110, 49, 0, 0, 0, 0,
+    0, 0, 0, 1,
+];
+
+const UNSTAGED: &[u8] = &[
+    0, 0, 0, 32, 1, 134, 0, 0, 0, 0, 0, 0, 0, 1, 0, 0, 0, 0, 0, 0, 0, 1, 1, 2, 110, 49, 0, 0, 0, 0,
+    0, 0, 0, 0, 0, 0,
+];
+
+// Which plugin a process is to be.
+#[derive(Clone, Copy)]
+enum Asked {
+    Controller,
+    Node(&'static str),
+}
+
+fn made(alloc: Global, asked: Asked) -> Result<Plugin, Ending> {
+    match asked {
+        Controller => Plugin::of_config(alloc, CONFIG),
+        Node(id) => Plugin::of_id(alloc, id),
+    }
+}
+
+// Whether the plugin's process ends so over the store, and writes this.
+fn ends<K: Keep>(
+    rt: &(impl Abort + AllocGlobal),
+    keep: &mut K,
+    (asked, input): (Asked, &[u8]),
+    wanted: Ending,
+    output: &[u8],
+) -> bool {
+    let asked = made(rt.alloc(), asked).ok().expect(rt, "a plugin");
+    let mut reader = Counted::new(input);
+    let mut writer = Counted::new(Vec::new(rt.alloc()));
+    let ending = plugin(rt.alloc(), asked, keep, &mut reader, &mut writer);
+    ending == wanted && writer.into_inner().as_slice() == output
+}
+
+// A controller that is opened again goes on where it was, and its store is no node's.
+fn goes_on<K: Keep>(rt: &(impl Abort + AllocGlobal), keep: &mut K) -> bool {
+    let calls = (Controller, CALLS);
+    ends(rt, keep, calls, Ending::Done, REPLIES)
+        && ends(rt, keep, calls, Ending::Done, LATER_REPLIES)
+        && ends(rt, keep, (Node("n1"), CALLS), Ending::RecordFault(0), &[])
+        && ends(rt, keep, calls, Ending::Done, LATER_REPLIES)
+}
+
+#[test]
+fn a_controller_goes_on_over_a_store_in_memory(rt: HostRuntime) {
+    let mut keep = MemoryKeep::new(rt.alloc(), 1000);
+    assert!(&rt; goes_on(&rt, &mut keep));
+}
+
+#[test]
+fn a_controller_goes_on_over_a_database(rt: HostRuntime) {
+    let connection = Connection::open_in_memory(rt.alloc()).expect(&rt, "a database");
+    let mut keep = SqliteKeep::new(rt.alloc(), connection)
+        .ok()
+        .expect(&rt, "a store");
+    assert!(&rt; goes_on(&rt, &mut keep));
+}
+
+#[test]
+fn a_node_goes_on_and_another_one_is_refused(rt: HostRuntime) {
+    let mut keep = MemoryKeep::new(rt.alloc(), 1000);
+    let call = (Node("n1"), UNSTAGE);
+    assert!(&rt; ends(&rt, &mut keep, call, Ending::Done, UNSTAGED));
+    assert!(&rt; ends(&rt, &mut keep, call, Ending::Done, UNSTAGED));
+    assert!(&rt;
+        ends(
+            &rt,
+            &mut keep,
+            (Node("n2"), UNSTAGE),
+            Ending::RecordFault(0),
+            &[]
+        )
+    );
+    assert!(&rt;
+        ends(
+            &rt,
+            &mut keep,
+            (Controller, CALLS),
+            Ending::RecordFault(0),
+            &[]
+        )
+    );
+}
+
+#[test]
+fn a_store_that_is_full_ends_in_device(rt: HostRuntime) {
+    let mut small = MemoryKeep::new(rt.alloc(), 17);
+    assert!(&rt; ends(&rt, &mut small, (Controller, CALLS), Ending::Device, &[]));
+    // Room for the head, and none for a row.
+    let mut enough = MemoryKeep::new(rt.alloc(), 18);
+    assert!(&rt; ends(&rt, &mut enough, (Controller, CALLS), Ending::Device, &[]));
+}
+
+#[test]
+fn a_fault_of_a_frame_has_its_place_in_the_input(rt: HostRuntime) {
+    let mut keep = MemoryKeep::new(rt.alloc(), 1000);
+    let fault = Ending::FrameFault(FaultKind::LengthDiffers, 31);
+    assert!(&rt; ends(&rt, &mut keep, (Controller, TOO_LONG), fault, &[]));
+    assert!(&rt; ends(&rt, &mut keep, (Controller, &[]), Ending::Done, &[]));
+}
+
+// Whether no plugin is made, and it ends so.
+fn is_refused(made: Result<Plugin, Ending>, wanted: Ending) -> bool {
+    match made {
+        Ok(_) => false,
+        Err(ending) => ending == wanted,
+    }
+}
+
+#[test]
+fn configurations_and_ids_are_refused(rt: HostRuntime) {
+    assert!(&rt; is_refused(Plugin::of_config(rt.alloc(), b"{"), Ending::ConfigRefused));
+    assert!(&rt; is_refused(Plugin::of_config(rt.alloc(), b"{}"), Ending::ConfigRefused));
+    assert!(&rt; is_refused(Plugin::of_config(rt.alloc(), &[255]), Ending::NotUtf8));
+    assert!(&rt; is_refused(Plugin::of_id(rt.alloc(), ""), Ending::ConfigRefused));
+}

@@ -1,0 +1,93 @@
+//! The words of the command line.
+use csi_commands::{Ending, FileCommand};
+use csi_words::{CommandLine, parse};
+use std::alloc::{AllocError, Global};
+use std::process::Abort;
+
+fn try_words(alloc: Global, texts: &[&str]) -> Result<Vec<String>, AllocError> {
+    let mut words = Vec::new(alloc);
+    for text in texts {
+        words.push(String::from_str(alloc, text)?)?;
+    }
+    Ok(words)
+}
+
+// These words. Where memory is refused they are made the second time.
+fn words(rt: &(impl Abort + AllocGlobal), texts: &[&str]) -> Vec<String> {
+    match try_words(rt.alloc(), texts) {
+        Ok(words) => words,
+        Err(_) => try_words(rt.alloc(), texts).expect(rt, "memory"),
+    }
+}
+
+// Whether the words are read as this, or are refused so. Where memory is refused they are read the second time.
+fn is_read_as(
+    rt: &(impl Abort + AllocGlobal),
+    texts: &[&str],
+    wanted: Result<CommandLine<'_>, Ending>,
+) -> bool {
+    let words = words(rt, texts);
+    match parse(rt.alloc(), words.as_slice()) {
+        Err(Ending::Memory) => parse(rt.alloc(), words.as_slice()) == wanted,
+        read => read == wanted,
+    }
+}
+
+// Words, and what they name.
+const NAMED: &[(&[&str], CommandLine<'static>)] = &[
+    (
+        &["csi-replay", "answer", "a.file"],
+        CommandLine::File(FileCommand::Answer, "a.file"),
+    ),
+    (
+        &["csi-replay", "show", "a.file"],
+        CommandLine::File(FileCommand::Show, "a.file"),
+    ),
+    (
+        &["csi-replay", "run", "a.file"],
+        CommandLine::File(FileCommand::Run, "a.file"),
+    ),
+    (
+        &["csi-replay", "controller", "a.db", "a.config"],
+        CommandLine::Controller {
+            store: "a.db",
+            config: "a.config",
+        },
+    ),
+    (
+        &["csi-replay", "node", "a.db", "n1"],
+        CommandLine::Node {
+            store: "a.db",
+            id: "n1",
+        },
+    ),
+];
+
+#[test]
+fn commands_and_their_words_are_read(rt: HostRuntime) {
+    for (texts, line) in NAMED {
+        assert!(&rt; is_read_as(&rt, texts, Ok(*line)));
+    }
+}
+
+// Words that name nothing.
+const REFUSED: &[&[&str]] = &[
+    &["csi-replay"],
+    &["csi-replay", "answer"],
+    &["csi-replay", "answer", "a", "b"],
+    &["csi-replay", "reply", "a"],
+    &["csi-replay", "controller", "a"],
+    &["csi-replay", "controller", "a", "b", "c"],
+    &["csi-replay", "node", "a"],
+    &["csi-replay", "node", "a", "n1", "n2"],
+    &["csi-replay", "--help"],
+    &["csi-replay", "help"],
+    &["csi-replay", "node", "--help"],
+];
+
+#[test]
+fn other_words_are_refused(rt: HostRuntime) {
+    for texts in REFUSED {
+        assert!(&rt; is_read_as(&rt, texts, Err(Ending::Usage)));
+    }
+}
