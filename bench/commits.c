@@ -57,7 +57,7 @@ int main(int count_of_words, char **words) {
     sqlite3_stmt *begin, *commit, *upsert;
     must(sqlite3_prepare_v2(db, "BEGIN", -1, &begin, NULL));
     must(sqlite3_prepare_v2(db, "COMMIT", -1, &commit, NULL));
-    must(sqlite3_prepare_v2(db, "INSERT OR REPLACE INTO parts (key, value) VALUES (?1, ?2)", -1, &upsert, NULL));
+    must(sqlite3_prepare_v2(db, "INSERT INTO parts (key, value) VALUES (?1, ?2) ON CONFLICT (key) DO UPDATE SET value = excluded.value", -1, &upsert, NULL));
     put_head(upsert, 1);
     for (uint64_t id = 1; id <= count; id++) {
         must(sqlite3_step(begin));
