@@ -7,6 +7,3 @@ use std::process::ExitCode;
 fn main(rt: HostRuntime) -> ExitCode {
     ended(&rt)
 }
-
-#[cfg(test)]
-mod tests;

@@ -1,8 +1,9 @@
-//! The words of the command line.
+//! The words of the command line, and what a process ends with that was started with others.
 use csi_commands::{Ending, FileCommand};
+use csi_process::ended;
 use csi_words::{CommandLine, parse};
 use std::alloc::{AllocError, Global};
-use std::process::Abort;
+use std::process::{Abort, ExitCode};
 
 fn try_words(alloc: Global, texts: &[&str]) -> Result<Vec<String>, AllocError> {
     let mut words = Vec::new(alloc);
@@ -90,4 +91,13 @@ fn other_words_are_refused(rt: HostRuntime) {
     for texts in REFUSED {
         assert!(&rt; is_read_as(&rt, texts, Err(Ending::Usage)));
     }
+}
+
+// The words that the tests are started with are no command of the program.
+#[test]
+fn words_that_are_no_command_end_in_status_2(rt: HostRuntime) {
+    let refused = ExitCode::from(2);
+    // Where memory is refused it is tried the second time.
+    let is_refused = ended(&rt) == refused || ended(&rt) == refused;
+    assert!(&rt; is_refused);
 }
