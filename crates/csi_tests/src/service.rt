@@ -1,9 +1,12 @@
 //! Records as bytes, and stores that plugins are opened from.
 mod devices;
+mod growths;
 mod pieces;
+mod playing;
+mod plugins;
 mod stores;
 
-use crate::values::{config, node_id};
+use crate::values::{config, copied, node_id};
 use csi_controller::{Controller, ControllerRecord};
 use csi_frames::decode;
 use csi_service::{
@@ -194,7 +197,7 @@ fn a_store_of_another_plugin_is_refused_at_its_head(rt: HostRuntime) {
 fn part(rt: &(impl Abort + AllocGlobal), key: u64, value: &[u8]) -> Part {
     Part {
         key,
-        value: Some(Vec::from_slice(rt.alloc(), value).expect(rt, "memory")),
+        value: Some(copied(rt, value)),
     }
 }
 

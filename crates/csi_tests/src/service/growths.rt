@@ -1,0 +1,290 @@
+//! Refused growths of records, stores and services. With memory to spare each test compares the whole answers. Run with one
+//! allocation refused, each in turn (`rt try --test --fail-alloc N`), the call that sees it wants memory, and is then
+//! answered in full, for `open` and `serve` after opening again.
+use super::playing::{
+    CREATED, Content, ENDS, End, FRAMES, NOTHING, REPLIES, SCRIPT, are_parts, has_parts, is_after,
+    is_replied, is_slice, may_have, played,
+};
+use super::{CONTROLLER_HEAD, CREATE, NODE_HEAD, RECORD, controller, is_part, node, part};
+use crate::values::{block, blocks, detail, name, node_id, number, room, target, volume_id};
+use csi_controller::{ControllerRecord, ControllerRow, RecordFault};
+use csi_frames::decode;
+use csi_node::{NodeRecord, NodeRow, NodeTarget};
+use csi_schedules::{ScheduleFault, read_config};
+use csi_service::{
+    ControllerService, Core, Keep, KeepFault, MemoryKeep, NodeService, Part, Record, read_record,
+    write_record,
+};
+use csi_types::{Config, Frame, Kind, Mode, NoMemory, Reply, Status};
+use std::alloc::Global;
+use std::process::Abort;
+
+// The record of a node `n1` that staged volume 1 and published it at `/a`.
+const NODE_RECORD: &[u8] = &[
+    1, 0, 0, 0, 2, 0, 0, 0, 0, 0, 0, 0, 0, 0, 0, 0, 5, 1, 1, 2, 110, 49, 0, 0, 0, 0, 0, 0, 0, 1, 0,
+    0, 0, 36, 1, 1, 0, 1, 1, 2, 47, 97, 0, 0, 0, 0, 0, 0, 0, 0, 1, 0, 0, 0, 0, 0, 0, 0, 2, 135, 0,
+    0, 0, 0, 0, 0, 0, 0, 0, 0,
+];
+
+// The record's bytes. Where they aren't written, memory was refused.
+fn written<T: Record>(rt: &(impl Abort + AllocGlobal), record: &T) -> Vec<u8> {
+    match write_record(rt.alloc(), record) {
+        Ok(bytes) => bytes,
+        Err(NoMemory) => write_record(rt.alloc(), record).expect(rt, "memory"),
+    }
+}
+
+// The record of these bytes. Where they aren't read, memory was refused.
+fn record_of<T: Record>(rt: &(impl Abort + AllocGlobal), bytes: &[u8]) -> T {
+    match read_record::<T>(rt.alloc(), bytes) {
+        Err(KeepFault::NoMemory) => read_record::<T>(rt.alloc(), bytes).expect(rt, "memory"),
+        first => first.expect(rt, "a record"),
+    }
+}
+
+// The reply to a call that succeeded.
+fn done(rt: &(impl Abort + AllocGlobal), id: Option<u64>) -> Reply {
+    Reply {
+        status: Status::Ok,
+        id: match id {
+            Some(id) => Some(volume_id(rt, id)),
+            None => None,
+        },
+        detail: detail(rt, ""),
+    }
+}
+
+#[test]
+fn records_in_want_of_memory(rt: HostRuntime) {
+    let of_controller: ControllerRecord = record_of(&rt, RECORD);
+    assert!(&rt; written(&rt, &of_controller).as_slice() == RECORD);
+    let of_node: NodeRecord = record_of(&rt, NODE_RECORD);
+    assert!(&rt; written(&rt, &of_node).as_slice() == NODE_RECORD);
+}
+
+// The rows of a controller that made `v`.
+fn volumes(rt: &(impl Abort + AllocGlobal)) -> Vec<ControllerRow> {
+    let mut rows = room(rt, 1);
+    rows.push(ControllerRow {
+        id: volume_id(rt, 1),
+        live: true,
+        name: name(rt, "v"),
+        capacity: 10,
+        capabilities: blocks(rt, &[Mode::SingleNodeWriter]),
+        holdings: Vec::new(rt.alloc()),
+        last: number(1),
+        kind: Kind::CreateVolume,
+        reply: done(rt, Some(1)),
+    })
+    .expect(rt, "room");
+    rows
+}
+
+#[test]
+fn a_controller_record_is_made_in_want_of_memory(rt: HostRuntime) {
+    let made = match ControllerRecord::try_new(rt.alloc(), 2, volumes(&rt)) {
+        Err(RecordFault::NoMemory) => ControllerRecord::try_new(rt.alloc(), 2, volumes(&rt)),
+        first => first,
+    };
+    let record = made.expect(&rt, "a record");
+    assert!(&rt; written(&rt, &record).as_slice() == RECORD);
+}
+
+// The rows of a node that staged volume 1 and published it at `/a`.
+fn staged(rt: &(impl Abort + AllocGlobal)) -> Vec<NodeRow> {
+    let mut targets = room(rt, 1);
+    targets
+        .push(NodeTarget {
+            target: target(rt, "/a"),
+            readonly: false,
+        })
+        .expect(rt, "room");
+    let mut rows = room(rt, 1);
+    rows.push(NodeRow {
+        id: volume_id(rt, 1),
+        staged: Some(block(Mode::SingleNodeWriter)),
+        targets,
+        last: number(2),
+        kind: Kind::NodePublishVolume,
+        reply: done(rt, None),
+    })
+    .expect(rt, "room");
+    rows
+}
+
+// It takes no memory.
+#[test]
+fn a_node_record_is_made_in_want_of_memory(rt: HostRuntime) {
+    let made = NodeRecord::try_new(node_id(&rt, "n1"), staged(&rt));
+    let record = made.expect(&rt, "a record");
+    assert!(&rt; written(&rt, &record).as_slice() == NODE_RECORD);
+}
+
+// The frame that these bytes begin with.
+fn frame_of(rt: &(impl Abort + AllocGlobal), bytes: &[u8]) -> Frame {
+    let decoded = match decode(rt.alloc(), bytes) {
+        Ok(decoded) => decoded,
+        Err(_) => decode(rt.alloc(), bytes).expect(rt, "a frame"),
+    };
+    decoded.0
+}
+
+// The controller of a store. Where it isn't opened, memory was refused, and the store has no part or its head.
+fn opened(rt: &(impl Abort + AllocGlobal), keep: &mut MemoryKeep) -> ControllerService {
+    match controller(rt, keep) {
+        Ok(service) => service,
+        Err(fault) => {
+            assert!(rt; fault == KeepFault::NoMemory && may_have(keep, End::Opening));
+            controller(rt, keep).expect(rt, "memory")
+        }
+    }
+}
+
+// The node of a store.
+fn opened_node(rt: &(impl Abort + AllocGlobal), keep: &mut MemoryKeep) -> NodeService {
+    match node(rt, keep, "n1") {
+        Ok(service) => service,
+        Err(fault) => {
+            assert!(rt; fault == KeepFault::NoMemory);
+            node(rt, keep, "n1").expect(rt, "memory")
+        }
+    }
+}
+
+// What the service tells that it changed after it answered the frame.
+fn changes<C: Core>(rt: &(impl Abort + AllocGlobal), service: &mut C, frame: &Frame) -> Vec<Part> {
+    let reply = match service.step(frame) {
+        Ok(reply) => reply,
+        Err(NoMemory) => service.step(frame).expect(rt, "memory"),
+    };
+    assert!(rt; reply.is_some());
+    match service.parts() {
+        Ok(parts) => parts,
+        Err(NoMemory) => service.parts().expect(rt, "memory"),
+    }
+}
+
+// Commits these parts to a store that has `before`, so that it has `after`.
+fn commits(
+    rt: &(impl Abort + AllocGlobal),
+    keep: &mut MemoryKeep,
+    parts: &[Part],
+    contents: (Content, Content),
+) {
+    if let Err(fault) = keep.commit(parts) {
+        assert!(rt; fault == KeepFault::NoMemory && has_parts(keep, contents.0));
+        keep.commit(parts).expect(rt, "memory");
+    }
+    assert!(rt; has_parts(keep, contents.1));
+}
+
+const NEW: Content = (CONTROLLER_HEAD, &[], &[]);
+
+#[test]
+fn a_controller_steps_and_commits_in_want_of_memory(rt: HostRuntime) {
+    let mut keep = MemoryKeep::new(rt.alloc(), 1000);
+    let mut service = opened(&rt, &mut keep);
+    let parts = changes(&rt, &mut service, &frame_of(&rt, CREATE));
+    assert!(&rt; are_parts(&parts, CREATED));
+    commits(&rt, &mut keep, &parts, (NEW, CREATED));
+}
+
+// Stages volume 1 at `n1`.
+const STAGE: &[u8] = &[
+    0, 0, 0, 32, 1, 5, 0, 0, 0, 0, 0, 0, 0, 1, 0, 0, 0, 0, 0, 0, 0, 1, 1, 2, 110, 49, 0, 0, 0, 0,
+    0, 0, 0, 1, 0, 1,
+];
+
+// Its row then.
+const STAGED: &[u8] = &[
+    1, 1, 0, 1, 0, 0, 0, 0, 0, 0, 0, 0, 1, 0, 0, 0, 0, 0, 0, 0, 1, 133, 0, 0, 0, 0, 0, 0, 0, 0, 0,
+    0,
+];
+
+// The stores of the node before and after.
+const NODE_CONTENTS: (Content, Content) = ((NODE_HEAD, &[], &[]), (NODE_HEAD, STAGED, &[]));
+
+// Whether the parts are one, with this value at key 1.
+fn is_one(parts: &[Part], value: &[u8]) -> bool {
+    match parts {
+        [one] => is_part(one, 1, value),
+        _ => false,
+    }
+}
+
+#[test]
+fn a_node_steps_and_commits_in_want_of_memory(rt: HostRuntime) {
+    let mut keep = MemoryKeep::new(rt.alloc(), 1000);
+    let mut service = opened_node(&rt, &mut keep);
+    let parts = changes(&rt, &mut service, &frame_of(&rt, STAGE));
+    assert!(&rt; is_one(&parts, STAGED));
+    commits(&rt, &mut keep, &parts, NODE_CONTENTS);
+}
+
+// A service opened of a store that has parts.
+#[test]
+fn services_are_opened_again_in_want_of_memory(rt: HostRuntime) {
+    let mut keep = MemoryKeep::new(rt.alloc(), 1000);
+    commits(
+        &rt,
+        &mut keep,
+        &[part(&rt, 0, CONTROLLER_HEAD)],
+        (NOTHING, NEW),
+    );
+    let _service = opened(&rt, &mut keep);
+    let mut other = MemoryKeep::new(rt.alloc(), 1000);
+    commits(
+        &rt,
+        &mut other,
+        &[part(&rt, 0, NODE_HEAD), part(&rt, 1, STAGED)],
+        (NOTHING, NODE_CONTENTS.1),
+    );
+    let _node = opened_node(&rt, &mut other);
+}
+
+// How many frames were served in a run of the script that ended so, by a store that doesn't fail.
+fn count_of(end: End) -> Option<usize> {
+    match end {
+        End::Opening => Some(0),
+        End::Refused(frames) | End::Served(frames) => Some(frames),
+        End::Stopped(_) | End::Other => None,
+    }
+}
+
+// Serves the script from the frame after so many on.
+fn goes_on(rt: &(impl Abort + AllocGlobal), keep: &mut MemoryKeep, served: usize) -> bool {
+    let from = *FRAMES.get(served).expect(rt, "a frame");
+    let replied = *ENDS.get(served).expect(rt, "a reply");
+    let (_end, written) = played(rt, keep, SCRIPT.get(from..).expect(rt, "frames"));
+    is_slice(REPLIES.get(replied..), written.as_slice()) && is_after(keep, 6)
+}
+
+// The script where it wants memory, and then, after opening again, from the first frame on that wasn't served.
+#[test]
+fn serving_in_want_of_memory(rt: HostRuntime) {
+    let mut keep = MemoryKeep::new(rt.alloc(), 1000);
+    let (end, written) = played(&rt, &mut keep, SCRIPT);
+    assert!(&rt; is_replied(end, written.as_slice()) && may_have(&mut keep, end));
+    let served = count_of(end).expect(&rt, "a run");
+    assert!(&rt; goes_on(&rt, &mut keep, served));
+}
+
+const CONFIG: &str = "{\"greatest\":1000,\"nodes\":[{\"id\":\"n1\",\"slots\":4}]}";
+
+fn is_config(config: &Config) -> bool {
+    let is_node = match config.nodes() {
+        [one] => one.id.as_str() == "n1" && one.slots == 4,
+        _ => false,
+    };
+    is_node && config.greatest() == 1000
+}
+
+#[test]
+fn a_configuration_is_read_in_want_of_memory(rt: HostRuntime) {
+    let read = match read_config(rt.alloc(), CONFIG) {
+        Err(ScheduleFault::NoMemory) => read_config(rt.alloc(), CONFIG),
+        first => first,
+    };
+    let config = read.expect(&rt, "a configuration");
+    assert!(&rt; is_config(&config));
+}
