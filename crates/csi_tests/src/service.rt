@@ -4,6 +4,7 @@ mod growths;
 mod pieces;
 mod playing;
 mod plugins;
+mod stops;
 mod stores;
 
 use crate::values::{config, copied, node_id};
