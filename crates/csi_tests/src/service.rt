@@ -10,6 +10,7 @@ mod stores;
 use crate::values::{config, copied, node_id};
 use csi_controller::{Controller, ControllerRecord};
 use csi_frames::decode;
+use csi_node::NodeRecord;
 use csi_service::{
     ControllerService, Keep, KeepFault, MemoryKeep, NodeService, Part, SqliteKeep, read_record,
     write_record,
@@ -36,6 +37,13 @@ const CONTROLLER_HEAD: &[u8] = &[1, 0, 0, 0, 0, 0, 0, 0, 0, 1];
 
 const NODE_HEAD: &[u8] = &[1, 1, 2, 110, 49];
 
+// The record of a node `n1` that staged volume 1 and published it at `/a`.
+const NODE_RECORD: &[u8] = &[
+    1, 0, 0, 0, 2, 0, 0, 0, 0, 0, 0, 0, 0, 0, 0, 0, 5, 1, 1, 2, 110, 49, 0, 0, 0, 0, 0, 0, 0, 1, 0,
+    0, 0, 36, 1, 1, 0, 1, 1, 2, 47, 97, 0, 0, 0, 0, 0, 0, 0, 0, 1, 0, 0, 0, 0, 0, 0, 0, 2, 135, 0,
+    0, 0, 0, 0, 0, 0, 0, 0, 0,
+];
+
 // What a controller that made `v` has recorded.
 fn recorded(rt: &(impl Abort + AllocGlobal)) -> ControllerRecord {
     let (frame, _) = decode(rt.alloc(), CREATE).expect(rt, "a frame");
@@ -57,6 +65,14 @@ fn refused_at(alloc: Global, bytes: &[u8]) -> Option<u64> {
     }
 }
 
+// Where the bytes are refused as a node's record, if they are.
+fn node_refused_at(alloc: Global, bytes: &[u8]) -> Option<u64> {
+    match read_record::<NodeRecord>(alloc, bytes) {
+        Err(KeepFault::BadRecord(place)) => Some(place),
+        _ => None,
+    }
+}
+
 #[test]
 fn write_record_succeeds_with_memory(rt: HostRuntime) {
     let bytes = written(&rt, &recorded(&rt));
@@ -71,9 +87,9 @@ fn a_record_is_read_as_it_was_written(rt: HostRuntime) {
     assert!(&rt; bytes.as_slice() == RECORD);
 }
 
-// The record with one byte in place of another.
-fn changed(rt: &(impl Abort + AllocGlobal), at: usize, byte: u8) -> Vec<u8> {
-    let mut bytes = Vec::from_slice(rt.alloc(), RECORD).expect(rt, "memory");
+// A record with one byte in place of another.
+fn changed(rt: &(impl Abort + AllocGlobal), record: &[u8], at: usize, byte: u8) -> Vec<u8> {
+    let mut bytes = Vec::from_slice(rt.alloc(), record).expect(rt, "memory");
     if at < bytes.len() {
         bytes[at] = byte;
     }
@@ -98,8 +114,38 @@ const CHANGES: &[(usize, u8, u64)] = &[
 #[test]
 fn a_record_is_refused_at_its_first_bad_part(rt: HostRuntime) {
     for (at, byte, place) in CHANGES {
-        let bytes = changed(&rt, *at, *byte);
+        let bytes = changed(&rt, RECORD, *at, *byte);
         assert!(&rt; refused_at(rt.alloc(), bytes.as_slice()) == Some(*place));
+    }
+}
+
+// A byte of a node's record that is changed, and the part that is refused for it.
+const NODE_CHANGES: &[(usize, u8, u64)] = &[
+    // the version, and the number of parts
+    (0, 2, 0),
+    (4, 3, 2),
+    // a controller's head, an empty node id, and a key that is there already
+    (18, 0, 0),
+    (19, 0, 0),
+    (29, 0, 1),
+    // a row of version 2, neither staged nor not, in mode 6, with no target of one, with a flag of 2
+    (34, 2, 1),
+    (35, 2, 1),
+    (37, 6, 1),
+    (38, 0, 1),
+    (42, 2, 1),
+    // a reply of the controller's, with a status above 16, and with an id
+    (59, 129, 1),
+    (60, 17, 1),
+    (68, 1, 1),
+];
+
+#[test]
+fn a_node_record_is_refused_at_its_first_bad_part(rt: HostRuntime) {
+    assert!(&rt; node_refused_at(rt.alloc(), NODE_RECORD).is_none());
+    for (at, byte, place) in NODE_CHANGES {
+        let bytes = changed(&rt, NODE_RECORD, *at, *byte);
+        assert!(&rt; node_refused_at(rt.alloc(), bytes.as_slice()) == Some(*place));
     }
 }
 

@@ -5,7 +5,9 @@ use super::playing::{
     CREATED, Content, ENDS, End, FRAMES, NOTHING, REPLIES, SCRIPT, are_parts, has_parts, is_after,
     is_replied, is_slice, may_have, played,
 };
-use super::{CONTROLLER_HEAD, CREATE, NODE_HEAD, RECORD, controller, is_part, node, part};
+use super::{
+    CONTROLLER_HEAD, CREATE, NODE_HEAD, NODE_RECORD, RECORD, controller, is_part, node, part,
+};
 use crate::values::{block, blocks, detail, name, node_id, number, room, target, volume_id};
 use csi_controller::{ControllerRecord, ControllerRow, RecordFault};
 use csi_frames::decode;
@@ -18,13 +20,6 @@ use csi_service::{
 use csi_types::{Config, Frame, Kind, Mode, NoMemory, Reply, Status};
 use std::alloc::Global;
 use std::process::Abort;
-
-// The record of a node `n1` that staged volume 1 and published it at `/a`.
-const NODE_RECORD: &[u8] = &[
-    1, 0, 0, 0, 2, 0, 0, 0, 0, 0, 0, 0, 0, 0, 0, 0, 5, 1, 1, 2, 110, 49, 0, 0, 0, 0, 0, 0, 0, 1, 0,
-    0, 0, 36, 1, 1, 0, 1, 1, 2, 47, 97, 0, 0, 0, 0, 0, 0, 0, 0, 1, 0, 0, 0, 0, 0, 0, 0, 2, 135, 0,
-    0, 0, 0, 0, 0, 0, 0, 0, 0,
-];
 
 // The record's bytes. Where they aren't written, memory was refused.
 fn written<T: Record>(rt: &(impl Abort + AllocGlobal), record: &T) -> Vec<u8> {
