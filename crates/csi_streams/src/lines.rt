@@ -16,9 +16,9 @@ use csi_types::Frame;
 use std::alloc::Global;
 use std::io::{Read, Write};
 
-// Appends the line of the frame in this place. An `Err` appends nothing.
+// Appends the line of the frame in this place, which is spelled in `line`. An `Err` appends nothing.
 fn append_line(
-    alloc: Global,
+    line: &mut String,
     place: u64,
     frame: &Frame,
     out: &mut Vec<u8>,
@@ -28,14 +28,17 @@ fn append_line(
     ensures err { OnErr result (out.new.items ≡ out.old.items) }
 {
     let frame = ShownFrame(frame);
-    let line = format!(in alloc; "{place} {frame}\n")?;
+    line.clear();
+    writeln!(line, "{place} {frame}")?;
     out.extend_from_slice(line.as_bytes())?;
     Ok(())
 }
 
-// Each frame is shown in a line, which has its place.
+// Each frame is shown in a line, which has its place. The lines are spelled one after another in the same text.
 #[derive(Drop)]
-struct Lines;
+struct Lines {
+    line: String,
+}
 
 impl Handler for Lines {
     ghost has_handled = { HasShown };
@@ -50,8 +53,14 @@ impl Handler for Lines {
         out: &mut Vec<u8>,
     ) -> Result<(), AnswerFault> {
         let frame = frame.to_frame(alloc)?;
-        append_line(alloc, place, &frame, out)
+        append_line(&mut self.line, place, &frame, out)
     }
+}
+
+// No line was spelled yet.
+fn new_lines(alloc: Global) -> Lines {
+    let line = String::new(alloc);
+    Lines { line }
 }
 
 /// Appends a line for each frame of `input`: the place of its first byte, its number, its party and its body. At an `Err`
@@ -64,7 +73,8 @@ pub fn show(alloc: Global, input: &[u8], out: &mut Vec<u8>) -> Result<(), Answer
     ensures fault { (frames : List FrameParts) (rest : List ℕ) → FramesOf input.now frames rest →
         IfErr result (Stops frames rest) }
 {
-    match handle_slice(alloc, &mut Lines, input, out) {
+    let mut lines = new_lines(alloc);
+    match handle_slice(alloc, &mut lines, input, out) {
         Ok(_) => Ok(()),
         Err(fault) => Err(fault),
     }
@@ -81,5 +91,6 @@ pub fn show_from<R: Read, W: Write>(
 ) -> Result<u64, StreamFault>
     ensures { Streams AreLines (R.remaining reader.old) (R.remaining reader.new) (W.contents writer.old) (W.contents writer.new) result }
 {
-    handle_stream(alloc, &mut Lines, reader, writer)
+    let mut lines = new_lines(alloc);
+    handle_stream(alloc, &mut lines, reader, writer)
 }

@@ -9,7 +9,7 @@ returns-in-Ok-clause-grows c =
     let of = frames_of c.args.input.now (λ i. omega (arith, c.type_inv.input i)) in
     whole_grows AreLines of.0 of.1 c.args.out.now.items c.handle_slice.new.out.items (Ok c.in-Ok.field-0) (c.in-Ok.ensures of.0 of.1 of.2)
 
-pub returns-in-Err-clause-grows : goal.returns-in-Err-clause-grows
-returns-in-Err-clause-grows c =
+pub returns-clause-grows : goal.returns-clause-grows
+returns-clause-grows c =
     let of = frames_of c.args.input.now (λ i. omega (arith, c.type_inv.input i)) in
     whole_grows AreLines of.0 of.1 c.args.out.now.items c.handle_slice.new.out.items (Err c.in-Err.fault) (c.in-Err.ensures of.0 of.1 of.2)
