@@ -18,3 +18,4 @@ pub mod Replies
 pub mod Key
 pub mod Delivery
 pub mod Lawful
+pub mod NodeUse

@@ -1,5 +1,6 @@
 //! What a volume can do.
 ghost use Rattle.std.specs.Prelude.{◌≡◌, ◌≤◌, ◌↔◌, length, IsSome, IfSome, vec_len};
+ghost use Rattle.csi_types.specs.Same.{same_capability as is_same_capability, has_capability as is_among};
 
 use crate::mode::Mode;
 use crate::text::FsType;
@@ -19,6 +20,20 @@ pub enum Access {
 pub struct Capability {
     pub access: Access,
     pub mode: Mode,
+}
+
+/// Whether access and mode are the same. It takes no memory.
+pub fn same_capability(a: &Capability, b: &Capability) -> bool
+    ensures { result ≡ is_same_capability a.now b.now }
+{
+    a == b
+}
+
+/// Whether the capability is one of these. It takes no memory.
+pub fn has_capability(capabilities: &[Capability], wished: &Capability) -> bool
+    ensures { result ≡ is_among capabilities.now wished.now }
+{
+    capabilities.iter().any(|own| same_capability(wished, own))
 }
 
 /// From none to 8 capabilities, in order (this profile's own limit). A contract sees it as a list.

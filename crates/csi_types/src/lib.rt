@@ -11,6 +11,7 @@ mod frame;
 mod holding;
 mod memory;
 mod mode;
+mod node_use;
 mod number;
 mod reply;
 mod rows;
@@ -20,17 +21,20 @@ mod text;
 mod volume_id;
 
 pub use call::{Call, Kind, Party};
-pub use capability::{Access, Capability, CapabilityList};
-pub use capacity::{DEFAULT_CAPACITY, MAX_CAPACITY, grant};
+pub use capability::{Access, Capability, CapabilityList, has_capability, same_capability};
+pub use capacity::{
+    DEFAULT_CAPACITY, MAX_CAPACITY, grant, is_bad_range, is_empty_range, wanted_capacity,
+};
 pub use config::{Config, ConfigFault, NodeSlots};
 pub use fence::{Verdict, verdict_of};
 pub use frame::{Body, Frame};
 pub use holding::{Holding, can_hold_both};
 pub use memory::NoMemory;
 pub use mode::Mode;
+pub use node_use::{NodeUse, can_use_both, same_way};
 pub use number::Number;
 pub use reply::Reply;
-pub use sharing::{single_node, writes};
+pub use sharing::{allows_one_target, single_node, single_writer, two_writers, writes};
 pub use status::Status;
 pub use text::{Detail, FsType, Name, NodeId, Target, TextFault};
 pub use volume_id::VolumeId;

@@ -1,6 +1,6 @@
-//! What the access modes allow.
-ghost use Rattle.std.specs.Prelude.{◌≡◌};
-ghost use Rattle.csi_types.specs.Sharing.{is_single_node, writes as writes_in};
+//! What the access modes allow. Which mode allows what is told here and nowhere else.
+ghost use Rattle.std.specs.Prelude.{◌≡◌, not, ◌&&◌};
+ghost use Rattle.csi_types.specs.Sharing.{is_single_node, is_multi_node, is_single_writer, writes as writes_in, are_two_writers, allows_one_target as allows_one};
 
 use crate::mode::Mode;
 
@@ -12,6 +12,14 @@ pub fn single_node(mode: Mode) -> bool
     matches!(mode, Mode::SingleNodeWriter | Mode::SingleNodeReaderOnly)
 }
 
+/// Whether a volume in this mode may be at several nodes, of which one may write (`AccessMode` of CSI's
+/// spec.md, "CreateVolume"). It takes no memory.
+pub fn single_writer(mode: Mode) -> bool
+    ensures { result ≡ is_single_writer mode }
+{
+    matches!(mode, Mode::MultiNodeSingleWriter)
+}
+
 /// Whether a holder in this mode, published readonly or not, may write. It takes no memory.
 pub fn writes(mode: Mode, readonly: bool) -> bool
     ensures { result ≡ writes_in mode readonly }
@@ -21,4 +29,29 @@ pub fn writes(mode: Mode, readonly: bool) -> bool
             mode,
             Mode::SingleNodeWriter | Mode::MultiNodeSingleWriter | Mode::MultiNodeMultiWriter
         )
+}
+
+/// Whether a volume in this mode is published at one target of a node at a time (CSI's spec.md,
+/// "NodePublishVolume"). It takes no memory.
+pub fn allows_one_target(mode: Mode) -> bool
+    ensures { result ≡ allows_one mode }
+{
+    single_node(mode)
+}
+
+/// Whether two holders, each in its mode and readonly or not, both write, and one of the two modes has a
+/// single writer (`AccessMode` of CSI's spec.md, "CreateVolume"). It takes no memory.
+pub fn two_writers(mode: Mode, readonly: bool, other: Mode, other_readonly: bool) -> bool
+    ensures { result ≡ are_two_writers mode readonly other other_readonly }
+{
+    writes(mode, readonly)
+        && writes(other, other_readonly)
+        && (single_writer(mode) || single_writer(other))
+}
+
+// Whether a volume can be at two different nodes, at each in its mode and readonly or not.
+pub(crate) fn can_share(mode: Mode, readonly: bool, other: Mode, other_readonly: bool) -> bool
+    ensures { result ≡ (is_multi_node mode && is_multi_node other && not (are_two_writers mode readonly other other_readonly)) }
+{
+    !single_node(mode) && !single_node(other) && !two_writers(mode, readonly, other, other_readonly)
 }
