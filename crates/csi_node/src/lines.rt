@@ -1,8 +1,7 @@
 //! The node's table, for the row of a call's volume.
 ghost use Rattle.std.specs.Prelude.{◌≡◌, ◌<◌, List, [], length, true, Some, None, option_copied, codes, if◌then◌else◌};
 ghost use Rattle.csi_types.specs.Call.{kind_of, is_node_kind};
-ghost use Rattle.csi_types.specs.Sharing.{allows_one_target};
-ghost use Rattle.csi_types.specs.Same.{same_capability as same, same_flag as flags};
+ghost use Rattle.csi_types.specs.Sharing.{allows_one_target as allows_one};
 ghost use Rattle.csi_types.specs.declared.status.Status.TheVariants.{AlreadyExists};
 ghost use Rattle.csi_node.specs.Lines.{outcome_shown, WhereDone};
 ghost use Rattle.csi_node.specs.OneRow.{shown, alone, target_in, published_by, publish_by_row, change_of, CanChange, HasRoomFor, IsNew, IsRow};
@@ -11,24 +10,10 @@ ghost use Rattle.csi_node.specs.Table.{Change, Stages, Unstages, Publishes, Unpu
 
 use crate::line::Line;
 use crate::row::{NodeRow, NodeTarget};
-use csi_types::{Call, Capability, Status, Target, single_node};
+use csi_types::{Call, Capability, Status, Target, allows_one_target, same_capability, same_way};
 
 /// The most targets that a volume has on a node.
 pub(crate) const MAX_TARGETS: usize = 16;
-
-// Whether the two are the same.
-fn same_capability(a: &Capability, b: &Capability) -> bool
-    ensures { result ≡ same a.now b.now }
-{
-    a == b
-}
-
-// Whether both are set, or neither is.
-fn same_flag(a: bool, b: bool) -> bool
-    ensures { result ≡ flags a b }
-{
-    a == b
-}
 
 /// Whether the target is a path from the root.
 pub(crate) fn is_absolute(target: &Target) -> bool
@@ -77,13 +62,13 @@ fn unstage_line(row: &NodeRow) -> Line<'_>
 fn publish_new_line<'a>(row: &'a NodeRow, capability: &Capability) -> Line<'a>
     ensures line { (published : PublishedVolume) (staged : Capability) → published.capability ≡ capability.now →
         publish_new published (published_by row.now.id (Some staged) row.now.targets.items) ≡ outcome_shown (Publishes published) result }
-    ensures single { WhereDone result (allows_one_target capability.now.mode ≡ true → row.now.targets.items ≡ []) }
+    ensures single { WhereDone result (allows_one capability.now.mode ≡ true → row.now.targets.items ≡ []) }
     ensures limit { WhereDone result (length row.now.targets.items < 16) }
 {
     match row.targets.first() {
         None => Line::Done,
         Some(first) => {
-            if single_node(capability.mode) {
+            if allows_one_target(capability.mode) {
                 return Line::Refused(Status::FailedPrecondition, first.target.as_str());
             }
             if row.targets.len() >= MAX_TARGETS {
@@ -117,11 +102,10 @@ fn publish_staged_line<'a>(
         publish_by_row (shown row.now) staged.now published (target_in (shown row.now) target.now) ≡ outcome_shown (Publishes published) result }
     ensures ready { WhereDone result (IsNew (shown row.now) staged.now target.now capability.now) }
 {
-    let is_same = same_capability(staged, capability);
     match find_target(row, target) {
-        Some(there) => published_line(is_same && same_flag(there.readonly, readonly)),
+        Some(there) => published_line(same_way(staged, there.readonly, capability, readonly)),
         None => {
-            if !is_same {
+            if !same_capability(staged, capability) {
                 return Line::Refused(Status::FailedPrecondition, "staged otherwise");
             }
             publish_new_line(row, capability)

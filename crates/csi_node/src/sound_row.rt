@@ -6,7 +6,7 @@ ghost use Rattle.csi_node.specs.SoundRow.{has_own_reply as is_own_reply, fits_mo
 
 use crate::lines::{MAX_TARGETS, is_absolute};
 use crate::row::{NodeRow, NodeTarget};
-use csi_types::{Capability, Kind, Target, single_node};
+use csi_types::{Capability, Kind, Target, allows_one_target};
 
 // Whether calls of this kind are for a node.
 fn is_node_kind(kind: Kind) -> bool
@@ -34,7 +34,7 @@ fn fits_mode(staged: &Option<Capability>, count: usize) -> bool
 {
     match staged {
         None => count == 0,
-        Some(capability) => !single_node(capability.mode) || count <= 1,
+        Some(capability) => !allows_one_target(capability.mode) || count <= 1,
     }
 }
 
