@@ -9,10 +9,10 @@ use crate::due::next_number;
 use crate::fault::OrchFault;
 use crate::row::{Row, Usage};
 use crate::sharing::{
-    has_node, is_attached_somewhere, is_capable, is_held_elsewhere, is_held_otherwise,
-    is_target_taken, is_unpublished, is_written_elsewhere, others_count,
+    has_node, is_attached_somewhere, is_held_elsewhere, is_held_otherwise, is_target_taken,
+    is_unpublished, is_written_elsewhere, others_count,
 };
-use csi_types::{NodeId, Number, Target};
+use csi_types::{NodeId, Number, Target, has_capability};
 
 /// The most volumes that an orchestrator has rows of.
 pub(crate) const MAX_ROWS: usize = 4096;
@@ -73,7 +73,7 @@ pub(crate) fn use_fault(nodes: &[NodeId], usage: &Usage, row: &Row) -> Option<Or
     if !has_node(nodes, &usage.node) {
         return Some(OrchFault::NoSuchNode);
     }
-    if !is_capable(row.arguments.capabilities.as_slice(), &usage.capability) {
+    if !has_capability(row.arguments.capabilities.as_slice(), &usage.capability) {
         return Some(OrchFault::NotCapable);
     }
     if is_held_elsewhere(&row.places, usage) {

@@ -1,8 +1,8 @@
 //! Whether a use can be beside what a volume is used for already.
 ghost use Rattle.std.specs.Prelude.{◌≡◌, Some, map, not, ◌&&◌, ◌||◌};
 ghost use Rattle.std.specs.List.{list_any};
-ghost use Rattle.csi_types.specs.Same.{same_text, same_flag as is_same_flag, same_capability as is_same_capability, has_capability};
-ghost use Rattle.csi_types.specs.Sharing.{is_single_writer, are_two_writers, allows_one_target as allows_one};
+ghost use Rattle.csi_types.specs.Same.{same_text};
+ghost use Rattle.csi_types.specs.Sharing.{allows_one_target as allows_one};
 ghost use Rattle.csi_orchestrator.specs.Thing.{is_no};
 ghost use Rattle.csi_orchestrator.specs.Commands.{is_for_one_node as is_one_node, is_second_writer as is_second, is_otherwise as is_other};
 ghost use Rattle.csi_orchestrator.specs.Shown.{row_shown, place_shown, place_of, mark_in, published_in, others_in, held_at};
@@ -11,21 +11,7 @@ ghost use Rattle.csi_orchestrator.specs.RowMoves.{is_so_elsewhere, is_place_othe
 use crate::inner::{place_at, published_at};
 use crate::marks::others_of;
 use crate::row::{Place, Row, Usage};
-use csi_types::{Capability, Mode, NodeId, Target, single_node, writes};
-
-// Whether the two are the same.
-fn same_capability(a: &Capability, b: &Capability) -> bool
-    ensures { result ≡ is_same_capability a.now b.now }
-{
-    a == b
-}
-
-// Whether both are set, or neither is.
-fn same_flag(a: bool, b: bool) -> bool
-    ensures { result ≡ is_same_flag a b }
-{
-    a == b
-}
+use csi_types::{NodeId, Target, allows_one_target, same_way, single_node, two_writers};
 
 /// Whether the node is one of these.
 pub(crate) fn has_node(nodes: &[NodeId], node: &NodeId) -> bool
@@ -39,39 +25,11 @@ pub(crate) fn has_node(nodes: &[NodeId], node: &NodeId) -> bool
     false
 }
 
-/// Whether the capability is one of these.
-pub(crate) fn is_capable(capabilities: &[Capability], wished: &Capability) -> bool
-    ensures { result ≡ has_capability capabilities.now wished.now }
-{
-    for own in capabilities {
-        if same_capability(wished, own) {
-            return true;
-        }
-    }
-    false
-}
-
 // Whether one of the two modes is for one node.
 fn is_for_one_node(usage: &Usage, place: &Place) -> bool
     ensures { result ≡ is_one_node usage.now (held_at (place_shown place.now)) }
 {
     single_node(place.capability.mode) || single_node(usage.capability.mode)
-}
-
-// Whether of several nodes one may write.
-fn single_writer(mode: Mode) -> bool
-    ensures { result ≡ is_single_writer mode }
-{
-    matches!(mode, Mode::MultiNodeSingleWriter)
-}
-
-// Whether both write, in modes of which one is for a single writer.
-fn two_writers(mode: Mode, readonly: bool, other: Mode, other_readonly: bool) -> bool
-    ensures { result ≡ are_two_writers mode readonly other other_readonly }
-{
-    writes(mode, readonly)
-        && writes(other, other_readonly)
-        && (single_writer(mode) || single_writer(other))
 }
 
 // Whether a use would be a second writer.
@@ -136,8 +94,12 @@ pub(crate) fn is_written_elsewhere(places: &[Place], usage: &Usage) -> bool
 fn is_so(usage: &Usage, place: &Place) -> bool
     ensures { not result ≡ is_other usage.now (Some (held_at (place_shown place.now))) }
 {
-    same_capability(&place.capability, &usage.capability)
-        && same_flag(place.readonly, usage.readonly)
+    same_way(
+        &place.capability,
+        place.readonly,
+        &usage.capability,
+        usage.readonly,
+    )
 }
 
 /// Whether the volume may be attached at this node with another capability or flag.
@@ -154,7 +116,7 @@ pub(crate) fn is_held_otherwise(row: &Row, usage: &Usage) -> bool
 pub(crate) fn is_target_taken(row: &Row, usage: &Usage) -> bool
     ensures { result ≡ (allows_one usage.now.capability.mode && others_in usage.now.target (place_of (row_shown row.now) usage.now.node)) }
 {
-    single_node(usage.capability.mode) && others_count(row, &usage.node, &usage.target) > 0
+    allows_one_target(usage.capability.mode) && others_count(row, &usage.node, &usage.target) > 0
 }
 
 /// At how many other targets of the node the volume may be published.
