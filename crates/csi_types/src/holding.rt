@@ -3,6 +3,7 @@ ghost use Rattle.std.specs.Prelude.{◌≡◌, ◌↔◌, IsTrue};
 ghost use Rattle.csi_types.specs.Holding.{CanHoldBoth, is_compatible};
 
 use crate::capability::Capability;
+use crate::node_use::same_way;
 use crate::sharing::can_share;
 use crate::text::NodeId;
 use crate::volume_id::VolumeId;
@@ -21,11 +22,12 @@ pub struct Holding {
 fn are_compatible(first: &Holding, second: &Holding) -> bool
     ensures { result ≡ is_compatible first.now second.now }
 {
+    let (own, other) = (&first.capability, &second.capability);
     if first.node == second.node {
-        return first == second;
+        return first.volume == second.volume
+            && same_way(own, first.readonly, other, second.readonly);
     }
-    let (mode, other) = (first.capability.mode, second.capability.mode);
-    can_share(mode, first.readonly, other, second.readonly)
+    can_share(own.mode, first.readonly, other.mode, second.readonly)
 }
 
 /// Whether the two can be held together: they are the same holding, or are at different nodes, both in
