@@ -33,32 +33,10 @@ with_frame-is None world = let none : world.frames ++ [] ≡ world.frames = appe
 with_frame-is (Some frame) world = refl
 
 -- the same world, by what it shows
-at-world : (old new : WorldShown) (outcome : Outcome) (occurred : Occurred) (world : World) → new.config ≡ old.config → new.outcomes ≡ old.outcomes → HasOwnNodes new → ShowsWorld new world → occurred ≡ record { world = world; outcome = outcome }
+pub at-world : (old new : WorldShown) (outcome : Outcome) (occurred : Occurred) (world : World) → new.config ≡ old.config → new.outcomes ≡ old.outcomes → HasOwnNodes new → ShowsWorld new world → occurred ≡ record { world = world; outcome = outcome }
     → Becomes old new outcome occurred
 at-world old new outcome occurred world config outcomes own shows is =
     record { config = config; outcomes = outcomes; own = own; world = subst (λ (o : Occurred). ShowsWorld new o.world) (sym is) shows; came = ap (λ (o : Occurred). o.outcome) (sym is) }
-
--- nothing changes
-pub nothing-becomes : (shown : WorldShown) (outcome : Outcome) (world : World) → HasOwnNodes shown → ShowsWorld shown world → Becomes shown shown outcome (record { world = world; outcome = outcome })
-nothing-becomes shown outcome world own shows = record { config = refl; outcomes = refl; own = own; world = shows; came = refl }
-
--- a call to the controller
-pub controller-becomes : (shown : WorldShown) (new : ControllerParts) (posted : List Frame) (frame : Frame) (reply : Option Frame) (outcome : Outcome) (world : World)
-    → HasOwnNodes shown → ShowsWorld shown world → frame.party ≡ Controller → ControllerDoes shown.controller new frame reply → IsAnswered shown.frames posted reply outcome
-    → Becomes shown (record shown { controller = new; frames = posted }) outcome (called shown.config world frame Controller)
-controller-becomes shown new posted frame reply outcome world own shows party does sent =
-    let fenced : controller.Fenced = controller.fenced shown.config world.controller frame in
-    let changed : World = record world { controller = fenced.state } in
-    let after : World = record changed { frames = world.frames ++ option_to_list fenced.reply } in
-    let config : (shown.controller).config ≡ shown.config = shows.own_config in
-    let replied : reply ≡ fenced.reply = subst (λ c. reply ≡ (controller.fenced c world.controller frame).reply) config (does.replies world.controller shows.controller) in
-    let state : IsShown new fenced.state = subst (λ c. IsShown new (controller.fenced c world.controller frame).state) config (does.state world.controller shows.controller) in
-    let frames : posted ≡ world.frames ++ option_to_list fenced.reply = sent.frames ∙ (λ i. shows.frames i ++ option_to_list (replied i)) in
-    let world_is : answered shown.config world frame ≡ after = ap (answered_by shown.config world frame) party ∙ with_frame-is fenced.reply changed in
-    let outcome_is : outcomes.Answered (next_frame world) ≡ outcome = ap (λ (fs : List Frame). outcomes.Answered (length fs + 1)) (sym shows.frames) ∙ sym sent.came in
-    at-world shown (record shown { controller = new; frames = posted }) outcome (called shown.config world frame Controller) after refl refl (record { ids = own.ids; fit = own.fit })
-    (record { frames = frames; controller = state; nodes = shows.nodes; orchestrator = shows.orchestrator; form = shows.form; own_config = does.config ∙ config; own_nodes = shows.own_nodes })
-    (λ i. let o : Occurred = record { world = world_is i; outcome = outcome_is i } in o)
 
 -- a call to a node
 pub node-becomes : (shown : WorldShown) (id : List ℕ) (place : ℕ) (old new : NodeParts) (posted : List Frame) (frame : Frame) (reply : Option Frame) (outcome : Outcome) (world : World)
@@ -111,26 +89,6 @@ nowhere-becomes shown id frame world own shows none =
     let answers : Occurred = record { world = answered shown.config world frame; outcome = outcomes.Answered (next_frame world) } in
     let nowhere : Occurred = record { world = world; outcome = outcomes.NoSuchNode } in
     at-world shown shown outcomes.NoSuchNode (called shown.config world frame (Node id)) world refl refl own shows (ap (λ b. cond b answers nowhere) (isnt-there shown id own none))
-
--- the controller restarts
-pub controller-restarts : (shown : WorldShown) (new : ControllerParts) (world : World) → HasOwnNodes shown → ShowsWorld shown world → IsSameController shown.controller new
-    → Becomes shown (record shown { controller = new }) outcomes.Restarted (record { world = world; outcome = outcomes.Restarted })
-controller-restarts shown new world own shows same =
-    record {
-      config = refl;
-      outcomes = refl;
-      own = record { ids = own.ids; fit = own.fit };
-      world = record {
-        frames = shows.frames;
-        controller = same.shown world.controller shows.controller;
-        nodes = shows.nodes;
-        orchestrator = shows.orchestrator;
-        form = shows.form;
-        own_config = same.config ∙ shows.own_config;
-        own_nodes = shows.own_nodes;
-      };
-      came = refl;
-    }
 
 -- a node restarts
 pub node-restarts : (shown : WorldShown) (id : List ℕ) (place : ℕ) (old new : NodeParts) (world : World) → HasOwnNodes shown → ShowsWorld shown world

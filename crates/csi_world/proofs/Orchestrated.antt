@@ -1,9 +1,10 @@
--- What an input of the orchestrator comes to, by what its commands promise.
-use Rattle.std.proofs.Common.{◌≡◌, List, map, refl, sym, ◌∙◌, ap, subst}
+-- The world after an input of the orchestrator, by what its calls promise.
+use Rattle.std.proofs.Common.{◌≡◌, ℕ, List, map, refl, sym, ◌∙◌, ap, subst}
 use Rattle.std.specs.Prelude.{Result, Ok, Err, IfOk, IfErr, OnErr}
+use Rattle.std.proofs.lemmas.Result.{IfOk-weaker}
 use Rattle.csi_types.specs.Frame.{Frame}
 use Rattle.csi_orchestrator.specs.declared.fault.OrchFault.{OrchFault}
-use Rattle.csi_orchestrator.specs.History.{History, with_items}
+use Rattle.csi_orchestrator.specs.History.{History}
 use Rattle.csi_orchestrator.specs.WellFormed.{IsWellFormed}
 use Rattle.csi_orchestrator.specs.Moves.{Input, Answer, Moved, moves, moved_to}
 use Rattle.csi_orchestrator.specs.Laws.{MovesKeepForm}
@@ -13,86 +14,72 @@ use Rattle.csi_orchestrator.specs.Shown.{AgreesWith, Parts}
 use Rattle.csi_world.specs.declared.event.Outcome.{Outcome}
 use Rattle.csi_world.specs.declared.event.Outcome.TheVariants as outcomes
 use Rattle.csi_world.specs.World.{World, with_history}
-use Rattle.csi_world.specs.After.{Occurred, by_answer, node_id, orchestrated}
-use Rattle.csi_world.specs.Simulated.{WorldShown, ShowsWorld}
-use Rattle.csi_world.specs.Simulating.{IsPosted, IsRefused, IsSettled, ComesTo, Orchestrates, HasOwnNodes, Becomes}
+use Rattle.csi_world.specs.After.{Occurred, by_answer, by_result, node_id, orchestrated}
+use Rattle.csi_world.specs.Simulated.{WorldShown}
+use Rattle.csi_world.specs.Simulating.{IsPosted, IsRefused, IsSettled, Does}
+use Rattle.csi_world.proofs.Called.{at-world}
+
+-- the world after the orchestrator's move
+after_move : World → List Frame → Result Moved OrchFault → World
+after_move world posted result = record world { frames = posted; history = moved_to world.history result }
+
+-- by what the orchestrator's move is, the frames and what came of it are these, and the orchestrator agrees
+record ComesTo (world : World) (new : Parts) (posted : List Frame) (outcome : Outcome) (result : Result Moved OrchFault) : Type 0 where
+  agrees : AgreesWith new (moved_to world.history result)
+  occurs : by_result world result ≡ record { world = after_move world posted result; outcome = outcome }
 
 -- what was done, and its frame sent
-done-comes : (history : History) (new : Parts) (frames posted : List Frame) (outcome : Outcome) (answer : Answer) (result : Result Moved OrchFault)
-    → IsDone history result answer new → IsPosted frames posted answer outcome → ComesTo history new frames posted outcome result
-done-comes history new frames posted outcome answer (Err fault) done sent = absurd done
-done-comes history new frames posted outcome answer (Ok moved) done sent =
-    record {
-      agrees = done.agrees;
-      occurs = λ world same_frames same_history.
-          ap (λ (a : Answer). by_answer (with_history moved.items world) a) done.answered ∙ sent (with_history moved.items world) same_frames
-          ∙ ap (λ (h : History). let o : Occurred = record { world = record world { frames = posted; history = with_items h moved.items }; outcome = outcome } in o) same_history;
-    }
+done-comes : (world : World) (new : Parts) (posted : List Frame) (outcome : Outcome) (answer : Answer) (result : Result Moved OrchFault)
+    → IsDone world.history result answer new → IsPosted world.frames posted answer outcome → ComesTo world new posted outcome result
+unfolding after_move
+done-comes world new posted outcome answer (Err fault) done sent = absurd done
+done-comes world new posted outcome answer (Ok moved) done sent =
+    record { agrees = done.agrees; occurs = ap (by_answer (with_history moved.items world)) done.answered ∙ sent (with_history moved.items world) refl }
 
 -- what was refused
-refused-comes : (history : History) (old new : Parts) (frames posted : List Frame) (outcome : Outcome) (fault : OrchFault) (result : Result Moved OrchFault)
-    → AgreesWith old history → new ≡ old → IsRefusal result fault → IsRefused frames posted fault outcome → ComesTo history new frames posted outcome result
-refused-comes history old new frames posted outcome fault (Ok moved) agrees same refusal refused = absurd (refused.other refusal)
-refused-comes history old new frames posted outcome fault (Err other) agrees same refusal refused =
+refused-comes : (world : World) (old new : Parts) (posted : List Frame) (outcome : Outcome) (fault : OrchFault) (result : Result Moved OrchFault)
+    → AgreesWith old world.history → new ≡ old → IsRefusal result fault → IsRefused world.frames posted fault outcome → ComesTo world new posted outcome result
+unfolding after_move
+refused-comes world old new posted outcome fault (Ok moved) agrees same refusal refused = absurd (refused.other refusal)
+refused-comes world old new posted outcome fault (Err other) agrees same refusal refused =
     record {
-      agrees = subst (λ (p : Parts). AgreesWith p history) (sym same) agrees;
-      occurs = λ world same_frames same_history. λ i.
-          let o : Occurred = record { world = record world { frames = (same_frames ∙ sym refused.frames) i; history = same_history i }; outcome = (ap outcomes.Refused (sym refusal) ∙ sym refused.came) i } in o;
+      agrees = subst (λ (p : Parts). AgreesWith p world.history) (sym same) agrees;
+      occurs = λ i. let o : Occurred = record { world = record world { frames = sym refused.frames i }; outcome = (ap outcomes.Refused (sym refusal) ∙ sym refused.came) i } in o;
     }
 
--- a command, a timeout or a reply
-pub settled-comes : {X : Type 0} (answer : X → Answer) (old new : Parts) (frames posted : List Frame) (input : Input) (outcome : Outcome) (result : Result X OrchFault)
-    → ((history : History) → IsWellFormed history → AgreesWith old history → IfOk result (λ x. IsDone history (moves old.nodes history input) (answer x) new))
-    → ((history : History) → IsWellFormed history → AgreesWith old history → IfErr result (λ fault. IsRefusal (moves old.nodes history input) fault))
-    → OnErr result (new ≡ old) → new.nodes ≡ old.nodes → IsSettled answer frames posted result outcome → Orchestrates old new frames posted input outcome
-settled-comes answer old new frames posted input outcome (Ok x) ok err stays nodes settled =
-    record { nodes = nodes; comes = λ history form agrees. done-comes history new frames posted outcome (answer x) (moves old.nodes history input) (ok history form agrees) settled }
-settled-comes answer old new frames posted input outcome (Err fault) ok err stays nodes settled =
-    record {
-      nodes = nodes;
-      comes = λ history form agrees. refused-comes history old new frames posted outcome fault (moves old.nodes history input) agrees stays (err history form agrees) settled;
-    }
+-- a command, a timeout, a reply or a restart
+settled-comes : {X : Type 0} (answer : X → Answer) (world : World) (old new : Parts) (posted : List Frame) (outcome : Outcome) (answered : Result X OrchFault) (result : Result Moved OrchFault) → AgreesWith old world.history
+    → IfOk answered (λ x. IsDone world.history result (answer x) new) → IfErr answered (λ fault. IsRefusal result fault) → OnErr answered (new ≡ old)
+    → IsSettled answer world.frames posted answered outcome → ComesTo world new posted outcome result
+settled-comes answer world old new posted outcome (Ok x) result agrees ok err stays settled = done-comes world new posted outcome (answer x) result ok settled
+settled-comes answer world old new posted outcome (Err fault) result agrees ok err stays settled = refused-comes world old new posted outcome fault result agrees stays err settled
 
--- the same, by the input that was asked
-pub settled-as : {X : Type 0} (answer : X → Answer) (old new : Parts) (frames posted : List Frame) (input asked : Input) (outcome : Outcome) (result : Result X OrchFault) → input ≡ asked
-    → ((history : History) → IsWellFormed history → AgreesWith old history → IfOk result (λ x. IsDone history (moves old.nodes history input) (answer x) new))
-    → ((history : History) → IsWellFormed history → AgreesWith old history → IfErr result (λ fault. IsRefusal (moves old.nodes history input) fault))
-    → OnErr result (new ≡ old) → new.nodes ≡ old.nodes → IsSettled answer frames posted result outcome → Orchestrates old new frames posted asked outcome
-settled-as answer old new frames posted input asked outcome result is ok err stays nodes settled =
-    subst (λ (i : Input). Orchestrates old new frames posted i outcome) is (settled-comes answer old new frames posted input outcome result ok err stays nodes settled)
-
--- the world after an input of the orchestrator
-pub orchestrated-becomes : (law : MovesKeepForm) (shown : WorldShown) (new : Parts) (posted : List Frame) (input : Input) (outcome : Outcome) (world : World) → ShowsWorld shown world → HasOwnNodes shown
-    → Orchestrates shown.orchestrator new shown.frames posted input outcome
-    → Becomes shown (record shown { orchestrator = new; frames = posted }) outcome (orchestrated shown.config world input)
-orchestrated-becomes law shown new posted input outcome world shows own does =
-    let nodes : (shown.orchestrator).nodes ≡ map node_id (shown.config).nodes = shows.own_nodes in
-    let comes : ComesTo world.history new shown.frames posted outcome (moves (map node_id (shown.config).nodes) world.history input)
-    = subst (λ ids. ComesTo world.history new shown.frames posted outcome (moves ids world.history input)) nodes (does.comes world.history shows.form shows.orchestrator) in
-    let is = comes.occurs world (sym shows.frames) refl in
-    let after : World = record world { frames = posted; history = moved_to world.history (moves (map node_id (shown.config).nodes) world.history input) } in
-    let shown_after : ShowsWorld (record shown { orchestrator = new; frames = posted }) after
-    = record {
+-- what comes of an event or of a delivery that is this input
+pub input-becomes : MovesKeepForm → {X E : Type 0} (answer : X → Answer) (shown : WorldShown) (new : Parts) (posted : List Frame) (input : Input) (occurs : World → Occurred) (answered : Result X OrchFault) (result : Result Outcome E)
+    → ((world : World) → occurs world ≡ orchestrated shown.config world input)
+    → ((history : History) → IsWellFormed history → AgreesWith shown.orchestrator history → IfOk answered (λ x. IsDone history (moves (shown.orchestrator).nodes history input) (answer x) new))
+    → ((history : History) → IsWellFormed history → AgreesWith shown.orchestrator history → IfErr answered (λ fault. IsRefusal (moves (shown.orchestrator).nodes history input) fault))
+    → OnErr answered (new ≡ shown.orchestrator) → new.nodes ≡ (shown.orchestrator).nodes → IfOk result (λ outcome. IsSettled answer shown.frames posted answered outcome)
+    → Does shown (record shown { orchestrator = new; frames = posted }) result occurs
+unfolding after_move
+input-becomes law answer shown new posted input occurs answered result is ok err stays nodes sent = λ world own shows.
+    IfOk-weaker result _ _
+    (λ outcome settled.
+    let history : History = world.history in
+    let comes : ComesTo world new posted outcome (moves (map node_id (shown.config).nodes) history input)
+    = subst (λ ids. ComesTo world new posted outcome (moves ids history input)) shows.own_nodes
+    (settled-comes answer world shown.orchestrator new posted outcome answered (moves (shown.orchestrator).nodes history input) shows.orchestrator
+    (ok history shows.form shows.orchestrator) (err history shows.form shows.orchestrator) stays (subst (λ (fs : List Frame). IsSettled answer fs posted answered outcome) shows.frames settled))
+    in
+    at-world shown (record shown { orchestrator = new; frames = posted }) outcome (occurs world) (after_move world posted (moves (map node_id (shown.config).nodes) history input)) refl refl (record { ids = own.ids; fit = own.fit })
+    (record {
       frames = refl;
       controller = shows.controller;
       nodes = shows.nodes;
       orchestrator = comes.agrees;
-      form = law.then (map node_id (shown.config).nodes) world.history input shows.form;
+      form = law.then (map node_id (shown.config).nodes) history input shows.form;
       own_config = shows.own_config;
-      own_nodes = does.nodes ∙ nodes;
-    }
-    in
-    record {
-      config = refl;
-      outcomes = refl;
-      own = record { ids = own.ids; fit = own.fit };
-      world = subst (λ (o : Occurred). ShowsWorld (record shown { orchestrator = new; frames = posted }) o.world) (sym is) shown_after;
-      came = ap (λ (o : Occurred). o.outcome) (sym is);
-    }
-
--- the same, of an event or a delivery that is this input
-pub event-becomes : (law : MovesKeepForm) (shown : WorldShown) (new : Parts) (posted : List Frame) (input : Input) (outcome : Outcome) (world : World) (occurred : Occurred)
-    → occurred ≡ orchestrated shown.config world input → ShowsWorld shown world → HasOwnNodes shown → Orchestrates shown.orchestrator new shown.frames posted input outcome
-    → Becomes shown (record shown { orchestrator = new; frames = posted }) outcome occurred
-event-becomes law shown new posted input outcome world occurred is shows own does =
-    subst (λ (o : Occurred). Becomes shown (record shown { orchestrator = new; frames = posted }) outcome o) (sym is) (orchestrated-becomes law shown new posted input outcome world shows own does)
+      own_nodes = nodes ∙ shows.own_nodes;
+    })
+    (is world ∙ comes.occurs))
+    sent

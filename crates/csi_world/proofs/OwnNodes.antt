@@ -27,13 +27,3 @@ same-from (m ∷ ms) (n ∷ ns) long same =
     let first : m.id ≡ n.id = same 0 m n (omega arith) in
     let rest = same-from ms ns (omega (arith, long)) (λ k d e below. same (suc k) d e (omega arith)) in
     λ i. first i ∷ rest i
-
-pub same-long : (kept : List NodeParts) (nodes : List NodeSlots) → AreOfNodes kept nodes → length kept ≡ length nodes
-same-long [] [] same = refl
-same-long [] (n ∷ ns) same = let clash : [] ≡ n.id ∷ map node_id ns → ⊥ = (λ h. cc) in absurd (clash same)
-same-long (m ∷ ms) [] same = let clash : m.id ∷ map (λ (one : NodeParts). one.id) ms ≡ [] → ⊥ = (λ h. cc) in absurd (clash same)
-same-long (m ∷ ms) (n ∷ ns) same =
-    let here : m.id ∷ map (λ (one : NodeParts). one.id) ms ≡ n.id ∷ map node_id ns = same in
-    let rest : map (λ (one : NodeParts). one.id) ms ≡ map node_id ns = cc in
-    let long = same-long ms ns rest in
-    omega (arith, long)

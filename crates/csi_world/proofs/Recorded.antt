@@ -84,11 +84,6 @@ published-one world name node target id well has =
     find-same_among (touches (things.Published name node target)) (is_of (Published id node target)) (issued_in world.history.items)
     (λ call among. touches-published world.controller name node target id call well.names has (well.named.own call among))
 
--- a call of a volume has its id
-id-of : (controller : ControllerState) (name : List ℕ) (thing : Thing) (call : Issued) → (is_thing thing (thing_at call.name call.party call.call) ≡ true → IsOwn controller call.name call.party call.call → (id : ℕ) × HasName controller name id)
-    → touches thing call ≡ true → IsOwn controller call.name call.party call.call → (id : ℕ) × HasName controller name id
-id-of controller name thing call f of own = f of own
-
 renamed : (controller : ControllerState) (name other : List ℕ) (id : ℕ) → same_text name other ≡ true → HasName controller other id → HasName controller name id
 renamed controller name other id same has = subst (λ n. HasName controller n id) (sym ((same_text-tells name other).0 same)) has
 

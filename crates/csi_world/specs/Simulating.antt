@@ -1,5 +1,5 @@
 -- What each part of a simulated world does with an event. This profile's own.
-use Rattle.std.specs.Prelude.{◌≡◌, ℕ, zero, suc, ◌+◌, List, [], ◌∷◌, ◌++◌, map, length, slice_get, Option, Some, None, Result, Ok, Err}
+use Rattle.std.specs.Prelude.{◌≡◌, ℕ, zero, suc, ◌+◌, List, [], ◌∷◌, ◌++◌, map, length, slice_get, Option, Some, None, Result, Ok, Err, IfOk}
 use Rattle.std.specs.Option.{option_to_list}
 use Rattle.csi_types.specs.declared.config.NodeSlots.{NodeSlots}
 use Rattle.csi_types.specs.Config.{Config, config_fault}
@@ -14,16 +14,12 @@ use Rattle.csi_controller.specs.State.{ControllerState}
 use Rattle.csi_controller.specs.Fenced as controller
 use Rattle.csi_orchestrator.specs.declared.fault.OrchFault.{OrchFault}
 use Rattle.csi_orchestrator.specs.declared.fault.OrchFault.TheVariants.{NoMemory}
-use Rattle.csi_orchestrator.specs.History.{History}
-use Rattle.csi_orchestrator.specs.WellFormed.{IsWellFormed}
-use Rattle.csi_orchestrator.specs.Moves.{Input, Answer, Moved, moves, moved_to}
-use Rattle.csi_orchestrator.specs.Shown.{AgreesWith}
-use Rattle.csi_orchestrator.specs.Shown.{Parts as OrchestratorParts}
+use Rattle.csi_orchestrator.specs.Moves.{Answer}
 use Rattle.csi_world.specs.declared.event.Event.{Event}
 use Rattle.csi_world.specs.declared.event.Outcome.{Outcome}
 use Rattle.csi_world.specs.declared.event.Outcome.TheVariants as outcomes
 use Rattle.csi_world.specs.World.{World}
-use Rattle.csi_world.specs.After.{Occurred, by_answer, by_result, node_id, after}
+use Rattle.csi_world.specs.After.{Occurred, by_answer, node_id, after}
 use Rattle.csi_world.specs.Simulated.{WorldShown, ShowsWorld, ShowsRun}
 
 -- a frame is sent under the next number
@@ -50,17 +46,6 @@ pub record IsRefused (old new : List Frame) (fault : OrchFault) (outcome : Outco
 abbrev pub IsSettled : {X : Type 0} → (X → Answer) → List Frame → List Frame → Result X OrchFault → Outcome → Type 0
 IsSettled answer old new (Ok x) outcome = IsPosted old new (answer x) outcome
 IsSettled answer old new (Err fault) outcome = IsRefused old new fault outcome
-
--- by what the orchestrator's move is, the frames and what came of it are these, and the orchestrator agrees
-pub record ComesTo (history : History) (new : OrchestratorParts) (frames posted : List Frame) (outcome : Outcome) (result : Result Moved OrchFault) : Type 0 where
-  pub agrees : AgreesWith new (moved_to history result)
-  pub occurs : (world : World) → world.frames ≡ frames → world.history ≡ history
-      → by_result world result ≡ record { world = record world { frames = posted; history = moved_to history result }; outcome = outcome }
-
--- the same, for an input and every history
-pub record Orchestrates (old new : OrchestratorParts) (frames posted : List Frame) (input : Input) (outcome : Outcome) : Type 0 where
-  pub nodes : new.nodes ≡ old.nodes
-  pub comes : (history : History) → IsWellFormed history → AgreesWith old history → ComesTo history new frames posted outcome (moves old.nodes history input)
 
 -- a plugin's reply is sent, if there is one
 pub record IsAnswered (old new : List Frame) (reply : Option Frame) (outcome : Outcome) : Type 0 where
@@ -103,6 +88,10 @@ pub record Becomes (old new : WorldShown) (outcome : Outcome) (occurred : Occurr
   pub own : HasOwnNodes new
   pub world : ShowsWorld new occurred.world
   pub came : outcome ≡ occurred.outcome
+
+-- the same, of every world that was shown
+abbrev pub Does : {E : Type 0} → WorldShown → WorldShown → Result Outcome E → (World → Occurred) → Type 0
+Does old new result occurs = (world : World) → HasOwnNodes old → ShowsWorld old world → IfOk result (λ outcome. Becomes old new outcome (occurs world))
 
 -- the same, once it is logged
 pub record IsLogged (old new : WorldShown) (occurred : Occurred) : Type 0 where

@@ -5,7 +5,6 @@
 mod assembling;
 mod auditing;
 mod carrying;
-mod commands;
 mod event;
 mod laws;
 mod occurring;

@@ -5,25 +5,29 @@ ghost use Rattle.csi_types.specs.declared.call.Party.TheVariants as parties;
 ghost use Rattle.csi_world.specs.World.{World};
 ghost use Rattle.csi_world.specs.After.{called, delivered, delivered_body, frame_at, occurs};
 ghost use Rattle.csi_world.specs.Simulated.{ShowsWorld};
-ghost use Rattle.csi_world.specs.Simulating.{HasOwnNodes, Becomes, IsLogged};
+ghost use Rattle.csi_world.specs.Simulating.{HasOwnNodes, Does, IsLogged};
 ghost use Rattle.csi_world.specs.System.{shown_of};
 ghost use Rattle.csi_world.specs.declared.event.Outcome.TheVariants as outcomes;
 
 use crate::carrying::carried_option;
-use crate::commands::{create, delete, hear, restart, stop, time_out, use_at};
 use crate::event::{Event, Outcome};
 use crate::plugins::{place_of, restarted_controller, restarted_node, step_controller, step_node};
-use crate::sending::{answered, frame_of};
+use crate::sending::{answered, frame_of, settled, settled_reply, settled_restart};
 use crate::system::System;
 use csi_types::{Body, Frame, NoMemory, NodeId, Party};
+
+// A copy of an event.
+fn copied(event: &Event) -> Result<Event, NoMemory>
+    ensures { IfOk result (λ copy. copy ≡ event.now) }
+{
+    Ok(event.clone()?)
+}
 
 impl System {
     // A call comes to the controller.
     fn call_controller(&mut self, frame: &Frame) -> Result<Outcome, NoMemory>
-        requires own { HasOwnNodes (shown_of self.old) }
-        requires party { frame.now.party ≡ parties.Controller }
-        ensures { (world : World) → ShowsWorld (shown_of self.old) world →
-            IfOk result (λ outcome. Becomes (shown_of self.old) (shown_of self.new) outcome (called self.old.config world frame.now parties.Controller)) }
+        requires { frame.now.party ≡ parties.Controller }
+        ensures { Does (shown_of self.old) (shown_of self.new) result (λ world. called self.old.config world frame.now parties.Controller) }
     {
         let reply = step_controller(&mut self.controller, frame)?;
         answered(&mut self.frames, reply)
@@ -31,10 +35,8 @@ impl System {
 
     // A call comes to the node of this id.
     fn call_node(&mut self, id: &NodeId, frame: &Frame) -> Result<Outcome, NoMemory>
-        requires own { HasOwnNodes (shown_of self.old) }
-        requires party { frame.now.party ≡ parties.Node id.now }
-        ensures { (world : World) → ShowsWorld (shown_of self.old) world →
-            IfOk result (λ outcome. Becomes (shown_of self.old) (shown_of self.new) outcome (called self.old.config world frame.now (parties.Node id.now))) }
+        requires { frame.now.party ≡ parties.Node id.now }
+        ensures { Does (shown_of self.old) (shown_of self.new) result (λ world. called self.old.config world frame.now (parties.Node id.now)) }
     {
         match place_of(&self.nodes, id) {
             Some(place) => {
@@ -47,9 +49,7 @@ impl System {
 
     // A call comes to its plugin.
     fn call(&mut self, frame: &Frame) -> Result<Outcome, NoMemory>
-        requires own { HasOwnNodes (shown_of self.old) }
-        ensures { (world : World) → ShowsWorld (shown_of self.old) world →
-            IfOk result (λ outcome. Becomes (shown_of self.old) (shown_of self.new) outcome (called self.old.config world frame.now frame.now.party)) }
+        ensures { Does (shown_of self.old) (shown_of self.new) result (λ world. called self.old.config world frame.now frame.now.party) }
     {
         match frame.party() {
             Party::Controller => self.call_controller(frame),
@@ -59,14 +59,12 @@ impl System {
 
     // A frame comes to its plugin or to the orchestrator.
     fn take(&mut self, frame: &Frame) -> Result<Outcome, NoMemory>
-        requires own { HasOwnNodes (shown_of self.old) }
-        ensures { (world : World) → ShowsWorld (shown_of self.old) world →
-            IfOk result (λ outcome. Becomes (shown_of self.old) (shown_of self.new) outcome (delivered_body self.old.config world frame.now frame.now.body)) }
+        ensures { Does (shown_of self.old) (shown_of self.new) result (λ world. delivered_body self.old.config world frame.now frame.now.body) }
     {
         csi_orchestrator::form_law();
         match frame.body() {
             Body::Call(_) => self.call(frame),
-            Body::Reply(..) => hear(&mut self.orchestrator, &mut self.frames, frame),
+            Body::Reply(..) => settled_reply(&mut self.frames, self.orchestrator.deliver(frame)),
         }
     }
 
@@ -79,9 +77,7 @@ impl System {
 
     // The frame of this number is delivered, if it is there.
     fn deliver(&mut self, number: u64) -> Result<Outcome, NoMemory>
-        requires own { HasOwnNodes (shown_of self.old) }
-        ensures { (world : World) → ShowsWorld (shown_of self.old) world →
-            IfOk result (λ outcome. Becomes (shown_of self.old) (shown_of self.new) outcome (delivered self.old.config world (frame_at world number))) }
+        ensures { Does (shown_of self.old) (shown_of self.new) result (λ world. delivered self.old.config world (frame_at world number)) }
     {
         match self.carried_frame(number)? {
             Some(frame) => self.take(&frame),
@@ -91,9 +87,7 @@ impl System {
 
     // The controller restarts, from its record.
     fn restart_controller(&mut self) -> Result<Outcome, NoMemory>
-        requires own { HasOwnNodes (shown_of self.old) }
-        ensures { (world : World) → ShowsWorld (shown_of self.old) world →
-            IfOk result (λ outcome. Becomes (shown_of self.old) (shown_of self.new) outcome (record { world = world; outcome = outcomes.Restarted })) }
+        ensures { Does (shown_of self.old) (shown_of self.new) result (λ world. record { world = world; outcome = outcomes.Restarted }) }
     {
         let controller = restarted_controller(self.alloc, &self.controller, &self.config)?;
         self.controller = controller;
@@ -102,10 +96,8 @@ impl System {
 
     // The node of this id restarts, from its record.
     fn restart_node(&mut self, id: &NodeId) -> Result<Outcome, NoMemory>
-        requires own { HasOwnNodes (shown_of self.old) }
-        ensures { (world : World) → ShowsWorld (shown_of self.old) world →
-            IfOk result (λ outcome. Becomes (shown_of self.old) (shown_of self.new) outcome
-            (record { world = world; outcome = if has_node id.now self.old.config.nodes then outcomes.Restarted else outcomes.NoSuchNode })) }
+        ensures { Does (shown_of self.old) (shown_of self.new) result (λ world.
+            record { world = world; outcome = if has_node id.now self.old.config.nodes then outcomes.Restarted else outcomes.NoSuchNode }) }
     {
         match place_of(&self.nodes, id) {
             Some(place) => {
@@ -119,49 +111,46 @@ impl System {
 
     // What comes of an event, which isn't logged yet.
     fn outcome_of(&mut self, event: &Event) -> Result<Outcome, NoMemory>
-        requires own { HasOwnNodes (shown_of self.old) }
-        ensures { (world : World) → ShowsWorld (shown_of self.old) world →
-            IfOk result (λ outcome. Becomes (shown_of self.old) (shown_of self.new) outcome (occurs self.old.config world event.now)) }
+        ensures { Does (shown_of self.old) (shown_of self.new) result (λ world. occurs self.old.config world event.now) }
     {
         csi_orchestrator::form_law();
         let orchestrator = &mut self.orchestrator;
         let frames = &mut self.frames;
-        match event {
+        match copied(event)? {
             Event::Create {
                 name,
                 required,
                 limit,
                 capabilities,
-            } => create(orchestrator, frames, name, *required, *limit, capabilities),
+            } => settled(
+                frames,
+                orchestrator.create(name, required, limit, capabilities),
+            ),
             Event::Use {
                 name,
                 node,
                 target,
                 capability,
                 readonly,
-            } => use_at(
-                orchestrator,
+            } => settled(
                 frames,
-                name,
-                node,
-                target,
-                capability,
-                *readonly,
+                orchestrator.use_at(&name, node, target, capability, readonly),
             ),
-            Event::Stop { name, node, target } => stop(orchestrator, frames, name, node, target),
-            Event::Delete(name) => delete(orchestrator, frames, name),
-            Event::Timeout(name) => time_out(orchestrator, frames, name),
-            Event::Deliver(number) => self.deliver(*number),
-            Event::RestartOrchestrator => restart(orchestrator),
+            Event::Stop { name, node, target } => {
+                settled(frames, orchestrator.stop(&name, node, target))
+            }
+            Event::Delete(name) => settled(frames, orchestrator.delete(&name)),
+            Event::Timeout(name) => settled(frames, orchestrator.timeout(&name)),
+            Event::Deliver(number) => self.deliver(number),
+            Event::RestartOrchestrator => settled_restart(orchestrator.restart()),
             Event::RestartController => self.restart_controller(),
-            Event::RestartNode(id) => self.restart_node(id),
+            Event::RestartNode(id) => self.restart_node(&id),
         }
     }
 
     /// What comes of an event, which is logged. An `Err` is an allocation that was refused; the system is of no use then.
     pub(crate) fn occur(&mut self, event: &Event) -> Result<(), NoMemory>
-        requires own { HasOwnNodes (shown_of self.old) }
-        ensures { (world : World) → ShowsWorld (shown_of self.old) world →
+        ensures { (world : World) → HasOwnNodes (shown_of self.old) → ShowsWorld (shown_of self.old) world →
             OnOk result (IsLogged (shown_of self.old) (shown_of self.new) (occurs self.old.config world event.now)) }
     {
         let outcome = self.outcome_of(event)?;

@@ -3,7 +3,7 @@ ghost use Rattle.std.specs.Prelude.{◌≡◌, ◌+◌, List, [], IfOk};
 ghost use Rattle.std.specs.Option.{option_copied};
 ghost use Rattle.csi_types.specs.Frame.{Frame as FrameParts};
 ghost use Rattle.csi_orchestrator.specs.Moves.{Sends, Hears, Restarted};
-ghost use Rattle.csi_world.specs.Simulating.{IsSent, IsPosted, IsRefused, IsSettled, IsAnswered, numbered};
+ghost use Rattle.csi_world.specs.Simulating.{IsSent, IsRefused, IsSettled, IsAnswered, numbered};
 
 use crate::event::Outcome;
 use csi_orchestrator::{Heard, OrchFault};
@@ -37,27 +37,6 @@ fn refused(fault: OrchFault) -> Result<Outcome, NoMemory>
     }
 }
 
-// Sends the frame of a command or a timeout, if it has one.
-fn posted(frames: &mut Vec<Frame>, sent: Option<Frame>) -> Result<Outcome, NoMemory>
-    ensures { IfOk result (IsPosted frames.old.items frames.new.items (Sends sent)) }
-{
-    match sent {
-        Some(frame) => Ok(Outcome::Sent(send(frames, frame)?)),
-        None => Ok(Outcome::Met),
-    }
-}
-
-// Sends the frame that follows a reply, if there is one.
-fn followed(frames: &mut Vec<Frame>, heard: Heard) -> Result<Outcome, NoMemory>
-    ensures { IfOk result (IsPosted frames.old.items frames.new.items (Hears heard)) }
-{
-    match heard {
-        Heard::Ignored => Ok(Outcome::Ignored),
-        Heard::Taken(None) => Ok(Outcome::Taken(None)),
-        Heard::Taken(Some(frame)) => Ok(Outcome::Taken(Some(send(frames, frame)?))),
-    }
-}
-
 /// What comes of the orchestrator's answer to a command or a timeout, whose frame is sent, if it has one.
 pub(crate) fn settled(
     frames: &mut Vec<Frame>,
@@ -66,7 +45,8 @@ pub(crate) fn settled(
     ensures { IfOk result (IsSettled Sends frames.old.items frames.new.items answer) }
 {
     match answer {
-        Ok(sent) => posted(frames, sent),
+        Ok(Some(frame)) => Ok(Outcome::Sent(send(frames, frame)?)),
+        Ok(None) => Ok(Outcome::Met),
         Err(fault) => refused(fault),
     }
 }
@@ -79,7 +59,9 @@ pub(crate) fn settled_reply(
     ensures { IfOk result (IsSettled Hears frames.old.items frames.new.items answer) }
 {
     match answer {
-        Ok(heard) => followed(frames, heard),
+        Ok(Heard::Ignored) => Ok(Outcome::Ignored),
+        Ok(Heard::Taken(None)) => Ok(Outcome::Taken(None)),
+        Ok(Heard::Taken(Some(frame))) => Ok(Outcome::Taken(Some(send(frames, frame)?))),
         Err(fault) => refused(fault),
     }
 }

@@ -17,4 +17,4 @@ loop-event-preserved c =
     let more : take (index + 1) events ≡ take index events ++ event ∷ []
     = take_more events index event c.loop-event-test.true ∙ ap (λ (e : Event). take index events ++ e ∷ []) (sym c.event-item.is) in
     subst (λ (es : List Event). IsRun c.args.config.now es (shown_of c.occur.new.self)) (sym more)
-    (run-more c.args.config.now (take index events) event (shown_of c.loop-event.system) (shown_of c.occur.new.self) before (c.in_ok-occur.ensures (after c.args.config.now (take index events)).world before.shows.world))
+    (run-more c.args.config.now (take index events) event (shown_of c.loop-event.system) (shown_of c.occur.new.self) before (c.in_ok-occur.ensures (after c.args.config.now (take index events)).world before.own before.shows.world))

@@ -5,10 +5,10 @@ use Rattle.csi_world.proofs.Called.{node-becomes, nowhere-becomes}
 use Rattle.csi_world.proofs.system.System.call_node.Goals as goal
 
 pub returns-in_ok-reply-in-Some : goal.returns-in_ok-reply-in-Some
-returns-in_ok-reply-in-Some c = λ world shows.
+returns-in_ok-reply-in-Some c = λ world own shows.
     IfOk-weaker c.answered.result _ _
-    (λ outcome sent. node-becomes (shown_of c.args.self.now) c.args.id.now c.in-Some.place c.index_mut.result.now c.step_node.new.node c.answered.new.frames.items c.args.frame.now c.in_ok-reply-in-Some.reply outcome world c.requires.own shows c.requires.party (cc) c.index_mut.ensures.value c.in_ok-reply-in-Some.ensures sent)
+    (λ outcome sent. node-becomes (shown_of c.args.self.now) c.args.id.now c.in-Some.place c.index_mut.result.now c.step_node.new.node c.answered.new.frames.items c.args.frame.now c.in_ok-reply-in-Some.reply outcome world own shows c.requires (cc) c.index_mut.ensures.value c.in_ok-reply-in-Some.ensures sent)
     c.answered.ensures
 
 pub returns-in-None : goal.returns-in-None
-returns-in-None c = λ world shows. nowhere-becomes (shown_of c.args.self.now) c.args.id.now c.args.frame.now world c.requires.own shows (cc)
+returns-in-None c = λ world own shows. nowhere-becomes (shown_of c.args.self.now) c.args.id.now c.args.frame.now world own shows (cc)
