@@ -25,9 +25,11 @@ use Rattle.csi_types.specs.Same.{same_party}
 use Rattle.csi_types.proofs.Equality.{same_party-tells, same_key-tells}
 use Rattle.csi_controller.specs.State.{Volume, ControllerState}
 use Rattle.csi_controller.specs.Fenced as controller
+use Rattle.csi_controller.specs.Safe.{ControllerSafetyLaw}
 use Rattle.csi_controller.specs.View as controllers
 use Rattle.csi_node.specs.State.{NodeState}
 use Rattle.csi_node.specs.Fenced as node
+use Rattle.csi_node.specs.Safe.{NodeSafetyLaw}
 use Rattle.csi_node.specs.View as nodes
 use Rattle.csi_orchestrator.specs.Thing.{Issued}
 use Rattle.csi_orchestrator.specs.Readings.{issued_in}
@@ -47,7 +49,9 @@ use Rattle.csi_world.proofs.Reached.{IsReached, controller-next, node-next, node
 pub record PluginLaws : Type 0 where
   pub controller : controllers.ControllerDeliveryLaw
   pub names : controllers.ControllerNamesLaw
+  pub exclusive : ControllerSafetyLaw
   pub node : nodes.NodeDeliveryLaw
+  pub publishing : NodeSafetyLaw
 
 pub all-closed : PluginLaws → (world : World) → IsClosed (view_of world)
 all-closed laws world = closed-all (λ w. laws.controller.closed w.controller) laws.node.closed world

@@ -8,6 +8,7 @@ use Rattle.csi_types.specs.Config.{Config}
 use Rattle.csi_types.specs.Key.{AttachedAs, StagedAs, Attached, Staged, asked}
 use Rattle.csi_lists.specs.Members.{IsAmong}
 use Rattle.csi_lists.proofs.Members.{each_of, among-find}
+use Rattle.csi_lists.proofs.Options.{some-from_map}
 use Rattle.csi_lists.proofs.Searches.{find-passes}
 use Rattle.csi_types.specs.Same.{same_text}
 use Rattle.csi_types.proofs.Equality.{same_text-tells}
@@ -24,29 +25,24 @@ use Rattle.csi_world.proofs.Recorded.{recorded}
 use Rattle.csi_world.proofs.Reached.{IsNodeOfFrames}
 use Rattle.csi_world.proofs.Deliveries.{PluginLaws}
 use Rattle.csi_world.proofs.Choices.{IsRight, empty-right, all-right}
-use Rattle.csi_world.proofs.PluginSafety.{plugins_are_safe}
+use Rattle.csi_world.proofs.PluginSafety.{exclusive, published-staged}
 
 -- what the controller holds so is in its list
 held-there : (world : World) (id : ℕ) (at : List ℕ) (capability : Capability) (readonly : Bool) → (view_of world).held (Attached id at) ≡ Some (AttachedAs capability readonly) → IsAttachedAs world id at capability
-held-there world id at capability readonly h = by (holding_at id at world.controller) refl h
+held-there world id at capability readonly h =
+    let found = some-from_map (λ (holding : Holding). AttachedAs holding.capability holding.readonly) (holding_at id at world.controller) (AttachedAs capability readonly) h in
+    let holding : Holding = found.0 in
+    let parts = and_parts (holding.volume == id) (same_text holding.node at) (find-passes (is_held_at id at) world.controller.holdings holding found.1) in
+    record {
+      holding = holding;
+      is_held = among-find (is_held_at id at) world.controller.holdings holding found.1;
+      of_volume = eqb-true holding.volume id parts.0;
+      at_node = (same_text-tells holding.node at).0 parts.1;
+      same_capability = same holding found.2;
+    }
   where
-    clash : None ≡ Some (AttachedAs capability readonly) → ⊥
-    clash e = cc
-
-    same : (holding : Holding) → Some (AttachedAs holding.capability holding.readonly) ≡ Some (AttachedAs capability readonly) → holding.capability ≡ capability
+    same : (holding : Holding) → AttachedAs holding.capability holding.readonly ≡ AttachedAs capability readonly → holding.capability ≡ capability
     same holding e = cc
-
-    by : (o : Option Holding) → holding_at id at world.controller ≡ o → option_map (λ (holding : Holding). AttachedAs holding.capability holding.readonly) o ≡ Some (AttachedAs capability readonly) → IsAttachedAs world id at capability
-    by None e h = absurd (clash h)
-    by (Some holding) e h =
-        let parts = and_parts (holding.volume == id) (same_text holding.node at) (find-passes (is_held_at id at) world.controller.holdings holding e) in
-        record {
-          holding = holding;
-          is_held = among-find (is_held_at id at) world.controller.holdings holding e;
-          of_volume = eqb-true holding.volume id parts.0;
-          at_node = (same_text-tells holding.node at).0 parts.1;
-          same_capability = same holding h;
-        }
 
 -- what is staged in a node's list is staged as its view has it
 staged-seen : PluginLaws → (config : Config) (world : World) (at : NodeAt) (staged : StagedVolume) → IsRight config world → IsAmong at world.nodes → IsAmong staged at.state.staged
@@ -71,11 +67,11 @@ pub worlds_are_safe : PluginLaws → (config : Config) (choices : List Choice) �
 worlds_are_safe laws config choices may =
     let world : World = chosen_all config (empty_world config) choices in
     let right = all-right laws config (empty_world config) choices (empty-right laws config) may in
-    let plugins = plugins_are_safe config choices may in
+    let plugin = exclusive laws.exclusive config world right.good.reached in
     record {
-      exclusive = plugins.exclusive;
+      exclusive = plugin.exclusive;
       staged_where_attached = staged-attached laws config world right;
-      published_where_staged = plugins.published_where_staged;
-      attached_while_live = plugins.attached_while_live;
+      published_where_staged = published-staged laws.publishing config world right.good.reached;
+      attached_while_live = plugin.attached_while_live;
       recorded_right = recorded world right.good.well;
     }

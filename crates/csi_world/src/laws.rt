@@ -50,7 +50,9 @@ pub fn safety_law()
 {
     csi_controller::delivery_law();
     csi_controller::names_law();
+    csi_controller::safety_law();
     csi_node::delivery_law();
+    csi_node::safety_law();
 }
 
 /// A law, and nothing that runs: where what an audit compares is what a world's history tells, it finds nothing exactly where the
