@@ -2,6 +2,7 @@
 use Rattle.std.proofs.Common.{◌≡◌, ◌⊎◌, ℕ, ◌<◌, List, [], ◌∷◌, ◌++◌, map, Bool, true, false, cond, refl, sym, ◌∙◌, ap, subst, inl, inr, arith}
 use Rattle.std.specs.Prelude.{Option, Some, None}
 use Rattle.std.proofs.lemmas.Bool.Decides.{nat_tests}
+use Rattle.std.proofs.lemmas.Option.{none-some}
 use Rattle.csi_types.specs.declared.capability.Capability.{Capability}
 use Rattle.csi_types.specs.declared.number.Number.{Number}
 use Rattle.csi_types.specs.declared.call.Call.TheVariants as calls
@@ -9,34 +10,30 @@ use Rattle.csi_types.specs.declared.reply.Reply.{Reply}
 use Rattle.csi_types.specs.declared.status.Status.{Status}
 use Rattle.csi_types.specs.Call.{kind_of}
 use Rattle.csi_types.specs.Config.{Config}
-use Rattle.csi_types.specs.Frame.{Frame}
 use Rattle.csi_lists.specs.Members.{IsAmong}
 use Rattle.csi_types.specs.Number.{is_before, IsBefore}
-use Rattle.csi_types.specs.Same.{same_text, same_number}
 use Rattle.csi_types.proofs.Order.{before-trans}
-use Rattle.csi_types.specs.declared.config.NodeSlots.{NodeSlots}
 use Rattle.csi_types.specs.declared.call.Party.{Party}
 use Rattle.csi_types.specs.declared.call.Party.TheVariants.{Controller, Node}
 use Rattle.csi_types.specs.Delivery.{IsEmpty}
 use Rattle.csi_types.specs.Fence.{Kept}
-use Rattle.csi_types.specs.Key.{Form, StagedAs, Staged}
-use Rattle.csi_controller.specs.Fenced as controller
+use Rattle.csi_types.specs.Key.{StagedAs, Staged}
 use Rattle.csi_node.specs.State.{NodeState, empty_node}
-use Rattle.csi_node.specs.Fenced as node
 use Rattle.csi_orchestrator.specs.Thing.{Issued}
-use Rattle.csi_orchestrator.specs.History.{Item, Started, Sent, Accepted, Closed, Noted, History}
-use Rattle.csi_orchestrator.specs.Readings.{issued_in, unless, open_in, last_number}
-use Rattle.csi_world.specs.World.{NodeAt, World, new_node, empty_world, node_state, with_node, with_frame}
-use Rattle.csi_world.specs.Step.{Choice, Sends, Closes, Takes, Notes, Starts, Answers, frame_of, MaySend, MayTake, MayChoose, MayChooseAll, answered_by_node, answered_by, answered, chosen, chosen_all}
+use Rattle.csi_orchestrator.specs.History.{Item, Started, Sent, Accepted, Closed, Noted, History, with_items}
+use Rattle.csi_orchestrator.specs.Readings.{issued_in, last_number}
+use Rattle.csi_orchestrator.proofs.Numbers.{open-sent}
+use Rattle.csi_world.specs.World.{World, empty_world, node_state, with_history}
+use Rattle.csi_world.specs.Step.{Choice, Sends, Closes, Takes, Notes, Starts, Answers, frame_of, MaySend, MayTake, MayChoose, MayChooseAll, chosen, chosen_all}
 use Rattle.csi_world.proofs.WorldView.{party_of, node_view, plugin_view, view_of}
 use Rattle.csi_world.proofs.Issued.{HasName, IsOwn, IsAnsweredOk}
 use Rattle.csi_world.proofs.Named.{Named}
 use Rattle.csi_world.proofs.Heard.{WasSent, sent-more}
 use Rattle.csi_world.proofs.Truth.{Truth, unanswered, before_call, truth-sent}
 use Rattle.csi_world.proofs.Standing.{IsStanding, stands-sent, stands-noted}
-use Rattle.csi_world.proofs.Guarded.{IsSoFar, own-guarded, leaves-guarded, stages-guarded}
+use Rattle.csi_world.proofs.Guarded.{own-guarded, leaves-guarded, stages-guarded}
 use Rattle.csi_world.proofs.Recorded.{IsWell}
-use Rattle.csi_world.proofs.Reached.{found-at, empty-reached}
+use Rattle.csi_world.proofs.Reached.{found-at, knows-nothing, empty-reached, still-reached, answered-history}
 use Rattle.csi_world.proofs.Deliveries.{PluginLaws, all-closed, IsGood, frame-got}
 
 -- each sent number is the last one, or before it
@@ -67,7 +64,7 @@ sent-right : PluginLaws → (config : Config) (world : World) (call : Issued) �
 sent-right laws config world call right may =
     record {
       good = record {
-        reached = record { controller = right.good.reached.controller; nodes = right.good.reached.nodes; alike = right.good.reached.alike };
+        reached = still-reached config world (world.frames ++ frame_of call ∷ []) (with_items world.history (Sent call ∷ [])) right.good.reached;
         well = record {
           truth = truth-sent (issued_in world.history.items) world.frames (view_of world) call well.truth later;
           closed = all-closed laws world;
@@ -102,67 +99,43 @@ sent-right laws config world call right may =
         well.named.made other reply id create required limit capabilities there is (before_call world.frames call other.number other.party (kind_of other.call) reply ok.0, ok.1) given
 
     heard : (number : Number) (status : Status) (id : Option ℕ) → IsAmong (Accepted number status id) (Sent call ∷ world.history.items) → WasSent (call ∷ issued_in world.history.items) (world.frames ++ frame_of call ∷ []) number status id
-    heard number status id (inl e) = absurd (clash e)
-      where
-        clash : Accepted number status id ≡ Sent call → ⊥
-        clash h = cc
+    heard number status id (inl e) = absurd (let clash : Accepted number status id ≡ Sent call → ⊥ = (λ h. cc) in clash e)
     heard number status id (inr there) = sent-more (issued_in world.history.items) (call ∷ issued_in world.history.items) world.frames (frame_of call) number status id (λ c among. inr among) (well.heard number status id there)
 
     last : (other : Issued) → IsAmong other (call ∷ issued_in world.history.items) → (other.number ≡ call.number) ⊎ IsBefore other.number call.number
     last other (inl e) = inl (ap (λ (x : Issued). x.number) e)
     last other (inr there) = inr (later other there)
 
--- an item that sends nothing is added, and what it says was heard was sent
-noted-well : (world : World) (item : Item) → issued_in (item ∷ world.history.items) ≡ issued_in world.history.items → IsWell world
-    → ((number : Number) (status : Status) (id : Option ℕ) → Accepted number status id ≡ item → WasSent (issued_in world.history.items) world.frames number status id)
-    → IsSoFar (record world.history { items = item ∷ world.history.items }) world.frames (view_of world) world.controller
-noted-well world item same well told =
+-- what an item says was heard was sent
+abbrev IsTold : World → Item → Type 0
+IsTold world (Accepted number status id) = WasSent (issued_in world.history.items) world.frames number status id
+IsTold world item = Unit {0}
+
+-- an item that sends nothing is added
+noted-right : (config : Config) (world : World) (item : Item) → issued_in (item ∷ world.history.items) ≡ issued_in world.history.items → IsRight config world → IsTold world item → IsLast (with_items world.history (item ∷ []))
+    → IsRight config (with_history (item ∷ []) world)
+noted-right config world item same right told last =
     record {
-      truth = subst (λ (list : List Issued). Truth list world.frames (view_of world)) (sym same) well.truth;
-      closed = well.closed;
-      named = subst (λ (list : List Issued). Named list world.frames world.controller) (sym same) well.named;
-      names = well.names;
-      heard = λ number status id among. subst (λ (list : List Issued). WasSent list world.frames number status id) (sym same) (heard number status id among);
-      stands = stands-noted world.history.items item (view_of world) same well.stands;
+      good = record {
+        reached = still-reached config world world.frames (with_items world.history (item ∷ [])) right.good.reached;
+        well = record {
+          truth = subst (λ (list : List Issued). Truth list world.frames (view_of world)) (sym same) well.truth;
+          closed = well.closed;
+          named = subst (λ (list : List Issued). Named list world.frames world.controller) (sym same) well.named;
+          names = well.names;
+          heard = λ number status id among. subst (λ (list : List Issued). WasSent list world.frames number status id) (sym same) (heard number status id among);
+          stands = stands-noted world.history.items item (view_of world) same well.stands;
+        };
+      };
+      last = last;
     }
   where
+    well : IsWell world
+    well = right.good.well
+
     heard : (number : Number) (status : Status) (id : Option ℕ) → IsAmong (Accepted number status id) (item ∷ world.history.items) → WasSent (issued_in world.history.items) world.frames number status id
-    heard number status id (inl e) = told number status id e
+    heard number status id (inl e) = subst (IsTold world) (sym e) told
     heard number status id (inr there) = well.heard number status id there
-
--- a call that isn't left out
-unless-some : (number : Number) (o : Option Issued) (call : Issued) → unless number o ≡ Some call → o ≡ Some call
-unless-some number None call h = h
-unless-some number (Some issued) call h = by (same_number issued.number number) h
-  where
-    clash : None ≡ Some call → ⊥
-    clash e = cc
-
-    by : (b : Bool) → cond b None (Some issued) ≡ Some call → Some issued ≡ Some call
-    by true h = absurd (clash h)
-    by false h = h
-
--- an open call was sent
-open-sent : (name : List ℕ) (items : List Item) (call : Issued) → open_in name items ≡ Some call → IsAmong call (issued_in items)
-open-sent name [] call h = absurd (clash h)
-  where
-    clash : None ≡ Some call → ⊥
-    clash e = cc
-open-sent name (Started session ∷ older) call h = absurd (clash h)
-  where
-    clash : None ≡ Some call → ⊥
-    clash e = cc
-open-sent name (Sent issued ∷ older) call h = by (same_text issued.name name) h (open-sent name older call)
-  where
-    same : Some issued ≡ Some call → call ≡ issued
-    same e = cc
-
-    by : (b : Bool) → cond b (Some issued) (open_in name older) ≡ Some call → (open_in name older ≡ Some call → IsAmong call (issued_in older)) → IsAmong call (issued ∷ issued_in older)
-    by true h rest = inl (same h)
-    by false h rest = inr (rest h)
-open-sent name (Accepted number status id ∷ older) call h = open-sent name older call (unless-some number (open_in name older) call h)
-open-sent name (Closed number ∷ older) call h = open-sent name older call (unless-some number (open_in name older) call h)
-open-sent name (Noted other goal ∷ older) call h = open-sent name older call h
 
 -- the last number of a new session
 started-last : (history : History) (session : ℕ) → IsLast history → (last_number history).session < session
@@ -177,101 +150,23 @@ started-last history session last rises call among = by (last call among)
     by (inr before) = then-before call.number (last_number history) (record { session = session; call = 0 }) before (later (last_number history) rises)
 
 -- a reply is taken
-taken-sent : (world : World) (call : Issued) (reply : Reply) → MayTake world call reply → (number : Number) (status : Status) (id : Option ℕ) → Accepted number status id ≡ Accepted call.number reply.status reply.id
-    → WasSent (issued_in world.history.items) world.frames number status id
-taken-sent world call reply may number status id e =
-    record {
-      call = call;
-      among = open-sent call.name world.history.items call may.is_open;
-      has_number = sym (numbers e);
-      reply = reply;
-      sent = may.was_sent;
-      has_status = sym (statuses e);
-      has_id = sym (ids e);
-    }
-  where
-    numbers : Accepted number status id ≡ Accepted call.number reply.status reply.id → number ≡ call.number
-    numbers h = cc
-
-    statuses : Accepted number status id ≡ Accepted call.number reply.status reply.id → status ≡ reply.status
-    statuses h = cc
-
-    ids : Accepted number status id ≡ Accepted call.number reply.status reply.id → id ≡ reply.id
-    ids h = cc
-
--- a delivery is none of the orchestrator's
-with_frame-history : (reply : Option Frame) (world : World) → (with_frame reply world).history ≡ world.history
-with_frame-history None world = refl
-with_frame-history (Some frame) world = refl
-
-same-history : (config : Config) (world : World) (frame : Frame) → (answered config world frame).history ≡ world.history
-same-history config world frame = by frame.party
-  where
-    at_node : (id : List ℕ) (o : Option NodeState) → (answered_by_node id world frame o).history ≡ world.history
-    at_node id None = refl
-    at_node id (Some state) = with_frame-history (node.fenced id state frame).reply (with_node id (node.fenced id state frame).state world)
-
-    by : (party : Party) → (answered_by config world frame party).history ≡ world.history
-    by Controller = with_frame-history (controller.fenced config world.controller frame).reply (record world { controller = (controller.fenced config world.controller frame).state })
-    by (Node id) = at_node id (node_state id world)
+taken-sent : (world : World) (call : Issued) (reply : Reply) → MayTake world call reply → WasSent (issued_in world.history.items) world.frames call.number reply.status reply.id
+taken-sent world call reply may =
+    record { call = call; among = (open-sent call.name world.history.items call may.is_open).0; has_number = refl; reply = reply; sent = may.was_sent; has_status = refl; has_id = refl }
 
 pub chosen-right : PluginLaws → (config : Config) (world : World) (choice : Choice) → IsRight config world → MayChoose world choice → IsRight config (chosen config world choice)
 chosen-right laws config world (Sends call) right may = sent-right laws config world call right may
-chosen-right laws config world (Closes number) right may =
-    record {
-      good = record {
-        reached = record { controller = right.good.reached.controller; nodes = right.good.reached.nodes; alike = right.good.reached.alike };
-        well = noted-well world (Closed number) refl right.good.well (λ n status id e. absurd (clash n status id e));
-      };
-      last = right.last;
-    }
-  where
-    clash : (n : Number) (status : Status) (id : Option ℕ) → Accepted n status id ≡ Closed number → ⊥
-    clash n status id e = cc
-chosen-right laws config world (Takes call reply) right may =
-    record {
-      good = record {
-        reached = record { controller = right.good.reached.controller; nodes = right.good.reached.nodes; alike = right.good.reached.alike };
-        well = noted-well world (Accepted call.number reply.status reply.id) refl right.good.well (taken-sent world call reply may);
-      };
-      last = right.last;
-    }
-chosen-right laws config world (Notes name goal) right may =
-    record {
-      good = record {
-        reached = record { controller = right.good.reached.controller; nodes = right.good.reached.nodes; alike = right.good.reached.alike };
-        well = noted-well world (Noted name goal) refl right.good.well (λ n status id e. absurd (clash n status id e));
-      };
-      last = right.last;
-    }
-  where
-    clash : (n : Number) (status : Status) (id : Option ℕ) → Accepted n status id ≡ Noted name goal → ⊥
-    clash n status id e = cc
+chosen-right laws config world (Closes number) right may = noted-right config world (Closed number) refl right tt right.last
+chosen-right laws config world (Takes call reply) right may = noted-right config world (Accepted call.number reply.status reply.id) refl right (taken-sent world call reply may) right.last
+chosen-right laws config world (Notes name goal) right may = noted-right config world (Noted name goal) refl right tt right.last
 chosen-right laws config world (Starts session) right may =
-    record {
-      good = record {
-        reached = record { controller = right.good.reached.controller; nodes = right.good.reached.nodes; alike = right.good.reached.alike };
-        well = noted-well world (Started session) refl right.good.well (λ n status id e. absurd (clash n status id e));
-      };
-      last = λ call among. inr (started-last world.history session right.last may call among);
-    }
-  where
-    clash : (n : Number) (status : Status) (id : Option ℕ) → Accepted n status id ≡ Started session → ⊥
-    clash n status id e = cc
+    noted-right config world (Started session) refl right tt (λ call among. inr (started-last world.history session right.last may call among))
 chosen-right laws config world (Answers frame) right may =
-    record {
-      good = frame-got laws config world frame right.good may;
-      last = subst IsLast (sym (same-history config world frame)) right.last;
-    }
+    record { good = frame-got laws config world frame right.good may; last = subst IsLast (sym (answered-history config world frame)) right.last }
 
 -- the first world
 empty-node : (config : Config) (id : List ℕ) (state : NodeState) → node_state id (empty_world config) ≡ Some state → state ≡ empty_node
-empty-node config id state h = let found = found-at id (empty_world config) state h in sym found.3 ∙ new config.nodes found.0 found.1
-  where
-    new : (entries : List NodeSlots) (at : NodeAt) → IsAmong at (map new_node entries) → at.state ≡ empty_node
-    new [] at among = absurd among
-    new (entry ∷ entries) at (inl e) = ap (λ (n : NodeAt). n.state) e
-    new (entry ∷ entries) at (inr there) = new entries at there
+empty-node config id state h = let found = found-at id (empty_world config) state h in sym found.3 ∙ knows-nothing config.nodes found.0 found.1
 
 empty-view : PluginLaws → (config : Config) → IsEmpty (view_of (empty_world config))
 empty-view laws config = record { held = λ key. (at (party_of key)).held key; is_spent = λ key. (at (party_of key)).is_spent key; kept = λ key. (at (party_of key)).kept key }
@@ -295,10 +190,10 @@ empty-right laws config =
             calls = λ frame c among is. absurd among;
             replies = λ number party kind reply among. absurd among;
             ids = λ number party kind reply among ok. absurd among;
-            kept = λ key k is. absurd (clash k (sym (empty.kept key) ∙ is));
+            kept = λ key k is. absurd (none-some k (sym (empty.kept key) ∙ is));
             numbers = tt;
             spent = λ call key reply among of ok. absurd among;
-            told = λ call key reply found ok. absurd (none_is_call call found);
+            told = λ call key reply found ok. absurd (none-some call found);
             untouched = λ key none. empty.held key;
           };
           closed = all-closed laws (empty_world config);
@@ -311,17 +206,8 @@ empty-right laws config =
       last = λ call among. absurd among;
     }
   where
-    clash : (k : Kept) → None ≡ Some k → ⊥
-    clash k e = cc
-
-    none_is_call : (call : Issued) → None ≡ Some call → ⊥
-    none_is_call call e = cc
-
-    none_is_form : (form : Form) → None ≡ Some form → ⊥
-    none_is_form form e = cc
-
     nothing : IsEmpty (view_of (empty_world config)) → (id : ℕ) (node : List ℕ) (capability : Capability) → IsStanding [] (view_of (empty_world config)) id node capability → ⊥
-    nothing empty id node capability (inl held) = none_is_form (StagedAs capability) (sym (empty.held (Staged id node)) ∙ held)
+    nothing empty id node capability (inl held) = none-some (StagedAs capability) (sym (empty.held (Staged id node)) ∙ held)
     nothing empty id node capability (inr may) = may.among
 
 -- every world to which choices lead

@@ -11,24 +11,25 @@ use Rattle.csi_types.specs.declared.call.Party.TheVariants.{Controller, Node}
 use Rattle.csi_types.specs.declared.reply.Reply.{Reply}
 use Rattle.csi_types.specs.Delivery.{View, IsClosed}
 use Rattle.csi_types.specs.Frame.{Frame}
-use Rattle.csi_types.specs.Key.{Attached, Staged, StagedAs, asked}
+use Rattle.csi_types.specs.Key.{Key, Attached, Staged, StagedAs, asked}
 use Rattle.csi_lists.specs.Members.{IsAmong}
 use Rattle.csi_lists.proofs.Members.{among-find, none_passes}
 use Rattle.csi_lists.proofs.Searches.{find-passes, find-same_among}
-use Rattle.std.proofs.lemmas.Option.{none-some}
+use Rattle.std.proofs.lemmas.Option.{none-some, same_Some}
 use Rattle.csi_types.specs.Number.{IsBefore}
 use Rattle.csi_types.specs.Same.{same_text}
 use Rattle.csi_types.proofs.Equality.{same_text-tells}
 use Rattle.csi_controller.specs.State.{ControllerState}
 use Rattle.csi_controller.specs.View as controllers
+use Rattle.csi_orchestrator.specs.declared.thing.Thing.{Thing}
 use Rattle.csi_orchestrator.specs.declared.thing.Thing.TheVariants as things
 use Rattle.csi_orchestrator.specs.declared.thing.Known.TheVariants.{Yes, No}
 use Rattle.csi_orchestrator.specs.Thing.{Issued, touches, is_thing, thing_at, is_doing}
 use Rattle.csi_orchestrator.specs.History.{Held, History}
 use Rattle.csi_orchestrator.specs.Readings.{newest, issued_in, has_success, known, held_by, held}
 use Rattle.csi_orchestrator.specs.Guards.{IsGuarded, HasId}
-use Rattle.csi_world.proofs.Issued.{HasName, IsOwn, IsAnsweredOk, key_at, is_key, is_of, latest-last}
-use Rattle.csi_world.proofs.Named.{Named, touches-attached, touches-staged}
+use Rattle.csi_world.proofs.Issued.{HasName, IsOwn, IsOne, Attachment, Staging, IsAnsweredOk, key_at, is_key, is_of, latest-last}
+use Rattle.csi_world.proofs.Named.{Named, touches-key}
 use Rattle.csi_world.proofs.Heard.{IsHeard, IsLatest, success-ok, id-given, known-yes, known-no, latest-known}
 use Rattle.csi_world.proofs.Truth.{Truth}
 use Rattle.csi_world.proofs.Standing.{MayStage, IsStanding, IsAttachedSo, Stands}
@@ -59,22 +60,17 @@ own-guarded history frames view controller name (Node node) (calls.NodeUnpublish
 own-guarded history frames view controller name party call so guard = absurd guard
 
 -- the latest call of a thing, by its name and by its id
-pub found-attached : (history : History) (frames : List Frame) (view : View) (controller : ControllerState) (name node : List ℕ) (id : ℕ) → IsSoFar history frames view controller → HasName controller name id
-    → find (touches (things.Attached name node)) (issued_in history.items) ≡ find (is_of (Attached id node)) (issued_in history.items)
-found-attached history frames view controller name node id so has =
-    find-same_among (touches (things.Attached name node)) (is_of (Attached id node)) (issued_in history.items) (λ call among. touches-attached controller name node id call so.names has (so.named.own call among))
-
-pub found-staged : (history : History) (frames : List Frame) (view : View) (controller : ControllerState) (name node : List ℕ) (id : ℕ) → IsSoFar history frames view controller → HasName controller name id
-    → find (touches (things.Staged name node)) (issued_in history.items) ≡ find (is_of (Staged id node)) (issued_in history.items)
-found-staged history frames view controller name node id so has =
-    find-same_among (touches (things.Staged name node)) (is_of (Staged id node)) (issued_in history.items) (λ call among. touches-staged controller name node id call so.names has (so.named.own call among))
+pub found-one : (history : History) (frames : List Frame) (view : View) (controller : ControllerState) (thing : Thing) (key : Key) → IsSoFar history frames view controller → IsOne controller thing key
+    → find (touches thing) (issued_in history.items) ≡ find (is_of key) (issued_in history.items)
+found-one history frames view controller thing key so one =
+    find-same_among (touches thing) (is_of key) (issued_in history.items) (λ call among. touches-key controller thing key call so.names one (so.named.own call among))
 
 -- what stands is known to be attached
 attached-known : (history : History) (frames : List Frame) (view : View) (controller : ControllerState) (name node : List ℕ) (id : ℕ) (capability : Capability) → IsSoFar history frames view controller → HasName controller name id
     → IsAttachedSo history.items id node capability → known history (things.Attached name node) ≡ Yes
 attached-known history frames view controller name node id capability so has attached =
     latest-known history (things.Attached name node) attached.call
-    (record { found = found-attached history frames view controller name node id so has ∙ attached.found; success = attached.success; is_so = ap is_doing attached.publishes })
+    (record { found = found-one history frames view controller (things.Attached name node) (Attached id node) so (Attachment name node id has) ∙ attached.found; success = attached.success; is_so = ap is_doing attached.publishes })
 
 -- a call that undoes asks for nothing
 pub asked-undoing : (c : Call) (reply : Reply) → is_doing c ≡ false → asked c reply ≡ None
@@ -96,7 +92,7 @@ none-stands : (history : History) (frames : List Frame) (view : View) (controlle
 none-stands history frames view controller name node id capability so has is_no standing = by (known-no history (things.Staged name node) is_no)
   where
     same : find (touches (things.Staged name node)) (issued_in history.items) ≡ find (is_of (Staged id node)) (issued_in history.items)
-    same = found-staged history frames view controller name node id so has
+    same = found-one history frames view controller (things.Staged name node) (Staged id node) so (Staging name node id has)
 
     untouched : find (is_of (Staged id node)) (issued_in history.items) ≡ None → IsStanding (issued_in history.items) view id node capability → ⊥
     untouched none (inl held) = none-some (StagedAs capability) (sym (so.truth.untouched (Staged id node) none) ∙ held)
@@ -201,9 +197,6 @@ held-latest : (name node : List ℕ) (id : ℕ) (call : Issued) (here : Held) (x
 held-latest name node id call here [] publishes found = absurd (none-some call found)
 held-latest name node id call here (x ∷ xs) publishes found = by (touches (things.Attached name node) x) refl found (held-latest name node id call here xs publishes)
   where
-    same : Some x ≡ Some call → x ≡ call
-    same e = cc
-
     -- the call itself
     told : (y : Issued) → y.call ≡ calls.ControllerPublishVolume id node here.capability here.readonly → touches (things.Attached name node) y ≡ true → (same_text y.name name ≡ true) × (held_by node y.call ≡ Some here)
     told y is of =
@@ -223,7 +216,7 @@ held-latest name node id call here (x ∷ xs) publishes found = by (touches (thi
         → (find (touches (things.Attached name node)) xs ≡ Some call → newest (filter_map (λ (issued : Issued). held_by node issued.call) (filter (λ (issued : Issued). same_text issued.name name) xs)) ≡ Some here)
         → newest (filter_map (λ (issued : Issued). held_by node issued.call) (filter (λ (issued : Issued). same_text issued.name name) (x ∷ xs))) ≡ Some here
     by true e found rest =
-        let is = told x (subst (λ (y : Issued). y.call ≡ calls.ControllerPublishVolume id node here.capability here.readonly) (sym (same found)) publishes) e in
+        let is = told x (subst (λ (y : Issued). y.call ≡ calls.ControllerPublishVolume id node here.capability here.readonly) (sym (same_Some x call found)) publishes) e in
         rw (is.0, is.1) refl
     by false e found rest = skip (same_text x.name name) refl e (rest found)
 
@@ -234,13 +227,10 @@ stages-guarded history frames view controller call so guard id node capability o
     let own = subst (λ c. IsGuarded history call.name (Node node) c) stages (subst (λ p. IsGuarded history call.name p call.call) of_node guard) in
     let has : HasName controller call.name id = given-id history frames view controller call.name id so own.0 in
     let latest = known-yes history (things.Attached call.name node) own.1.attached in
-    let found : find (is_of (Attached id node)) (issued_in history.items) ≡ Some latest.0 = sym (found-attached history frames view controller call.name node id so has) ∙ latest.1.found in
+    let found : find (is_of (Attached id node)) (issued_in history.items) ≡ Some latest.0 = sym (found-one history frames view controller (things.Attached call.name node) (Attached id node) so (Attachment call.name node id has)) ∙ latest.1.found in
     let by = attached-call latest.0.name latest.0.party latest.0.call id node (find-passes (is_of (Attached id node)) (issued_in history.items) latest.0 found) latest.1.is_so in
     let is_held : held history call.name node ≡ Some by.0 = held-latest call.name node id latest.0 by.0 (issued_in history.items) by.1 latest.1.found in
     let guarded = own.1.as_held in
-    let one : by.0 ≡ guarded.0 = same by.0 guarded.0 (sym is_held ∙ guarded.1) in
+    let one : by.0 ≡ guarded.0 = same_Some by.0 guarded.0 (sym is_held ∙ guarded.1) in
     let alike : by.0.capability ≡ capability = ap (λ (h : Held). h.capability) one ∙ guarded.2 in
     record { call = latest.0; readonly = by.0.readonly; found = found; publishes = by.1 ∙ ap (λ c. calls.ControllerPublishVolume id node c by.0.readonly) alike; success = latest.1.success }
-  where
-    same : (a b : Held) → Some a ≡ Some b → a ≡ b
-    same a b e = cc

@@ -1,8 +1,8 @@
 -- What the orchestrator's history tells of the replies that were sent.
-use Rattle.std.proofs.Common.{◌≡◌, ◌⊎◌, ℕ, List, [], ◌∷◌, ◌++◌, Bool, true, false, cond, not, refl, ◌∙◌, ap, subst, inl, inr}
-use Rattle.std.specs.Prelude.{Option, Some, None, find, filter, filter_map, ◌&&◌, ◌||◌}
-use Rattle.std.specs.List.{list_any}
+use Rattle.std.proofs.Common.{◌≡◌, ◌⊎◌, ℕ, List, [], ◌∷◌, ◌++◌, Bool, true, false, cond, not, refl, sym, ◌∙◌, ap, subst, inl, inr}
+use Rattle.std.specs.Prelude.{zero, suc, slice_get, Option, Some, None, find, filter_map, ◌&&◌, ◌||◌}
 use Rattle.std.proofs.lemmas.Bool.{and_parts, false≢true}
+use Rattle.std.proofs.lemmas.Option.{none-some, same_Some}
 use Rattle.csi_types.specs.declared.number.Number.{Number}
 use Rattle.csi_types.specs.declared.call.Call.{Call}
 use Rattle.csi_types.specs.declared.call.Call.TheVariants as calls
@@ -13,7 +13,7 @@ use Rattle.csi_types.specs.declared.status.Status.TheVariants.{Ok}
 use Rattle.csi_types.specs.Call.{kind_of}
 use Rattle.csi_types.specs.Frame.{Frame}
 use Rattle.csi_lists.specs.Members.{IsAmong, EachTwo}
-use Rattle.csi_lists.proofs.Members.{among-append, among-filter}
+use Rattle.csi_lists.proofs.Members.{among-append, among-kept, among-filter_map}
 use Rattle.csi_lists.proofs.Searches.{find-passes}
 use Rattle.csi_lists.proofs.Tests.{any-then}
 use Rattle.csi_types.specs.Reply.{is_ok_status}
@@ -23,7 +23,7 @@ use Rattle.csi_types.proofs.Equality.{same_number-tells, same_text-tells}
 use Rattle.csi_controller.specs.State.{ControllerState}
 use Rattle.csi_orchestrator.specs.declared.thing.Thing.{Thing}
 use Rattle.csi_orchestrator.specs.declared.thing.Known.TheVariants.{Yes, No, Maybe}
-use Rattle.csi_orchestrator.specs.Thing.{Issued, touches, is_doing}
+use Rattle.csi_orchestrator.specs.Thing.{Issued, touches, is_doing, is_yes, is_no}
 use Rattle.csi_orchestrator.specs.History.{Item, Started, Sent, Accepted, Closed, Noted, History}
 use Rattle.csi_orchestrator.specs.Readings.{newest, issued_in, issued_of, is_success_of, has_success, known_by, known, id_in, id_by, id_of}
 use Rattle.csi_world.proofs.Issued.{HasName, IsAnsweredOk, ComesAfter, one-number}
@@ -52,6 +52,15 @@ pub is_ok-then : (status : Status) → is_ok_status status ≡ true → status �
 is_ok-then Ok h = refl
 is_ok-then status h = cc
 
+-- a reply that was heard to a sent call was sent to it
+heard-ok : (items : List Item) (issued : List Issued) (frames : List Frame) (call : Issued) (other : Number) (status : Status) (id : Option ℕ) → IsHeard items issued frames → EachTwo ComesAfter issued → IsAmong call issued
+    → IsAmong (Accepted other status id) items → (same_number other call.number && is_ok_status status) ≡ true → (reply : Reply) × IsAnsweredOk frames call reply × (reply.id ≡ id)
+heard-ok items issued frames call other status id heard numbers there among passes =
+    let parts = and_parts (same_number other call.number) (is_ok_status status) passes in
+    let was = heard other status id among in
+    let same : was.call ≡ call = one-number issued numbers was.call call was.among there (was.has_number ∙ (same_number-tells other call.number).0 parts.0) in
+    (was.reply, (subst (λ (x : Issued). IsAmong (reply_frame x.number x.party (kind_of x.call) was.reply) frames) same was.sent, was.has_status ∙ is_ok-then status parts.1), was.has_id)
+
 -- a success that was heard was sent
 pub success-ok : (items : List Item) (issued : List Issued) (frames : List Frame) (call : Issued) → IsHeard items issued frames → EachTwo ComesAfter issued → IsAmong call issued → has_success items call.number ≡ true
     → (reply : Reply) × IsAnsweredOk frames call reply
@@ -59,81 +68,44 @@ success-ok items issued frames call heard numbers there h =
     let found = any-then (is_success_of call.number) items h in by found.0 found.1 found.2
   where
     by : (item : Item) → IsAmong item items → is_success_of call.number item ≡ true → (reply : Reply) × IsAnsweredOk frames call reply
-    by (Accepted other status id) among passes =
-        let parts = and_parts (same_number other call.number) (is_ok_status status) passes in
-        let was = heard other status id among in
-        let same : was.call ≡ call = one-number issued numbers was.call call was.among there (was.has_number ∙ (same_number-tells other call.number).0 parts.0) in
-        (was.reply, (subst (λ (x : Issued). IsAmong (reply_frame x.number x.party (kind_of x.call) was.reply) frames) same was.sent, was.has_status ∙ is_ok-then status parts.1))
-    by (Started session) among passes = absurd (false≢true passes)
-    by (Sent other) among passes = absurd (false≢true passes)
-    by (Closed number) among passes = absurd (false≢true passes)
-    by (Noted name goal) among passes = absurd (false≢true passes)
+    by (Accepted other status id) among passes = let ok = heard-ok items issued frames call other status id heard numbers there among passes in (ok.0, ok.1)
+    by item among passes = absurd (false≢true passes)
+
+-- what stands at a place of a list is among it
+pub among-get : {X : Type 0} (xs : List X) (place : ℕ) (x : X) → slice_get xs place ≡ Some x → IsAmong x xs
+among-get [] place x e = absurd (none-some x e)
+among-get (y ∷ ys) zero x e = inl (sym (same_Some y x e))
+among-get (y ∷ ys) (suc place) x e = inr (among-get ys place x e)
 
 -- the newest of what is found
-pub newest-found : {X Y : Type 0} (f : X → Option Y) (xs : List X) (y : Y) → newest (filter_map f xs) ≡ Some y → (x : X) × IsAmong x xs × (f x ≡ Some y)
-newest-found f [] y h = absurd (clash h)
-  where
-    clash : None ≡ Some y → ⊥
-    clash e = cc
-newest-found {X} {Y} f (x ∷ xs) y h = by (f x) refl h (newest-found f xs y)
-  where
-    by : (o : Option Y) → f x ≡ o → newest (filter_map f (x ∷ xs)) ≡ Some y → (newest (filter_map f xs) ≡ Some y → (z : X) × IsAmong z xs × (f z ≡ Some y)) → (z : X) × IsAmong z (x ∷ xs) × (f z ≡ Some y)
-    by None e h rest = let found = rest (rw e at h) in (found.0, inr found.1, found.2)
-    by (Some w) e h rest = (x, inl refl, e ∙ (let k : newest (w ∷ filter_map f xs) ≡ Some y = rw e at h in k))
+newest-found : {X Y : Type 0} (f : X → Option Y) (xs : List X) (y : Y) → newest (filter_map f xs) ≡ Some y → (x : X) × IsAmong x xs × (f x ≡ Some y)
+newest-found f xs y h = among-filter_map f xs y (among-get (filter_map f xs) 0 y h)
 
 -- an id that was heard for a name is the one that the controller gave it
 pub id-given : (history : History) (frames : List Frame) (controller : ControllerState) (name : List ℕ) (id : ℕ) → IsHeard history.items (issued_in history.items) frames → EachTwo ComesAfter (issued_in history.items)
     → Named (issued_in history.items) frames controller → id_of history name ≡ Some id → HasName controller name id
 id-given history frames controller name id heard numbers named h =
+    let of_name : Issued → Bool = λ issued. same_text issued.name name in
     let found = newest-found (λ (issued : Issued). id_by history.items issued issued.call) (issued_of history name) id h in
     let call : Issued = found.0 in
-    let among : IsAmong call (issued_in history.items) = among-filter (λ (issued : Issued). same_text issued.name name) (issued_in history.items) call found.1 in
-    subst (λ n. HasName controller n id) (of_name call found.1) (by call among call.call refl found.2)
+    let kept = among-kept of_name (issued_in history.items) call found.1 in
+    subst (λ n. HasName controller n id) ((same_text-tells call.name name).0 kept.1) (by call kept.0 call.call refl found.2)
   where
-    of_name : (call : Issued) → IsAmong call (issued_of history name) → call.name ≡ name
-    of_name call among = (same_text-tells call.name name).0 (passes-filter (issued_in history.items) call among)
-      where
-        passes-filter : (xs : List Issued) (x : Issued) → IsAmong x (filter (λ (issued : Issued). same_text issued.name name) xs) → same_text x.name name ≡ true
-        passes-filter [] x among = absurd among
-        passes-filter (y ∷ ys) x among = at (same_text y.name name) refl among (passes-filter ys x)
-          where
-            at : (b : Bool) → same_text y.name name ≡ b → IsAmong x (cond b (y ∷ filter (λ (issued : Issued). same_text issued.name name) ys) (filter (λ (issued : Issued). same_text issued.name name) ys))
-                → (IsAmong x (filter (λ (issued : Issued). same_text issued.name name) ys) → same_text x.name name ≡ true) → same_text x.name name ≡ true
-            at true e (inl same) rest = ap (λ (z : Issued). same_text z.name name) same ∙ e
-            at true e (inr there) rest = rest there
-            at false e there rest = rest there
-
-    clash : None ≡ Some id → ⊥
-    clash e = cc
-
     accepted : (call : Issued) → IsAmong call (issued_in history.items) → (create : List ℕ) (required limit : ℕ) (capabilities : List Capability) → call.call ≡ calls.CreateVolume create required limit capabilities
         → (item : Item) → IsAmong item history.items → id_in call.number item ≡ Some id → HasName controller call.name id
     accepted call there create required limit capabilities is (Accepted other status given) among h = at (same_number other call.number && is_ok_status status) refl h
       where
         at : (b : Bool) → (same_number other call.number && is_ok_status status) ≡ b → cond b given None ≡ Some id → HasName controller call.name id
-        at false e h = absurd (clash h)
+        at false e h = absurd (none-some id h)
         at true e h =
-            let parts = and_parts (same_number other call.number) (is_ok_status status) e in
-            let was = heard other status given among in
-            let same : was.call ≡ call = one-number (issued_in history.items) numbers was.call call was.among there (was.has_number ∙ (same_number-tells other call.number).0 parts.0) in
-            named.made call was.reply id create required limit capabilities there is
-            (subst (λ (x : Issued). IsAmong (reply_frame x.number x.party (kind_of x.call) was.reply) frames) same was.sent, was.has_status ∙ is_ok-then status parts.1)
-            (was.has_id ∙ h)
-    accepted call there create required limit capabilities is (Started session) among h = absurd (clash h)
-    accepted call there create required limit capabilities is (Sent other) among h = absurd (clash h)
-    accepted call there create required limit capabilities is (Closed number) among h = absurd (clash h)
-    accepted call there create required limit capabilities is (Noted n goal) among h = absurd (clash h)
+            let ok = heard-ok history.items (issued_in history.items) frames call other status given heard numbers there among e in
+            named.made call ok.0 id create required limit capabilities there is ok.1 (ok.2 ∙ h)
+    accepted call there create required limit capabilities is item among h = absurd (none-some id h)
 
     by : (call : Issued) → IsAmong call (issued_in history.items) → (c : Call) → call.call ≡ c → id_by history.items call c ≡ Some id → HasName controller call.name id
     by call there (calls.CreateVolume create required limit capabilities) is h =
         let found = newest-found (id_in call.number) history.items id h in accepted call there create required limit capabilities is found.0 found.1 found.2
-    by call there (calls.DeleteVolume i) is h = absurd (clash h)
-    by call there (calls.ControllerPublishVolume i node capability readonly) is h = absurd (clash h)
-    by call there (calls.ControllerUnpublishVolume i node) is h = absurd (clash h)
-    by call there (calls.NodeStageVolume i capability) is h = absurd (clash h)
-    by call there (calls.NodeUnstageVolume i) is h = absurd (clash h)
-    by call there (calls.NodePublishVolume i target capability readonly) is h = absurd (clash h)
-    by call there (calls.NodeUnpublishVolume i target) is h = absurd (clash h)
+    by call there c is h = absurd (none-some id h)
 
 -- what is known of a thing: by its latest call, and whether a success of it was heard
 pub record IsLatest (items : List Item) (thing : Thing) (call : Issued) (doing : Bool) : Type 0 where
@@ -141,29 +113,17 @@ pub record IsLatest (items : List Item) (thing : Thing) (call : Issued) (doing :
   pub success : has_success items call.number ≡ true
   pub is_so : is_doing call.call ≡ doing
 
-no_is_yes : No ≡ Yes → ⊥
-no_is_yes e = cc
-
-maybe_is_yes : Maybe ≡ Yes → ⊥
-maybe_is_yes e = cc
-
-maybe_is_no : Maybe ≡ No → ⊥
-maybe_is_no e = cc
-
-yes_is_no : Yes ≡ No → ⊥
-yes_is_no e = cc
-
 pub known-yes : (history : History) (thing : Thing) → known history thing ≡ Yes → (call : Issued) × IsLatest history.items thing call true
 known-yes history thing h = by (find (touches thing) (issued_in history.items)) refl h
   where
     by : (o : Option Issued) → find (touches thing) (issued_in history.items) ≡ o → known_by history.items thing o ≡ Yes → (call : Issued) × IsLatest history.items thing call true
-    by None e h = absurd (no_is_yes h)
+    by None e h = absurd (false≢true (ap is_yes h))
     by (Some call) e h = at (has_success history.items call.number) (is_doing call.call) refl refl (rw (find-passes (touches thing) (issued_in history.items) call e) at h)
       where
         at : (s d : Bool) → has_success history.items call.number ≡ s → is_doing call.call ≡ d → cond (not s) Maybe (cond d Yes No) ≡ Yes → (call : Issued) × IsLatest history.items thing call true
         at true true p q h = (call, record { found = e; success = p; is_so = q })
-        at true false p q h = absurd (no_is_yes h)
-        at false d p q h = absurd (maybe_is_yes h)
+        at true false p q h = absurd (false≢true (ap is_yes h))
+        at false d p q h = absurd (false≢true (ap is_yes h))
 
 pub known-no : (history : History) (thing : Thing) → known history thing ≡ No → (find (touches thing) (issued_in history.items) ≡ None) ⊎ ((call : Issued) × IsLatest history.items thing call false)
 known-no history thing h = by (find (touches thing) (issued_in history.items)) refl h
@@ -173,9 +133,9 @@ known-no history thing h = by (find (touches thing) (issued_in history.items)) r
     by (Some call) e h = inr (at (has_success history.items call.number) (is_doing call.call) refl refl (rw (find-passes (touches thing) (issued_in history.items) call e) at h))
       where
         at : (s d : Bool) → has_success history.items call.number ≡ s → is_doing call.call ≡ d → cond (not s) Maybe (cond d Yes No) ≡ No → (call : Issued) × IsLatest history.items thing call false
-        at true true p q h = absurd (yes_is_no h)
+        at true true p q h = absurd (false≢true (ap is_no h))
         at true false p q h = (call, record { found = e; success = p; is_so = q })
-        at false d p q h = absurd (maybe_is_no h)
+        at false d p q h = absurd (false≢true (ap is_no h))
 
 pub latest-known : (history : History) (thing : Thing) (call : Issued) → IsLatest history.items thing call true → known history thing ≡ Yes
 latest-known history thing call latest =

@@ -1,7 +1,9 @@
 -- The thing that a sent call does or undoes, by its id; and how lists of sent calls are searched for it.
 use Rattle.std.proofs.Common.{◌≡◌, ◌⊎◌, ℕ, List, [], ◌∷◌, Bool, true, false, cond, refl, sym, ◌∙◌, ap, subst, inl, inr, arith}
 use Rattle.std.specs.Prelude.{Option, Some, None, option_map, find, IsTrue}
+use Rattle.std.proofs.lemmas.Bool.{false≢true}
 use Rattle.std.proofs.lemmas.Bool.Decides.{nat_tests}
+use Rattle.std.proofs.lemmas.Option.{same_Some}
 use Rattle.csi_types.specs.declared.number.Number.{Number}
 use Rattle.csi_types.specs.declared.call.Call.{Call}
 use Rattle.csi_types.specs.declared.call.Call.TheVariants as calls
@@ -14,6 +16,7 @@ use Rattle.csi_types.specs.Frame.{Frame}
 use Rattle.csi_types.specs.Key.{Key, Exists, Attached, Staged, Published, same_key}
 use Rattle.csi_lists.specs.Members.{IsAmong, EachTwo}
 use Rattle.csi_lists.proofs.Members.{each_of}
+use Rattle.csi_lists.proofs.Options.{some-from_map}
 use Rattle.csi_lists.proofs.Searches.{find-passes}
 use Rattle.csi_types.specs.Number.{is_before, IsBefore}
 use Rattle.csi_types.specs.Replies.{reply_frame}
@@ -22,7 +25,9 @@ use Rattle.csi_types.proofs.Equality.{same_text-tells}
 use Rattle.csi_controller.specs.State.{Volume, ControllerState, volume_named, volume_with_id}
 use Rattle.csi_controller.specs.View as controllers
 use Rattle.csi_node.specs.View as nodes
-use Rattle.csi_orchestrator.specs.Thing.{Issued}
+use Rattle.csi_orchestrator.specs.declared.thing.Thing.{Thing}
+use Rattle.csi_orchestrator.specs.declared.thing.Thing.TheVariants as things
+use Rattle.csi_orchestrator.specs.Thing.{Issued, thing_at}
 use Rattle.csi_world.proofs.WorldView.{party_of}
 
 -- the thing of a call to this plugin, by its id
@@ -66,26 +71,26 @@ abbrev pub key_seen : ControllerState → Party → Call → Option Key
 key_seen controller Controller call = controllers.key_of controller call
 key_seen controller (Node node) call = nodes.key_of node call
 
+-- a thing by its name, and by the id that the controller gave the name
+pub data IsOne (controller : ControllerState) : Thing → Key → Type 0 where
+  Existence : (name : List ℕ) → IsOne controller (things.Exists name) (Exists name)
+  Attachment : (name node : List ℕ) (id : ℕ) → HasName controller name id → IsOne controller (things.Attached name node) (Attached id node)
+  Staging : (name node : List ℕ) (id : ℕ) → HasName controller name id → IsOne controller (things.Staged name node) (Staged id node)
+  Publication : (name node target : List ℕ) (id : ℕ) → HasName controller name id → IsOne controller (things.Published name node target) (Published id node target)
+
 -- a call of a volume by its id, where names and ids belong together
 pub record IsKeyed (controller : ControllerState) (name : List ℕ) (party : Party) (call : Call) : Type 0 where
+  pub thing : Thing
   pub key : Key
+  pub one : IsOne controller thing key
+  pub by_thing : thing_at name party call ≡ Some thing
   pub by_name : key_at name party call ≡ Some key
   pub seen : key_seen controller party call ≡ Some key
   pub of_party : party_of key ≡ party
   pub of_kind : IsTrue (is_party_of (kind_of call) party)
 
 pub named-found : (controller : ControllerState) (name : List ℕ) (id : ℕ) → HasName controller name id → (volume : Volume) × (volume_named name controller ≡ Some volume) × (volume.id ≡ id)
-named-found controller name id h = by (volume_named name controller) h
-  where
-    none_is_some : None ≡ Some id → ⊥
-    none_is_some e = cc
-
-    same : (v : Volume) → Some v.id ≡ Some id → v.id ≡ id
-    same v e = cc
-
-    by : (o : Option Volume) → option_map (λ (v : Volume). v.id) o ≡ Some id → (volume : Volume) × (o ≡ Some volume) × (volume.id ≡ id)
-    by None e = absurd (none_is_some e)
-    by (Some v) e = (v, refl, same v e)
+named-found controller name id h = some-from_map (λ (v : Volume). v.id) (volume_named name controller) id h
 
 pub id-found : (controller : ControllerState) (name : List ℕ) (id : ℕ) → controllers.AreNamed controller → HasName controller name id
     → (volume : Volume) × (volume_with_id id controller ≡ Some volume) × (volume.name ≡ name)
@@ -102,24 +107,23 @@ attached-keyed controller name node id names h =
 
 pub keyed : (controller : ControllerState) (name : List ℕ) (party : Party) (call : Call) → controllers.AreNamed controller → IsOwn controller name party call → IsKeyed controller name party call
 keyed controller name Controller (calls.CreateVolume create required limit capabilities) names own =
-    record { key = Exists name; by_name = refl; seen = ap (λ k. Some (Exists k)) own; of_party = refl; of_kind = refl }
+    record { thing = things.Exists name; key = Exists name; one = Existence name; by_thing = refl; by_name = refl; seen = ap (λ k. Some (Exists k)) own; of_party = refl; of_kind = refl }
 keyed controller name Controller (calls.DeleteVolume id) names own =
     let found = id-found controller name id names own in
-    record {
-      key = Exists name;
-      by_name = refl;
-      seen = ap (option_map (λ (volume : Volume). Exists volume.name)) found.1 ∙ ap (λ k. Some (Exists k)) found.2;
-      of_party = refl;
-      of_kind = refl;
-    }
+    let seen = ap (option_map (λ (volume : Volume). Exists volume.name)) found.1 ∙ ap (λ k. Some (Exists k)) found.2 in
+    record { thing = things.Exists name; key = Exists name; one = Existence name; by_thing = refl; by_name = refl; seen = seen; of_party = refl; of_kind = refl }
 keyed controller name Controller (calls.ControllerPublishVolume id node capability readonly) names own =
-    record { key = Attached id node; by_name = refl; seen = attached-keyed controller name node id names own; of_party = refl; of_kind = refl }
+    record { thing = _; key = _; one = Attachment name node id own; by_thing = refl; by_name = refl; seen = attached-keyed controller name node id names own; of_party = refl; of_kind = refl }
 keyed controller name Controller (calls.ControllerUnpublishVolume id node) names own =
-    record { key = Attached id node; by_name = refl; seen = attached-keyed controller name node id names own; of_party = refl; of_kind = refl }
-keyed controller name (Node node) (calls.NodeStageVolume id capability) names own = record { key = Staged id node; by_name = refl; seen = refl; of_party = refl; of_kind = refl }
-keyed controller name (Node node) (calls.NodeUnstageVolume id) names own = record { key = Staged id node; by_name = refl; seen = refl; of_party = refl; of_kind = refl }
-keyed controller name (Node node) (calls.NodePublishVolume id target capability readonly) names own = record { key = Published id node target; by_name = refl; seen = refl; of_party = refl; of_kind = refl }
-keyed controller name (Node node) (calls.NodeUnpublishVolume id target) names own = record { key = Published id node target; by_name = refl; seen = refl; of_party = refl; of_kind = refl }
+    record { thing = _; key = _; one = Attachment name node id own; by_thing = refl; by_name = refl; seen = attached-keyed controller name node id names own; of_party = refl; of_kind = refl }
+keyed controller name (Node node) (calls.NodeStageVolume id capability) names own =
+    record { thing = _; key = _; one = Staging name node id own; by_thing = refl; by_name = refl; seen = refl; of_party = refl; of_kind = refl }
+keyed controller name (Node node) (calls.NodeUnstageVolume id) names own =
+    record { thing = _; key = _; one = Staging name node id own; by_thing = refl; by_name = refl; seen = refl; of_party = refl; of_kind = refl }
+keyed controller name (Node node) (calls.NodePublishVolume id target capability readonly) names own =
+    record { thing = _; key = _; one = Publication name node target id own; by_thing = refl; by_name = refl; seen = refl; of_party = refl; of_kind = refl }
+keyed controller name (Node node) (calls.NodeUnpublishVolume id target) names own =
+    record { thing = _; key = _; one = Publication name node target id own; by_thing = refl; by_name = refl; seen = refl; of_party = refl; of_kind = refl }
 keyed controller name party call names own = absurd own
 
 -- an OK to the call was sent
@@ -149,15 +153,9 @@ pub latest-last : (key : Key) (issued : List Issued) (latest other : Issued) →
 latest-last key [] latest other two found at of = absurd at
 latest-last key (i ∷ is) latest other two found at of = by (is_of key i) refl found at (λ e o. latest-last key is latest other two.1 e o of)
   where
-    clash : true ≡ false → ⊥
-    clash e = cc
-
-    same : Some i ≡ Some latest → i ≡ latest
-    same e = cc
-
     by : (b : Bool) → is_of key i ≡ b → cond b (Some i) (find (is_of key) is) ≡ Some latest → (other ≡ i) ⊎ IsAmong other is
         → (find (is_of key) is ≡ Some latest → IsAmong other is → (other ≡ latest) ⊎ IsBefore other.number latest.number) → (other ≡ latest) ⊎ IsBefore other.number latest.number
-    by true t e (inl o) rest = inl (o ∙ same e)
-    by true t e (inr o) rest = inr (subst (λ (x : Issued). IsBefore other.number x.number) (same e) (each_of (ComesAfter i) is other two.0 o))
-    by false t e (inl o) rest = absurd (clash (sym of ∙ ap (is_of key) o ∙ t))
+    by true t e (inl o) rest = inl (o ∙ same_Some i latest e)
+    by true t e (inr o) rest = inr (subst (λ (x : Issued). IsBefore other.number x.number) (same_Some i latest e) (each_of (ComesAfter i) is other two.0 o))
+    by false t e (inl o) rest = absurd (false≢true (sym t ∙ sym (ap (is_of key) o) ∙ of))
     by false t e (inr o) rest = rest e o

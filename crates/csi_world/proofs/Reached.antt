@@ -1,13 +1,16 @@
 -- The plugins of a world are in states that frames lead to, and nodes of one id are alike.
-use Rattle.std.proofs.Common.{◌≡◌, ℕ, List, [], ◌∷◌, ◌++◌, map, Bool, true, false, cond, refl, sym, ◌∙◌, ap, inl, inr}
+use Rattle.std.proofs.Common.{◌≡◌, ℕ, List, [], ◌∷◌, ◌++◌, map, Bool, true, false, cond, refl, sym, ◌∙◌, ap}
 use Rattle.std.specs.Prelude.{Option, Some, None, option_map, find}
 use Rattle.std.specs.List.{AllByRecursion}
-use Rattle.std.proofs.lemmas.Bool.{false≢true}
+use Rattle.std.proofs.lemmas.Option.{none-some, same_Some}
 use Rattle.csi_types.specs.declared.config.NodeSlots.{NodeSlots}
+use Rattle.csi_types.specs.declared.call.Party.{Party}
+use Rattle.csi_types.specs.declared.call.Party.TheVariants.{Controller, Node}
 use Rattle.csi_types.specs.Config.{Config}
 use Rattle.csi_types.specs.Frame.{Frame}
 use Rattle.csi_lists.specs.Members.{IsAmong}
-use Rattle.csi_lists.proofs.Members.{each_of, among-find, among-map}
+use Rattle.csi_lists.proofs.Members.{each_of, among-find, among-map, some-found}
+use Rattle.csi_lists.proofs.Options.{some-from_map}
 use Rattle.csi_lists.proofs.Searches.{find-map, find-passes}
 use Rattle.csi_lists.proofs.Maps.{map-same}
 use Rattle.csi_types.specs.Same.{same_text}
@@ -16,7 +19,9 @@ use Rattle.csi_controller.specs.State.{ControllerState, empty_controller}
 use Rattle.csi_controller.specs.Fenced as controller
 use Rattle.csi_node.specs.State.{NodeState, empty_node}
 use Rattle.csi_node.specs.Fenced as node
-use Rattle.csi_world.specs.World.{NodeAt, World, new_node, empty_world, node_state, with_state, with_node}
+use Rattle.csi_orchestrator.specs.History.{History}
+use Rattle.csi_world.specs.World.{NodeAt, World, new_node, empty_world, node_state, with_state, with_node, with_frame}
+use Rattle.csi_world.specs.Step.{answered_by_node, answered_by, answered}
 
 -- a controller's state, and a node's, to which frames lead
 abbrev pub IsOfFrames : Config → ControllerState → Type 0
@@ -45,18 +50,10 @@ controller-next config state frame of =
 
 -- the node that is found
 pub found-at : (id : List ℕ) (world : World) (state : NodeState) → node_state id world ≡ Some state → (at : NodeAt) × IsAmong at world.nodes × (at.id ≡ id) × (at.state ≡ state)
-found-at id world state h = by (find (λ (n : NodeAt). same_text n.id id) world.nodes) refl h
-  where
-    clash : None ≡ Some state → ⊥
-    clash e = cc
-
-    same : (s : NodeState) → Some s ≡ Some state → s ≡ state
-    same s e = cc
-
-    by : (o : Option NodeAt) → find (λ (n : NodeAt). same_text n.id id) world.nodes ≡ o → option_map (λ (n : NodeAt). n.state) o ≡ Some state → (at : NodeAt) × IsAmong at world.nodes × (at.id ≡ id) × (at.state ≡ state)
-    by None e h = absurd (clash h)
-    by (Some at) e h =
-        (at, among-find (λ (n : NodeAt). same_text n.id id) world.nodes at e, (same_text-tells at.id id).0 (find-passes (λ (n : NodeAt). same_text n.id id) world.nodes at e), same at.state h)
+found-at id world state h =
+    let p : NodeAt → Bool = λ n. same_text n.id id in
+    let found = some-from_map (λ (n : NodeAt). n.state) (find p world.nodes) state h in
+    (found.0, among-find p world.nodes found.0 found.1, (same_text-tells (found.0).id id).0 (find-passes p world.nodes found.0 found.1), found.2)
 
 pub node-of-frames : (config : Config) (world : World) (id : List ℕ) (state : NodeState) → IsReached config world → node_state id world ≡ Some state → (frames : List Frame) × (state ≡ node.after_frames id empty_node frames)
 node-of-frames config world id state reached h =
@@ -86,10 +83,7 @@ node_state-other id other state world differs =
 
 state-same : (id : List ℕ) (old state : NodeState) (o : Option NodeAt) → option_map (λ (n : NodeAt). n.state) o ≡ Some old → ((at : NodeAt) → o ≡ Some at → same_text at.id id ≡ true)
     → option_map (λ (n : NodeAt). n.state) (option_map (with_state id state) o) ≡ Some state
-state-same id old state None h is = absurd (clash h)
-  where
-    clash : None ≡ Some old → ⊥
-    clash e = cc
+state-same id old state None h is = absurd (none-some old h)
 state-same id old state (Some at) h is = ap (λ b. Some (cond b (let n : NodeAt = record at { state = state } in n) at).state) (is at refl)
 
 pub node_state-same : (id : List ℕ) (old state : NodeState) (world : World) → node_state id world ≡ Some old → node_state id (with_node id state world) ≡ Some state
@@ -132,12 +126,9 @@ pub with_node-same : (config : Config) (world : World) (id : List ℕ) (state : 
 with_node-same config world id state reached h =
     ap (λ (ns : List NodeAt). record world { nodes = ns }) (map-same (with_state id state) world.nodes (λ at among. by at among (same_text at.id id) refl))
   where
-    same : (s t : NodeState) → Some s ≡ Some t → s ≡ t
-    same s t e = cc
-
     by : (at : NodeAt) → IsAmong at world.nodes → (b : Bool) → same_text at.id id ≡ b → cond b (let n : NodeAt = record at { state = state } in n) at ≡ at
     by at among true e =
-        let is : state ≡ at.state = same state at.state (sym h ∙ ap (λ i. node_state i world) (sym ((same_text-tells at.id id).0 e)) ∙ reached.alike at among) in
+        let is : state ≡ at.state = same_Some state at.state (sym h ∙ ap (λ i. node_state i world) (sym ((same_text-tells at.id id).0 e)) ∙ reached.alike at among) in
         ap (λ (s : NodeState). let n : NodeAt = record at { state = s } in n) is
     by at among false e = refl
 
@@ -146,22 +137,36 @@ new_nodes : (entries : List NodeSlots) → AllByRecursion IsNodeOfFrames (map ne
 new_nodes [] = tt
 new_nodes (entry ∷ entries) = (([], refl), new_nodes entries)
 
--- a new node knows nothing, and so does the first of its id
-new_alike : (entries : List NodeSlots) (at : NodeAt) → IsAmong at (map new_node entries) → option_map (λ (n : NodeAt). n.state) (find (λ (n : NodeAt). same_text n.id at.id) (map new_node entries)) ≡ Some at.state
-new_alike [] at among = absurd among
-new_alike (entry ∷ entries) at among = by (same_text entry.id at.id) refl among (new_alike entries at)
-  where
-    empty : (es : List NodeSlots) → IsAmong at (map new_node es) → at.state ≡ empty_node
-    empty [] among = absurd among
-    empty (e ∷ es) (inl is) = ap (λ (n : NodeAt). n.state) is
-    empty (e ∷ es) (inr there) = empty es there
+-- a new node knows nothing
+pub knows-nothing : (entries : List NodeSlots) (at : NodeAt) → IsAmong at (map new_node entries) → at.state ≡ empty_node
+knows-nothing entries at among = let from = among-map new_node entries at among in ap (λ (n : NodeAt). n.state) from.2
 
-    by : (b : Bool) → same_text entry.id at.id ≡ b → IsAmong at (map new_node (entry ∷ entries))
-        → (IsAmong at (map new_node entries) → option_map (λ (n : NodeAt). n.state) (find (λ (n : NodeAt). same_text n.id at.id) (map new_node entries)) ≡ Some at.state)
-        → option_map (λ (n : NodeAt). n.state) (cond b (Some (new_node entry)) (find (λ (n : NodeAt). same_text n.id at.id) (map new_node entries))) ≡ Some at.state
-    by true e among rest = ap Some (sym (empty (entry ∷ entries) among))
-    by false e (inl is) rest = absurd (false≢true (sym e ∙ (same_text-tells entry.id at.id).1 (sym (ap (λ (n : NodeAt). n.id) is))))
-    by false e (inr there) rest = rest there
+-- and so does the first of its id
+new_alike : (entries : List NodeSlots) (at : NodeAt) → IsAmong at (map new_node entries) → option_map (λ (n : NodeAt). n.state) (find (λ (n : NodeAt). same_text n.id at.id) (map new_node entries)) ≡ Some at.state
+new_alike entries at among =
+    let p : NodeAt → Bool = λ n. same_text n.id at.id in
+    let first = some-found p (map new_node entries) at among ((same_text-tells at.id at.id).1 refl) in
+    ap (option_map (λ (n : NodeAt). n.state)) first.1 ∙ ap Some (knows-nothing entries first.0 (among-find p (map new_node entries) first.0 first.1) ∙ sym (knows-nothing entries at among))
 
 pub empty-reached : (config : Config) → IsReached config (empty_world config)
 empty-reached config = record { controller = ([], refl); nodes = new_nodes config.nodes; alike = λ at among. new_alike config.nodes at among }
+
+-- what an orchestrator does changes no plugin
+pub still-reached : (config : Config) (world : World) (frames : List Frame) (history : History) → IsReached config world → IsReached config (record world { frames = frames; history = history })
+still-reached config world frames history reached = record { controller = reached.controller; nodes = reached.nodes; alike = reached.alike }
+
+-- what a plugin does is none of the orchestrator's
+with_frame-history : (reply : Option Frame) (world : World) → (with_frame reply world).history ≡ world.history
+with_frame-history None world = refl
+with_frame-history (Some frame) world = refl
+
+pub answered-history : (config : Config) (world : World) (frame : Frame) → (answered config world frame).history ≡ world.history
+answered-history config world frame = by frame.party
+  where
+    at_node : (id : List ℕ) (o : Option NodeState) → (answered_by_node id world frame o).history ≡ world.history
+    at_node id None = refl
+    at_node id (Some state) = with_frame-history (node.fenced id state frame).reply (with_node id (node.fenced id state frame).state world)
+
+    by : (party : Party) → (answered_by config world frame party).history ≡ world.history
+    by Controller = with_frame-history (controller.fenced config world.controller frame).reply (record world { controller = (controller.fenced config world.controller frame).state })
+    by (Node id) = at_node id (node_state id world)

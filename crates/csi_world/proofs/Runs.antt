@@ -1,6 +1,7 @@
 -- Why the run of any list of events is made of steps.
-use Rattle.std.proofs.Common.{◌≡◌, ◌+◌, ◌*◌, ◌≤◌, ℕ, List, [], ◌∷◌, ◌++◌, length, map, Bool, true, false, cond, refl, sym, ◌∙◌, ap, subst, inl, inr, arith}
-use Rattle.std.specs.Prelude.{zero, suc, Option, Some, None, slice_get, Result, Ok, Err}
+use Rattle.std.proofs.Common.{◌≡◌, ◌+◌, ◌*◌, ◌≤◌, ℕ, List, [], ◌∷◌, ◌++◌, length, map, Bool, true, false, cond, refl, sym, ◌∙◌, ap, subst, arith, length-append}
+use Rattle.std.specs.Prelude.{zero, suc, Option, Some, None, Result, Ok, Err}
+use Rattle.std.proofs.lemmas.Option.{none-some}
 use Rattle.csi_types.specs.declared.call.Party.{Party}
 use Rattle.csi_types.specs.declared.call.Party.TheVariants.{Controller, Node}
 use Rattle.csi_types.specs.declared.frame.Body.{Body}
@@ -9,11 +10,9 @@ use Rattle.csi_types.specs.Config.{Config, has_node}
 use Rattle.csi_types.specs.Frame.{Frame}
 use Rattle.csi_lists.specs.Members.{IsAmong}
 use Rattle.csi_lists.proofs.Members.{among-append}
-use Rattle.csi_controller.specs.Fenced as controller
-use Rattle.csi_node.specs.State.{NodeState}
-use Rattle.csi_node.specs.Fenced as node
 use Rattle.csi_orchestrator.specs.declared.fault.Heard.TheVariants as heard
 use Rattle.csi_orchestrator.specs.declared.fault.OrchFault.{OrchFault}
+use Rattle.csi_orchestrator.specs.Thing.{Issued}
 use Rattle.csi_orchestrator.specs.History.{Item, Started, Sent, Accepted, Closed, Noted, History, with_items}
 use Rattle.csi_orchestrator.specs.Readings.{issued_in}
 use Rattle.csi_orchestrator.specs.Moves as orchestrator
@@ -21,10 +20,12 @@ use Rattle.csi_orchestrator.specs.Steps as stepwise
 use Rattle.csi_world.specs.declared.event.Event.{Event}
 use Rattle.csi_world.specs.declared.event.Event.TheVariants as events
 use Rattle.csi_world.specs.declared.event.Outcome.TheVariants as outcomes
-use Rattle.csi_world.specs.World.{World, empty_world, node_state, with_node, with_frame, with_history}
-use Rattle.csi_world.specs.Step.{Choice, Sends, Closes, Takes, Notes, Starts, Answers, MayChoose, frame_of, answered, answered_by, answered_by_node, chosen, MayChooseAll, chosen_all}
+use Rattle.csi_world.specs.World.{World, empty_world, with_history}
+use Rattle.csi_world.specs.Step.{Choice, Sends, Closes, Takes, Notes, Starts, Answers, MayChoose, frame_of, answered, chosen, MayChooseAll, chosen_all}
 use Rattle.csi_world.specs.After.{Occurred, by_answer, by_result, node_id, orchestrated, called, delivered_body, delivered, next_frame, frame_at, occurs, after_from}
 use Rattle.csi_world.specs.Laws.{RunsAreSteps}
+use Rattle.csi_world.proofs.Heard.{among-get}
+use Rattle.csi_world.proofs.Reached.{answered-history}
 
 -- choices one after another
 all-append : (config : Config) (world : World) (xs ys : List Choice) → MayChooseAll config world xs → MayChooseAll config (chosen_all config world xs) ys → MayChooseAll config world (xs ++ ys)
@@ -34,17 +35,6 @@ all-append config world (x ∷ xs) ys f g = (f.0, all-append config (chosen conf
 chosen-append : (config : Config) (world : World) (xs ys : List Choice) → chosen_all config world (xs ++ ys) ≡ chosen_all config (chosen_all config world xs) ys
 chosen-append config world [] ys = refl
 chosen-append config world (x ∷ xs) ys = chosen-append config (chosen config world x) xs ys
-
-count-append : {X : Type 0} (xs ys : List X) (m n : ℕ) → length xs ≤ m → length ys ≤ n → length (xs ++ ys) ≤ m + n
-count-append [] ys m n f g = omega arith
-count-append (x ∷ xs) ys m n f g = by m f (λ k h. count-append xs ys k n h g)
-  where
-    clash : suc (length xs) ≤ zero → ⊥
-    clash h = omega arith
-
-    by : (m : ℕ) → suc (length xs) ≤ m → ((k : ℕ) → length xs ≤ k → length (xs ++ ys) ≤ k + n) → suc (length (xs ++ ys)) ≤ m + n
-    by zero h rest = absurd (clash h)
-    by (suc k) h rest = let less : length xs ≤ k = omega arith in let shorter : length (xs ++ ys) ≤ k + n = rest k less in omega arith
 
 -- the choice by which an item is done
 choice-of : (history : History) (input : orchestrator.Input) (item : Item) → stepwise.MayDo history input item → Choice
@@ -58,34 +48,21 @@ choices-of : (history : History) (input : orchestrator.Input) (items : List Item
 choices-of history input [] may = []
 choices-of history input (item ∷ older) may = choices-of history input older may.1 ++ choice-of (with_items history older) input item may.0 ∷ []
 
-choices-count : (history : History) (input : orchestrator.Input) (items : List Item) (may : stepwise.MayDoAll history input items) (n : ℕ) → length items ≤ n → length (choices-of history input items may) ≤ n
+choices-count : (history : History) (input : orchestrator.Input) (items : List Item) (may : stepwise.MayDoAll history input items) → length (choices-of history input items may) ≡ length items
 unfolding choices-of
-choices-count history input [] may n f = f
-choices-count history input (item ∷ older) may n f = by n f (λ k h. choices-count history input older may.1 k h)
-  where
-    clash : suc (length older) ≤ zero → ⊥
-    clash h = omega arith
-
-    by : (n : ℕ) → suc (length older) ≤ n → ((k : ℕ) → length older ≤ k → length (choices-of history input older may.1) ≤ k) → length (choices-of history input (item ∷ older) may) ≤ n
-    by zero h rest = absurd (clash h)
-    by (suc k) h rest =
-        let less : length older ≤ k = omega arith in
-        let one : 1 ≤ 1 = omega arith in
-        let both : length (choices-of history input older may.1 ++ choice-of (with_items history older) input item may.0 ∷ []) ≤ k + 1 = count-append (choices-of history input older may.1) (choice-of (with_items history older) input item may.0 ∷ []) k 1 (rest k less) one in
-        let same : suc k ≡ k + 1 = omega arith in
-        subst (λ m. length (choices-of history input older may.1 ++ choice-of (with_items history older) input item may.0 ∷ []) ≤ m) (sym same) both
+choices-count history input [] may = refl
+choices-count history input (item ∷ older) may =
+    let rest = choices-count history input older may.1 in
+    let joined = length-append (choices-of history input older may.1) (choice-of (with_items history older) input item may.0 ∷ []) in
+    omega (arith, rest, joined)
 
 -- the frames that they send, after these
-frames-after : List Frame → List Item → List Frame
+frames-after : List Frame → List Issued → List Frame
 frames-after frames [] = frames
-frames-after frames (Sent issued ∷ older) = frames-after frames older ++ frame_of issued ∷ []
-frames-after frames (Started session ∷ older) = frames-after frames older
-frames-after frames (Accepted number status id ∷ older) = frames-after frames older
-frames-after frames (Closed number ∷ older) = frames-after frames older
-frames-after frames (Noted name goal ∷ older) = frames-after frames older
+frames-after frames (issued ∷ older) = frames-after frames older ++ frame_of issued ∷ []
 
 world-after : World → List Item → World
-world-after world items = record world { frames = frames-after world.frames items; history = with_items world.history items }
+world-after world items = record world { frames = frames-after world.frames (issued_in items); history = with_items world.history items }
 
 one-more : (config : Config) (world : World) (input : orchestrator.Input) (item : Item) (older : List Item) (may : stepwise.MayDo (with_items world.history older) input item)
     → chosen config (world-after world older) (choice-of (with_items world.history older) input item may) ≡ world-after world (item ∷ older)
@@ -93,7 +70,7 @@ unfolding choice-of frames-after world-after
 one-more config world input (Started session) older may = refl
 one-more config world input (Sent issued) older may = refl
 one-more config world input (Accepted number status id) older may =
-    ap (λ (i : Item). with_history (i ∷ []) (record world { frames = frames-after world.frames older; history = with_items world.history older })) (same may.same_number may.same_status may.same_id)
+    ap (λ (i : Item). with_history (i ∷ []) (record world { frames = frames-after world.frames (issued_in older); history = with_items world.history older })) (same may.same_number may.same_status may.same_id)
   where
     same : number ≡ may.issued.number → status ≡ may.reply.status → id ≡ may.reply.id → Accepted may.issued.number may.reply.status may.reply.id ≡ Accepted number status id
     same f g h = λ i. Accepted (sym f i) (sym g i) (sym h i)
@@ -109,25 +86,22 @@ then-world config world input (item ∷ older) may =
     ∙ ap (λ w. chosen config w (choice-of (with_items world.history older) input item may.0)) (then-world config world input older may.1) ∙ one-more config world input item older may.0
 
 -- frames that were sent stay
-frame-stays : (frame : Frame) (frames : List Frame) (items : List Item) → IsAmong frame frames → IsAmong frame (frames-after frames items)
+frame-stays : (frame : Frame) (frames : List Frame) (issued : List Issued) → IsAmong frame frames → IsAmong frame (frames-after frames issued)
 unfolding frames-after
 frame-stays frame frames [] among = among
-frame-stays frame frames (Sent issued ∷ older) among = among-append (frames-after frames older) (frame_of issued ∷ []) frame (frame-stays frame frames older among)
-frame-stays frame frames (Started session ∷ older) among = frame-stays frame frames older among
-frame-stays frame frames (Accepted number status id ∷ older) among = frame-stays frame frames older among
-frame-stays frame frames (Closed number ∷ older) among = frame-stays frame frames older among
-frame-stays frame frames (Noted name goal ∷ older) among = frame-stays frame frames older among
+frame-stays frame frames (one ∷ older) among = among-append (frames-after frames older) (frame_of one ∷ []) frame (frame-stays frame frames older among)
 
 -- a frame that comes was sent
-CameFrom : List Frame → orchestrator.Input → Type 0
-CameFrom frames input = (frame : Frame) → input ≡ orchestrator.Comes frame → IsAmong frame frames
+abbrev CameFrom : List Frame → orchestrator.Input → Type 0
+CameFrom frames (orchestrator.Comes frame) = IsAmong frame frames
+CameFrom frames input = Unit {0}
 
 may-choose : (world : World) (input : orchestrator.Input) (item : Item) (older : List Item) → CameFrom world.frames input → (may : stepwise.MayDo (with_items world.history older) input item)
     → MayChoose (world-after world older) (choice-of (with_items world.history older) input item may)
-unfolding choice-of world-after CameFrom
+unfolding choice-of world-after
 may-choose world input (Started session) older came may = may
 may-choose world input (Sent issued) older came may = record { numbered = may.0; allowed = may.1 }
-may-choose world input (Accepted number status id) older came may = record { is_open = may.is_open; was_sent = frame-stays _ world.frames older (came _ may.came) }
+may-choose world input (Accepted number status id) older came may = record { is_open = may.is_open; was_sent = frame-stays _ world.frames (issued_in older) (subst (CameFrom world.frames) may.came came) }
 may-choose world input (Closed number) older came may = may
 may-choose world input (Noted name goal) older came may = tt
 
@@ -140,59 +114,30 @@ may-choose-all config world input (item ∷ older) came may =
     (subst (λ w. MayChoose w (choice-of (with_items world.history older) input item may.0)) (sym (then-world config world input older may.1)) (may-choose world input item older came may.0), tt)
 
 -- the frames are those of the answer
-abbrev head-or : {X : Type 0} → X → List X → X
-head-or x [] = x
-head-or x (z ∷ zs) = z
-
-abbrev tail-of : {X : Type 0} → List X → List X
-tail-of [] = []
-tail-of (z ∷ zs) = zs
-
-first-two : {X : Type 0} (x y : X) (xs ys : List X) → x ∷ xs ≡ y ∷ ys → (x ≡ y) × (xs ≡ ys)
-first-two x y xs ys e = (ap (head-or x) e, ap tail-of e)
-
-none-sent : (frames : List Frame) (items : List Item) → map stepwise.frame_of (issued_in items) ≡ [] → frames-after frames items ≡ frames
+none-sent : (frames : List Frame) (issued : List Issued) → map stepwise.frame_of issued ≡ [] → frames-after frames issued ≡ frames
 unfolding frames-after
 none-sent frames [] e = refl
-none-sent frames (Sent issued ∷ older) e = absurd (clash e)
+none-sent frames (one ∷ older) e = absurd (clash e)
   where
-    clash : stepwise.frame_of issued ∷ map stepwise.frame_of (issued_in older) ≡ [] → ⊥
+    clash : stepwise.frame_of one ∷ map stepwise.frame_of older ≡ [] → ⊥
     clash h = cc
-none-sent frames (Started session ∷ older) e = none-sent frames older e
-none-sent frames (Accepted number status id ∷ older) e = none-sent frames older e
-none-sent frames (Closed number ∷ older) e = none-sent frames older e
-none-sent frames (Noted name goal ∷ older) e = none-sent frames older e
 
-one-sent : (frames : List Frame) (frame : Frame) (items : List Item) → map stepwise.frame_of (issued_in items) ≡ frame ∷ [] → frames-after frames items ≡ frames ++ frame ∷ []
+one-sent : (frames : List Frame) (frame : Frame) (issued : List Issued) → map stepwise.frame_of issued ≡ frame ∷ [] → frames-after frames issued ≡ frames ++ frame ∷ []
 unfolding frames-after
 one-sent frames frame [] e = absurd (clash e)
   where
     clash : [] ≡ frame ∷ [] → ⊥
     clash h = cc
-one-sent frames frame (Sent issued ∷ older) e =
-    let both = first-two (stepwise.frame_of issued) frame (map stepwise.frame_of (issued_in older)) [] e in
-    ap (λ fs. fs ++ frame_of issued ∷ []) (none-sent frames older both.1) ∙ ap (λ f. frames ++ f ∷ []) both.0
-one-sent frames frame (Started session ∷ older) e = one-sent frames frame older e
-one-sent frames frame (Accepted number status id ∷ older) e = one-sent frames frame older e
-one-sent frames frame (Closed number ∷ older) e = one-sent frames frame older e
-one-sent frames frame (Noted name goal ∷ older) e = one-sent frames frame older e
+one-sent frames frame (one ∷ older) e =
+    let same : stepwise.frame_of one ≡ frame = cc in
+    let none : map stepwise.frame_of older ≡ [] = cc in
+    ap (λ fs. fs ++ frame_of one ∷ []) (none-sent frames older none) ∙ ap (λ f. frames ++ f ∷ []) same
 
-answer-world : (world : World) (items : List Item) (answer : orchestrator.Answer) → map stepwise.frame_of (issued_in items) ≡ stepwise.frames_in answer → world-after world items ≡ (by_answer (with_history items world) answer).world
-unfolding world-after
-answer-world world items (orchestrator.Sends None) e = ap (λ fs. record world { frames = fs; history = with_items world.history items }) (none-sent world.frames items e)
-answer-world world items (orchestrator.Sends (Some frame)) e = ap (λ fs. record world { frames = fs; history = with_items world.history items }) (one-sent world.frames frame items e)
-answer-world world items (orchestrator.Hears heard.Ignored) e = ap (λ fs. record world { frames = fs; history = with_items world.history items }) (none-sent world.frames items e)
-answer-world world items (orchestrator.Hears (heard.Taken None)) e = ap (λ fs. record world { frames = fs; history = with_items world.history items }) (none-sent world.frames items e)
-answer-world world items (orchestrator.Hears (heard.Taken (Some frame))) e = ap (λ fs. record world { frames = fs; history = with_items world.history items }) (one-sent world.frames frame items e)
-answer-world world items orchestrator.Restarted e = ap (λ fs. record world { frames = fs; history = with_items world.history items }) (none-sent world.frames items e)
-
-answer-history : (world : World) (answer : orchestrator.Answer) → (by_answer world answer).world.history ≡ world.history
-answer-history world (orchestrator.Sends None) = refl
-answer-history world (orchestrator.Sends (Some frame)) = refl
-answer-history world (orchestrator.Hears heard.Ignored) = refl
-answer-history world (orchestrator.Hears (heard.Taken None)) = refl
-answer-history world (orchestrator.Hears (heard.Taken (Some frame))) = refl
-answer-history world orchestrator.Restarted = refl
+answer-frames : (world : World) (issued : List Issued) (answer : orchestrator.Answer) → map stepwise.frame_of issued ≡ stepwise.frames_in answer
+    → record world { frames = frames-after world.frames issued } ≡ (by_answer world answer).world
+answer-frames world issued (orchestrator.Sends (Some frame)) e = ap (λ fs. record world { frames = fs }) (one-sent world.frames frame issued e)
+answer-frames world issued (orchestrator.Hears (heard.Taken (Some frame))) e = ap (λ fs. record world { frames = fs }) (one-sent world.frames frame issued e)
+answer-frames world issued answer e = ap (λ fs. record world { frames = fs }) (none-sent world.frames issued e)
 
 -- a world that comes of another by at most three steps, and whose orchestrator came to its history
 record Stepped (config : Config) (old new : World) : Type 0 where
@@ -202,29 +147,24 @@ record Stepped (config : Config) (old new : World) : Type 0 where
   same_world : chosen_all config old choices ≡ new
   reached : stepwise.IsReached (map node_id config.nodes) new.history
 
-no-choice : 0 ≤ 3
-no-choice = omega arith
-
-one-choice : 1 ≤ 3
-one-choice = omega arith
-
 stays : (config : Config) (world : World) → stepwise.IsReached (map node_id config.nodes) world.history → Stepped config world world
-stays config world reached = record { choices = []; may = tt; few = no-choice; same_world = refl; reached = reached }
+stays config world reached = record { choices = []; may = tt; few = omega arith; same_world = refl; reached = reached }
 
 -- the orchestrator moves
 moved : (config : Config) (world : World) (input : orchestrator.Input) → stepwise.MovesLaw → CameFrom world.frames input → stepwise.IsReached (map node_id config.nodes) world.history
     → (result : Result orchestrator.Moved OrchFault) → orchestrator.moves (map node_id config.nodes) world.history input ≡ result → stepwise.AreStepwise world.history input result
     → Stepped config world (by_result world result).world
+unfolding world-after
 moved config world input law came reached (Err fault) e steps = stays config world reached
 moved config world input law came reached (Ok done) e steps =
+    let sent : world-after world done.items ≡ (by_answer (with_history done.items world) done.answer).world
+    = answer-frames (with_history done.items world) (issued_in done.items) done.answer steps.frames in
     record {
       choices = choices-of world.history input done.items steps.may;
       may = may-choose-all config world input done.items came steps.may;
-      few = choices-count world.history input done.items steps.may 3 steps.few;
-      same_world = then-world config world input done.items steps.may ∙ answer-world world done.items done.answer steps.frames;
-      reached =
-          subst (stepwise.IsReached (map node_id config.nodes)) (ap (orchestrator.moved_to world.history) e ∙ sym (answer-history (with_history done.items world) done.answer))
-          (stepwise.GoesOn world.history input reached);
+      few = subst (λ n. n ≤ 3) (sym (choices-count world.history input done.items steps.may)) steps.few;
+      same_world = then-world config world input done.items steps.may ∙ sent;
+      reached = subst (stepwise.IsReached (map node_id config.nodes)) (ap (orchestrator.moved_to world.history) e ∙ ap (λ (w : World). w.history) sent) (stepwise.GoesOn world.history input reached);
     }
 
 orchestrates : (config : Config) (world : World) (input : orchestrator.Input) → stepwise.MovesLaw → CameFrom world.frames input → stepwise.IsReached (map node_id config.nodes) world.history → Stepped config world (orchestrated config world input).world
@@ -232,27 +172,14 @@ orchestrates config world input law came reached =
     moved config world input law came reached (orchestrator.moves (map node_id config.nodes) world.history input) refl (law (map node_id config.nodes) world.history input reached)
 
 -- a plugin answers
-framed-history : (frame : Option Frame) (world : World) → (with_frame frame world).history ≡ world.history
-framed-history None world = refl
-framed-history (Some frame) world = refl
-
-answered-history : (config : Config) (world : World) (frame : Frame) (party : Party) → (answered_by config world frame party).history ≡ world.history
-answered-history config world frame Controller =
-    let fenced : controller.Fenced = controller.fenced config world.controller frame in framed-history fenced.reply (record world { controller = fenced.state })
-answered-history config world frame (Node id) = by (node_state id world)
-  where
-    by : (o : Option NodeState) → (answered_by_node id world frame o).history ≡ world.history
-    by None = refl
-    by (Some state) = let fenced : node.Fenced = node.fenced id state frame in framed-history fenced.reply (with_node id fenced.state world)
-
 answers : (config : Config) (world : World) (frame : Frame) → IsAmong frame world.frames → stepwise.IsReached (map node_id config.nodes) world.history → Stepped config world (answered config world frame)
 answers config world frame among reached =
     record {
       choices = Answers frame ∷ [];
       may = (among, tt);
-      few = one-choice;
+      few = omega arith;
       same_world = refl;
-      reached = subst (stepwise.IsReached (map node_id config.nodes)) (sym (answered-history config world frame frame.party)) reached;
+      reached = subst (stepwise.IsReached (map node_id config.nodes)) (sym (answered-history config world frame)) reached;
     }
 
 calls : (config : Config) (world : World) (frame : Frame) → IsAmong frame world.frames → stepwise.IsReached (map node_id config.nodes) world.history → (party : Party) → Stepped config world (called config world frame party).world
@@ -265,67 +192,27 @@ calls config world frame among reached (Node id) = by (has_node id config.nodes)
     by false = stays config world reached
 
 delivers : (config : Config) (world : World) (frame : Frame) → stepwise.MovesLaw → IsAmong frame world.frames → stepwise.IsReached (map node_id config.nodes) world.history → (body : Body) → Stepped config world (delivered_body config world frame body).world
-unfolding CameFrom
 delivers config world frame law among reached (bodies.Call call) = calls config world frame among reached frame.party
-delivers config world frame law among reached (bodies.Reply kind reply) =
-    orchestrates config world (orchestrator.Comes frame) law (λ other e. subst (λ f. IsAmong f world.frames) (same other e) among) reached
-  where
-    same : (other : Frame) → orchestrator.Comes frame ≡ orchestrator.Comes other → frame ≡ other
-    same other e = cc
-
-among-get : (frames : List Frame) (place : ℕ) (frame : Frame) → slice_get frames place ≡ Some frame → IsAmong frame frames
-among-get [] place frame e = absurd (clash e)
-  where
-    clash : None ≡ Some frame → ⊥
-    clash h = cc
-among-get (first ∷ others) zero frame e = inl (same e)
-  where
-    same : Some first ≡ Some frame → frame ≡ first
-    same h = cc
-among-get (first ∷ others) (suc place) frame e = inr (among-get others place frame e)
+delivers config world frame law among reached (bodies.Reply kind reply) = orchestrates config world (orchestrator.Comes frame) law among reached
 
 frame-there : (world : World) (number : ℕ) (frame : Frame) → frame_at world number ≡ Some frame → IsAmong frame world.frames
-frame-there world zero frame e = absurd (clash e)
-  where
-    clash : None ≡ Some frame → ⊥
-    clash h = cc
+frame-there world zero frame e = absurd (none-some frame e)
 frame-there world (suc place) frame e = among-get world.frames place frame e
 
--- no other input is a frame that comes
-not-came : (frames : List Frame) (input : orchestrator.Input) → ((frame : Frame) → input ≡ orchestrator.Comes frame → ⊥) → CameFrom frames input
-unfolding CameFrom
-not-came frames input none frame e = absurd (none frame e)
-
 one-event : (config : Config) (world : World) (event : Event) → stepwise.MovesLaw → stepwise.IsReached (map node_id config.nodes) world.history → Stepped config world (occurs config world event).world
-one-event config world (events.Create name required limit capabilities) law reached = orchestrates config world _ law (not-came world.frames _ (λ frame e. none frame e)) reached
-  where
-    none : (frame : Frame) → orchestrator.ToCreate name (record { required = required; limit = limit; capabilities = capabilities }) ≡ orchestrator.Comes frame → ⊥
-    none frame e = cc
-one-event config world (events.Use name node target capability readonly) law reached = orchestrates config world _ law (not-came world.frames _ (λ frame e. none frame e)) reached
-  where
-    none : (frame : Frame) → orchestrator.ToUse name (record { node = node; target = target; capability = capability; readonly = readonly }) ≡ orchestrator.Comes frame → ⊥
-    none frame e = cc
-one-event config world (events.Stop name node target) law reached = orchestrates config world _ law (not-came world.frames _ (λ frame e. none frame e)) reached
-  where
-    none : (frame : Frame) → orchestrator.ToStop name node target ≡ orchestrator.Comes frame → ⊥
-    none frame e = cc
-one-event config world (events.Delete name) law reached = orchestrates config world _ law (not-came world.frames _ (λ frame e. none frame e)) reached
-  where
-    none : (frame : Frame) → orchestrator.ToDelete name ≡ orchestrator.Comes frame → ⊥
-    none frame e = cc
-one-event config world (events.Timeout name) law reached = orchestrates config world _ law (not-came world.frames _ (λ frame e. none frame e)) reached
-  where
-    none : (frame : Frame) → orchestrator.TimesOut name ≡ orchestrator.Comes frame → ⊥
-    none frame e = cc
+one-event config world (events.Create name required limit capabilities) law reached =
+    orchestrates config world (orchestrator.ToCreate name (record { required = required; limit = limit; capabilities = capabilities })) law tt reached
+one-event config world (events.Use name node target capability readonly) law reached =
+    orchestrates config world (orchestrator.ToUse name (record { node = node; target = target; capability = capability; readonly = readonly })) law tt reached
+one-event config world (events.Stop name node target) law reached = orchestrates config world (orchestrator.ToStop name node target) law tt reached
+one-event config world (events.Delete name) law reached = orchestrates config world (orchestrator.ToDelete name) law tt reached
+one-event config world (events.Timeout name) law reached = orchestrates config world (orchestrator.TimesOut name) law tt reached
 one-event config world (events.Deliver number) law reached = by (frame_at world number) refl
   where
     by : (o : Option Frame) → frame_at world number ≡ o → Stepped config world (delivered config world o).world
     by None e = stays config world reached
     by (Some frame) e = delivers config world frame law (frame-there world number frame e) reached frame.body
-one-event config world events.RestartOrchestrator law reached = orchestrates config world _ law (not-came world.frames _ (λ frame e. none frame e)) reached
-  where
-    none : (frame : Frame) → orchestrator.Restarts ≡ orchestrator.Comes frame → ⊥
-    none frame e = cc
+one-event config world events.RestartOrchestrator law reached = orchestrates config world orchestrator.Restarts law tt reached
 one-event config world events.RestartController law reached = stays config world reached
 one-event config world (events.RestartNode node) law reached = stays config world reached
 
@@ -341,16 +228,13 @@ run-from config world [] law reached = record { choices = []; may = tt; few = om
 run-from config world (event ∷ others) law reached = then-run (one-event config world event law reached)
     (run-from config (occurs config world event).world others law (one-event config world event law reached).reached)
   where
-    few-more : (n : ℕ) → 3 + 3 * n ≡ 3 * suc n
-    few-more n = omega arith
-
     then-run : Stepped config world (occurs config world event).world → IsRun config (occurs config world event).world (after_from config (occurs config world event).world others).world (length others)
         → IsRun config world (after_from config world (event ∷ others)).world (suc (length others))
     then-run first rest =
         record {
           choices = first.choices ++ rest.choices;
           may = all-append config world first.choices rest.choices first.may (subst (λ w. MayChooseAll config w rest.choices) (sym first.same_world) rest.may);
-          few = subst (λ n. length (first.choices ++ rest.choices) ≤ n) (few-more (length others)) (count-append first.choices rest.choices 3 (3 * length others) first.few rest.few);
+          few = let joined = length-append first.choices rest.choices in omega (arith, joined, first.few, rest.few);
           same_world = chosen-append config world first.choices rest.choices ∙ ap (λ w. chosen_all config w rest.choices) first.same_world ∙ rest.same_world;
         }
 

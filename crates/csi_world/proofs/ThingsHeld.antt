@@ -3,6 +3,7 @@ use Rattle.std.proofs.Common.{◌≡◌, ◌⊎◌, ℕ, List, [], ◌∷◌, ma
 use Rattle.std.specs.Prelude.{Option, Some, None, option_map, find, filter, is_some, ◌==◌, ◌&&◌}
 use Rattle.std.specs.List.{list_any, flat_map}
 use Rattle.std.proofs.lemmas.Bool.{and_parts, and_from, eqb-true, eq-eqb, false≢true}
+use Rattle.std.proofs.lemmas.Option.{none-some}
 use Rattle.csi_types.specs.declared.holding.Holding.{Holding}
 use Rattle.csi_lists.specs.Members.{IsAmong}
 use Rattle.csi_lists.proofs.Members.{among-append, among-filter, among-find, in_filter, among-joined, among-flat, in-flat, among-right, among-map, in-map, among-by_key}
@@ -13,8 +14,7 @@ use Rattle.csi_controller.specs.declared.row.ControllerRow.{ControllerRow}
 use Rattle.csi_controller.specs.declared.row.NodeHolding.{NodeHolding}
 use Rattle.csi_lists.specs.Places.{AtMostOne}
 use Rattle.csi_lists.proofs.Tests.{any-then, then-any, any-of_map, any-find}
-use Rattle.csi_lists.proofs.Options.{is_some-map}
-use Rattle.csi_controller.specs.Core.{IsRising}
+use Rattle.csi_lists.proofs.Options.{is_some-map, some-from_map}
 use Rattle.csi_controller.specs.Shown.{volume_of_row, holdings_in_row, holdings_in}
 use Rattle.csi_controller.specs.State.{Volume, volume_named, is_held_at}
 use Rattle.csi_controller.proofs.Sound.{rising-one}
@@ -39,7 +39,7 @@ only-found p (y ∷ ys) x one (inl e) passes = let own : p y ≡ true = ap p (sy
 only-found p (y ∷ ys) x one (inr there) passes = by (p y) refl (only-found p ys x one.1 there passes)
   where
     by : (b : Bool) → p y ≡ b → find p ys ≡ Some x → cond b (Some y) (find p ys) ≡ Some x
-    by true e found = let none : None ≡ Some x = sym (one.0 e) ∙ found in absurd (let clash : None ≡ Some x → ⊥ = λ h. cc in clash none)
+    by true e found = let none : None ≡ Some x = sym (one.0 e) ∙ found in absurd (none-some x none)
     by false e found = found
 
 row-by-id : (rows : List ControllerRow) → AreKept rows → (row : ControllerRow) → IsAmong row rows → (id : ℕ) → row.id ≡ id → row_with_id id rows ≡ Some row
@@ -62,20 +62,11 @@ volume-of lists world is kept row among =
 -- a volume that is there has a row
 row-of-volume : (lists : Lists) (world : World) → IsListed lists world → (name : List ℕ) (v : Volume) → volume_named name world.controller ≡ Some v
     → (row : ControllerRow) × IsAmong row lists.rows × (row.name ≡ name) × (volume_of_row row ≡ v)
-row-of-volume lists world is name v e = by (find p rows) refl (sym (volume-by-name lists world is name) ∙ e)
-  where
-    rows : List ControllerRow
-    rows = lists.rows
-
-    p : ControllerRow → Bool
-    p row = same_text row.name name
-
-    by : (o : Option ControllerRow) → find p rows ≡ o → option_map volume_of_row o ≡ Some v → (row : ControllerRow) × IsAmong row rows × (row.name ≡ name) × (volume_of_row row ≡ v)
-    by None f h = absurd (let clash : None ≡ Some v → ⊥ = λ k. cc in clash h)
-    by (Some row) f h =
-        let same : Some (volume_of_row row) ≡ Some v = h in
-        let equal : volume_of_row row ≡ v = cc in
-        (row, among-find p rows row f, (same_text-tells row.name name).0 (find-passes p rows row f), equal)
+row-of-volume lists world is name v e =
+    let p : ControllerRow → Bool = λ row. same_text row.name name in
+    let found = some-from_map volume_of_row (find p lists.rows) v (sym (volume-by-name lists world is name) ∙ e) in
+    let row : ControllerRow = found.0 in
+    (row, among-find p lists.rows row found.1, (same_text-tells row.name name).0 (find-passes p lists.rows row found.1), found.2)
 
 -- ---- holdings
 
@@ -261,21 +252,14 @@ record IsListOfId (lists : Lists) (world : World) (id : List ℕ) (state : NodeS
   own_state : node.state ≡ state
 
 list-of-id : (lists : Lists) (world : World) → IsListed lists world → (id : List ℕ) (state : NodeState) → node_state id world ≡ Some state → IsListOfId lists world id state
-list-of-id lists world is id state = by (find p world.nodes) refl
-  where
-    p : NodeAt → Bool
-    p n = same_text n.id id
-
-    by : (o : Option NodeAt) → find p world.nodes ≡ o → option_map (λ (n : NodeAt). n.state) o ≡ Some state → IsListOfId lists world id state
-    by None e h = absurd (let clash : None ≡ Some state → ⊥ = λ k. cc in clash h)
-    by (Some n) e h =
-        let found = listed-of (map node_listed lists.nodes) world.nodes is.nodes n (among-find p world.nodes n e) in
-        let alike : IsNodeAlike found.0 n = found.2 in
-        let entry = among-map node_listed lists.nodes found.0 found.1 in
-        let own : IsNodeAlike (node_listed entry.0) n = subst (λ (l : NodeAt). IsNodeAlike l n) entry.2 alike in
-        let same : Some n.state ≡ Some state = h in
-        let state_is : n.state ≡ state = cc in
-        record { list = entry.0; is_there = entry.1; own_id = own.id ∙ (same_text-tells n.id id).0 (find-passes p world.nodes n e); node = n; alike = own; own_state = state_is }
+list-of-id lists world is id state e =
+    let p : NodeAt → Bool = λ n. same_text n.id id in
+    let at = some-from_map (λ (n : NodeAt). n.state) (find p world.nodes) state e in
+    let n : NodeAt = at.0 in
+    let found = listed-of (map node_listed lists.nodes) world.nodes is.nodes n (among-find p world.nodes n at.1) in
+    let entry = among-map node_listed lists.nodes found.0 found.1 in
+    let own : IsNodeAlike (node_listed entry.0) n = subst (λ (l : NodeAt). IsNodeAlike l n) entry.2 found.2 in
+    record { list = entry.0; is_there = entry.1; own_id = own.id ∙ (same_text-tells n.id id).0 (find-passes p world.nodes n at.1); node = n; alike = own; own_state = at.2 }
 
 staged-listed : (lists : Lists) (world : World) → IsListed lists world → AreKept lists.rows → (name node : List ℕ) → holds world (Staged name node) ≡ true → IsAmong (Staged name node) (things_listed lists.rows lists.nodes)
 staged-listed lists world is kept name node = by (volume_named name world.controller) (node_state node world) refl refl
