@@ -2,6 +2,7 @@
 use Rattle.std.proofs.Common.{◌≡◌, ◌⊎◌, ℕ, List, [], ◌∷◌, ◌++◌, Bool, true, false, refl, sym, ◌∙◌, ap, subst, inl, inr}
 use Rattle.std.specs.Prelude.{Option, Some, None, option_map}
 use Rattle.std.proofs.lemmas.Bool.{false≢true}
+use Rattle.std.proofs.lemmas.Option.{none-some, same_Some}
 use Rattle.csi_types.specs.declared.number.Number.{Number}
 use Rattle.csi_types.specs.declared.capability.Capability.{Capability}
 use Rattle.csi_types.specs.declared.call.Call.{Call}
@@ -76,15 +77,12 @@ kept-either : (old new : World) (call : Issued) (key : Key) (kind : Kind) (reply
     → (other : Key) (k : Kept) → (view_of new).kept other ≡ Some k → ((view_of old).kept other ≡ Some k) ⊎ (IsAmong (reply_frame k.number (party_of other) k.kind k.reply) (old.frames ++ answer_to call kind reply ∷ []))
 kept-either old new call key kind reply of_party only acts other k is = by (same_party (party_of other) (party_of key)) refl
   where
-    same : (x y : Kept) → Some x ≡ Some y → x ≡ y
-    same x y e = cc
-
     now : (party : Party) → party ≡ party_of key → (plugin_view new party).kept other ≡ Some k
         → ((plugin_view new (party_of key)).kept other ≡ (plugin_view old (party_of key)).kept other) ⊎ ((plugin_view new (party_of key)).kept other ≡ Some (kept_of (delivery_of call kind reply)))
         → ((plugin_view old party).kept other ≡ Some k) ⊎ (IsAmong (reply_frame k.number party k.kind k.reply) (old.frames ++ answer_to call kind reply ∷ []))
     now party e is (inl kept) = inl (ap (λ p. (plugin_view old p).kept other) e ∙ sym kept ∙ ap (λ p. (plugin_view new p).kept other) (sym e) ∙ is)
     now party e is (inr kept) =
-        let one : k ≡ kept_of (delivery_of call kind reply) = same k (kept_of (delivery_of call kind reply)) (sym is ∙ ap (λ p. (plugin_view new p).kept other) e ∙ kept) in
+        let one : k ≡ kept_of (delivery_of call kind reply) = same_Some k (kept_of (delivery_of call kind reply)) (sym is ∙ ap (λ p. (plugin_view new p).kept other) e ∙ kept) in
         let frame : reply_frame k.number party k.kind k.reply ≡ answer_to call kind reply
         = ap (λ (x : Kept). reply_frame x.number party x.kind x.reply) one ∙ ap (λ p. reply_frame call.number p kind reply) (e ∙ of_party) in
         inr (subst (λ (f : Frame). IsAmong f (old.frames ++ answer_to call kind reply ∷ [])) (sym frame) (among-last old.frames (answer_to call kind reply)))
@@ -97,26 +95,20 @@ kept-either old new call key kind reply of_party only acts other k is = by (same
 made-id : (controller : ControllerState) (name : List ℕ) (id : ℕ) → controllers.AreNamed controller → controllers.held_in controller (Exists name) ≡ Some (HasId id) → HasName controller name id
 made-id controller name id names h = by (controllers.live_named name controller) refl h
   where
-    clash : None ≡ Some (HasId id) → ⊥
-    clash e = cc
-
     same : (n : ℕ) → Some (HasId n) ≡ Some (HasId id) → n ≡ id
     same n e = cc
 
     by : (o : Option Volume) → controllers.live_named name controller ≡ o → option_map (λ (v : Volume). HasId v.id) o ≡ Some (HasId id) → HasName controller name id
-    by None e h = absurd (clash h)
+    by None e h = absurd (none-some (HasId id) h)
     by (Some volume) e h = ap (option_map (λ (v : Volume). v.id)) (names.live name volume e) ∙ ap Some (same volume.id h)
 
 made-now : (old new : World) (call : Issued) (key : Key) (kind : Kind) (reply : Reply) (id : ℕ) (create : List ℕ) (required limit : ℕ) (capabilities : List Capability) → key_at call.name call.party call.call ≡ Some key
     → controllers.AreNamed new.controller → Acts key (delivery_of call kind reply) (plugin_view old (party_of key)) (plugin_view new (party_of key))
     → call.call ≡ calls.CreateVolume create required limit capabilities → reply.status ≡ Ok → reply.id ≡ Some id → HasName new.controller call.name id
 made-now old new call key kind reply id create required limit capabilities of_key names acts is ok given =
-    let exists : key ≡ Exists call.name = same (sym of_key ∙ ap (key_at call.name call.party) is) in
+    let exists : key ≡ Exists call.name = same_Some key (Exists call.name) (sym of_key ∙ ap (key_at call.name call.party) is) in
     let held : (plugin_view new (party_of key)).held key ≡ Some (HasId id) = acts.done ok ∙ ap (λ c. asked c reply) is ∙ ap (option_map HasId) given in
     made-id new.controller call.name id names (subst (λ k. (plugin_view new (party_of k)).held k ≡ Some (HasId id)) exists held)
-  where
-    same : Some key ≡ Some (Exists call.name) → key ≡ Exists call.name
-    same e = cc
 
 -- all that is so of a world stays so
 pub well-answered : (old new : World) (call : Issued) (key : Key) (kind : Kind) (reply : Reply) → IsWell old → IsClosed (view_of new) → IsAnswer old new call key kind reply

@@ -135,8 +135,6 @@ leaves-guarded history frames view controller call so guard id node capability s
         at true e = let parts = and_parts (id == i) (same_text node there) e in absurd (differ (eqb-true id i parts.0) ((same_text-tells node there).0 parts.1))
 
     by : (party : Party) (c : Call) → IsGuarded history call.name party c → is_key (Attached id node) (key_at call.name party c) ≡ false
-    by Controller (calls.CreateVolume create required limit capabilities) guard = refl
-    by Controller (calls.DeleteVolume i) guard = refl
     by Controller (calls.ControllerPublishVolume i there other readonly) guard =
         apart i there (λ volume at.
         let has : HasName controller call.name id = subst (HasName controller call.name) (sym volume) (given-id history frames view controller call.name i so guard.0) in
@@ -145,11 +143,9 @@ leaves-guarded history frames view controller call so guard id node capability s
         apart i there (λ volume at.
         let has : HasName controller call.name id = subst (HasName controller call.name) (sym volume) (given-id history frames view controller call.name i so guard.0) in
         none-stands history frames view controller call.name node id capability so has (subst (λ n. known history (things.Staged call.name n) ≡ No) (sym at) guard.1.not_staged) standing)
-    by (Node here) (calls.NodeStageVolume i other) guard = refl
-    by (Node here) (calls.NodeUnstageVolume i) guard = refl
-    by (Node here) (calls.NodePublishVolume i target other readonly) guard = refl
-    by (Node here) (calls.NodeUnpublishVolume i target) guard = refl
-    by party c guard = absurd guard
+    by (Node here) (calls.ControllerPublishVolume i there other readonly) guard = absurd guard
+    by (Node here) (calls.ControllerUnpublishVolume i there) guard = absurd guard
+    by party c guard = refl
 
 -- the latest call that attached a volume tells how it is held
 attached-call : (name : List ℕ) (party : Party) (c : Call) (id : ℕ) (node : List ℕ) → is_key (Attached id node) (key_at name party c) ≡ true → is_doing c ≡ true
@@ -160,16 +156,11 @@ attached-call name party (calls.ControllerPublishVolume i there capability reado
     let at : there ≡ node = sym ((same_text-tells node there).0 parts.1) in
     (record { capability = capability; readonly = readonly }, λ n. calls.ControllerPublishVolume (volume n) (at n) capability readonly)
 attached-call name party (calls.ControllerUnpublishVolume i there) id node of doing = absurd (false≢true doing)
-attached-call name party (calls.CreateVolume create required limit capabilities) id node of doing = absurd (false≢true of)
-attached-call name party (calls.DeleteVolume i) id node of doing = absurd (false≢true of)
 attached-call name (Node here) (calls.NodeStageVolume i capability) id node of doing = absurd (false≢true of)
 attached-call name (Node here) (calls.NodeUnstageVolume i) id node of doing = absurd (false≢true of)
 attached-call name (Node here) (calls.NodePublishVolume i target capability readonly) id node of doing = absurd (false≢true of)
 attached-call name (Node here) (calls.NodeUnpublishVolume i target) id node of doing = absurd (false≢true of)
-attached-call name Controller (calls.NodeStageVolume i capability) id node of doing = absurd (false≢true of)
-attached-call name Controller (calls.NodeUnstageVolume i) id node of doing = absurd (false≢true of)
-attached-call name Controller (calls.NodePublishVolume i target capability readonly) id node of doing = absurd (false≢true of)
-attached-call name Controller (calls.NodeUnpublishVolume i target) id node of doing = absurd (false≢true of)
+attached-call name party c id node of doing = absurd (false≢true of)
 
 turned : (a b : List ℕ) → same_text a b ≡ true → same_text b a ≡ true
 turned a b h = (same_text-tells b a).1 (sym ((same_text-tells a b).0 h))
@@ -184,13 +175,7 @@ held-none name node x other named = by x.party x.call other
         at : (b : Bool) → same_text there node ≡ b → cond b (Some (let h : Held = record { capability = capability; readonly = readonly } in h)) None ≡ None
         at false e = refl
         at true e = absurd (false≢true (sym other ∙ and_from (same_text name x.name) (same_text node there) (turned x.name name named) (turned there node e)))
-    by party (calls.CreateVolume create required limit capabilities) other = refl
-    by party (calls.DeleteVolume i) other = refl
-    by party (calls.ControllerUnpublishVolume i there) other = refl
-    by party (calls.NodeStageVolume i capability) other = refl
-    by party (calls.NodeUnstageVolume i) other = refl
-    by party (calls.NodePublishVolume i target capability readonly) other = refl
-    by party (calls.NodeUnpublishVolume i target) other = refl
+    by party c other = refl
 
 held-latest : (name node : List ℕ) (id : ℕ) (call : Issued) (here : Held) (xs : List Issued) → call.call ≡ calls.ControllerPublishVolume id node here.capability here.readonly → find (touches (things.Attached name node)) xs ≡ Some call
     → newest (filter_map (λ (issued : Issued). held_by node issued.call) (filter (λ (issued : Issued). same_text issued.name name) xs)) ≡ Some here

@@ -2,8 +2,10 @@
 use Rattle.std.proofs.Common.{◌≡◌, List, [], ◌∷◌, map, Bool, true, false, cond, refl, sym, ◌∙◌, ap, subst, inl, inr}
 use Rattle.std.specs.Prelude.{Some, find}
 use Rattle.std.specs.List.{list_any}
-use Rattle.std.proofs.lemmas.Bool.{or_left, or_right}
+use Rattle.std.proofs.lemmas.Bool.{false≢true}
 use Rattle.csi_lists.specs.Members.{IsAmong}
+use Rattle.csi_lists.proofs.Members.{in-map}
+use Rattle.csi_lists.proofs.Tests.{then-any}
 use Rattle.csi_types.specs.Same.{same_text}
 use Rattle.csi_types.proofs.Equality.{same_text-tells}
 use Rattle.csi_world.specs.World.{NodeAt}
@@ -26,12 +28,7 @@ node-of (k ∷ ks) (m ∷ ms) alike l (inr there) = let found = node-of ks ms al
 
 -- where the ids differ, the node of an id is the one that has it
 id_among : (ns : List NodeAt) (n : NodeAt) → IsAmong n ns → list_any (same_text n.id) (map (λ (m : NodeAt). m.id) ns) ≡ true
-id_among [] n among = absurd among
-id_among (m ∷ ms) n (inl e) = or_left (same_text n.id m.id) (list_any (same_text n.id) (map (λ (k : NodeAt). k.id) ms)) ((same_text-tells n.id m.id).1 (ap (λ (k : NodeAt). k.id) e))
-id_among (m ∷ ms) n (inr there) = or_right (same_text n.id m.id) (list_any (same_text n.id) (map (λ (k : NodeAt). k.id) ms)) (id_among ms n there)
-
-true_is_not : true ≡ false → ⊥
-true_is_not e = cc
+id_among ns n among = then-any (same_text n.id) (map (λ (m : NodeAt). m.id) ns) n.id (in-map (λ (m : NodeAt). m.id) ns n among) ((same_text-tells n.id n.id).1 refl)
 
 pub node-found-by-id : (ns : List NodeAt) (n : NodeAt) → AreDistinct (map (λ (m : NodeAt). m.id) ns) → IsAmong n ns → find (λ (m : NodeAt). same_text m.id n.id) ns ≡ Some n
 node-found-by-id [] n apart among = absurd among
@@ -43,5 +40,5 @@ node-found-by-id (m ∷ ms) n apart (inr there) = by (same_text m.id n.id) refl 
     by : (b : Bool) → same_text m.id n.id ≡ b → find (λ (k : NodeAt). same_text k.id n.id) ms ≡ Some n → cond b (Some m) (find (λ (k : NodeAt). same_text k.id n.id) ms) ≡ Some n
     by true e found =
         let same : n.id ≡ m.id = sym ((same_text-tells m.id n.id).0 e) in
-        absurd (true_is_not (sym (id_among ms n there) ∙ ap (λ id. list_any (same_text id) (map (λ (k : NodeAt). k.id) ms)) same ∙ apart.0))
+        absurd (false≢true (sym apart.0 ∙ ap (λ id. list_any (same_text id) (map (λ (k : NodeAt). k.id) ms)) (sym same) ∙ id_among ms n there))
     by false e found = found

@@ -2,7 +2,8 @@
 -- that capability.
 use Rattle.std.proofs.Common.{◌≡◌, ◌≢◌, ◌⊎◌, ℕ, List, ◌∷◌, Bool, true, false, cond, refl, sym, ◌∙◌, ap, subst, inl, inr}
 use Rattle.std.specs.Prelude.{Some, None, find, ◌==◌, ◌||◌}
-use Rattle.std.proofs.lemmas.Bool.{and_parts, eqb-true, false≢true}
+use Rattle.std.proofs.lemmas.Bool.{and_parts, or_right, eqb-true, false≢true}
+use Rattle.std.proofs.lemmas.Option.{none-some}
 use Rattle.csi_types.specs.declared.capability.Capability.{Capability}
 use Rattle.csi_types.specs.declared.call.Call.{Call}
 use Rattle.csi_types.specs.declared.call.Call.TheVariants as calls
@@ -58,19 +59,9 @@ staged_by name (Node here) (calls.NodeStageVolume i other) reply id node capabil
   where
     one : Some (StagedAs other) ≡ Some (StagedAs capability) → other ≡ capability
     one e = cc
-staged_by name (Node here) (calls.NodeUnstageVolume i) reply id node capability of asks = absurd (clash asks)
-  where
-    clash : None ≡ Some (StagedAs capability) → ⊥
-    clash e = cc
-staged_by name Controller (calls.CreateVolume create required limit capabilities) reply id node capability of asks = absurd (false≢true of)
-staged_by name Controller (calls.DeleteVolume i) reply id node capability of asks = absurd (false≢true of)
-staged_by name Controller (calls.ControllerPublishVolume i there other readonly) reply id node capability of asks = absurd (false≢true of)
-staged_by name Controller (calls.ControllerUnpublishVolume i there) reply id node capability of asks = absurd (false≢true of)
+staged_by name (Node here) (calls.NodeUnstageVolume i) reply id node capability of asks = absurd (none-some (StagedAs capability) asks)
 staged_by name Controller (calls.NodeStageVolume i other) reply id node capability of asks = absurd (false≢true of)
-staged_by name Controller (calls.NodeUnstageVolume i) reply id node capability of asks = absurd (false≢true of)
-staged_by name Controller (calls.NodePublishVolume i target other readonly) reply id node capability of asks = absurd (false≢true of)
-staged_by name Controller (calls.NodeUnpublishVolume i target) reply id node capability of asks = absurd (false≢true of)
-staged_by name (Node here) c reply id node capability of asks = absurd (false≢true of)
+staged_by name party c reply id node capability of asks = absurd (false≢true of)
 
 standing-acts : (issued : List Issued) (old new : View) (call : Issued) (key : Key) (kind : Kind) (reply : Reply) → IsAmong call issued → is_of key call ≡ true → Acts key (delivery_of call kind reply) old new
     → (id : ℕ) (node : List ℕ) (capability : Capability) → IsStanding issued new id node capability → IsStanding issued old id node capability
@@ -110,10 +101,6 @@ stands-rests items old new call key kind reply rests stands id node capability s
     before (inr may) = inr (record { call = may.call; among = may.among; of_node = may.of_node; stages = may.stages; unspent = sym (rests.same.is_spent (Staged id node) may.call.number) ∙ may.unspent })
 
 -- an item that sends nothing
-or_true : (a b : Bool) → b ≡ true → (a || b) ≡ true
-or_true true b e = refl
-or_true false b e = e
-
 pub stands-noted : (items : List Item) (item : Item) (view : View) → issued_in (item ∷ items) ≡ issued_in items → Stands items view → Stands (item ∷ items) view
 stands-noted items item view same stands id node capability standing =
     let so = stands id node capability (subst (λ (list : List Issued). IsStanding list view id node capability) same standing) in
@@ -122,7 +109,7 @@ stands-noted items item view same stands id node capability standing =
       readonly = so.readonly;
       found = ap (find (is_of (Attached id node))) same ∙ so.found;
       publishes = so.publishes;
-      success = or_true (is_success_of so.call.number item) (has_success items so.call.number) so.success;
+      success = or_right (is_success_of so.call.number item) (has_success items so.call.number) so.success;
     }
 
 -- a call is sent: it isn't of where a standing volume is attached, and stages only what is attached so

@@ -1,11 +1,11 @@
 -- The nodes of a world: the one of an id, where it stands, and what follows where another is put there.
-use Rattle.std.proofs.Common.{◌≡◌, ◌<◌, ◌≤◌, ◌+◌, ℕ, zero, suc, Bool, true, false, cond, List, [], ◌∷◌, length, get_or, map, set, refl, sym, ◌∙◌, ap, subst, arith}
-use Rattle.std.specs.Prelude.{Some, None, find, position, option_map, ◌||◌, not, nat_lt}
-use Rattle.std.specs.List.{list_any, position_or_len}
-use Rattle.std.proofs.lemmas.Bool.Decides.{nat_tests}
-use Rattle.std.proofs.lemmas.List.Quantifiers.{position-Some}
+use Rattle.std.proofs.Common.{◌≡◌, ◌<◌, ◌≤◌, ◌+◌, ℕ, zero, suc, Bool, true, false, cond, List, [], ◌∷◌, length, map, set, refl, sym, ◌∙◌, ap, subst}
+use Rattle.std.specs.Prelude.{Some, None, find, option_map, ◌||◌, nat_lt}
+use Rattle.std.specs.List.{list_any}
+use Rattle.std.proofs.lemmas.Bool.{false≢true}
 use Rattle.csi_lists.specs.Places.{FirstAt}
 use Rattle.csi_lists.proofs.Options.{some_is_not_none}
+use Rattle.csi_lists.proofs.Tests.{alike}
 use Rattle.csi_types.specs.declared.config.NodeSlots.{NodeSlots}
 use Rattle.csi_types.specs.declared.config.ConfigFault.TheVariants.{BadGreatest, TooManyNodes, SameNode, BadSlots}
 use Rattle.csi_types.specs.Config.{Config, is_bad_greatest, has_node, has_same_node, has_bad_slots, config_fault}
@@ -19,9 +19,6 @@ use Rattle.csi_world.specs.After.{node_id}
 use Rattle.csi_world.specs.Simulated.{AreNodesShown}
 use Rattle.csi_world.specs.Simulating.{IsSameNode, ShowsNode, new_node_parts}
 use Rattle.csi_world.specs.Listed.{AreDistinct}
-
-true_isnt_false : true ≡ false → ⊥
-true_isnt_false h = cc
 
 -- is this node the one of the id
 abbrev pub is_shown_node : List ℕ → NodeParts → Bool
@@ -62,8 +59,8 @@ node-shown id (x ∷ xs) (n ∷ ns) are =
         → ShowsNode (cond a (Some x) (find (is_shown_node id) xs)) (option_map (λ (m : NodeAt). m.state) (cond b (Some n) (find (is_node id) ns)))
     by true true e here rest = here
     by false false e here rest = rest
-    by true false e here rest = absurd (true_isnt_false e)
-    by false true e here rest = absurd (true_isnt_false (sym e))
+    by true false e here rest = absurd (false≢true (sym e))
+    by false true e here rest = absurd (false≢true e)
 
 -- where a node is put that shows the same
 pub same-put : (p : NodeParts → Bool) (shown : List NodeParts) (nodes : List NodeAt) (i : ℕ) (old new : NodeParts) → AreNodesShown shown nodes → FirstAt p shown i old → IsSameNode old new → AreNodesShown (set shown i new) nodes
@@ -85,7 +82,7 @@ any-ids id [] = refl
 any-ids id (n ∷ ns) = ap (λ b. same_text id n.id || b) (any-ids id ns)
 
 or-false : (a b : Bool) → (a || b) ≡ false → (a ≡ false) × (b ≡ false)
-or-false true b h = absurd (let clash : true ≡ false → ⊥ = (λ e. cc) in clash h)
+or-false true b h = absurd (false≢true (sym h))
 or-false false b h = (refl, h)
 
 apart-from : (nodes : List NodeSlots) → has_same_node nodes ≡ false → AreDistinct (map node_id nodes)
@@ -106,13 +103,7 @@ fit-apart config h =
 
 -- a text is the same both ways
 pub same-symmetric : (a b : List ℕ) → same_text a b ≡ same_text b a
-same-symmetric a b = by (same_text a b) (same_text b a) refl refl
-  where
-    by : (x y : Bool) → same_text a b ≡ x → same_text b a ≡ y → x ≡ y
-    by true true f g = refl
-    by false false f g = refl
-    by true false f g = let e : a ≡ b = (same_text-tells a b).0 f in sym ((same_text-tells b a).1 (sym e)) ∙ g
-    by false true f g = let e : b ≡ a = (same_text-tells b a).0 g in sym f ∙ (same_text-tells a b).1 (sym e)
+same-symmetric a b = alike (same_text a b) (same_text b a) (λ h. (same_text-tells b a).1 (sym ((same_text-tells a b).0 h))) (λ h. (same_text-tells a b).1 (sym ((same_text-tells b a).0 h)))
 
 -- where none has the id, nothing changes
 none-changed : (id : List ℕ) (state : NodeState) (shown : List NodeParts) (nodes : List NodeAt) → AreNodesShown shown nodes → list_any (same_text id) (map (λ (m : NodeParts). m.id) shown) ≡ false → map (with_state id state) nodes ≡ nodes

@@ -3,6 +3,8 @@
 use Rattle.std.proofs.Common.{◌≡◌, ◌⊎◌, List, [], ◌∷◌, ◌++◌, Bool, true, false, cond, refl, sym, ◌∙◌, ap, subst, inl, inr}
 use Rattle.std.specs.Prelude.{Option, Some, None, find, IsTrue}
 use Rattle.std.proofs.lemmas.Bool.{false≢true}
+use Rattle.std.proofs.lemmas.Option.{same_Some}
+use Rattle.csi_lists.proofs.Options.{some_is_not_none}
 use Rattle.csi_types.specs.declared.number.Number.{Number}
 use Rattle.csi_types.specs.declared.call.Call.{Call}
 use Rattle.csi_types.specs.declared.call.Kind.{Kind}
@@ -102,19 +104,13 @@ truth-sent issued frames view call truth later =
     spent other key reply (inl e) of ok = absurd (unanswered issued frames view call reply truth later (subst (λ (x : Issued). IsAnsweredOk (frames ++ frame_of call ∷ []) x reply) e ok))
     spent other key reply (inr there) of ok = truth.spent other key reply there of (older_ok other reply ok)
 
-    same : (other : Issued) → Some call ≡ Some other → call ≡ other
-    same other e = cc
-
     told : (other : Issued) (key : Key) (reply : Reply) (b : Bool) → is_of key call ≡ b → cond b (Some call) (find (is_of key) issued) ≡ Some other → IsAnsweredOk (frames ++ frame_of call ∷ []) other reply
         → view.held key ≡ asked other.call reply
-    told other key reply true of e ok = absurd (unanswered issued frames view call reply truth later (subst (λ (x : Issued). IsAnsweredOk (frames ++ frame_of call ∷ []) x reply) (sym (same other e)) ok))
+    told other key reply true of e ok = absurd (unanswered issued frames view call reply truth later (subst (λ (x : Issued). IsAnsweredOk (frames ++ frame_of call ∷ []) x reply) (sym (same_Some call other e)) ok))
     told other key reply false of e ok = truth.told other key reply e (older_ok other reply ok)
 
-    clash : Some call ≡ None → ⊥
-    clash e = cc
-
     untouched : (key : Key) (b : Bool) → is_of key call ≡ b → cond b (Some call) (find (is_of key) issued) ≡ None → view.held key ≡ None
-    untouched key true of e = absurd (clash e)
+    untouched key true of e = absurd (some_is_not_none call e)
     untouched key false of e = truth.untouched key e
 
 -- what a delivered call adds to the frames

@@ -10,7 +10,8 @@ fn empty_is_safe()
     ensures { EmptyIsSafe }
 {}
 
-fn runs_are_steps()
+/// The world of every run is one to which steps lead.
+pub(crate) fn runs_are_steps()
     ensures { RunsAreSteps }
 {
     csi_orchestrator::moves_law();
