@@ -38,6 +38,13 @@ pub at-world : (old new : WorldShown) (outcome : Outcome) (occurred : Occurred) 
 at-world old new outcome occurred world config outcomes own shows is =
     record { config = config; outcomes = outcomes; own = own; world = subst (λ (o : Occurred). ShowsWorld new o.world) (sym is) shows; came = ap (λ (o : Occurred). o.outcome) (sym is) }
 
+-- whether a node is configured is whether it is shown
+is-there : (shown : WorldShown) (id : List ℕ) → HasOwnNodes shown → has_node id (shown.config).nodes ≡ list_any (same_text id) (map (λ (m : NodeParts). m.id) shown.nodes)
+is-there shown id own = any-ids id (shown.config).nodes ∙ ap (list_any (same_text id)) (sym own.ids)
+
+isnt-there : (shown : WorldShown) (id : List ℕ) → HasOwnNodes shown → position (is_shown_node id) shown.nodes ≡ None → has_node id (shown.config).nodes ≡ false
+isnt-there shown id own none = is-there shown id own ∙ none-at id shown.nodes (find-no_place (is_shown_node id) shown.nodes none)
+
 -- a call to a node
 pub node-becomes : (shown : WorldShown) (id : List ℕ) (place : ℕ) (old new : NodeParts) (posted : List Frame) (frame : Frame) (reply : Option Frame) (outcome : Outcome) (world : World)
     → HasOwnNodes shown → ShowsWorld shown world → frame.party ≡ Node id → position (is_shown_node id) shown.nodes ≡ Some place → old ≡ get_or shown.nodes place old
@@ -54,8 +61,7 @@ node-becomes shown id place old new posted frame reply outcome world own shows p
     let state : Shows new.rows fenced.state = subst (λ n. Shows new.rows (node.fenced n found.node.state frame).state) own_id (does.state found.node.state found.shows) in
     let frames : posted ≡ world.frames ++ option_to_list fenced.reply = sent.frames ∙ (λ i. shows.frames i ++ option_to_list (replied i)) in
     let ids : map (λ (m : NodeParts). m.id) shown.nodes ≡ map node_id (shown.config).nodes = own.ids in
-    let there : has_node id (shown.config).nodes ≡ true
-    = any-ids id (shown.config).nodes ∙ ap (list_any (same_text id)) (sym ids) ∙ some-at id shown.nodes place old first in
+    let there : has_node id (shown.config).nodes ≡ true = is-there shown id own ∙ some-at id shown.nodes place old first in
     let apart : AreDistinct (map (λ (m : NodeParts). m.id) shown.nodes) = subst AreDistinct (sym ids) (fit-apart shown.config own.fit) in
     let known : node_state id world ≡ Some found.node.state = ap (option_map (λ (n : NodeAt). n.state)) found.found in
     let world_is : answered shown.config world frame ≡ after = ap (answered_by shown.config world frame) party ∙ ap (answered_by_node id world frame) known ∙ with_frame-is fenced.reply changed in
@@ -76,12 +82,6 @@ node-becomes shown id place old new posted frame reply outcome world own shows p
     })
     (ap (λ b. cond b answers nowhere) there ∙ (λ i. let o : Occurred = record { world = world_is i; outcome = outcome_is i } in o))
 
--- no node is there
-isnt-there : (shown : WorldShown) (id : List ℕ) → HasOwnNodes shown → position (is_shown_node id) shown.nodes ≡ None → has_node id (shown.config).nodes ≡ false
-isnt-there shown id own none =
-    let ids : map (λ (m : NodeParts). m.id) shown.nodes ≡ map node_id (shown.config).nodes = own.ids in
-    any-ids id (shown.config).nodes ∙ ap (list_any (same_text id)) (sym ids) ∙ none-at id shown.nodes (find-no_place (is_shown_node id) shown.nodes none)
-
 -- a call to a node that isn't there
 pub nowhere-becomes : (shown : WorldShown) (id : List ℕ) (frame : Frame) (world : World) → HasOwnNodes shown → ShowsWorld shown world → position (is_shown_node id) shown.nodes ≡ None
     → Becomes shown shown outcomes.NoSuchNode (called shown.config world frame (Node id))
@@ -97,8 +97,7 @@ pub node-restarts : (shown : WorldShown) (id : List ℕ) (place : ℕ) (old new 
 node-restarts shown id place old new world own shows at is same =
     let first = FirstAt-position (is_shown_node id) shown.nodes place old at is in
     let ids : map (λ (m : NodeParts). m.id) shown.nodes ≡ map node_id (shown.config).nodes = own.ids in
-    let there : has_node id (shown.config).nodes ≡ true
-    = any-ids id (shown.config).nodes ∙ ap (list_any (same_text id)) (sym ids) ∙ some-at id shown.nodes place old first in
+    let there : has_node id (shown.config).nodes ≡ true = is-there shown id own ∙ some-at id shown.nodes place old first in
     let put : map (λ (m : NodeParts). m.id) (set shown.nodes place new) ≡ map (λ (m : NodeParts). m.id) shown.nodes = ids-put (is_shown_node id) shown.nodes place old new first same.id in
     record {
       config = refl;

@@ -73,7 +73,7 @@ attached-known history frames view controller name node id capability so has att
     (record { found = found-one history frames view controller (things.Attached name node) (Attached id node) so (Attachment name node id has) ∙ attached.found; success = attached.success; is_so = ap is_doing attached.publishes })
 
 -- a call that undoes asks for nothing
-pub asked-undoing : (c : Call) (reply : Reply) → is_doing c ≡ false → asked c reply ≡ None
+asked-undoing : (c : Call) (reply : Reply) → is_doing c ≡ false → asked c reply ≡ None
 asked-undoing (calls.DeleteVolume id) reply h = refl
 asked-undoing (calls.ControllerUnpublishVolume id node) reply h = refl
 asked-undoing (calls.NodeUnstageVolume id) reply h = refl
@@ -87,39 +87,55 @@ stages-of issued view id node capability may =
     ∙ ap (λ c. is_key (Staged id node) (key_at may.call.name (Node node) c)) may.stages
     ∙ and_from (id == id) (same_text node node) (eq-eqb id id refl) ((same_text-tells node node).1 refl)
 
+-- what is known not to be so isn't there
+pub not-there : (history : History) (frames : List Frame) (view : View) (controller : ControllerState) (thing : Thing) (key : Key) → IsSoFar history frames view controller → IsOne controller thing key
+    → known history thing ≡ No → view.held key ≡ None
+not-there history frames view controller thing key so one is_no = by (known-no history thing is_no)
+  where
+    same : find (touches thing) (issued_in history.items) ≡ find (is_of key) (issued_in history.items)
+    same = found-one history frames view controller thing key so one
+
+    by : (find (touches thing) (issued_in history.items) ≡ None) ⊎ ((call : Issued) × IsLatest history.items thing call false) → view.held key ≡ None
+    by (inl none) = so.truth.untouched key (sym same ∙ none)
+    by (inr latest) =
+        let found : find (is_of key) (issued_in history.items) ≡ Some latest.0 = sym same ∙ latest.1.found in
+        let ok = success-ok history.items (issued_in history.items) frames latest.0 so.heard so.truth.numbers (among-find (is_of key) (issued_in history.items) latest.0 found) latest.1.success in
+        so.truth.told latest.0 key ok.0 found ok.1 ∙ asked-undoing (latest.0).call ok.0 latest.1.is_so
+
 none-stands : (history : History) (frames : List Frame) (view : View) (controller : ControllerState) (name node : List ℕ) (id : ℕ) (capability : Capability) → IsSoFar history frames view controller → HasName controller name id
     → known history (things.Staged name node) ≡ No → IsStanding (issued_in history.items) view id node capability → ⊥
-none-stands history frames view controller name node id capability so has is_no standing = by (known-no history (things.Staged name node) is_no)
+none-stands history frames view controller name node id capability so has is_no (inl held) =
+    none-some (StagedAs capability) (sym (not-there history frames view controller (things.Staged name node) (Staged id node) so (Staging name node id has) is_no) ∙ held)
+none-stands history frames view controller name node id capability so has is_no (inr may) = by (known-no history (things.Staged name node) is_no)
   where
-    same : find (touches (things.Staged name node)) (issued_in history.items) ≡ find (is_of (Staged id node)) (issued_in history.items)
+    issued : List Issued
+    issued = issued_in history.items
+
+    p : Issued → Bool
+    p = is_of (Staged id node)
+
+    same : find (touches (things.Staged name node)) issued ≡ find p issued
     same = found-one history frames view controller (things.Staged name node) (Staged id node) so (Staging name node id has)
 
-    untouched : find (is_of (Staged id node)) (issued_in history.items) ≡ None → IsStanding (issued_in history.items) view id node capability → ⊥
-    untouched none (inl held) = none-some (StagedAs capability) (sym (so.truth.untouched (Staged id node) none) ∙ held)
-    untouched none (inr may) =
-        false≢true (sym (none_passes (is_of (Staged id node)) (issued_in history.items) may.call none may.among) ∙ stages-of (issued_in history.items) view id node capability may)
+    of : p may.call ≡ true
+    of = stages-of issued view id node capability may
 
-    undone : (call : Issued) → find (is_of (Staged id node)) (issued_in history.items) ≡ Some call → has_success history.items call.number ≡ true → is_doing call.call ≡ false → IsStanding (issued_in history.items) view id node capability → ⊥
-    undone call found success ends standing =
-        let there : IsAmong call (issued_in history.items) = among-find (is_of (Staged id node)) (issued_in history.items) call found in
-        let ok = success-ok history.items (issued_in history.items) frames call so.heard so.truth.numbers there success in
-        at there ok.0 ok.1 standing
+    undone : (call : Issued) → find p issued ≡ Some call → has_success history.items call.number ≡ true → is_doing call.call ≡ false → ⊥
+    undone call found success ends = last (latest-last (Staged id node) issued call may.call so.truth.numbers found may.among of)
       where
-        at : IsAmong call (issued_in history.items) → (reply : Reply) → IsAnsweredOk frames call reply → IsStanding (issued_in history.items) view id node capability → ⊥
-        at there reply ok (inl held) =
-            none-some (StagedAs capability) (sym (asked-undoing call.call reply ends) ∙ sym (so.truth.told call (Staged id node) reply found ok) ∙ held)
-        at there reply ok (inr may) = last (latest-last (Staged id node) (issued_in history.items) call may.call so.truth.numbers found may.among (stages-of (issued_in history.items) view id node capability may))
-          where
-            spent : IsTrue (view.is_spent (Staged id node) call.number)
-            spent = so.truth.spent call (Staged id node) reply there (find-passes (is_of (Staged id node)) (issued_in history.items) call found) ok
+        spent : IsTrue (view.is_spent (Staged id node) call.number)
+        spent =
+            let there : IsAmong call issued = among-find p issued call found in
+            let ok = success-ok history.items issued frames call so.heard so.truth.numbers there success in
+            so.truth.spent call (Staged id node) ok.0 there (find-passes p issued call found) ok.1
 
-            last : (may.call ≡ call) ⊎ IsBefore may.call.number call.number → ⊥
-            last (inl e) = false≢true (sym ends ∙ ap (λ (x : Issued). is_doing x.call) (sym e) ∙ ap is_doing may.stages)
-            last (inr before) = false≢true (sym may.unspent ∙ so.closed (Staged id node) may.call.number call.number before spent)
+        last : (may.call ≡ call) ⊎ IsBefore may.call.number call.number → ⊥
+        last (inl e) = false≢true (sym ends ∙ ap (λ (x : Issued). is_doing x.call) (sym e) ∙ ap is_doing may.stages)
+        last (inr before) = false≢true (sym may.unspent ∙ so.closed (Staged id node) may.call.number call.number before spent)
 
-    by : (find (touches (things.Staged name node)) (issued_in history.items) ≡ None) ⊎ ((call : Issued) × IsLatest history.items (things.Staged name node) call false) → ⊥
-    by (inl none) = untouched (sym same ∙ none) standing
-    by (inr latest) = undone latest.0 (sym same ∙ latest.1.found) latest.1.success latest.1.is_so standing
+    by : (find (touches (things.Staged name node)) issued ≡ None) ⊎ ((call : Issued) × IsLatest history.items (things.Staged name node) call false) → ⊥
+    by (inl none) = false≢true (sym (none_passes p issued may.call (sym same ∙ none) may.among) ∙ of)
+    by (inr latest) = undone latest.0 (sym same ∙ latest.1.found) latest.1.success latest.1.is_so
 
 -- a guarded call is of no attachment below which something stands
 pub leaves-guarded : (history : History) (frames : List Frame) (view : View) (controller : ControllerState) (call : Issued) → IsSoFar history frames view controller → IsGuarded history call.name call.party call.call

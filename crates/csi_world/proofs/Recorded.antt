@@ -28,12 +28,8 @@ use Rattle.csi_world.specs.Safe.{holds_attached, holds_staged, holds_published, 
 use Rattle.csi_world.proofs.WorldView.{node_view, view_of}
 use Rattle.csi_world.proofs.Issued.{HasName, IsOne, Existence, Attachment, Staging, Publication, is_of, named-found, keyed}
 use Rattle.csi_world.proofs.MarksTold.{same-tells}
-use Rattle.csi_world.proofs.Heard.{IsLatest, success-ok, known-yes, known-no}
-use Rattle.csi_world.proofs.Guarded.{IsSoFar, found-one, asked-undoing}
-
--- the calls of a thing are those of its key
-abbrev AreOneThing : World → Thing → Key → Type 0
-AreOneThing world thing key = find (touches thing) (issued_in world.history.items) ≡ find (is_of key) (issued_in world.history.items)
+use Rattle.csi_world.proofs.Heard.{success-ok, known-yes}
+use Rattle.csi_world.proofs.Guarded.{IsSoFar, found-one, not-there}
 
 -- what is so of a world
 abbrev pub IsWell : World → Type 0
@@ -51,27 +47,17 @@ asked-doing (calls.NodeStageVolume id capability) reply doing ok rule = refl
 asked-doing (calls.NodePublishVolume id target capability readonly) reply doing ok rule = refl
 asked-doing c reply doing ok rule = absurd (false≢true doing)
 
-is_there : (world : World) (thing : Thing) (key : Key) → IsWell world → AreOneThing world thing key → known world.history thing ≡ Yes → is_some ((view_of world).held key) ≡ true
+is_there : (world : World) (thing : Thing) (key : Key) → IsWell world → IsOne world.controller thing key → known world.history thing ≡ Yes → is_some ((view_of world).held key) ≡ true
 is_there world thing key well one h =
     let latest = known-yes world.history thing h in
     let call : Issued = latest.0 in
-    let found : find (is_of key) (issued_in world.history.items) ≡ Some call = sym one ∙ latest.1.found in
+    let found : find (is_of key) (issued_in world.history.items) ≡ Some call
+    = sym (found-one world.history world.frames (view_of world) world.controller thing key well one) ∙ latest.1.found
+    in
     let among : IsAmong call (issued_in world.history.items) = among-find (is_of key) (issued_in world.history.items) call found in
     let ok = success-ok world.history.items (issued_in world.history.items) world.frames call well.heard well.truth.numbers among latest.1.success in
     let rule = well.truth.ids call.number call.party (kind_of call.call) ok.0 ok.1.0 ok.1.1 in
     ap is_some (well.truth.told call key ok.0 found ok.1) ∙ asked-doing call.call ok.0 latest.1.is_so ok.1.1 rule
-
-not_there : (world : World) (thing : Thing) (key : Key) → IsWell world → AreOneThing world thing key → known world.history thing ≡ No → (view_of world).held key ≡ None
-not_there world thing key well one is_no = by (known-no world.history thing is_no)
-  where
-    by : (find (touches thing) (issued_in world.history.items) ≡ None) ⊎ ((call : Issued) × IsLatest world.history.items thing call false) → (view_of world).held key ≡ None
-    by (inl none) = well.truth.untouched key (sym one ∙ none)
-    by (inr latest) =
-        let call : Issued = latest.0 in
-        let found : find (is_of key) (issued_in world.history.items) ≡ Some call = sym one ∙ latest.1.found in
-        let among : IsAmong call (issued_in world.history.items) = among-find (is_of key) (issued_in world.history.items) call found in
-        let ok = success-ok world.history.items (issued_in world.history.items) world.frames call well.heard well.truth.numbers among latest.1.success in
-        well.truth.told call key ok.0 found ok.1 ∙ asked-undoing call.call ok.0 latest.1.is_so
 
 -- the name of a known thing has an id
 known-one : (world : World) (thing : Thing) → IsWell world → known world.history thing ≡ Yes → (key : Key) × IsOne world.controller thing key
@@ -140,13 +126,10 @@ one-or-none world (things.Published name node target) =
 pub recorded : (world : World) → IsWell world → (thing : Thing) → IsRecordedRight world thing
 recorded world well thing =
     record {
-      yes = λ h. let given = known-one world thing well h in holds-one world thing given.0 given.1 ∙ is_there world thing given.0 well (found given.0 given.1) h;
+      yes = λ h. let given = known-one world thing well h in holds-one world thing given.0 given.1 ∙ is_there world thing given.0 well given.1 h;
       no = λ h. by h (one-or-none world thing);
     }
   where
-    found : (key : Key) → IsOne world.controller thing key → AreOneThing world thing key
-    found key one = found-one world.history world.frames (view_of world) world.controller thing key well one
-
     by : known world.history thing ≡ No → IsOneOrNone world thing → holds world thing ≡ false
     by h (inl none) = none
-    by h (inr given) = holds-one world thing given.0 given.1 ∙ ap is_some (not_there world thing given.0 well (found given.0 given.1) h)
+    by h (inr given) = holds-one world thing given.0 given.1 ∙ ap is_some (not-there world.history world.frames (view_of world) world.controller thing given.0 well given.1 h)

@@ -2,7 +2,7 @@
 use Rattle.std.proofs.Common.{◌≡◌, ◌<◌, ◌≤◌, ◌+◌, ℕ, zero, suc, Bool, true, false, cond, List, [], ◌∷◌, length, map, set, refl, sym, ◌∙◌, ap, subst}
 use Rattle.std.specs.Prelude.{Some, None, find, option_map, ◌||◌, nat_lt}
 use Rattle.std.specs.List.{list_any}
-use Rattle.std.proofs.lemmas.Bool.{false≢true}
+use Rattle.std.proofs.lemmas.Bool.{or_parts, false≢true}
 use Rattle.csi_lists.specs.Places.{FirstAt}
 use Rattle.csi_lists.proofs.Options.{some_is_not_none}
 use Rattle.csi_lists.proofs.Tests.{alike}
@@ -81,14 +81,10 @@ pub any-ids : (id : List ℕ) (nodes : List NodeSlots) → has_node id nodes ≡
 any-ids id [] = refl
 any-ids id (n ∷ ns) = ap (λ b. same_text id n.id || b) (any-ids id ns)
 
-or-false : (a b : Bool) → (a || b) ≡ false → (a ≡ false) × (b ≡ false)
-or-false true b h = absurd (false≢true (sym h))
-or-false false b h = (refl, h)
-
 apart-from : (nodes : List NodeSlots) → has_same_node nodes ≡ false → AreDistinct (map node_id nodes)
 apart-from [] h = tt
 apart-from (n ∷ ns) h =
-    let both = or-false (has_node n.id ns) (has_same_node ns) h in
+    let both = or_parts (has_node n.id ns) (has_same_node ns) h in
     (sym (any-ids n.id ns) ∙ both.0, apart-from ns (both.1))
 
 fault-none : (a b c d : Bool) → cond a (Some BadGreatest) (cond b (Some TooManyNodes) (cond c (Some SameNode) (cond d (Some BadSlots) None))) ≡ None → c ≡ false
@@ -111,7 +107,7 @@ none-changed id state [] [] are none = refl
 none-changed id state [] (n ∷ ns) are none = absurd are
 none-changed id state (x ∷ xs) [] are none = absurd are
 none-changed id state (x ∷ xs) (n ∷ ns) are none =
-    let both = or-false (same_text id x.id) (list_any (same_text id) (map (λ (m : NodeParts). m.id) xs)) none in
+    let both = or_parts (same_text id x.id) (list_any (same_text id) (map (λ (m : NodeParts). m.id) xs)) none in
     let other : same_text n.id id ≡ false = ap (λ t. same_text t id) (sym (are.0)) ∙ same-symmetric x.id id ∙ both.0 in
     let here : with_state id state n ≡ n = rw other refl in
     λ i. here i ∷ none-changed id state xs ns (are.2) (both.1) i
