@@ -142,17 +142,17 @@ impl Controller {
     }
 
     /// The record of this controller.
-    pub fn record(&self, alloc: Global) -> Result<ControllerRecord, CoreFault>
+    pub fn record(&self) -> Result<ControllerRecord, CoreFault>
         ensures { (state : ControllerState) → IsShown self.now state →
             IfOk result (λ kept. IsShown (record { config = self.now.config; next_id = kept.next_id; rows = kept.rows }) state) }
     {
         let core = &self.core;
-        let catalog = core.catalog.copied(alloc, core.next_id)?;
+        let catalog = core.catalog.copied(core.alloc, core.next_id)?;
         Ok(ControllerRecord::new(core.next_id, catalog))
     }
 
     /// The row of the volume of this id, deleted or not, as the record has it. Where there is none it takes no memory.
-    pub fn row(&self, _alloc: Global, id: VolumeId) -> Result<Option<ControllerRow>, CoreFault>
+    pub fn row(&self, id: VolumeId) -> Result<Option<ControllerRow>, CoreFault>
         ensures copy { IfOk result (λ copy. IsCopyOf (find (λ row. row.id == id) self.now.rows) copy) }
         ensures state { (state : ControllerState) → IsShown self.now state → IfOk result (IsRowOf state id) }
         ensures succeeds { find (λ row. row.id == id) self.now.rows ≡ None → IsOk result }
@@ -177,12 +177,12 @@ impl Controller {
     }
 
     /// Where each volume is held, by rising id, and for each volume in the order of its row.
-    pub fn attachments(&self, alloc: Global) -> Result<Vec<Holding>, CoreFault>
+    pub fn attachments(&self) -> Result<Vec<Holding>, CoreFault>
         ensures order { IfOk result (λ all. all.items ≡ attached self.now.rows) }
         ensures rising { IfOk result (λ all. EachTwo IsHeldBefore all.items) }
         ensures state { (state : ControllerState) → IsShown self.now state → IfOk result (λ all. HasHoldingsOf state all.items) }
     {
-        attachments(self.core.catalog.rows(), alloc)
+        attachments(self.core.catalog.rows(), self.core.alloc)
     }
 
     // Nothing that runs: the rules of the rows hold.

@@ -26,10 +26,10 @@ pub struct Findings {
 }
 
 // What its controller has attached, in place.
-fn attached_in(alloc: Global, world: &World) -> Result<Vec<Holding>, NoMemory>
+fn attached_in(world: &World) -> Result<Vec<Holding>, NoMemory>
     ensures { IfOk result (λ list. IsInPlace attached_place (attached_by_rows ((world.now).controller).rows) list.items) }
 {
-    attached(alloc, world.controller())
+    attached(world.controller())
 }
 
 // What its orchestrator knows.
@@ -61,7 +61,7 @@ fn staged_in(alloc: Global, world: &World) -> Result<Vec<StagedAt>, NoMemory>
 pub fn gathered(alloc: Global, world: &World) -> Result<Findings, NoMemory>
     ensures { IfOk result (λ findings. IsGathered world.now (gathered_of findings)) }
 {
-    let attached = attached_in(alloc, world)?;
+    let attached = attached_in(world)?;
     let known = known_in(world)?;
     let published = published_in(alloc, world)?;
     let staged = staged_in(alloc, world)?;

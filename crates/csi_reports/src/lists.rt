@@ -47,10 +47,10 @@ fn add_published(list: &mut Vec<PublishedAt>, node: &Node) -> Result<(), NoMemor
 }
 
 /// What the controller has attached, in place.
-pub fn attached(alloc: Global, controller: &Controller) -> Result<Vec<Holding>, NoMemory>
+pub fn attached(controller: &Controller) -> Result<Vec<Holding>, NoMemory>
     ensures { IfOk result (λ list. IsInPlace attached_place (attached_in (controller.now).rows) list.items) }
 {
-    let mut list = controller.attachments(alloc).map_err(|_| NoMemory)?;
+    let mut list = controller.attachments().map_err(|_| NoMemory)?;
     put_in_place(&mut list);
     Ok(list)
 }

@@ -107,7 +107,7 @@ pub(crate) fn restarted_controller(
     ensures { config.now ≡ controller.now.config → IfOk result (IsSameController controller.now) }
 {
     let config = copied_config(config)?;
-    let kept = controller.record(alloc).map_err(|_| NoMemory)?;
+    let kept = controller.record().map_err(|_| NoMemory)?;
     Controller::from_record(alloc, config, kept).map_err(|_| NoMemory)
 }
 
