@@ -49,7 +49,7 @@ fn recorded(rt: &(impl Abort + AllocGlobal)) -> ControllerRecord {
     let (frame, _) = decode(rt.alloc(), CREATE).expect(rt, "a frame");
     let mut controller = Controller::new(rt.alloc(), config(rt, &[]));
     let _reply = controller.step(&frame).expect(rt, "memory");
-    controller.record(rt.alloc()).expect(rt, "memory")
+    controller.record().expect(rt, "memory")
 }
 
 // The bytes of a record.

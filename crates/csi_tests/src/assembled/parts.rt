@@ -28,9 +28,9 @@ pub(super) fn kept_controller(
     rt: &(impl Abort + AllocGlobal),
     controller: &Controller,
 ) -> ControllerRecord {
-    match controller.record(rt.alloc()) {
+    match controller.record() {
         Ok(record) => record,
-        Err(_) => controller.record(rt.alloc()).expect(rt, "memory"),
+        Err(_) => controller.record().expect(rt, "memory"),
     }
 }
 

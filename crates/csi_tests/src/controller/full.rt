@@ -26,7 +26,7 @@ fn full(rt: &(impl Abort + AllocGlobal)) -> Controller {
 }
 
 fn record_of(rt: &(impl Abort + AllocGlobal), controller: &Controller) -> ControllerRecord {
-    controller.record(rt.alloc()).expect(rt, "memory")
+    controller.record().expect(rt, "memory")
 }
 
 // Whether the rows are the same, but for the last call where the volume is 7.

@@ -11,9 +11,9 @@ const NODES: [(&str, u64); 1] = [("n1", 4)];
 
 // The controller's record, asked for once more where memory was refused.
 fn record_of(rt: &(impl Abort + AllocGlobal), controller: &Controller) -> ControllerRecord {
-    match controller.record(rt.alloc()) {
+    match controller.record() {
         Ok(record) => record,
-        Err(CoreFault::NoMemory) => controller.record(rt.alloc()).expect(rt, "memory"),
+        Err(CoreFault::NoMemory) => controller.record().expect(rt, "memory"),
     }
 }
 
@@ -128,9 +128,9 @@ pub(super) fn is_held_list(all: &[Holding]) -> bool {
 #[test]
 fn attachments_in_want_of_memory(rt: HostRuntime) {
     let controller = controller_after(&rt, &HELD);
-    let all = match controller.attachments(rt.alloc()) {
+    let all = match controller.attachments() {
         Ok(all) => all,
-        Err(CoreFault::NoMemory) => controller.attachments(rt.alloc()).expect(&rt, "memory"),
+        Err(CoreFault::NoMemory) => controller.attachments().expect(&rt, "memory"),
     };
     assert!(rt; is_held_list(all.as_slice()));
 }
@@ -139,9 +139,9 @@ fn attachments_in_want_of_memory(rt: HostRuntime) {
 fn row_in_want_of_memory(rt: HostRuntime) {
     let controller = controller_after(&rt, &HELD);
     let id = volume_id(&rt, 1);
-    let row = match controller.row(rt.alloc(), id) {
+    let row = match controller.row(id) {
         Ok(row) => row,
-        Err(CoreFault::NoMemory) => controller.row(rt.alloc(), id).expect(&rt, "memory"),
+        Err(CoreFault::NoMemory) => controller.row(id).expect(&rt, "memory"),
     };
     let row = row.expect(&rt, "a row");
     assert!(rt; is_held_row(&row));

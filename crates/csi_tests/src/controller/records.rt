@@ -30,9 +30,7 @@ fn has_volume_1(controller: &Controller, name: &Name) -> bool {
 
 // Volume 1 is held nowhere.
 fn is_held_nowhere(rt: &(impl Abort + AllocGlobal), controller: &Controller) {
-    let row = controller
-        .row(rt.alloc(), volume_id(rt, 1))
-        .expect(rt, "memory");
+    let row = controller.row(volume_id(rt, 1)).expect(rt, "memory");
     assert!(rt; row.expect(rt, "a row").holdings.is_empty());
 }
 
@@ -40,9 +38,9 @@ fn is_held_nowhere(rt: &(impl Abort + AllocGlobal), controller: &Controller) {
 #[test]
 fn a_record_may_hold_more_than_its_configuration(rt: HostRuntime) {
     let first = new_answers(&rt, &[("n1", 4)], &HELD);
-    let attached = first.attachments(rt.alloc()).expect(&rt, "memory");
+    let attached = first.attachments().expect(&rt, "memory");
     assert!(rt; is_held_list(attached.as_slice()));
-    let record = first.record(rt.alloc()).expect(&rt, "memory");
+    let record = first.record().expect(&rt, "memory");
     assert!(rt; record.next_id() == 2 && record.rows().len() == 1);
     let mut second = opened(&rt, record);
     let unknown = (Status::NotFound, None, "node");

@@ -26,12 +26,9 @@ pub(super) fn is_reply(frame: Option<&Frame>, status: Status, detail: &str) -> b
 // How many volumes are attached. Where memory is refused they are listed the second time.
 fn attached(rt: &(impl Abort + AllocGlobal), world: &World) -> usize {
     let controller = world.controller();
-    match controller.attachments(rt.alloc()) {
+    match controller.attachments() {
         Ok(all) => all.len(),
-        Err(_) => controller
-            .attachments(rt.alloc())
-            .expect(rt, "memory")
-            .len(),
+        Err(_) => controller.attachments().expect(rt, "memory").len(),
     }
 }
 
