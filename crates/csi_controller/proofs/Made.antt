@@ -8,7 +8,7 @@ use Rattle.csi_lists.proofs.Options.{some_is_not_none}
 use Rattle.csi_lists.proofs.Places.{AtMostOne-append}
 use Rattle.csi_lists.proofs.Searches.{find-of_map}
 use Rattle.csi_lists.specs.Places.{AtMostOne}
-use Rattle.csi_controller.specs.declared.controller.inner.Core.{Core}
+use Rattle.csi_controller.specs.declared.controller.state.Core.{Core}
 use Rattle.csi_controller.specs.Catalog.{rows_of}
 use Rattle.csi_controller.specs.CoreParts.{parts_of, IsMade}
 use Rattle.std.specs.Prelude.{Option, Some, None, option_map, find, ◌==◌, ◌||◌, nat_le, nat_lt, codes, IsTrue}

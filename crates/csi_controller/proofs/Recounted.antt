@@ -12,16 +12,22 @@ use Rattle.std.proofs.lemmas.Map.Views.{any-filter_same}
 use Rattle.csi_lists.proofs.Counts.{count-cons}
 use Rattle.csi_lists.proofs.Options.{some_is_not_none}
 use Rattle.csi_types.proofs.Equality.{same_text-tells}
+use Rattle.csi_types.specs.declared.number.Number.{Number}
+use Rattle.csi_types.specs.declared.call.Call.{Call}
 use Rattle.csi_types.specs.declared.config.NodeSlots.{NodeSlots}
+use Rattle.csi_types.specs.declared.fence.Verdict.{Verdict}
+use Rattle.csi_types.specs.declared.fence.Verdict.TheVariants.{Stale, Repeated, Fresh}
 use Rattle.csi_types.specs.Config.{Config}
+use Rattle.csi_types.specs.Frame.{Frame}
 use Rattle.csi_types.specs.Same.{same_text}
 use Rattle.csi_controller.specs.declared.row.NodeHolding.{NodeHolding}
 use Rattle.csi_controller.specs.declared.row.ControllerRow.{ControllerRow}
-use Rattle.csi_controller.specs.declared.controller.inner.Core.{Core}
+use Rattle.csi_controller.specs.declared.controller.state.Core.{Core}
 use Rattle.csi_controller.specs.Catalog.{rows_of}
-use Rattle.csi_controller.specs.Core.{Parts}
+use Rattle.csi_controller.specs.Core.{Parts, RowChange, RowStays, RowEnds, RowAttaches, RowDetaches, items_after}
 use Rattle.csi_controller.specs.CoreParts.{parts_of}
-use Rattle.csi_controller.specs.Counts.{is_held, count_held, place_of, AreCounted, count_after, counted_at, recounted}
+use Rattle.csi_controller.specs.Counts.{is_held, count_held, place_of, AreCounted, count_at, is_node_full, count_after, counted_at, recounted}
+use Rattle.csi_controller.specs.OneRow.{RowAnswers, row_line, moved_by}
 
 -- ---- where a node is configured
 
@@ -102,36 +108,29 @@ alike-counted node rows place row new inside is same =
     let whole = changes node rows place row new inside is ∙ ap (λ b. count_held node rows + cond b 1 0) same in
     omega (arith, whole)
 
--- the counts after a row changed at one node at most
-pub recounted-counted : (nodes : List NodeSlots) (rows : List ControllerRow) (place : ℕ) (row new : ControllerRow) (node : List ℕ) (counts : List ℕ) → AreCounted nodes rows counts → length rows ≤ 4096
-    → place < length rows → row ≡ get_or rows place row → ((other : List ℕ) → same_text node other ≡ false → is_held other new ≡ is_held other row)
-    → AreCounted nodes (set rows place new) (recounted nodes node (is_held node row) (is_held node new) counts)
-recounted-counted nodes rows place row new node counts counted limit inside is others = by (is_held node row) (is_held node new) refl refl
+-- the counts after a row came to be held at a node, or ceased to be, and is held elsewhere as before
+moved-counted : (nodes : List NodeSlots) (rows : List ControllerRow) (place : ℕ) (row new : ControllerRow) (node : List ℕ) (is : Bool) (counts : List ℕ) → AreCounted nodes rows counts → length rows ≤ 4096
+    → place < length rows → row ≡ get_or rows place row → is_held node row ≡ not is → is_held node new ≡ is → ((other : List ℕ) → same_text node other ≡ false → is_held other new ≡ is_held other row)
+    → AreCounted nodes (set rows place new) (counted_at (place_of node nodes) is counts)
+moved-counted nodes rows place row new node is counts counted limit inside stands was now others = by is was now
   where
     after : List ControllerRow
     after = set rows place new
 
     others_counted : (other : List ℕ) → same_text node other ≡ false → count_held other after ≡ count_held other rows
-    others_counted other e = alike-counted other rows place row new inside is (others other e)
-
-    all_counted : is_held node new ≡ is_held node row → (other : List ℕ) (b : Bool) → same_text node other ≡ b → count_held other after ≡ count_held other rows
-    all_counted same other true e =
-        alike-counted other rows place row new inside is (subst (λ n. is_held n new ≡ is_held n row) ((same_text-tells node other).0 e) same)
-    all_counted same other false e = others_counted other e
+    others_counted other e = alike-counted other rows place row new inside stands (others other e)
 
     few : count_held node rows ≤ 4096
     few = let most = count_by-le-length (is_held node) rows in omega (arith, most, limit)
 
-    by : (was now : Bool) → is_held node row ≡ was → is_held node new ≡ now → AreCounted nodes after (recounted nodes node was now counts)
-    by true true w n = counted-alike nodes rows after counts (λ other. all_counted (n ∙ sym w) other (same_text node other) refl) counted
-    by false false w n = counted-alike nodes rows after counts (λ other. all_counted (n ∙ sym w) other (same_text node other) refl) counted
-    by true false w n =
-        let whole = changes node rows place row new inside is in
+    by : (is : Bool) → is_held node row ≡ not is → is_held node new ≡ is → AreCounted nodes after (counted_at (place_of node nodes) is counts)
+    by false w n =
+        let whole = changes node rows place row new inside stands in
         let less : count_held node after + 1 ≡ count_held node rows = (λ i. count_held node after + cond (sym w i) 1 0) ∙ whole ∙ (λ i. count_held node rows + cond (n i) 1 0) ∙ omega arith in
         let small = few in
         at-node nodes rows after node false counts counted (omega (arith, less, small)) others_counted (place_of node nodes) refl
-    by false true w n =
-        let whole = changes node rows place row new inside is in
+    by true w n =
+        let whole = changes node rows place row new inside stands in
         let more : count_held node after ≡ count_held node rows + 1 = omega arith ∙ (λ i. count_held node after + cond (sym w i) 1 0) ∙ whole ∙ (λ i. count_held node rows + cond (n i) 1 0) in
         let small = few in
         at-node nodes rows after node true counts counted (omega (arith, more, small)) others_counted (place_of node nodes) refl
@@ -154,7 +153,7 @@ past-none p [] past = refl
 past-none p (x ∷ xs) past = grind (arith, past-none p xs)
 
 -- a node that isn't found isn't configured
-pub not-configured : (node : List ℕ) (nodes : List NodeSlots) → None ≡ place_of node nodes → list_any (λ (entry : NodeSlots). same_text entry.id node) nodes ≡ false
+not-configured : (node : List ℕ) (nodes : List NodeSlots) → None ≡ place_of node nodes → list_any (λ (entry : NodeSlots). same_text entry.id node) nodes ≡ false
 not-configured node nodes none =
     let past : length nodes ≤ position_or_len (λ (entry : NodeSlots). same_text entry.id node) nodes = grind (arith, nat_tests) in
     past-none (λ (entry : NodeSlots). same_text entry.id node) nodes past
@@ -169,10 +168,75 @@ other_held node other differ held here = by (same_text held.node node) refl
     by false e = refl
 
 -- what is held at one node is taken out, and nothing else
-pub taken-others : (node other : List ℕ) (items : List NodeHolding) → same_text node other ≡ false
+taken-others : (node other : List ℕ) (items : List NodeHolding) → same_text node other ≡ false
     → list_any (λ (held : NodeHolding). same_text held.node other) (filter (λ (held : NodeHolding). not (same_text held.node node)) items) ≡ list_any (λ (held : NodeHolding). same_text held.node other) items
 taken-others node other items differ =
     any-filter_same (λ (held : NodeHolding). same_text held.node other) (λ (held : NodeHolding). not (same_text held.node node)) true (other_held node other differ) items
+
+here_none : (node : List ℕ) (items : List NodeHolding) → list_any (λ (held : NodeHolding). same_text held.node node) (filter (λ (held : NodeHolding). not (same_text held.node node)) items) ≡ false
+here_none node [] = refl
+here_none node (held ∷ later) = by (same_text held.node node) refl (here_none node later)
+  where
+    by : (b : Bool) → same_text held.node node ≡ b → list_any (λ (h : NodeHolding). same_text h.node node) (filter (λ (h : NodeHolding). not (same_text h.node node)) later) ≡ false
+        → list_any (λ (h : NodeHolding). same_text h.node node) (cond (not b) (held ∷ filter (λ (h : NodeHolding). not (same_text h.node node)) later) (filter (λ (h : NodeHolding). not (same_text h.node node)) later)) ≡ false
+    by true e rest = rest
+    by false e rest = rw e rest
+
+-- ---- what is added to a row
+
+one_more : (p : NodeHolding → Bool) (items : List NodeHolding) (held : NodeHolding) (b : Bool) → p held ≡ b → list_any p (items ++ held ∷ []) ≡ (list_any p items || b)
+one_more p [] held true e = rw e refl
+one_more p [] held false e = rw e refl
+one_more p (first ∷ later) held b e = by (p first) (one_more p later held b e)
+  where
+    by : (t : Bool) → list_any p (later ++ held ∷ []) ≡ (list_any p later || b) → (t || list_any p (later ++ held ∷ [])) ≡ ((t || list_any p later) || b)
+    by true rest = refl
+    by false rest = rest
+
+or_false : (b : Bool) → (b || false) ≡ b
+or_false true = refl
+or_false false = refl
+
+or_true : (b : Bool) → (b || true) ≡ true
+or_true true = refl
+or_true false = refl
+
+-- ---- a row that a call changed
+
+-- what a row of these holdings may add or take out
+abbrev pub IsMove : ControllerRow → RowChange → Type 0
+IsMove row RowStays = Unit {0}
+IsMove row RowEnds = Unit {0}
+IsMove row (RowAttaches held) = is_held held.node row ≡ false
+IsMove row (RowDetaches node) = is_held node row ≡ true
+
+changed-counted : (nodes : List NodeSlots) (rows : List ControllerRow) (place : ℕ) (row new : ControllerRow) (change : RowChange) (counts : List ℕ) → AreCounted nodes rows counts → length rows ≤ 4096
+    → place < length rows → row ≡ get_or rows place row → IsMove row change → new.holdings.items ≡ items_after change row.holdings.items
+    → AreCounted nodes (set rows place new) (recounted nodes (moved_by change) counts)
+changed-counted nodes rows place row new RowStays counts counted limit inside stands move items = same-counted nodes rows place row new counts counted inside stands items
+changed-counted nodes rows place row new RowEnds counts counted limit inside stands move items = same-counted nodes rows place row new counts counted inside stands items
+changed-counted nodes rows place row new (RowAttaches held) counts counted limit inside stands move items =
+    moved-counted nodes rows place row new held.node true counts counted limit inside stands move
+    (ap (list_any (λ (other : NodeHolding). same_text other.node held.node)) items
+    ∙ one_more (λ (other : NodeHolding). same_text other.node held.node) row.holdings.items held true ((same_text-tells held.node held.node).1 refl) ∙ or_true (is_held held.node row))
+    (λ other differ. ap (list_any (λ (h : NodeHolding). same_text h.node other)) items
+    ∙ one_more (λ (h : NodeHolding). same_text h.node other) row.holdings.items held false differ ∙ or_false (is_held other row))
+changed-counted nodes rows place row new (RowDetaches node) counts counted limit inside stands move items =
+    moved-counted nodes rows place row new node false counts counted limit inside stands move
+    (ap (list_any (λ (held : NodeHolding). same_text held.node node)) items ∙ here_none node row.holdings.items)
+    (λ other differ. ap (list_any (λ (held : NodeHolding). same_text held.node other)) items ∙ taken-others node other row.holdings.items differ)
+
+-- by what the fence says
+pub answered-counted : (nodes : List NodeSlots) (rows : List ControllerRow) (place : ℕ) (row new : ControllerRow) (counts after : List ℕ) (number : Number) (call : Call) (verdict : Verdict) (frame : Frame)
+    → AreCounted nodes rows counts → length rows ≤ 4096 → place < length rows → row ≡ get_or rows place row → IsMove row (row_line nodes counts row call).change
+    → RowAnswers nodes row new counts after number call verdict frame → AreCounted nodes (set rows place new) after
+answered-counted nodes rows place row new counts after number call Stale frame counted limit inside stands move answered =
+    subst (AreCounted nodes (set rows place new)) (sym answered.counts) (same-counted nodes rows place row new counts counted inside stands answered.gives.items)
+answered-counted nodes rows place row new counts after number call Repeated frame counted limit inside stands move answered =
+    subst (AreCounted nodes (set rows place new)) (sym answered.counts) (same-counted nodes rows place row new counts counted inside stands answered.gives.items)
+answered-counted nodes rows place row new counts after number call Fresh frame counted limit inside stands move answered =
+    subst (AreCounted nodes (set rows place new)) (sym answered.counts)
+    (changed-counted nodes rows place row new (row_line nodes counts row call).change counts counted limit inside stands move answered.gives.items)
 
 -- ---- a row that is added
 
@@ -195,7 +259,7 @@ same-parts-counted old new parts counts counted =
 -- ---- whether a node is full
 
 -- an entry's slots are compared with the right count wherever one is compared
-pub full-counted : (nodes : List NodeSlots) (node : List ℕ) (count held : ℕ) → (list_any (λ (entry : NodeSlots). same_text entry.id node) nodes ≡ true → count ≡ held)
+full-counted : (nodes : List NodeSlots) (node : List ℕ) (count held : ℕ) → (list_any (λ (entry : NodeSlots). same_text entry.id node) nodes ≡ true → count ≡ held)
     → list_any (λ (entry : NodeSlots). same_text entry.id node && nat_le entry.slots count) nodes ≡ list_any (λ (entry : NodeSlots). same_text entry.id node && nat_le entry.slots held) nodes
 full-counted [] node count held told = refl
 full-counted (e ∷ es) node count held told = by (same_text e.id node) told (full-counted es node count held)
@@ -207,3 +271,13 @@ full-counted (e ∷ es) node count held told = by (same_text e.id node) told (fu
         ≡ ((b && nat_le e.slots held) || list_any (λ (entry : NodeSlots). same_text entry.id node && nat_le entry.slots held) es)
     by true told rest = let same = told refl in ap (λ n. nat_le e.slots n || list_any (λ (entry : NodeSlots). same_text entry.id node && nat_le entry.slots n) es) same
     by false told rest = rest told
+
+-- the count at a configured node's place is the count of its volumes
+pub full-told : (nodes : List NodeSlots) (rows : List ControllerRow) (counts : List ℕ) (node : List ℕ) → AreCounted nodes rows counts
+    → list_any (λ (entry : NodeSlots). same_text entry.id node && nat_le entry.slots (count_held node rows)) nodes ≡ is_node_full nodes counts node
+full-told nodes rows counts node counted =
+    sym (full-counted nodes node (count_at (place_of node nodes) counts) (count_held node rows) (by (place_of node nodes) refl))
+  where
+    by : (found : Option ℕ) → place_of node nodes ≡ found → list_any (λ (entry : NodeSlots). same_text entry.id node) nodes ≡ true → count_at found counts ≡ count_held node rows
+    by None none any = absurd (true≢false (sym any ∙ not-configured node nodes (sym none)))
+    by (Some place) at any = counted.each node place at

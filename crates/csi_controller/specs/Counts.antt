@@ -1,8 +1,9 @@
 -- How many volumes are held at each configured node, as a core keeps it.
-use Rattle.std.specs.Prelude.{◌≡◌, ℕ, ◌+◌, ◌%◌, ◌^◌, ◌≤◌, List, length, Bool, Option, Some, None, position, count_by, if◌then◌else◌, slice_index, slice_set}
+use Rattle.std.specs.Prelude.{◌≡◌, ℕ, ◌+◌, ◌%◌, ◌^◌, ◌≤◌, List, length, Bool, ◌&&◌, nat_le, Option, Some, None, position, count_by, if◌then◌else◌, slice_index, slice_set}
 use Rattle.std.specs.List.{list_any}
 use Rattle.csi_types.specs.declared.config.NodeSlots.{NodeSlots}
-use Rattle.csi_types.specs.Same.{same_text, same_flag}
+use Rattle.csi_types.specs.Same.{same_text}
+use Rattle.csi_controller.specs.declared.controller.counts.Moved.{Moved}
 use Rattle.csi_controller.specs.declared.row.NodeHolding.{NodeHolding}
 use Rattle.csi_controller.specs.declared.row.ControllerRow.{ControllerRow}
 
@@ -24,6 +25,15 @@ pub record AreCounted (nodes : List NodeSlots) (rows : List ControllerRow) (coun
   pub fits : length nodes ≤ length counts
   pub each : (node : List ℕ) (place : ℕ) → place_of node nodes ≡ Some place → slice_index counts place ≡ count_held node rows
 
+-- the count that stands at a place, 0 at none
+abbrev pub count_at : Option ℕ → List ℕ → ℕ
+count_at None counts = 0
+count_at (Some place) counts = slice_index counts place
+
+-- by these counts the node is configured, and takes no more volumes
+abbrev pub is_node_full : List NodeSlots → List ℕ → List ℕ → Bool
+is_node_full nodes counts node = list_any (λ (entry : NodeSlots). same_text entry.id node && nat_le entry.slots (count_at (place_of node nodes) counts)) nodes
+
 -- one more or one less at a place, as 64 bits count
 abbrev pub count_after : Bool → ℕ → ℕ
 count_after is count = if is then (count + 1) % 2 ^ 64 else (count + 18446744073709551615) % 2 ^ 64
@@ -32,6 +42,12 @@ abbrev pub counted_at : Option ℕ → Bool → List ℕ → List ℕ
 counted_at None is counts = counts
 counted_at (Some place) is counts = slice_set counts place (count_after is (slice_index counts place))
 
--- the counts after a row that was held at the node, or wasn't, is held there, or isn't
-abbrev pub recounted : List NodeSlots → List ℕ → Bool → Bool → List ℕ → List ℕ
-recounted nodes node was is counts = if same_flag was is then counts else counted_at (place_of node nodes) is counts
+-- a node, and whether a volume came to be held there, or ceases to be
+abbrev pub moved_told : Option Moved → Option (List ℕ × Bool)
+moved_told None = None
+moved_told (Some moved) = Some (moved.node.now, moved.is_held)
+
+-- the counts after that
+abbrev pub recounted : List NodeSlots → Option (List ℕ × Bool) → List ℕ → List ℕ
+recounted nodes None counts = counts
+recounted nodes (Some (node, is)) counts = counted_at (place_of node nodes) is counts

@@ -5,6 +5,7 @@ pub mod Shown
 pub mod Rows
 pub mod Laws
 pub mod Core
+pub mod OneRow
 pub mod Wanted
 pub mod Line
 pub mod Catalog

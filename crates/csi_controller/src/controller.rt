@@ -4,16 +4,18 @@ ghost use Rattle.std.specs.Option.{option_copied};
 ghost use Rattle.csi_types.specs.declared.call.Call.{Call as OneCall};
 
 mod answer;
+mod changes;
 mod counts;
 mod fence;
-mod inner;
-mod last_call;
+mod finding;
 mod line;
 pub(crate) mod lines;
 mod listing;
+mod making;
 pub(crate) mod new_row;
 mod readers;
-mod row_calls;
+mod state;
+mod step;
 pub(crate) mod wanted;
 
 use crate::catalog::Catalog;
@@ -22,8 +24,8 @@ use crate::record::ControllerRecord;
 use crate::row::ControllerRow;
 use counts::counted;
 use csi_types::{Body, Call, Config, Frame, Holding, Name, Number, VolumeId};
-use inner::Core;
 use new_row::attachments;
+use state::Core;
 use std::alloc::Global;
 use std::marker::Model;
 

@@ -6,13 +6,10 @@ ghost use Rattle.csi_types.specs.Same.{has_capability};
 ghost use Rattle.csi_controller.specs.Core.{next_shown};
 ghost use Rattle.csi_controller.specs.SoundRow.{has_fit_numbers as are_fit_numbers, has_own_reply as is_own_reply, are_beside as beside, are_all_beside as all_beside, has_fit_holdings as are_fit_holdings, is_sound_row as is_sound};
 
-use crate::controller::lines::{can_hold_with, has};
+use crate::controller::lines::{MAX_HOLDINGS, can_hold_with, has};
 use crate::controller::wanted::Wanted;
 use crate::row::{ControllerRow, NodeHolding};
 use csi_types::{Kind, MAX_CAPACITY, Party, Reply, Status};
-
-/// The most nodes at which a volume is held.
-const MAX_HOLDINGS: usize = 64;
 
 // Whether the number is below the next id, where 0 stands for one above all.
 fn is_given(next_id: u64, number: u64) -> bool

@@ -1,9 +1,9 @@
 //! How many volumes are held at each configured node.
-ghost use Rattle.std.specs.Prelude.{◌≡◌, ◌≤◌, ◌&&◌, nat_le, length, true, List};
+ghost use Rattle.std.specs.Prelude.{◌≡◌, ◌≤◌, ◌&&◌, nat_le, length};
 ghost use Rattle.std.specs.List.{list_any};
+ghost use Rattle.csi_types.specs.Config.{has_node as is_configured};
 ghost use Rattle.csi_types.specs.Same.{same_text};
-ghost use Rattle.csi_controller.specs.declared.row.ControllerRow.{ControllerRow as OneRow};
-ghost use Rattle.csi_controller.specs.Counts.{place_of, count_held, AreCounted, recounted};
+ghost use Rattle.csi_controller.specs.Counts.{place_of, count_held, count_at as count_told, is_node_full, AreCounted, moved_told, recounted};
 
 use super::lines::is_held_at;
 use crate::row::ControllerRow;
@@ -11,6 +11,20 @@ use csi_types::{NodeId, NodeSlots};
 
 /// The most nodes that are configured.
 pub const MAX_NODES: usize = 64;
+
+/// The node at which a volume came to be held, or ceased to be.
+#[derive(Clone, Copy)]
+pub struct Moved<'a> {
+    pub node: &'a NodeId,
+    pub is_held: bool,
+}
+
+/// Whether the node is configured.
+pub fn has_node(nodes: &[NodeSlots], node: &NodeId) -> bool
+    ensures { result ≡ is_configured node.now nodes.now }
+{
+    nodes.iter().any(|entry| *node == entry.id)
+}
 
 // Where the node is configured.
 fn place_of_node(nodes: &[NodeSlots], node: &NodeId) -> Option<usize>
@@ -38,10 +52,10 @@ pub fn counted(nodes: &[NodeSlots], rows: &[ControllerRow]) -> [u64; MAX_NODES]
     counts
 }
 
-// How many volumes are held at the node, where it is configured.
+// The count of the node, 0 where it isn't configured.
 fn count_at(counts: &[u64; MAX_NODES], nodes: &[NodeSlots], node: &NodeId) -> u64
     requires { length nodes.now ≤ 64 }
-    ensures { (rows : List OneRow) → AreCounted nodes.now rows counts.now → list_any (λ entry. same_text entry.id node.now) nodes.now ≡ true → result ≡ count_held node.now rows }
+    ensures { result ≡ count_told (place_of node.now nodes.now) counts.now }
 {
     match place_of_node(nodes, node) {
         Some(place) => counts[place],
@@ -61,29 +75,22 @@ fn has_at_most(nodes: &[NodeSlots], node: &NodeId, count: u64) -> bool
 /// Whether the node takes no more volumes.
 pub fn is_full(counts: &[u64; MAX_NODES], nodes: &[NodeSlots], node: &NodeId) -> bool
     requires { length nodes.now ≤ 64 }
-    ensures { (rows : List OneRow) → AreCounted nodes.now rows counts.now
-        → result ≡ list_any (λ entry. same_text entry.id node.now && nat_le entry.slots (count_held node.now rows)) nodes.now }
+    ensures { result ≡ is_node_full nodes.now counts.now node.now }
 {
     has_at_most(nodes, node, count_at(counts, nodes, node))
 }
 
-/// Counts a volume that was held at the node, or wasn't, and is held there, or isn't.
-pub fn recount(
-    counts: &mut [u64; MAX_NODES],
-    nodes: &[NodeSlots],
-    node: &NodeId,
-    was: bool,
-    is: bool,
-)
+/// Counts a volume that came to be held at a node, or ceased to be, if one did.
+pub fn recount(counts: &mut [u64; MAX_NODES], nodes: &[NodeSlots], moved: &Option<Moved>)
     requires { length nodes.now ≤ 64 }
-    ensures { counts.new ≡ recounted nodes.now node.now was is counts.old }
+    ensures { counts.new ≡ recounted nodes.now (moved_told moved.now) counts.old }
 {
-    if was == is {
+    let Some(moved) = moved else {
         return;
-    }
-    if let Some(place) = place_of_node(nodes, node) {
+    };
+    if let Some(place) = place_of_node(nodes, moved.node) {
         let count = counts[place];
-        counts[place] = if is {
+        counts[place] = if moved.is_held {
             count.wrapping_add(1)
         } else {
             count.wrapping_sub(1)

@@ -1,46 +1,27 @@
-//! The fence at a row, and what a row keeps.
-ghost use Rattle.std.specs.Prelude.{◌≡◌, [], Some, IsTrue, IsOk, IfOk, OnOk, OnErr, IfSome, IfNone, IsNone};
+//! What a row answers to the calls of its volume, behind the fence, and what it keeps.
+ghost use Rattle.std.specs.Prelude.{◌≡◌, ◌≤◌, ℕ, [], Some, length, IsTrue, IsOk, IfOk, OnOk, OnErr};
 ghost use Rattle.csi_types.specs.declared.call.Party.TheVariants.{Controller};
 ghost use Rattle.csi_types.specs.declared.fence.Verdict.TheVariants.{Fresh, Repeated};
-ghost use Rattle.csi_types.specs.Call.{is_party_of};
+ghost use Rattle.csi_types.specs.declared.status.Status.TheVariants.{Ok as OkStatus};
+ghost use Rattle.csi_types.specs.Call.{kind_of, is_party_of};
 ghost use Rattle.csi_types.specs.Fence.{verdict_of as verdict_by};
 ghost use Rattle.csi_types.specs.Reply.{has_id_by_rule};
 ghost use Rattle.csi_types.specs.Replies.{ok_reply, reply_frame};
-ghost use Rattle.csi_controller.specs.Core.{RowGives, RowOutcome, row_after};
+ghost use Rattle.csi_controller.specs.Core.{IsSoundRow, IsUndoing};
+ghost use Rattle.csi_controller.specs.OneRow.{RowAnswers, IsLeft, row_line};
 
-use super::answer::{carried, done, frame_of, unkept};
+use super::answer::{carried, done, frame_of, said, unkept};
+use super::changes::change;
+use super::counts::{MAX_NODES, recount};
 use super::line::refused;
+use super::lines::line;
 use crate::fault::CoreFault;
 use crate::row::ControllerRow;
-use csi_types::{Frame, Kind, Number, Reply, Status, Verdict, verdict_of};
+use csi_types::{Call, Frame, Kind, NodeSlots, Number, Reply, Status, Verdict, verdict_of};
 use std::alloc::Global;
 
-/// What the fence answers at a row to a call of this number and kind, whatever its line of the table is: a refusal
-/// where a later call was answered, the kept reply where this one was, and nothing where it is to be carried out. A kept reply
-/// without a detail takes no memory.
-pub fn fence(
-    row: &ControllerRow,
-    alloc: Global,
-    number: Number,
-    kind: Kind,
-) -> Option<Result<Frame, CoreFault>>
-    requires party { IsTrue (is_party_of kind Controller) }
-    requires kept_party { IsTrue (is_party_of row.now.kind Controller) }
-    requires kept_id { IsTrue (has_id_by_rule row.now.kind row.now.reply) }
-    ensures closed { IfSome result (λ answer. IfOk answer (λ frame. (outcome : RowOutcome) → RowGives row.now frame (row_after number kind outcome row.now (verdict_by (Some row.now.last) number)))) }
-    ensures open { IfNone result (verdict_by (Some row.now.last) number ≡ Fresh) }
-    ensures fresh { verdict_by (Some row.now.last) number ≡ Fresh → IsNone result }
-    ensures repeated { verdict_by (Some row.now.last) number ≡ Repeated → row.now.reply.detail ≡ [] → IfSome result (λ answer. IsOk answer) }
-{
-    match verdict_of(Some(row.last), number) {
-        Verdict::Stale => Some(unkept(alloc, number, kind, &refused(Status::Aborted, "stale"))),
-        Verdict::Repeated => Some(frame_of(alloc, number, row.kind, &row.reply)),
-        Verdict::Fresh => None,
-    }
-}
-
-/// Keeps a reply in a row, and gives its frame. A refusal changes nothing. Without a detail it takes no memory.
-pub fn keep(
+// Keeps a reply in a row, and gives its frame. A refusal changes nothing. Without a detail it takes no memory.
+fn keep(
     row: &mut ControllerRow,
     alloc: Global,
     number: Number,
@@ -65,8 +46,8 @@ pub fn keep(
     }
 }
 
-/// Keeps in a row that a call was carried out, and gives the frame that says so. It takes no memory.
-pub fn keep_done(row: &mut ControllerRow, alloc: Global, number: Number, kind: Kind) -> Frame
+// Keeps in a row that a call was carried out, and gives the frame that says so. It takes no memory.
+fn keep_done(row: &mut ControllerRow, alloc: Global, number: Number, kind: Kind) -> Frame
     requires party { IsTrue (is_party_of kind Controller) }
     requires id { IsTrue (has_id_by_rule kind ok_reply) }
     ensures frame { result ≡ reply_frame number Controller kind ok_reply }
@@ -76,4 +57,66 @@ pub fn keep_done(row: &mut ControllerRow, alloc: Global, number: Number, kind: K
     row.kind = kind;
     row.reply = done(alloc, None);
     carried(number, kind, done(alloc, None))
+}
+
+// Answers a call by the table, keeps its number and the reply in the row, and counts the volume at a node where that changed. An
+// `Err` changes nothing. A DeleteVolume and a ControllerUnpublishVolume that are answered 0 take no memory.
+fn carry_out(
+    row: &mut ControllerRow,
+    nodes: &[NodeSlots],
+    counts: &mut [u64; MAX_NODES],
+    alloc: Global,
+    number: Number,
+    call: &Call,
+) -> Result<Frame, CoreFault>
+    requires party { IsTrue (is_party_of (kind_of call.now) Controller) }
+    requires few { length nodes.now ≤ 64 }
+    ensures ok { IfOk result (RowAnswers nodes.now row.old row.new counts.old counts.new number call.now Fresh) }
+    ensures err { OnErr result (IsLeft row.old row.new counts.old counts.new) }
+    ensures undone { IsUndoing call.now → (row_line nodes.now counts.old row.old call.now).reply.status ≡ OkStatus → IsOk result }
+{
+    match line(row, nodes, counts, call) {
+        Some(line) => match said(alloc, &line) {
+            Ok(reply) => keep(row, alloc, number, call.kind(), reply),
+            Err(fault) => Err(fault),
+        },
+        None => match change(row, call) {
+            Ok(moved) => {
+                recount(counts, nodes, &moved);
+                Ok(keep_done(row, alloc, number, call.kind()))
+            }
+            Err(fault) => Err(fault),
+        },
+    }
+}
+
+/// Answers a call of the row's volume: a refusal where a later call was answered, the kept reply where this one was, and else what
+/// the table answers. An `Err` changes nothing. A kept reply without a detail takes no memory, nor does a DeleteVolume or a
+/// ControllerUnpublishVolume that the table answers 0.
+pub fn answer_again(
+    row: &mut ControllerRow,
+    nodes: &[NodeSlots],
+    counts: &mut [u64; MAX_NODES],
+    alloc: Global,
+    number: Number,
+    call: &Call,
+) -> Result<Frame, CoreFault>
+    requires party { IsTrue (is_party_of (kind_of call.now) Controller) }
+    requires few { length nodes.now ≤ 64 }
+    requires sound { (next_id : ℕ) × IsSoundRow next_id row.old }
+    ensures ok { IfOk result (RowAnswers nodes.now row.old row.new counts.old counts.new number call.now (verdict_by (Some row.old.last) number)) }
+    ensures err { OnErr result (IsLeft row.old row.new counts.old counts.new) }
+    ensures undone { IsUndoing call.now → verdict_by (Some row.old.last) number ≡ Fresh → (row_line nodes.now counts.old row.old call.now).reply.status ≡ OkStatus → IsOk result }
+    ensures repeated { verdict_by (Some row.old.last) number ≡ Repeated → row.old.reply.detail ≡ [] → IsOk result }
+{
+    match verdict_of(Some(row.last), number) {
+        Verdict::Stale => unkept(
+            alloc,
+            number,
+            call.kind(),
+            &refused(Status::Aborted, "stale"),
+        ),
+        Verdict::Repeated => frame_of(alloc, number, row.kind, &row.reply),
+        Verdict::Fresh => carry_out(row, nodes, counts, alloc, number, call),
+    }
 }

@@ -1,10 +1,12 @@
-//! What the lines of the table for a volume's row answer: a reply that changes nothing, or `None` where the
+//! The controller's table, for the row of a call's volume: a reply that changes nothing, or `None` where the
 //! call is carried out.
-ghost use Rattle.std.specs.Prelude.{◌≡◌, ℕ, Bool, true, IsTrue, not, None, IfSome, [], option_map};
+ghost use Rattle.std.specs.Prelude.{◌≡◌, ◌≤◌, ◌||◌, ℕ, IsTrue, not, nat_le, length, IfSome, [], option_map};
 ghost use Rattle.std.specs.List.{find, list_any, list_all};
 ghost use Rattle.std.specs.Option.{option_copied};
-ghost use Rattle.csi_types.specs.declared.call.Kind.TheVariants.{CreateVolume, DeleteVolume, ControllerPublishVolume};
+ghost use Rattle.csi_types.specs.declared.call.Kind.TheVariants.{CreateVolume, DeleteVolume, ControllerPublishVolume, ControllerUnpublishVolume};
+ghost use Rattle.csi_types.specs.Call.{kind_of};
 ghost use Rattle.csi_types.specs.Capacity.{is_bad_range as is_bad, is_empty_range as is_empty};
+ghost use Rattle.csi_types.specs.Config.{has_node as is_configured};
 ghost use Rattle.csi_types.specs.Holding.{same_holding, is_compatible};
 ghost use Rattle.csi_types.specs.Same.{same_text, same_capability as is_same_capability, has_capability};
 ghost use Rattle.csi_types.specs.Reply.{has_id_by_rule};
@@ -12,13 +14,21 @@ ghost use Rattle.csi_controller.specs.Table.{serves as is_served};
 ghost use Rattle.csi_controller.specs.Shown.{volume_of_row};
 ghost use Rattle.csi_controller.specs.Line.{line_told};
 ghost use Rattle.csi_controller.specs.Wanted.{wanted_shown};
-ghost use Rattle.csi_controller.specs.Core.{held_by, by_line, delete_line as delete_told, again_line as again_told, create_line as create_told, argument_fault as fault_told, unpublish_line as unpublish_told, publish_line as publish_told, by_slots};
-ghost use Rattle.csi_controller.specs.Core.RowChange.{RowStays, RowEnds};
+ghost use Rattle.csi_controller.specs.Core.{held_by, by_line, delete_line as delete_told, again_line as again_told, create_line as create_told, argument_fault as fault_told, unpublish_line as unpublish_told, publish_line as publish_told};
+ghost use Rattle.csi_controller.specs.Core.RowChange.{RowStays, RowEnds, RowAttaches, RowDetaches};
+ghost use Rattle.csi_controller.specs.Counts.{is_node_full};
+ghost use Rattle.csi_controller.specs.OneRow.{row_line, row_change};
 
+use super::counts::{MAX_NODES, has_node, is_full};
 use super::line::{Line, met, refused};
 use super::wanted::Wanted;
 use crate::row::{ControllerRow, NodeHolding};
-use csi_types::{Capability, MAX_CAPACITY, Mode, NodeId, Status, single_node, writes};
+use csi_types::{
+    Call, Capability, MAX_CAPACITY, Mode, NodeId, NodeSlots, Status, single_node, writes,
+};
+
+/// The most nodes at which a volume is held.
+pub const MAX_HOLDINGS: usize = 64;
 
 // Whether access and mode are the same.
 fn same_capability(a: &Capability, b: &Capability) -> bool
@@ -77,6 +87,7 @@ fn is_empty_range(required: u64, limit: u64) -> bool
 pub fn argument_fault(required: u64, limit: u64, wished: &[Capability]) -> Option<Line<'static>>
     ensures ok { option_map line_told result ≡ fault_told required limit wished.now }
     ensures id { IfSome result (λ line. IsTrue (has_id_by_rule CreateVolume (line_told line))) }
+    ensures plain { IfSome result (λ line. (line_told line).status ≡ Status.Ok → (line_told line).detail ≡ []) }
 {
     if wished.is_empty() {
         return Some(refused(Status::InvalidArgument, "capabilities"));
@@ -99,6 +110,7 @@ fn again_line(
 ) -> Line<'static>
     ensures ok { again_told row.now required limit wished.now ≡ record { reply = line_told result; change = RowStays } }
     ensures id { IsTrue (has_id_by_rule CreateVolume (line_told result)) }
+    ensures plain { (line_told result).status ≡ Status.Ok → (line_told result).detail ≡ [] }
 {
     if row.live && serves(row, required, limit, wished) {
         return met(Some(row.id));
@@ -106,8 +118,8 @@ fn again_line(
     refused(Status::AlreadyExists, "name")
 }
 
-/// CreateVolume of a name that has this row.
-pub fn create_line(
+// CreateVolume of a name that has this row.
+fn create_line(
     row: &ControllerRow,
     required: u64,
     limit: u64,
@@ -115,6 +127,7 @@ pub fn create_line(
 ) -> Line<'static>
     ensures ok { create_told row.now required limit wished.now ≡ record { reply = line_told result; change = RowStays } }
     ensures id { IsTrue (has_id_by_rule CreateVolume (line_told result)) }
+    ensures plain { (line_told result).status ≡ Status.Ok → (line_told result).detail ≡ [] }
 {
     match argument_fault(required, limit, wished) {
         Some(line) => line,
@@ -122,11 +135,11 @@ pub fn create_line(
     }
 }
 
-/// DeleteVolume of this row's volume.
-pub fn delete_line(row: &ControllerRow) -> Option<Line<'_>>
+// DeleteVolume of this row's volume.
+fn delete_line(row: &ControllerRow) -> Option<Line<'_>>
     ensures ok { delete_told row.now ≡ by_line RowEnds (option_map line_told result) }
     ensures id { IfSome result (λ line. IsTrue (has_id_by_rule DeleteVolume (line_told line))) }
-    ensures succeeds { (delete_told row.now).reply.status ≡ Status.Ok → IfSome result (λ line. (line_told line).detail ≡ []) }
+    ensures plain { IfSome result (λ line. (line_told line).status ≡ Status.Ok → (line_told line).detail ≡ []) }
 {
     if !row.live {
         return Some(met(None));
@@ -181,20 +194,37 @@ fn excluding<'a>(row: &'a ControllerRow, wanted: Wanted) -> Option<&'a NodeHoldi
         .find(|held| !can_hold_with(held, wanted))
 }
 
-/// What this row alone answers to ControllerPublishVolume, by whether the node is configured. `None` where the
-/// volume is to be attached, if there are slots for it.
-pub fn publish_by_row<'a>(
+// Whether the node takes no more volumes, or the volume is at as many nodes as it may be.
+fn is_full_for(
+    row: &ControllerRow,
+    nodes: &[NodeSlots],
+    counts: &[u64; MAX_NODES],
+    node: &NodeId,
+) -> bool
+    requires { length nodes.now ≤ 64 }
+    ensures { result ≡ (is_node_full nodes.now counts.now node.now || nat_le 64 (length row.now.holdings.items)) }
+{
+    is_full(counts, nodes, node) || row.holdings.len() >= MAX_HOLDINGS
+}
+
+// ControllerPublishVolume of this row's volume.
+fn publish_line<'a>(
     row: &'a ControllerRow,
+    nodes: &[NodeSlots],
+    counts: &[u64; MAX_NODES],
     wanted: Wanted,
-    is_configured: bool,
 ) -> Option<Line<'a>>
-    ensures ok { (is_full : Bool) → publish_told row.now (wanted_shown wanted.entry) is_configured is_full ≡ by_slots (wanted_shown wanted.entry) is_full (option_map line_told result) }
+    requires { length nodes.now ≤ 64 }
+    ensures ok { publish_told row.now (wanted_shown wanted.entry) (is_configured wanted.entry.node.now nodes.now)
+        (is_node_full nodes.now counts.now wanted.entry.node.now || nat_le 64 (length row.now.holdings.items))
+        ≡ by_line (RowAttaches (wanted_shown wanted.entry)) (option_map line_told result) }
     ensures id { IfSome result (λ line. IsTrue (has_id_by_rule ControllerPublishVolume (line_told line))) }
+    ensures plain { IfSome result (λ line. (line_told line).status ≡ Status.Ok → (line_told line).detail ≡ []) }
 {
     if !row.live {
         return Some(refused(Status::NotFound, "volume"));
     }
-    if !is_configured {
+    if !has_node(nodes, wanted.node) {
         return Some(refused(Status::NotFound, "node"));
     }
     if !has(row.capabilities.as_slice(), wanted.capability) {
@@ -209,5 +239,59 @@ pub fn publish_by_row<'a>(
     if let Some(other) = excluding(row, wanted) {
         return Some(refused(Status::FailedPrecondition, other.node.as_str()));
     }
+    if is_full_for(row, nodes, counts, wanted.node) {
+        return Some(refused(Status::ResourceExhausted, "slots"));
+    }
     None
+}
+
+// ControllerUnpublishVolume of this row's volume.
+fn unpublish_line(row: &ControllerRow, node: &NodeId) -> Option<Line<'static>>
+    ensures ok { unpublish_told row.now node.now ≡ by_line (RowDetaches node.now) (option_map line_told result) }
+    ensures id { IfSome result (λ line. IsTrue (has_id_by_rule ControllerUnpublishVolume (line_told line))) }
+    ensures plain { IfSome result (λ line. (line_told line).status ≡ Status.Ok → (line_told line).detail ≡ []) }
+{
+    if is_held_at(row, node) {
+        return None;
+    }
+    Some(met(None))
+}
+
+/// What the table answers to a call of this row's volume, by the nodes and how many volumes are held at each. They are
+/// asked for the last lines of ControllerPublishVolume alone.
+pub fn line<'a>(
+    row: &'a ControllerRow,
+    nodes: &[NodeSlots],
+    counts: &[u64; MAX_NODES],
+    call: &Call,
+) -> Option<Line<'a>>
+    requires { length nodes.now ≤ 64 }
+    ensures ok { row_line nodes.now counts.now row.now call.now ≡ by_line (row_change call.now) (option_map line_told result) }
+    ensures id { IfSome result (λ line. IsTrue (has_id_by_rule (kind_of call.now) (line_told line))) }
+    ensures plain { IfSome result (λ line. (line_told line).status ≡ Status.Ok → (line_told line).detail ≡ []) }
+{
+    match call {
+        Call::CreateVolume {
+            required,
+            limit,
+            capabilities,
+            ..
+        } => Some(create_line(row, *required, *limit, capabilities.as_slice())),
+        Call::DeleteVolume { .. } => delete_line(row),
+        Call::ControllerPublishVolume {
+            node,
+            capability,
+            readonly,
+            ..
+        } => {
+            let wanted = Wanted {
+                node,
+                capability,
+                readonly: *readonly,
+            };
+            publish_line(row, nodes, counts, wanted)
+        }
+        Call::ControllerUnpublishVolume { node, .. } => unpublish_line(row, node),
+        _ => Some(refused(Status::Unimplemented, "")),
+    }
 }

@@ -1,7 +1,7 @@
 -- Those that `retain` keeps.
 use Rattle.std.proofs.Common.{rules}
 use Rattle.std.proofs.lemmas.Fn.{filter_same}
-use Rattle.csi_controller.proofs.controller.row_calls.take_out.Goals as goal
+use Rattle.csi_controller.proofs.controller.changes.take_out.Goals as goal
 
 pub returns : goal.returns
 returns c = filter_same _ _ _ (λ x b f' k. search rules) _ _ c.retain.ensures.filtered

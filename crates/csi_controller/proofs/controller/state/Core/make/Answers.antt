@@ -5,7 +5,7 @@ use Rattle.csi_types.specs.Same.{same_text}
 use Rattle.csi_controller.specs.declared.row.ControllerRow.{ControllerRow}
 use Rattle.csi_controller.specs.Catalog.{rows_of}
 use Rattle.csi_controller.specs.State.{Volume}
-use Rattle.csi_controller.proofs.controller.inner.Core.make.Goals as goal
+use Rattle.csi_controller.proofs.controller.state.Core.make.Goals as goal
 
 pub add-requires-clause-new_id : goal.add-requires-clause-new_id
 add-requires-clause-new_id c =

@@ -8,7 +8,7 @@ use Rattle.csi_controller.specs.Catalog.{rows_of}
 use Rattle.csi_controller.specs.Views.{IsCopyOf}
 use Rattle.csi_controller.proofs.Calls.{at-place, nowhere}
 use Rattle.csi_controller.proofs.Indexed.{read-at}
-use Rattle.csi_controller.proofs.controller.inner.Core.row.Goals as goal
+use Rattle.csi_controller.proofs.controller.state.Core.row.Goals as goal
 
 pub returns-in-Ok-clause-copy : goal.returns-in-Ok-clause-copy
 returns-in-Ok-clause-copy c =

@@ -12,7 +12,7 @@ use Rattle.std.specs.Prelude.{option_map}
 use Rattle.csi_controller.specs.Line.{line_told}
 use Rattle.csi_lists.proofs.Options.{none-where}
 use Rattle.csi_controller.proofs.Recounted.{made-counted, same-parts-counted}
-use Rattle.csi_controller.proofs.controller.inner.Core.create_new.Goals as goal
+use Rattle.csi_controller.proofs.controller.state.Core.create.Goals as goal
 
 pub make-requires-clause-new_id : goal.make-requires-clause-new_id
 make-requires-clause-new_id c =

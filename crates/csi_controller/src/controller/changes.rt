@@ -1,0 +1,80 @@
+//! What a call changes in the row of its volume.
+ghost use Rattle.std.specs.Prelude.{◌≡◌, [], ◌∷◌, ◌++◌, not, filter, OnOk, OnErr, IfOk, IsOk};
+ghost use Rattle.csi_types.specs.Same.{same_text};
+ghost use Rattle.csi_controller.specs.Core.{IsSameRow, IsUndoing, live_after, items_after};
+ghost use Rattle.csi_controller.specs.Counts.{moved_told};
+ghost use Rattle.csi_controller.specs.OneRow.{row_change, moved_by};
+ghost use Rattle.csi_controller.specs.Shown.{volume_of_row};
+ghost use Rattle.csi_controller.specs.Wanted.{wanted_shown};
+
+use super::counts::Moved;
+use super::wanted::Wanted;
+use crate::fault::CoreFault;
+use crate::row::{ControllerRow, NodeHolding};
+use csi_types::{Call, NodeId};
+
+// Adds a holding, the last one. A refusal changes nothing.
+fn add(holdings: &mut Vec<NodeHolding>, wanted: Wanted) -> Result<(), CoreFault>
+    ensures ok { OnOk result (holdings.new.items ≡ holdings.old.items ++ wanted_shown wanted.entry ∷ []) }
+    ensures err { OnErr result (holdings.new.items ≡ holdings.old.items) }
+{
+    let node = wanted.node.clone()?;
+    let capability = wanted.capability.clone()?;
+    holdings.push(NodeHolding {
+        node,
+        capability,
+        readonly: wanted.readonly,
+    })?;
+    Ok(())
+}
+
+// Takes out what is held at the node. The others keep their order.
+fn take_out(holdings: &mut Vec<NodeHolding>, node: &NodeId)
+    ensures { holdings.new.items ≡ filter (λ held. not (same_text held.node node.now)) holdings.old.items }
+{
+    holdings.retain(|held| held.node != *node);
+}
+
+/// Makes the call's change to the row, and says where the volume is held from now on, or isn't. An `Err` changes nothing.
+/// A DeleteVolume and a ControllerUnpublishVolume take no memory.
+pub fn change<'a>(row: &mut ControllerRow, call: &'a Call) -> Result<Option<Moved<'a>>, CoreFault>
+    ensures volume { OnOk result (volume_of_row row.new ≡ record (volume_of_row row.old) { is_live = live_after (row_change call.now) row.old.live }) }
+    ensures items { OnOk result (row.new.holdings.items ≡ items_after (row_change call.now) row.old.holdings.items) }
+    ensures moved { IfOk result (λ moved. moved_told moved ≡ moved_by (row_change call.now)) }
+    ensures err { OnErr result (IsSameRow row.old row.new) }
+    ensures undone { IsUndoing call.now → IsOk result }
+{
+    match call {
+        Call::DeleteVolume { .. } => {
+            row.live = false;
+            Ok(None)
+        }
+        Call::ControllerPublishVolume {
+            node,
+            capability,
+            readonly,
+            ..
+        } => {
+            let wanted = Wanted {
+                node,
+                capability,
+                readonly: *readonly,
+            };
+            match add(&mut row.holdings, wanted) {
+                Ok(()) => Ok(Some(Moved {
+                    node,
+                    is_held: true,
+                })),
+                Err(fault) => Err(fault),
+            }
+        }
+        Call::ControllerUnpublishVolume { node, .. } => {
+            take_out(&mut row.holdings, node);
+            Ok(Some(Moved {
+                node,
+                is_held: false,
+            }))
+        }
+        _ => Ok(None),
+    }
+}
