@@ -6,7 +6,6 @@ pub mod Rows
 pub mod Laws
 pub mod Core
 pub mod OneRow
-pub mod Wanted
 pub mod Line
 pub mod Catalog
 pub mod Counts

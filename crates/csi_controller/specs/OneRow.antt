@@ -10,9 +10,15 @@ use Rattle.csi_types.specs.declared.status.Status.TheVariants.{Unimplemented}
 use Rattle.csi_types.specs.Call.{kind_of}
 use Rattle.csi_types.specs.Config.{has_node}
 use Rattle.csi_types.specs.Frame.{Frame}
+use Rattle.csi_types.specs.declared.node_use.NodeUse.{NodeUse}
+use Rattle.csi_controller.specs.declared.row.NodeHolding.{NodeHolding}
 use Rattle.csi_controller.specs.declared.row.ControllerRow.{ControllerRow}
 use Rattle.csi_controller.specs.Counts.{is_node_full, recounted}
 use Rattle.csi_controller.specs.Core.{RowChange, RowStays, RowEnds, RowAttaches, RowDetaches, RowOutcome, RowGives, IsSameRow, row_refused, row_after, create_line, delete_line, publish_line, unpublish_line}
+
+-- a use of a volume at a node, as a row holds it
+abbrev pub held_so : NodeUse → NodeHolding
+held_so there = record { node = there.node.now; capability = there.capability.now; readonly = there.readonly }
 
 -- the table's line for the row, by the nodes and the counts of the volumes that are held there
 abbrev pub row_line : List NodeSlots → List ℕ → ControllerRow → Call → RowOutcome

@@ -16,7 +16,6 @@ pub(crate) mod new_row;
 mod readers;
 mod state;
 mod step;
-pub(crate) mod wanted;
 
 use crate::catalog::Catalog;
 use crate::fault::CoreFault;

@@ -2,14 +2,13 @@
 ghost use Rattle.std.specs.Prelude.{◌≡◌, nat_lt};
 ghost use Rattle.std.specs.List.{list_all};
 ghost use Rattle.csi_types.specs.Reply.{has_id_by_rule as follows_rule};
-ghost use Rattle.csi_types.specs.Same.{has_capability};
+ghost use Rattle.csi_types.specs.Same.{has_capability as is_among};
 ghost use Rattle.csi_controller.specs.Core.{next_shown};
 ghost use Rattle.csi_controller.specs.SoundRow.{has_fit_numbers as are_fit_numbers, has_own_reply as is_own_reply, are_beside as beside, are_all_beside as all_beside, has_fit_holdings as are_fit_holdings, is_sound_row as is_sound};
 
-use crate::controller::lines::{MAX_HOLDINGS, can_hold_with, has};
-use crate::controller::wanted::Wanted;
+use crate::controller::lines::{MAX_HOLDINGS, use_of};
 use crate::row::{ControllerRow, NodeHolding};
-use csi_types::{Kind, MAX_CAPACITY, Party, Reply, Status};
+use csi_types::{Kind, MAX_CAPACITY, Party, Reply, Status, can_use_both, has_capability};
 
 // Whether the number is below the next id, where 0 stands for one above all.
 fn is_given(next_id: u64, number: u64) -> bool
@@ -44,12 +43,7 @@ fn has_own_reply(row: &ControllerRow) -> bool
 fn are_beside(held: &NodeHolding, later: &NodeHolding) -> bool
     ensures { result ≡ beside held.now later.now }
 {
-    let wanted = Wanted {
-        node: &later.node,
-        capability: &later.capability,
-        readonly: later.readonly,
-    };
-    later.node != held.node && can_hold_with(held, wanted)
+    later.node != held.node && can_use_both(use_of(later), use_of(held))
 }
 
 // Whether it is so beside each of these.
@@ -73,12 +67,12 @@ fn are_all_beside(holdings: &[NodeHolding]) -> bool
 
 // Whether each is in a capability of the volume's.
 fn are_all_listed(row: &ControllerRow) -> bool
-    ensures { result ≡ list_all (λ held. has_capability row.now.capabilities held.capability) row.now.holdings.items }
+    ensures { result ≡ list_all (λ held. is_among row.now.capabilities held.capability) row.now.holdings.items }
 {
     let capabilities = row.capabilities.as_slice();
     row.holdings
         .iter()
-        .all(|held| has(capabilities, &held.capability))
+        .all(|held| has_capability(capabilities, &held.capability))
 }
 
 // Whether the row may be held at these nodes, in these ways.

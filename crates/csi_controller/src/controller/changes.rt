@@ -3,19 +3,17 @@ ghost use Rattle.std.specs.Prelude.{◌≡◌, [], ◌∷◌, ◌++◌, not, fil
 ghost use Rattle.csi_types.specs.Same.{same_text};
 ghost use Rattle.csi_controller.specs.Core.{IsSameRow, IsUndoing, live_after, items_after};
 ghost use Rattle.csi_controller.specs.Counts.{moved_told};
-ghost use Rattle.csi_controller.specs.OneRow.{row_change, moved_by};
+ghost use Rattle.csi_controller.specs.OneRow.{held_so, row_change, moved_by};
 ghost use Rattle.csi_controller.specs.Shown.{volume_of_row};
-ghost use Rattle.csi_controller.specs.Wanted.{wanted_shown};
 
 use super::counts::Moved;
-use super::wanted::Wanted;
 use crate::fault::CoreFault;
 use crate::row::{ControllerRow, NodeHolding};
-use csi_types::{Call, NodeId};
+use csi_types::{Call, NodeId, NodeUse};
 
 // Adds a holding, the last one. A refusal changes nothing.
-fn add(holdings: &mut Vec<NodeHolding>, wanted: Wanted) -> Result<(), CoreFault>
-    ensures ok { OnOk result (holdings.new.items ≡ holdings.old.items ++ wanted_shown wanted.entry ∷ []) }
+fn add(holdings: &mut Vec<NodeHolding>, wanted: NodeUse) -> Result<(), CoreFault>
+    ensures ok { OnOk result (holdings.new.items ≡ holdings.old.items ++ held_so wanted.entry ∷ []) }
     ensures err { OnErr result (holdings.new.items ≡ holdings.old.items) }
 {
     let node = wanted.node.clone()?;
@@ -55,7 +53,7 @@ pub fn change<'a>(row: &mut ControllerRow, call: &'a Call) -> Result<Option<Move
             readonly,
             ..
         } => {
-            let wanted = Wanted {
+            let wanted = NodeUse {
                 node,
                 capability,
                 readonly: *readonly,

@@ -6,7 +6,7 @@ ghost use Rattle.csi_types.specs.declared.status.Status.TheVariants.{Ok as OkSta
 ghost use Rattle.csi_types.specs.Call.{kind_of, is_party_of};
 ghost use Rattle.csi_types.specs.Fence.{verdict_of as verdict_by};
 ghost use Rattle.csi_types.specs.Reply.{has_id_by_rule};
-ghost use Rattle.csi_types.specs.Replies.{ok_reply, reply_frame};
+ghost use Rattle.csi_types.specs.Replies.{ok_reply, stale_reply, reply_frame};
 ghost use Rattle.csi_controller.specs.Core.{IsSoundRow, IsUndoing};
 ghost use Rattle.csi_controller.specs.OneRow.{RowAnswers, IsLeft, row_line};
 
@@ -90,6 +90,14 @@ fn carry_out(
     }
 }
 
+// The refusal of a call that came late.
+fn stale_frame(alloc: Global, number: Number, kind: Kind) -> Result<Frame, CoreFault>
+    requires { IsTrue (is_party_of kind Controller) }
+    ensures { IfOk result (λ frame. frame ≡ reply_frame number Controller kind stale_reply) }
+{
+    unkept(alloc, number, kind, &refused(Status::Aborted, "stale"))
+}
+
 /// Answers a call of the row's volume: a refusal where a later call was answered, the kept reply where this one was, and else what
 /// the table answers. An `Err` changes nothing. A kept reply without a detail takes no memory, nor does a DeleteVolume or a
 /// ControllerUnpublishVolume that the table answers 0.
@@ -110,12 +118,7 @@ pub fn answer_again(
     ensures repeated { verdict_by (Some row.old.last) number ≡ Repeated → row.old.reply.detail ≡ [] → IsOk result }
 {
     match verdict_of(Some(row.last), number) {
-        Verdict::Stale => unkept(
-            alloc,
-            number,
-            call.kind(),
-            &refused(Status::Aborted, "stale"),
-        ),
+        Verdict::Stale => stale_frame(alloc, number, call.kind()),
         Verdict::Repeated => frame_of(alloc, number, row.kind, &row.reply),
         Verdict::Fresh => carry_out(row, nodes, counts, alloc, number, call),
     }

@@ -5,52 +5,36 @@ ghost use Rattle.std.specs.List.{find, list_any, list_all};
 ghost use Rattle.std.specs.Option.{option_copied};
 ghost use Rattle.csi_types.specs.declared.call.Kind.TheVariants.{CreateVolume, DeleteVolume, ControllerPublishVolume, ControllerUnpublishVolume};
 ghost use Rattle.csi_types.specs.Call.{kind_of};
-ghost use Rattle.csi_types.specs.Capacity.{is_bad_range as is_bad, is_empty_range as is_empty};
 ghost use Rattle.csi_types.specs.Config.{has_node as is_configured};
 ghost use Rattle.csi_types.specs.Holding.{same_holding, is_compatible};
-ghost use Rattle.csi_types.specs.Same.{same_text, same_capability as is_same_capability, has_capability};
+ghost use Rattle.csi_types.specs.Same.{same_text, has_capability as is_among};
 ghost use Rattle.csi_types.specs.Reply.{has_id_by_rule};
 ghost use Rattle.csi_controller.specs.Table.{serves as is_served};
 ghost use Rattle.csi_controller.specs.Shown.{volume_of_row};
 ghost use Rattle.csi_controller.specs.Line.{line_told};
-ghost use Rattle.csi_controller.specs.Wanted.{wanted_shown};
 ghost use Rattle.csi_controller.specs.Core.{held_by, by_line, delete_line as delete_told, again_line as again_told, create_line as create_told, argument_fault as fault_told, unpublish_line as unpublish_told, publish_line as publish_told};
 ghost use Rattle.csi_controller.specs.Core.RowChange.{RowStays, RowEnds, RowAttaches, RowDetaches};
 ghost use Rattle.csi_controller.specs.Counts.{is_node_full};
-ghost use Rattle.csi_controller.specs.OneRow.{row_line, row_change};
+ghost use Rattle.csi_controller.specs.OneRow.{held_so, row_line, row_change};
 
 use super::counts::{MAX_NODES, has_node, is_full};
 use super::line::{Line, met, refused};
-use super::wanted::Wanted;
 use crate::row::{ControllerRow, NodeHolding};
 use csi_types::{
-    Call, Capability, MAX_CAPACITY, Mode, NodeId, NodeSlots, Status, single_node, writes,
+    Call, Capability, NodeId, NodeSlots, NodeUse, Status, can_use_both, has_capability,
+    is_bad_range, is_empty_range, same_way,
 };
 
 /// The most nodes at which a volume is held.
 pub const MAX_HOLDINGS: usize = 64;
 
-// Whether access and mode are the same.
-fn same_capability(a: &Capability, b: &Capability) -> bool
-    ensures { result ≡ is_same_capability a.now b.now }
-{
-    a == b
-}
-
-/// Whether the list has the capability.
-pub fn has(capabilities: &[Capability], wished: &Capability) -> bool
-    ensures { result ≡ has_capability capabilities.now wished.now }
-{
-    capabilities.iter().any(|own| same_capability(wished, own))
-}
-
 // Whether the list has each of these capabilities.
 fn has_each(capabilities: &[Capability], wished: &[Capability]) -> bool
-    ensures { result ≡ list_all (has_capability capabilities.now) wished.now }
+    ensures { result ≡ list_all (is_among capabilities.now) wished.now }
 {
     wished
         .iter()
-        .all(|capability| has(capabilities, capability))
+        .all(|capability| has_capability(capabilities, capability))
 }
 
 // Whether the volume has a capacity in the range, where a limit of 0 is none, and each capability.
@@ -67,20 +51,6 @@ pub fn is_held_at(row: &ControllerRow, node: &NodeId) -> bool
     ensures { result ≡ list_any (λ held. same_text held.node node.now) row.now.holdings.items }
 {
     row.holdings.iter().any(|held| held.node == *node)
-}
-
-// Whether neither end of the range is given, or one is above the greatest.
-fn is_bad_range(required: u64, limit: u64) -> bool
-    ensures { result ≡ is_bad required limit }
-{
-    (required == 0 && limit == 0) || required > MAX_CAPACITY || limit > MAX_CAPACITY
-}
-
-// Whether a limit is given, and is below what is required.
-fn is_empty_range(required: u64, limit: u64) -> bool
-    ensures { result ≡ is_empty required limit }
-{
-    limit != 0 && limit < required
 }
 
 /// What is wrong with the arguments of a CreateVolume, as the table answers it, if anything is.
@@ -151,31 +121,27 @@ fn delete_line(row: &ControllerRow) -> Option<Line<'_>>
 }
 
 // Whether the volume is held so: at this node, with this capability and flag.
-fn is_held_so(held: &NodeHolding, wanted: Wanted) -> bool
-    ensures { (id : ℕ) → result ≡ same_holding (held_by id held.now) (held_by id (wanted_shown wanted.entry)) }
+fn is_held_so(held: &NodeHolding, wanted: NodeUse) -> bool
+    ensures { (id : ℕ) → result ≡ same_holding (held_by id held.now) (held_by id (held_so wanted.entry)) }
 {
     held.node == *wanted.node
-        && same_capability(&held.capability, wanted.capability)
-        && held.readonly == wanted.readonly
+        && same_way(
+            &held.capability,
+            held.readonly,
+            wanted.capability,
+            wanted.readonly,
+        )
 }
 
-/// Whether it is the same holding, or can be held beside this one at another node.
-pub fn can_hold_with(held: &NodeHolding, wanted: Wanted) -> bool
-    ensures { (id : ℕ) → result ≡ is_compatible (held_by id (wanted_shown wanted.entry)) (held_by id held.now) }
+/// A holding of the row, lent.
+pub fn use_of(held: &NodeHolding) -> NodeUse<'_>
+    ensures { held_so result ≡ held.now }
 {
-    let mode = wanted.capability.mode;
-    let other = held.capability.mode;
-    if *wanted.node == held.node {
-        return same_capability(wanted.capability, &held.capability)
-            && wanted.readonly == held.readonly;
+    NodeUse {
+        node: &held.node,
+        capability: &held.capability,
+        readonly: held.readonly,
     }
-    if single_node(mode) || single_node(other) {
-        return false;
-    }
-    let both_write = writes(mode, wanted.readonly) && writes(other, held.readonly);
-    let has_single_writer = mode == Mode::MultiNodeSingleWriter
-        || other == Mode::MultiNodeSingleWriter;
-    !(both_write && has_single_writer)
 }
 
 // How the volume is held at the node, if it is.
@@ -186,12 +152,12 @@ fn held_at<'a>(row: &'a ControllerRow, node: &NodeId) -> Option<&'a NodeHolding>
 }
 
 // The first holding that can't be held with this one.
-fn excluding<'a>(row: &'a ControllerRow, wanted: Wanted) -> Option<&'a NodeHolding>
-    ensures { option_copied result ≡ find (λ other. not (is_compatible (held_by row.now.id (wanted_shown wanted.entry)) (held_by row.now.id other))) row.now.holdings.items }
+fn excluding<'a>(row: &'a ControllerRow, wanted: NodeUse) -> Option<&'a NodeHolding>
+    ensures { option_copied result ≡ find (λ other. not (is_compatible (held_by row.now.id (held_so wanted.entry)) (held_by row.now.id other))) row.now.holdings.items }
 {
     row.holdings
         .iter()
-        .find(|held| !can_hold_with(held, wanted))
+        .find(|held| !can_use_both(wanted, use_of(held)))
 }
 
 // Whether the node takes no more volumes, or the volume is at as many nodes as it may be.
@@ -212,12 +178,12 @@ fn publish_line<'a>(
     row: &'a ControllerRow,
     nodes: &[NodeSlots],
     counts: &[u64; MAX_NODES],
-    wanted: Wanted,
+    wanted: NodeUse,
 ) -> Option<Line<'a>>
     requires { length nodes.now ≤ 64 }
-    ensures ok { publish_told row.now (wanted_shown wanted.entry) (is_configured wanted.entry.node.now nodes.now)
+    ensures ok { publish_told row.now (held_so wanted.entry) (is_configured wanted.entry.node.now nodes.now)
         (is_node_full nodes.now counts.now wanted.entry.node.now || nat_le 64 (length row.now.holdings.items))
-        ≡ by_line (RowAttaches (wanted_shown wanted.entry)) (option_map line_told result) }
+        ≡ by_line (RowAttaches (held_so wanted.entry)) (option_map line_told result) }
     ensures id { IfSome result (λ line. IsTrue (has_id_by_rule ControllerPublishVolume (line_told line))) }
     ensures plain { IfSome result (λ line. (line_told line).status ≡ Status.Ok → (line_told line).detail ≡ []) }
 {
@@ -227,7 +193,7 @@ fn publish_line<'a>(
     if !has_node(nodes, wanted.node) {
         return Some(refused(Status::NotFound, "node"));
     }
-    if !has(row.capabilities.as_slice(), wanted.capability) {
+    if !has_capability(row.capabilities.as_slice(), wanted.capability) {
         return Some(refused(Status::InvalidArgument, "capability"));
     }
     if let Some(held) = held_at(row, wanted.node) {
@@ -284,7 +250,7 @@ pub fn line<'a>(
             readonly,
             ..
         } => {
-            let wanted = Wanted {
+            let wanted = NodeUse {
                 node,
                 capability,
                 readonly: *readonly,

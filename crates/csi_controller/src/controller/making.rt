@@ -4,7 +4,6 @@ ghost use Rattle.std.specs.List.{find};
 ghost use Rattle.csi_types.specs.declared.capability.Capability.{Capability as OneCapability};
 ghost use Rattle.csi_types.specs.declared.call.Kind.TheVariants.{CreateVolume as CreateKind};
 ghost use Rattle.csi_types.specs.declared.call.Party.TheVariants.{Controller};
-ghost use Rattle.csi_types.specs.Capacity.{wanted};
 ghost use Rattle.csi_types.specs.Reply.{has_id_by_rule};
 ghost use Rattle.csi_types.specs.Replies.{ok_reply_with, reply_frame};
 ghost use Rattle.csi_types.specs.Same.{same_text};
@@ -17,22 +16,11 @@ use super::new_row::new_row;
 use super::state::Core;
 use crate::fault::CoreFault;
 use csi_types::{
-    Call, CapabilityList, DEFAULT_CAPACITY, Frame, Kind, Name, Number, Status, VolumeId,
+    Call, CapabilityList, Frame, Kind, Name, Number, Status, VolumeId, wanted_capacity,
 };
 
 /// The most rows that a controller has.
 const MAX_ROWS: usize = 4096;
-
-// The capacity that is asked for with this range.
-fn wanted_capacity(required: u64, limit: u64) -> u64
-    ensures { result ≡ wanted required limit }
-{
-    if required == 0 {
-        DEFAULT_CAPACITY.min(limit)
-    } else {
-        required
-    }
-}
 
 impl Core {
     ghost use Rattle.csi_controller.specs.State.{ControllerState};

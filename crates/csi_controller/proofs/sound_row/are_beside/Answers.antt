@@ -11,4 +11,6 @@ returns-then-ne c =
     let held = c.args.held.now in
     let later = c.args.later.now in
     let differ : not (same_text later.node held.node) ≡ true = sym c.ne.ensures ∙ c.if-ne.true in
-    c.can_hold_with.ensures 1 ∙ ap (λ b. b && is_compatible (held_by 1 later) (held_by 1 held)) (sym differ)
+    c.can_use_both.ensures.test 1
+    ∙ (λ i. is_compatible (held_by 1 (c.use_of.ensures i)) (held_by 1 (c.use_of-then-ne.ensures i)))
+    ∙ ap (λ b. b && is_compatible (held_by 1 later) (held_by 1 held)) (sym differ)
