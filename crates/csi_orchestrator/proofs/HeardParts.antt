@@ -160,7 +160,7 @@ same-refused : (next : Option Outgoing) (row : RowShown) (goal : Option Goal) �
 same-refused next row (Some (Use usage)) = same-followed next (wanted (Stop usage.node usage.target) row)
 same-refused next row goal = refl
 
-same-heard : (kind : Kind) (reply : Reply) (row : RowShown) (next : Option Outgoing) → (row_heard kind reply row next).name ≡ row.name
+pub same-heard : (kind : Kind) (reply : Reply) (row : RowShown) (next : Option Outgoing) → (row_heard kind reply row next).name ≡ row.name
 same-heard kind reply row next =
     by_if (λ (r : RowShown). r.name ≡ row.name) (is_ok_status reply.status) (gone_on next (succeeded kind reply.id row)) (row_refused next row row.goal)
     (λ e. same-followed next (succeeded kind reply.id row)) (λ e. same-refused next row row.goal)

@@ -38,3 +38,5 @@ pub mod MetUses
 pub mod GivenUp
 pub mod HeardRows
 pub mod HeardParts
+pub mod Indexed
+pub mod Closing

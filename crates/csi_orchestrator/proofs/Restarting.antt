@@ -16,6 +16,7 @@ use Rattle.csi_orchestrator.specs.Agrees.{Agrees}
 use Rattle.csi_orchestrator.specs.Following.{after_started}
 use Rattle.csi_orchestrator.specs.Shown.{RowShown, Parts, row_of, mark_in, mark_of, goal_shown, goal_in, held_in, open_in_row, tries_in, closed, without_call, row_shown, view_of, AgreesWith, in_session}
 use Rattle.csi_orchestrator.specs.declared.inner.Core.{Core}
+use Rattle.csi_orchestrator.specs.Catalog.{rows_of}
 use Rattle.csi_orchestrator.specs.Core.{parts_of}
 use Rattle.csi_orchestrator.specs.RowMoves.{Told, told, row_moves, IsRefusal}
 use Rattle.csi_orchestrator.proofs.Entries.{shown-closed}
@@ -78,11 +79,11 @@ same-parts a b nodes last rows = λ i. record { nodes = nodes i; last = last i; 
 -- the parts that a restart leaves
 abbrev pub IsRestarted : Core → Core → Type 0
 IsRestarted old new =
-    IsTrue (nat_lt (old.last.session + 1) (2 ^ 64)) × (new.last ≡ record { session = old.last.session + 1; call = 0 }) × (new.rows.items ≡ map without_call old.rows.items) × (new.nodes.items ≡ old.nodes.items)
+    IsTrue (nat_lt (old.last.session + 1) (2 ^ 64)) × (new.last ≡ record { session = old.last.session + 1; call = 0 }) × (rows_of new.catalog ≡ map without_call (rows_of old.catalog)) × (new.nodes.items ≡ old.nodes.items)
 
 restarted : (old new : Core) → IsRestarted old new → row_moves (parts_of old) Restarts ≡ Ok (let t : Told = record { answer = Restarted; parts = parts_of new } in t)
 restarted old new facts =
-    let is : parts_of new ≡ in_session (old.last.session + 1) (parts_of old) = same-parts (parts_of new) (in_session (old.last.session + 1) (parts_of old)) facts.3 facts.1 (ap (map row_shown) facts.2 ∙ shown-closed old.rows.items) in
+    let is : parts_of new ≡ in_session (old.last.session + 1) (parts_of old) = same-parts (parts_of new) (in_session (old.last.session + 1) (parts_of old)) facts.3 facts.1 (ap (map row_shown) facts.2 ∙ shown-closed (rows_of old.catalog)) in
     ap (λ b. cond b (told (in_session (old.last.session + 1) (parts_of old)) Restarted) (Err faults.NumbersSpent)) facts.0 ∙ ap (λ (p : Parts). told p Restarted) (sym is)
 
 spent : (old : Core) (fault : OrchFault) → fault ≡ faults.NumbersSpent → IsTrue (not (nat_lt (old.last.session + 1) (2 ^ 64))) → IsRefusal (row_moves (parts_of old) Restarts) fault

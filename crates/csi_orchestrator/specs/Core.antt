@@ -1,7 +1,8 @@
 -- The parts of the orchestrator's core.
 use Rattle.std.specs.Prelude.{map}
 use Rattle.csi_orchestrator.specs.declared.inner.Core.{Core}
+use Rattle.csi_orchestrator.specs.Catalog.{rows_of}
 use Rattle.csi_orchestrator.specs.Shown.{Parts, row_shown}
 
 abbrev pub parts_of : Core → Parts
-parts_of core = record { nodes = core.nodes.items; last = core.last; rows = map row_shown core.rows.items }
+parts_of core = record { nodes = core.nodes.items; last = core.last; rows = map row_shown (rows_of core.catalog) }

@@ -16,6 +16,7 @@ pub mod Kept
 pub mod Steps
 pub mod Listing
 pub mod Promises
+pub mod Catalog
 pub mod Core
 pub mod Found
 pub mod Hearing

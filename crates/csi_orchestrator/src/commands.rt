@@ -1,6 +1,7 @@
 //! The commands: each is carried out at the row of its name.
 ghost use Rattle.std.specs.Prelude.{◌≡◌, map, position, None, Ok, IfOk, IfErr, IsOk, OnErr};
 ghost use Rattle.csi_types.specs.Same.{same_text};
+ghost use Rattle.csi_orchestrator.specs.Catalog.{rows_of, IsIndexed};
 ghost use Rattle.csi_orchestrator.specs.Core.{parts_of};
 ghost use Rattle.csi_orchestrator.specs.CoreMoves.{frame_in, last_after};
 ghost use Rattle.csi_orchestrator.specs.Moves.{ToCreate, ToUse, ToStop, ToDelete, Sends};
@@ -9,7 +10,7 @@ ghost use Rattle.csi_orchestrator.specs.Shown.{row_shown};
 
 use crate::fault::OrchFault;
 use crate::going_on::Outgoing;
-use crate::inner::{Core, row_index};
+use crate::inner::Core;
 use crate::refusals::first_fault;
 use crate::row::{Arguments, Usage};
 use crate::row_commands::{begin, create_again, delete_row, stop_row, use_row};
@@ -19,7 +20,8 @@ impl Core {
     /// Counts the call that is sent, and gives its frame.
     pub fn issue(&mut self, next: Option<Outgoing>) -> Option<Frame>
         ensures frame { result ≡ frame_in next }
-        ensures parts { parts_of self.new ≡ record { nodes = self.old.nodes.items; last = last_after self.old.last next; rows = map row_shown self.old.rows.items } }
+        ensures parts { parts_of self.new ≡ record { nodes = self.old.nodes.items; last = last_after self.old.last next; rows = map row_shown (rows_of self.old.catalog) } }
+        ensures catalog { self.new.catalog ≡ self.old.catalog }
     {
         match next {
             Some(next) => {
@@ -32,16 +34,18 @@ impl Core {
 
     // The first create of a name.
     fn create_first(&mut self, name: Name, arguments: Arguments) -> Result<Option<Frame>, OrchFault>
-        requires { position (λ row. same_text row.name name) self.old.rows.items ≡ None }
+        requires new_name { position (λ row. same_text row.name name) (rows_of self.old.catalog) ≡ None }
+        requires indexed { IsIndexed self.old.catalog }
         ensures ok { IfOk result (λ sent. creates (parts_of self.old) name arguments None ≡ Ok (record { answer = Sends sent; parts = parts_of self.new })) }
         ensures err { IfErr result (IsRefusal (creates (parts_of self.old) name arguments None)) }
         ensures stays { OnErr result (parts_of self.new ≡ parts_of self.old) }
+        ensures indexed { IsIndexed self.new.catalog }
     {
-        if let Some(fault) = first_fault(&self.rows, self.last) {
+        if let Some(fault) = first_fault(self.catalog.rows(), self.last) {
             return Err(fault);
         }
         let begun = begin(self.alloc, self.last, name, arguments)?;
-        self.rows.push(begun.row)?;
+        self.catalog.add(begun.row)?;
         Ok(self.issue(begun.next))
     }
 
@@ -53,18 +57,20 @@ impl Core {
         limit: u64,
         capabilities: CapabilityList,
     ) -> Result<Option<Frame>, OrchFault>
+        requires { IsIndexed self.old.catalog }
         ensures ok { IfOk result (λ sent. row_moves (parts_of self.old) (ToCreate name (record { required = required; limit = limit; capabilities = capabilities })) ≡ Ok (record { answer = Sends sent; parts = parts_of self.new })) }
         ensures err { IfErr result (IsRefusal (row_moves (parts_of self.old) (ToCreate name (record { required = required; limit = limit; capabilities = capabilities })))) }
         ensures stays { OnErr result (parts_of self.new ≡ parts_of self.old) }
+        ensures indexed { IsIndexed self.new.catalog }
     {
         let arguments = Arguments {
             required,
             limit,
             capabilities,
         };
-        match row_index(&self.rows, &name) {
-            Some(index) => {
-                let next = create_again(&mut self.rows[index], self.last, arguments)?;
+        match self.catalog.place_of(&name) {
+            Some(place) => {
+                let next = create_again(&mut self.catalog.rows[place], self.last, arguments)?;
                 Ok(self.issue(next))
             }
             None => self.create_first(name, arguments),
@@ -80,9 +86,11 @@ impl Core {
         capability: Capability,
         readonly: bool,
     ) -> Result<Option<Frame>, OrchFault>
+        requires { IsIndexed self.old.catalog }
         ensures ok { IfOk result (λ sent. row_moves (parts_of self.old) (ToUse name.now (record { node = node; target = target; capability = capability; readonly = readonly })) ≡ Ok (record { answer = Sends sent; parts = parts_of self.new })) }
         ensures err { IfErr result (IsRefusal (row_moves (parts_of self.old) (ToUse name.now (record { node = node; target = target; capability = capability; readonly = readonly })))) }
         ensures stays { OnErr result (parts_of self.new ≡ parts_of self.old) }
+        ensures indexed { IsIndexed self.new.catalog }
         ensures met { IsToldAs (Sends None) (row_moves (parts_of self.old) (ToUse name.now (record { node = node; target = target; capability = capability; readonly = readonly }))) → IsOk result }
     {
         let usage = Usage {
@@ -91,9 +99,9 @@ impl Core {
             capability,
             readonly,
         };
-        match row_index(&self.rows, name) {
-            Some(index) => {
-                let row = &mut self.rows[index];
+        match self.catalog.place_of(name) {
+            Some(place) => {
+                let row = &mut self.catalog.rows[place];
                 let next = use_row(self.alloc, row, &self.nodes, self.last, usage)?;
                 Ok(self.issue(next))
             }
@@ -108,13 +116,15 @@ impl Core {
         node: NodeId,
         target: Target,
     ) -> Result<Option<Frame>, OrchFault>
+        requires { IsIndexed self.old.catalog }
         ensures ok { IfOk result (λ sent. row_moves (parts_of self.old) (ToStop name.now node target) ≡ Ok (record { answer = Sends sent; parts = parts_of self.new })) }
         ensures err { IfErr result (IsRefusal (row_moves (parts_of self.old) (ToStop name.now node target))) }
         ensures stays { OnErr result (parts_of self.new ≡ parts_of self.old) }
+        ensures indexed { IsIndexed self.new.catalog }
     {
-        match row_index(&self.rows, name) {
-            Some(index) => {
-                let row = &mut self.rows[index];
+        match self.catalog.place_of(name) {
+            Some(place) => {
+                let row = &mut self.catalog.rows[place];
                 let next = stop_row(self.alloc, row, &self.nodes, self.last, node, target)?;
                 Ok(self.issue(next))
             }
@@ -124,14 +134,16 @@ impl Core {
 
     /// Requests deletion. It takes no memory.
     pub fn delete(&mut self, name: &Name) -> Result<Option<Frame>, OrchFault>
+        requires { IsIndexed self.old.catalog }
         ensures ok { IfOk result (λ sent. row_moves (parts_of self.old) (ToDelete name.now) ≡ Ok (record { answer = Sends sent; parts = parts_of self.new })) }
         ensures err { IfErr result (IsRefusal (row_moves (parts_of self.old) (ToDelete name.now))) }
         ensures stays { OnErr result (parts_of self.new ≡ parts_of self.old) }
+        ensures indexed { IsIndexed self.new.catalog }
         ensures memory { IfErr result (λ fault. fault ≡ OrchFault.NoMemory → ⊥) }
     {
-        match row_index(&self.rows, name) {
-            Some(index) => {
-                let next = delete_row(self.alloc, &mut self.rows[index], self.last)?;
+        match self.catalog.place_of(name) {
+            Some(place) => {
+                let next = delete_row(self.alloc, &mut self.catalog.rows[place], self.last)?;
                 Ok(self.issue(next))
             }
             None => Err(OrchFault::NoSuchVolume),

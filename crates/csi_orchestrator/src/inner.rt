@@ -1,17 +1,18 @@
 //! The orchestrator's parts, what its rows know of a thing, and its restart.
-ghost use Rattle.std.specs.Prelude.{◌≡◌, ◌+◌, ◌<◌, ◌^◌, IfErr, OnErr, OnOk, None, IsTrue, not, nat_lt, map, position, option_map};
+ghost use Rattle.std.specs.Prelude.{◌≡◌, ◌+◌, ◌<◌, ◌^◌, IfErr, OnErr, OnOk, None, IsTrue, not, nat_lt, map, option_map};
 ghost use Rattle.std.specs.Option.{option_copied};
-ghost use Rattle.csi_types.specs.Same.{same_text};
 ghost use Rattle.csi_orchestrator.specs.declared.fault.OrchFault.{OrchFault as Fault};
 ghost use Rattle.csi_orchestrator.specs.Thing.{name_in};
 ghost use Rattle.csi_orchestrator.specs.Shown.{row_shown, place_shown, row_of, place_of, aim_of, mark_in, mark_of, published_in, without_call};
+ghost use Rattle.csi_orchestrator.specs.Catalog.{rows_of, IsIndexed};
 ghost use Rattle.csi_orchestrator.specs.Core.{parts_of};
 
+use crate::catalog::Catalog;
 use crate::fault::OrchFault;
 use crate::places::{aim_index, place_index};
 use crate::row::{Aim, Place, Row};
 use crate::thing::{Known, Thing};
-use csi_types::{Name, NodeId, Number, Target};
+use csi_types::{NodeId, Number, Target};
 use std::alloc::Global;
 
 /// An orchestrator's parts.
@@ -21,24 +22,7 @@ pub(crate) struct Core {
     pub nodes: Vec<NodeId>,
     /// The number of the last call, or of call 0 of a session without one.
     pub last: Number,
-    pub rows: Vec<Row>,
-}
-
-/// Where the row of this name stands.
-pub(crate) fn row_index(rows: &[Row], name: &Name) -> Option<usize>
-    ensures { result ≡ position (λ row. same_text row.name name.now) rows.now }
-{
-    rows.iter().position(|row| row.name == *name)
-}
-
-// The row of this name, as it is shown.
-fn row_named<'a>(rows: &'a [Row], name: &Name) -> Option<&'a Row>
-    ensures { option_map row_shown (option_copied result) ≡ row_of (map row_shown rows.now) name.now }
-{
-    match row_index(rows, name) {
-        Some(index) => Some(&rows[index]),
-        None => None,
-    }
+    pub catalog: Catalog,
 }
 
 // What the row has of this node, as it is shown.
@@ -102,50 +86,44 @@ fn target_at(row: &Row, node: &NodeId, target: &Target) -> Known
 }
 
 /// What these rows know of a thing.
-pub(crate) fn known_in(rows: &[Row], thing: &Thing) -> Known
-    ensures { result ≡ mark_in (mark_of thing.now) (row_of (map row_shown rows.now) (name_in thing.now)) }
+pub(crate) fn known_in(catalog: &Catalog, thing: &Thing) -> Known
+    requires { IsIndexed catalog.now }
+    ensures { result ≡ mark_in (mark_of thing.now) (row_of (map row_shown (rows_of catalog.now)) (name_in thing.now)) }
 {
     match thing {
-        Thing::Exists { name } => match row_named(rows, name) {
+        Thing::Exists { name } => match catalog.named(name) {
             Some(row) => row.exists,
             None => Known::No,
         },
-        Thing::Attached { name, node } => match row_named(rows, name) {
+        Thing::Attached { name, node } => match catalog.named(name) {
             Some(row) => attached_at(row, node),
             None => Known::No,
         },
-        Thing::Staged { name, node } => match row_named(rows, name) {
+        Thing::Staged { name, node } => match catalog.named(name) {
             Some(row) => staged_at(row, node),
             None => Known::No,
         },
-        Thing::Published { name, node, target } => match row_named(rows, name) {
+        Thing::Published { name, node, target } => match catalog.named(name) {
             Some(row) => target_at(row, node, target),
             None => Known::No,
         },
     }
 }
 
-// Gives up every open call.
-fn close_all(rows: &mut Vec<Row>)
-    ensures { rows.new.items ≡ map without_call rows.old.items }
-{
-    for row in rows.iter_mut() {
-        row.open_number = None;
-    }
-}
-
 impl Core {
     /// Starts the next session, or changes nothing where there is none.
     pub fn restart(&mut self) -> Result<(), OrchFault>
+        requires { IsIndexed self.old.catalog }
         ensures ok { OnOk result (IsTrue (nat_lt (self.old.last.session + 1) (2 ^ 64))
-            × (self.new.last ≡ record { session = self.old.last.session + 1; call = 0 }) × (self.new.rows.items ≡ map without_call self.old.rows.items) × (self.new.nodes.items ≡ self.old.nodes.items)) }
+            × (self.new.last ≡ record { session = self.old.last.session + 1; call = 0 }) × (rows_of self.new.catalog ≡ map without_call (rows_of self.old.catalog)) × (self.new.nodes.items ≡ self.old.nodes.items)) }
         ensures err { IfErr result (λ fault. (fault ≡ Fault.NumbersSpent) × IsTrue (not (nat_lt (self.old.last.session + 1) (2 ^ 64)))) }
         ensures stays { OnErr result (parts_of self.new ≡ parts_of self.old) }
+        ensures indexed { IsIndexed self.new.catalog }
     {
         match self.last.session.checked_add(1) {
             Some(session) => {
                 self.last = Number { session, call: 0 };
-                close_all(&mut self.rows);
+                self.catalog.close_all();
                 Ok(())
             }
             None => Err(OrchFault::NumbersSpent),

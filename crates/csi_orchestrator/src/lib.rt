@@ -3,6 +3,7 @@
 #![tactic(auto)]
 
 mod calls;
+mod catalog;
 mod changes;
 mod commands;
 mod due;

@@ -5,6 +5,7 @@ ghost use Rattle.csi_orchestrator.specs.declared.fault.Heard.{Heard as HeardShow
 ghost use Rattle.csi_orchestrator.specs.declared.thing.Known.TheVariants.{No};
 ghost use Rattle.csi_orchestrator.specs.declared.thing.Thing.{Thing as ThingShown};
 
+use crate::catalog::Catalog;
 use crate::fault::{Heard, OrchFault};
 use crate::inner::{Core, known_in};
 use crate::listing::things_in;
@@ -23,6 +24,7 @@ pub struct Orchestrator {
 
 impl Model for Orchestrator {
     ghost use Rattle.csi_orchestrator.specs.Shown.{Parts};
+    ghost use Rattle.csi_orchestrator.specs.Catalog.{IsIndexed};
     ghost use Rattle.csi_orchestrator.specs.Core.{parts_of};
     ghost use Rattle.csi_orchestrator.specs.Kept.{AreKept};
 
@@ -30,7 +32,7 @@ impl Model for Orchestrator {
 
     ghost view = { λ orchestrator. parts_of orchestrator.core };
 
-    ghost invariant = { λ orchestrator. AreKept (parts_of orchestrator.core).rows };
+    ghost invariant = { λ orchestrator. AreKept (parts_of orchestrator.core).rows × IsIndexed orchestrator.core.catalog };
 }
 
 impl Orchestrator {
@@ -68,7 +70,7 @@ impl Orchestrator {
                 alloc,
                 nodes,
                 last,
-                rows: Vec::new(alloc),
+                catalog: Catalog::new(alloc),
             },
         }
     }
@@ -86,7 +88,7 @@ impl Orchestrator {
         ensures agrees { (history : History) → AgreesWith self.now history → result ≡ known history thing.now }
         ensures marks { result ≡ (view_of self.now).marks thing.now }
     {
-        known_in(&self.core.rows, thing)
+        known_in(&self.core.catalog, thing)
     }
 
     /// Requests creation of a volume of this name, with a capacity in bytes of at least `required` and, unless `limit` is 0, at
@@ -200,7 +202,7 @@ impl Orchestrator {
         ensures err { IfErr result (λ fault. fault ≡ Fault.NoMemory) }
         ensures empty { ((thing : ThingShown) → (view_of self.now).marks thing ≡ No) → IsOk result }
     {
-        things_in(self.core.alloc, &self.core.rows)
+        things_in(self.core.alloc, self.core.catalog.rows())
     }
 
     /// Starts the next session: every open call is given up, and nothing is sent. Refused with `NumbersSpent` in the

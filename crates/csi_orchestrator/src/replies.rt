@@ -1,5 +1,6 @@
 //! What becomes of a frame that came: a reply to an open call is taken, and all else is ignored.
-ghost use Rattle.std.specs.Prelude.{◌≡◌, ◌&&◌, Option, Ok, Err, Some, None, option_map, IfOk, IfErr, OnErr, IsOk, map, position};
+ghost use Rattle.std.specs.Prelude.{◌≡◌, ◌&&◌, Option, Ok, Err, Some, None, option_map, IfOk, IfErr, IfSome, OnErr, IsOk, map, position, ◌<◌};
+ghost use Rattle.indexmap.specs.IndexMap.{index_map_len};
 ghost use Rattle.csi_types.specs.Same.{same_number as is_same_number, same_kind as is_same_kind};
 ghost use Rattle.csi_orchestrator.specs.declared.fault.OrchFault.{OrchFault as Fault};
 ghost use Rattle.csi_orchestrator.specs.declared.fault.Heard.TheVariants.{Ignored as IsIgnored};
@@ -10,8 +11,10 @@ ghost use Rattle.csi_orchestrator.specs.RowMoves.{is_issued_as, hears_reply, row
 ghost use Rattle.csi_orchestrator.specs.Found.{due_shown, kind_due};
 ghost use Rattle.csi_orchestrator.specs.Hearing.{is_due_as as is_told_as, due_refused as due_then, next_heard as next_told, row_refused, row_heard};
 ghost use Rattle.csi_orchestrator.specs.Kept.{IsKept, AreKept};
+ghost use Rattle.csi_orchestrator.specs.Catalog.{rows_of, IsIndexed};
 ghost use Rattle.csi_orchestrator.specs.Core.{parts_of};
 
+use crate::catalog::Catalog;
 use crate::changes::{close, drop_goal, stop_use, succeed};
 use crate::due::Due;
 use crate::fault::{Heard, OrchFault};
@@ -66,10 +69,13 @@ fn is_replied(row: &Row, number: Number, party: &Party, kind: Kind) -> bool
 }
 
 // Where the row whose open call has this number, plugin and kind stands.
-fn index_replied(rows: &[Row], number: Number, party: &Party, kind: Kind) -> Option<usize>
-    ensures { result ≡ position (λ row. is_issued_as number party.now kind (open_in_row (row_shown row))) rows.now }
+fn place_replied(catalog: &Catalog, number: Number, party: &Party, kind: Kind) -> Option<usize>
+    ensures place { result ≡ position (λ row. is_issued_as number party.now kind (open_in_row (row_shown row))) (rows_of catalog.now) }
+    ensures within { IfSome result (λ place. place < index_map_len catalog.now.rows) }
 {
-    rows.iter()
+    catalog
+        .rows()
+        .iter()
         .position(|row| is_replied(row, number, party, kind))
 }
 
@@ -141,18 +147,20 @@ impl Core {
         kind: Kind,
         reply: &Reply,
     ) -> Result<Heard, OrchFault>
-        requires { AreKept (map row_shown self.old.rows.items) }
-        ensures ok { IfOk result (λ heard. hears_reply (parts_of self.old) kind reply.now (row_replied (map row_shown self.old.rows.items) number party.now kind)
+        requires kept { AreKept (map row_shown (rows_of self.old.catalog)) }
+        requires indexed { IsIndexed self.old.catalog }
+        ensures ok { IfOk result (λ heard. hears_reply (parts_of self.old) kind reply.now (row_replied (map row_shown (rows_of self.old.catalog)) number party.now kind)
             ≡ Ok (record { answer = Hears heard; parts = parts_of self.new })) }
-        ensures err { IfErr result (IsRefusal (hears_reply (parts_of self.old) kind reply.now (row_replied (map row_shown self.old.rows.items) number party.now kind))) }
+        ensures err { IfErr result (IsRefusal (hears_reply (parts_of self.old) kind reply.now (row_replied (map row_shown (rows_of self.old.catalog)) number party.now kind))) }
         ensures stays { OnErr result (parts_of self.new ≡ parts_of self.old) }
-        ensures ignored { row_replied (map row_shown self.old.rows.items) number party.now kind ≡ None → IsOk result }
-        ensures quiet { IsToldAs (hears None) (hears_reply (parts_of self.old) kind reply.now (row_replied (map row_shown self.old.rows.items) number party.now kind)) → IsOk result }
+        ensures indexed { IsIndexed self.new.catalog }
+        ensures ignored { row_replied (map row_shown (rows_of self.old.catalog)) number party.now kind ≡ None → IsOk result }
+        ensures quiet { IsToldAs (hears None) (hears_reply (parts_of self.old) kind reply.now (row_replied (map row_shown (rows_of self.old.catalog)) number party.now kind)) → IsOk result }
     {
-        match index_replied(&self.rows, number, party, kind) {
-            Some(index) => {
-                let next = next_heard(self.last, &self.rows[index], kind, reply)?;
-                keep_reply(&mut self.rows[index], kind, reply, &next);
+        match place_replied(&self.catalog, number, party, kind) {
+            Some(place) => {
+                let next = next_heard(self.last, &self.catalog.rows[place], kind, reply)?;
+                keep_reply(&mut self.catalog.rows[place], kind, reply, &next);
                 Ok(Heard::Taken(self.issue(next)))
             }
             None => Ok(Heard::Ignored),
@@ -162,10 +170,12 @@ impl Core {
     /// What becomes of a frame: the reply to an open call tells what the call did, and the next call is
     /// sent; where none is sent it takes no memory. Whatever else comes is ignored, which takes none. A refusal changes nothing.
     pub fn deliver(&mut self, frame: &Frame) -> Result<Heard, OrchFault>
-        requires { AreKept (map row_shown self.old.rows.items) }
+        requires kept { AreKept (map row_shown (rows_of self.old.catalog)) }
+        requires indexed { IsIndexed self.old.catalog }
         ensures ok { IfOk result (λ heard. row_moves (parts_of self.old) (Comes frame.now) ≡ Ok (record { answer = Hears heard; parts = parts_of self.new })) }
         ensures err { IfErr result (IsRefusal (row_moves (parts_of self.old) (Comes frame.now))) }
         ensures stays { OnErr result (parts_of self.new ≡ parts_of self.old) }
+        ensures indexed { IsIndexed self.new.catalog }
         ensures ignored { row_moves (parts_of self.old) (Comes frame.now) ≡ Ok (record { answer = Hears IsIgnored; parts = parts_of self.old }) → IsOk result }
         ensures quiet { IsToldAs (hears None) (row_moves (parts_of self.old) (Comes frame.now)) → IsOk result }
     {

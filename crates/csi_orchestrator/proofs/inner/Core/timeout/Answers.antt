@@ -1,36 +1,49 @@
 -- At the row of the name.
-use Rattle.std.proofs.Common.{refl}
+use Rattle.std.proofs.Common.{refl, sym, subst, ◌∙◌}
 use Rattle.csi_orchestrator.specs.declared.fault.OrchFault.TheVariants.{NoSuchVolume}
+use Rattle.csi_orchestrator.specs.Catalog.{rows_of, IsIndexed}
 use Rattle.csi_orchestrator.specs.Core.{parts_of}
-use Rattle.csi_orchestrator.specs.CoreMoves.{row_times_out}
+use Rattle.csi_orchestrator.specs.CoreMoves.{row_times_out, last_after}
 use Rattle.csi_orchestrator.specs.RowMoves.{times_out}
 use Rattle.csi_orchestrator.specs.Shown.{row_shown}
 use Rattle.csi_orchestrator.proofs.RowsGoOn.{passed-on, holds-at_err}
 use Rattle.csi_orchestrator.proofs.CalledRows.{refused-nowhere, called-refused, called-told, timeout-called, rows-stay}
+use Rattle.csi_orchestrator.proofs.Indexed.{read-at, parts-set, indexed-told, indexed-refused}
+use Rattle.csi_orchestrator.proofs.PlacedRows.{times-out-keeps}
 use Rattle.csi_orchestrator.proofs.inner.Core.timeout.Goals as goal
 
 pub returns-in_err-next-in-Some-clause-err : goal.returns-in_err-next-in-Some-clause-err
 returns-in_err-next-in-Some-clause-err c =
     let core = c.args.self.now in
     passed-on c.from_residual.result _ c.from_residual.ensures.1
-    (called-refused (times_out (parts_of core)) core.nodes.items core.last core.rows.items c.args.name.now c.in-Some.index c.index_mut.result.now
+    (called-refused (times_out (parts_of core)) core.nodes.items core.last (rows_of core.catalog) c.args.name.now c.in-Some.place c.index_mut.result.now
     (row_times_out core.last (row_shown c.index_mut.result.now))
-    (timeout-called core.nodes.items core.last core.rows.items c.args.name.now c.in-Some.index c.index_mut.result.now (cc) c.index_mut.ensures.value)
+    (timeout-called core.nodes.items core.last (rows_of core.catalog) c.args.name.now c.in-Some.place c.index_mut.result.now (sym c.in-Some.ensures.place) (read-at (rows_of core.catalog) c.in-Some.place c.index_mut.result.now c.index_mut.ensures.value))
     c.in_err-next-in-Some.field-0.0 c.in_err-next-in-Some.ensures.err)
 
 pub returns-in_err-next-in-Some-clause-stays : goal.returns-in_err-next-in-Some-clause-stays
 returns-in_err-next-in-Some-clause-stays c =
     let core = c.args.self.now in
-    holds-at_err c.from_residual.result (rows-stay core.nodes.items core.last core.rows.items c.in-Some.index c.index_mut.result.now c.time_out.new.row c.index_mut.ensures.value c.in_err-next-in-Some.ensures.stays)
+    holds-at_err c.from_residual.result (parts-set core.nodes.items core.last core.catalog c.in-Some.place c.time_out.new.row ∙ rows-stay core.nodes.items core.last (rows_of core.catalog) c.in-Some.place c.index_mut.result.now c.time_out.new.row (read-at (rows_of core.catalog) c.in-Some.place c.index_mut.result.now c.index_mut.ensures.value) c.in_err-next-in-Some.ensures.stays)
 
 pub returns-in_ok-next-in-Some-clause-ok : goal.returns-in_ok-next-in-Some-clause-ok
 returns-in_ok-next-in-Some-clause-ok c =
     let core = c.args.self.now in
-    called-told (times_out (parts_of core)) core.nodes.items core.last core.rows.items c.args.name.now c.in-Some.index c.index_mut.result.now c.time_out.new.row
+    called-told (times_out (parts_of core)) core.nodes.items core.last (rows_of core.catalog) c.args.name.now c.in-Some.place c.index_mut.result.now c.time_out.new.row
     (row_times_out core.last (row_shown c.index_mut.result.now))
     c.in_ok-next-in-Some.next c.issue.result (parts_of c.issue.new.self)
-    (timeout-called core.nodes.items core.last core.rows.items c.args.name.now c.in-Some.index c.index_mut.result.now (cc) c.index_mut.ensures.value)
-    c.in_ok-next-in-Some.ensures.ok c.issue.ensures.frame c.issue.ensures.parts
+    (timeout-called core.nodes.items core.last (rows_of core.catalog) c.args.name.now c.in-Some.place c.index_mut.result.now (sym c.in-Some.ensures.place) (read-at (rows_of core.catalog) c.in-Some.place c.index_mut.result.now c.index_mut.ensures.value))
+    c.in_ok-next-in-Some.ensures.ok c.issue.ensures.frame (c.issue.ensures.parts ∙ parts-set core.nodes.items (last_after core.last c.in_ok-next-in-Some.next) core.catalog c.in-Some.place c.time_out.new.row)
 
 pub returns-in-None-clause-err : goal.returns-in-None-clause-err
-returns-in-None-clause-err c = refused-nowhere (times_out (parts_of c.args.self.now)) c.args.self.now.rows.items c.args.name.now NoSuchVolume (cc) refl
+returns-in-None-clause-err c = refused-nowhere (times_out (parts_of c.args.self.now)) (rows_of c.args.self.now.catalog) c.args.name.now NoSuchVolume (sym c.in-None.ensures.place) refl
+
+pub returns-in_err-next-in-Some-clause-indexed : goal.returns-in_err-next-in-Some-clause-indexed
+returns-in_err-next-in-Some-clause-indexed c = indexed-refused c.args.self.now.catalog c.in-Some.place c.index_mut.result.now c.time_out.new.row c.requires c.index_mut.ensures.value c.in_err-next-in-Some.ensures.stays
+
+pub returns-in_ok-next-in-Some-clause-indexed : goal.returns-in_ok-next-in-Some-clause-indexed
+returns-in_ok-next-in-Some-clause-indexed c =
+    let core = c.args.self.now in
+    subst IsIndexed (sym c.issue.ensures.catalog)
+    (indexed-told core.catalog c.in-Some.place c.index_mut.result.now c.time_out.new.row _ c.in_ok-next-in-Some.next c.requires c.index_mut.ensures.value
+    (times-out-keeps core.last (row_shown c.index_mut.result.now)) c.in_ok-next-in-Some.ensures.ok)

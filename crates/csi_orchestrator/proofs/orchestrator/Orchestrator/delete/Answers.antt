@@ -7,14 +7,14 @@ use Rattle.csi_orchestrator.proofs.Promised.{ok-promised, err-promised, kept-pro
 use Rattle.csi_orchestrator.proofs.orchestrator.Orchestrator.delete.Goals as goal
 
 pub invariant_of-self : goal.invariant_of-self
-invariant_of-self c = (kept-promised c.delete.result Sends (parts_of c.self.inside.core) (parts_of c.delete.new.self) (ToDelete c.args.name.now) c.self.invariant c.delete.ensures.ok c.delete.ensures.stays).0
+invariant_of-self c = ((kept-promised c.delete.result Sends (parts_of c.self.inside.core) (parts_of c.delete.new.self) (ToDelete c.args.name.now) c.self.invariant.0 c.delete.ensures.ok c.delete.ensures.stays).0, c.delete.ensures.indexed)
 
 pub returns-clause-ok : goal.returns-clause-ok
-returns-clause-ok c = ok-promised c.delete.result Sends (parts_of c.self.inside.core) c.args.self.now (parts_of c.delete.new.self) (ToDelete c.args.name.now) c.self.view_is c.self.invariant c.delete.ensures.ok
+returns-clause-ok c = ok-promised c.delete.result Sends (parts_of c.self.inside.core) c.args.self.now (parts_of c.delete.new.self) (ToDelete c.args.name.now) c.self.view_is c.self.invariant.0 c.delete.ensures.ok
 
 pub returns-clause-err : goal.returns-clause-err
-returns-clause-err c = err-promised c.delete.result (parts_of c.self.inside.core) c.args.self.now (ToDelete c.args.name.now) c.self.view_is c.self.invariant c.delete.ensures.err
+returns-clause-err c = err-promised c.delete.result (parts_of c.self.inside.core) c.args.self.now (ToDelete c.args.name.now) c.self.view_is c.self.invariant.0 c.delete.ensures.err
 
 pub returns-clause-nodes : goal.returns-clause-nodes
 returns-clause-nodes c =
-    (kept-promised c.delete.result Sends (parts_of c.self.inside.core) (parts_of c.delete.new.self) (ToDelete c.args.name.now) c.self.invariant c.delete.ensures.ok c.delete.ensures.stays).1 ∙ ap (λ (p : Parts). p.nodes) c.self.view_is
+    (kept-promised c.delete.result Sends (parts_of c.self.inside.core) (parts_of c.delete.new.self) (ToDelete c.args.name.now) c.self.invariant.0 c.delete.ensures.ok c.delete.ensures.stays).1 ∙ ap (λ (p : Parts). p.nodes) c.self.view_is

@@ -11,17 +11,17 @@ use Rattle.csi_orchestrator.proofs.orchestrator.Orchestrator.things.Goals as goa
 
 pub returns-clause-marks : goal.returns-clause-marks
 returns-clause-marks c =
-    let same : map row_shown c.deref.result.now ≡ c.args.self.now.rows = ap (map row_shown) c.deref.ensures.value ∙ ap (λ (p : Parts). p.rows) c.self.view_is in
-    subst (λ (rows : List RowShown). AreKept rows → IfOk c.things_in.result (λ things. ListsKnown (known_by_rows rows) things.items)) same c.things_in.ensures.known (subst (λ (p : Parts). AreKept p.rows) c.self.view_is c.self.invariant)
+    let same : map row_shown c.rows.result.now ≡ c.args.self.now.rows = ap (map row_shown) c.rows.ensures ∙ ap (λ (p : Parts). p.rows) c.self.view_is in
+    subst (λ (rows : List RowShown). AreKept rows → IfOk c.things_in.result (λ things. ListsKnown (known_by_rows rows) things.items)) same c.things_in.ensures.known (subst (λ (p : Parts). AreKept p.rows) c.self.view_is c.self.invariant.0)
 
 pub returns-clause-agrees : goal.returns-clause-agrees
 returns-clause-agrees c history agrees =
     IfOk-weaker c.things_in.result _ _ (λ things lists. lists-told c.args.self.now history things.items agrees lists) (returns-clause-marks c)
 
 pub returns-clause-order : goal.returns-clause-order
-returns-clause-order c = c.things_in.ensures.order (subst (λ rows. AreKept (map row_shown rows)) (sym c.deref.ensures.value) c.self.invariant)
+returns-clause-order c = c.things_in.ensures.order (subst (λ rows. AreKept (map row_shown rows)) (sym c.rows.ensures) c.self.invariant.0)
 
 pub returns-clause-empty : goal.returns-clause-empty
 returns-clause-empty c = λ unknown.
-    let same : map row_shown c.deref.result.now ≡ c.args.self.now.rows = ap (map row_shown) c.deref.ensures.value ∙ ap (λ (p : Parts). p.rows) c.self.view_is in
-    c.things_in.ensures.empty (ap noted_in same ∙ nothing-noted c.args.self.now.rows (subst (λ (p : Parts). AreKept p.rows) c.self.view_is c.self.invariant) unknown)
+    let same : map row_shown c.rows.result.now ≡ c.args.self.now.rows = ap (map row_shown) c.rows.ensures ∙ ap (λ (p : Parts). p.rows) c.self.view_is in
+    c.things_in.ensures.empty (ap noted_in same ∙ nothing-noted c.args.self.now.rows (subst (λ (p : Parts). AreKept p.rows) c.self.view_is c.self.invariant.0) unknown)
