@@ -49,7 +49,7 @@ isnt-there shown id own none = is-there shown id own ∙ none-at id shown.nodes 
 pub node-becomes : (shown : WorldShown) (id : List ℕ) (place : ℕ) (old new : NodeParts) (posted : List Frame) (frame : Frame) (reply : Option Frame) (outcome : Outcome) (world : World)
     → HasOwnNodes shown → ShowsWorld shown world → frame.party ≡ Node id → position (is_shown_node id) shown.nodes ≡ Some place → old ≡ get_or shown.nodes place old
     → NodeDoes old new frame reply → IsAnswered shown.frames posted reply outcome
-    → Becomes shown (record shown { nodes = set shown.nodes place new; frames = posted }) outcome (called shown.config world frame (Node id))
+    → Becomes shown (record shown { nodes = set shown.nodes place new; frames = posted }) outcome (called shown.config world frame frame.party)
 node-becomes shown id place old new posted frame reply outcome world own shows party at is does sent =
     let first = FirstAt-position (is_shown_node id) shown.nodes place old at is in
     let found : IsFound id old world.nodes = node-found id shown.nodes world.nodes place old shows.nodes first in
@@ -69,7 +69,7 @@ node-becomes shown id place old new posted frame reply outcome world own shows p
     let put : map (λ (m : NodeParts). m.id) (set shown.nodes place new) ≡ map (λ (m : NodeParts). m.id) shown.nodes = ids-put (is_shown_node id) shown.nodes place old new first does.id in
     let answers : Occurred = record { world = answered shown.config world frame; outcome = outcomes.Answered (next_frame world) } in
     let nowhere : Occurred = record { world = world; outcome = outcomes.NoSuchNode } in
-    at-world shown (record shown { nodes = set shown.nodes place new; frames = posted }) outcome (called shown.config world frame (Node id)) after refl refl
+    at-world shown (record shown { nodes = set shown.nodes place new; frames = posted }) outcome (called shown.config world frame frame.party) after refl refl
     (record { ids = put ∙ ids; fit = own.fit })
     (record {
       frames = frames;
@@ -80,15 +80,15 @@ node-becomes shown id place old new posted frame reply outcome world own shows p
       own_config = shows.own_config;
       own_nodes = shows.own_nodes;
     })
-    (ap (λ b. cond b answers nowhere) there ∙ (λ i. let o : Occurred = record { world = world_is i; outcome = outcome_is i } in o))
+    (ap (called shown.config world frame) party ∙ ap (λ b. cond b answers nowhere) there ∙ (λ i. let o : Occurred = record { world = world_is i; outcome = outcome_is i } in o))
 
 -- a call to a node that isn't there
-pub nowhere-becomes : (shown : WorldShown) (id : List ℕ) (frame : Frame) (world : World) → HasOwnNodes shown → ShowsWorld shown world → position (is_shown_node id) shown.nodes ≡ None
-    → Becomes shown shown outcomes.NoSuchNode (called shown.config world frame (Node id))
-nowhere-becomes shown id frame world own shows none =
+pub nowhere-becomes : (shown : WorldShown) (id : List ℕ) (frame : Frame) (world : World) → HasOwnNodes shown → ShowsWorld shown world → frame.party ≡ Node id → position (is_shown_node id) shown.nodes ≡ None
+    → Becomes shown shown outcomes.NoSuchNode (called shown.config world frame frame.party)
+nowhere-becomes shown id frame world own shows party none =
     let answers : Occurred = record { world = answered shown.config world frame; outcome = outcomes.Answered (next_frame world) } in
     let nowhere : Occurred = record { world = world; outcome = outcomes.NoSuchNode } in
-    at-world shown shown outcomes.NoSuchNode (called shown.config world frame (Node id)) world refl refl own shows (ap (λ b. cond b answers nowhere) (isnt-there shown id own none))
+    at-world shown shown outcomes.NoSuchNode (called shown.config world frame frame.party) world refl refl own shows (ap (called shown.config world frame) party ∙ ap (λ b. cond b answers nowhere) (isnt-there shown id own none))
 
 -- a node restarts
 pub node-restarts : (shown : WorldShown) (id : List ℕ) (place : ℕ) (old new : NodeParts) (world : World) → HasOwnNodes shown → ShowsWorld shown world

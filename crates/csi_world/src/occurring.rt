@@ -1,7 +1,6 @@
 //! What happens in a world.
 ghost use Rattle.std.specs.Prelude.{◌≡◌, ◌<◌, Option, Some, None, IfOk, OnOk, if◌then◌else◌};
 ghost use Rattle.csi_types.specs.Config.{has_node};
-ghost use Rattle.csi_types.specs.declared.call.Party.TheVariants as parties;
 ghost use Rattle.csi_world.specs.World.{World};
 ghost use Rattle.csi_world.specs.After.{called, delivered, delivered_body, frame_at, occurs};
 ghost use Rattle.csi_world.specs.Simulated.{ShowsWorld};
@@ -24,36 +23,22 @@ fn copied(event: &Event) -> Result<Event, NoMemory>
 }
 
 impl System {
-    // A call comes to the controller.
-    fn call_controller(&mut self, frame: &Frame) -> Result<Outcome, NoMemory>
-        requires { frame.now.party ≡ parties.Controller }
-        ensures { Does (shown_of self.old) (shown_of self.new) result (λ world. called self.old.config world frame.now parties.Controller) }
-    {
-        let reply = step_controller(&mut self.controller, frame)?;
-        answered(&mut self.frames, reply)
-    }
-
-    // A call comes to the node of this id.
-    fn call_node(&mut self, id: &NodeId, frame: &Frame) -> Result<Outcome, NoMemory>
-        requires { frame.now.party ≡ parties.Node id.now }
-        ensures { Does (shown_of self.old) (shown_of self.new) result (λ world. called self.old.config world frame.now (parties.Node id.now)) }
-    {
-        match place_of(&self.nodes, id) {
-            Some(place) => {
-                let reply = step_node(&mut self.nodes[place], frame)?;
-                answered(&mut self.frames, reply)
-            }
-            None => Ok(Outcome::NoSuchNode),
-        }
-    }
-
     // A call comes to its plugin.
     fn call(&mut self, frame: &Frame) -> Result<Outcome, NoMemory>
         ensures { Does (shown_of self.old) (shown_of self.new) result (λ world. called self.old.config world frame.now frame.now.party) }
     {
         match frame.party() {
-            Party::Controller => self.call_controller(frame),
-            Party::Node(id) => self.call_node(id, frame),
+            Party::Controller => {
+                let reply = step_controller(&mut self.controller, frame)?;
+                answered(&mut self.frames, reply)
+            }
+            Party::Node(id) => match place_of(&self.nodes, id) {
+                Some(place) => {
+                    let reply = step_node(&mut self.nodes[place], frame)?;
+                    answered(&mut self.frames, reply)
+                }
+                None => Ok(Outcome::NoSuchNode),
+            },
         }
     }
 
