@@ -6,14 +6,11 @@ use Rattle.std.specs.List.{list_any}
 use Rattle.std.specs.Option.{option_to_list}
 use Rattle.csi_lists.proofs.Places.{FirstAt-position, FirstAt-passes}
 use Rattle.csi_lists.proofs.Searches.{find-no_place}
-use Rattle.csi_types.specs.declared.call.Party.TheVariants.{Controller, Node}
+use Rattle.csi_types.specs.declared.call.Party.TheVariants.{Node}
 use Rattle.csi_types.specs.Config.{has_node}
 use Rattle.csi_types.specs.Frame.{Frame}
 use Rattle.csi_types.specs.Same.{same_text}
 use Rattle.csi_types.proofs.Equality.{same_text-tells}
-use Rattle.csi_controller.specs.Core.{IsShown}
-use Rattle.csi_controller.specs.Core.{Parts as ControllerParts}
-use Rattle.csi_controller.specs.Fenced as controller
 use Rattle.csi_node.specs.Record.{NodeParts}
 use Rattle.csi_node.specs.Shown.{Shows}
 use Rattle.csi_node.specs.Fenced as node
@@ -23,7 +20,7 @@ use Rattle.csi_world.specs.World.{NodeAt, World, node_state, with_frame, with_no
 use Rattle.csi_world.specs.Step.{answered, answered_by, answered_by_node}
 use Rattle.csi_world.specs.After.{Occurred, node_id, next_frame, called}
 use Rattle.csi_world.specs.Simulated.{WorldShown, ShowsWorld}
-use Rattle.csi_world.specs.Simulating.{IsAnswered, ControllerDoes, NodeDoes, IsSameController, IsSameNode, HasOwnNodes, Becomes}
+use Rattle.csi_world.specs.Simulating.{IsAnswered, NodeDoes, IsSameNode, HasOwnNodes, Becomes}
 use Rattle.csi_world.specs.Listed.{AreDistinct}
 use Rattle.csi_world.proofs.SystemNodes.{is_shown_node, IsFound, node-found, same-put, ids-put, any-ids, fit-apart, state-put, none-at, some-at}
 

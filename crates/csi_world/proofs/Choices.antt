@@ -1,5 +1,5 @@
 -- What is so of a world after what its orchestrator chooses to do.
-use Rattle.std.proofs.Common.{◌≡◌, ◌⊎◌, ℕ, ◌<◌, List, [], ◌∷◌, ◌++◌, map, Bool, true, false, cond, refl, sym, ◌∙◌, ap, subst, inl, inr, arith}
+use Rattle.std.proofs.Common.{◌≡◌, ◌⊎◌, ℕ, ◌<◌, List, [], ◌∷◌, ◌++◌, true, refl, sym, ◌∙◌, ap, subst, inl, inr, arith}
 use Rattle.std.specs.Prelude.{Option, Some, None}
 use Rattle.std.proofs.lemmas.Bool.Decides.{nat_tests}
 use Rattle.std.proofs.lemmas.Option.{none-some}
@@ -16,7 +16,6 @@ use Rattle.csi_types.proofs.Order.{before-trans}
 use Rattle.csi_types.specs.declared.call.Party.{Party}
 use Rattle.csi_types.specs.declared.call.Party.TheVariants.{Controller, Node}
 use Rattle.csi_types.specs.Delivery.{IsEmpty}
-use Rattle.csi_types.specs.Fence.{Kept}
 use Rattle.csi_types.specs.Key.{StagedAs, Staged}
 use Rattle.csi_node.specs.State.{NodeState, empty_node}
 use Rattle.csi_orchestrator.specs.Thing.{Issued}

@@ -1,6 +1,6 @@
 -- What the orchestrator's history tells of the replies that were sent.
 use Rattle.std.proofs.Common.{◌≡◌, ◌⊎◌, ℕ, List, [], ◌∷◌, ◌++◌, Bool, true, false, cond, not, refl, sym, ◌∙◌, ap, subst, inl, inr}
-use Rattle.std.specs.Prelude.{zero, suc, slice_get, Option, Some, None, find, filter_map, ◌&&◌, ◌||◌}
+use Rattle.std.specs.Prelude.{zero, suc, slice_get, Option, Some, None, find, filter_map, ◌&&◌}
 use Rattle.std.proofs.lemmas.Bool.{and_parts, false≢true}
 use Rattle.std.proofs.lemmas.Option.{none-some, same_Some}
 use Rattle.csi_types.specs.declared.number.Number.{Number}
@@ -24,7 +24,7 @@ use Rattle.csi_controller.specs.State.{ControllerState}
 use Rattle.csi_orchestrator.specs.declared.thing.Thing.{Thing}
 use Rattle.csi_orchestrator.specs.declared.thing.Known.TheVariants.{Yes, No, Maybe}
 use Rattle.csi_orchestrator.specs.Thing.{Issued, touches, is_doing, is_yes, is_no}
-use Rattle.csi_orchestrator.specs.History.{Item, Started, Sent, Accepted, Closed, Noted, History}
+use Rattle.csi_orchestrator.specs.History.{Item, Accepted, History}
 use Rattle.csi_orchestrator.specs.Readings.{newest, issued_in, issued_of, is_success_of, has_success, known_by, known, id_in, id_by, id_of}
 use Rattle.csi_world.proofs.Issued.{HasName, IsAnsweredOk, ComesAfter, one-number}
 use Rattle.csi_world.proofs.Named.{Named}

@@ -1,6 +1,5 @@
 -- What the plugins' readers give makes a world that is like each world which the plugins show.
 use Rattle.std.proofs.Common.{◌≡◌, List, [], ◌∷◌, ◌++◌, map, refl}
-use Rattle.std.specs.List.{AllByRecursion}
 use Rattle.csi_node.specs.Record.{NodeParts}
 use Rattle.csi_world.specs.World.{NodeAt}
 use Rattle.csi_world.specs.Simulated.{AreNodesShown}

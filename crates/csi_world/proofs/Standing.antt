@@ -1,7 +1,7 @@
 -- What stands staged at a node, or may still come to: while anything does, the volume is known to be attached there, in
 -- that capability.
 use Rattle.std.proofs.Common.{◌≡◌, ◌≢◌, ◌⊎◌, ℕ, List, ◌∷◌, Bool, true, false, cond, refl, sym, ◌∙◌, ap, subst, inl, inr}
-use Rattle.std.specs.Prelude.{Some, None, find, ◌==◌, ◌||◌}
+use Rattle.std.specs.Prelude.{Some, find, ◌==◌}
 use Rattle.std.proofs.lemmas.Bool.{and_parts, or_right, eqb-true, false≢true}
 use Rattle.std.proofs.lemmas.Option.{none-some}
 use Rattle.csi_types.specs.declared.capability.Capability.{Capability}
