@@ -14,51 +14,16 @@ use super::lists::NodeLists;
 use csi_controller::{ControllerRow, NodeHolding};
 use csi_node::{Published, Staged};
 use csi_orchestrator::Thing;
-use csi_types::{Name, NoMemory, NodeId, Target};
+use csi_types::{Name, NoMemory, NodeId};
 use std::alloc::Global;
-
-// That the volume of this name exists.
-fn exists(name: &Name) -> Result<Thing, NoMemory>
-    ensures { IfOk result (λ thing. thing ≡ ThingParts.Exists name.now) }
-{
-    let name = name.clone()?;
-    Ok(Thing::Exists { name })
-}
-
-// That it is attached at the node.
-fn attached(name: &Name, node: &NodeId) -> Result<Thing, NoMemory>
-    ensures { IfOk result (λ thing. thing ≡ ThingParts.Attached name.now node.now) }
-{
-    let name = name.clone()?;
-    let node = node.clone()?;
-    Ok(Thing::Attached { name, node })
-}
-
-// That it is staged at the node.
-fn staged(name: &Name, node: &NodeId) -> Result<Thing, NoMemory>
-    ensures { IfOk result (λ thing. thing ≡ ThingParts.Staged name.now node.now) }
-{
-    let name = name.clone()?;
-    let node = node.clone()?;
-    Ok(Thing::Staged { name, node })
-}
-
-// That it is published at the target of the node.
-fn published(name: &Name, node: &NodeId, target: &Target) -> Result<Thing, NoMemory>
-    ensures { IfOk result (λ thing. thing ≡ ThingParts.Published name.now node.now target.now) }
-{
-    let name = name.clone()?;
-    let node = node.clone()?;
-    let target = target.clone()?;
-    Ok(Thing::Published { name, node, target })
-}
 
 // Adds that the row's volume exists, where it does.
 fn add_exists(things: &mut Vec<Thing>, row: &ControllerRow) -> Result<(), NoMemory>
     ensures { OnOk result (things.new.items ≡ things.old.items ++ exists_thing row.now) }
 {
     if row.live {
-        things.push(exists(&row.name)?)?;
+        let name = row.name.clone()?;
+        things.push(Thing::Exists { name })?;
     }
     Ok(())
 }
@@ -72,7 +37,9 @@ fn add_holdings(
     ensures { OnOk result (things.new.items ≡ things.old.items ++ map (attached_thing name.now) holdings.now) }
 {
     for held in holdings {
-        things.push(attached(name, &held.node)?)?;
+        let name = name.clone()?;
+        let node = held.node.clone()?;
+        things.push(Thing::Attached { name, node })?;
     }
     Ok(())
 }
@@ -106,7 +73,9 @@ fn add_staged(
     ensures { OnOk result (things.new.items ≡ things.old.items ++ staged_thing rows.now node.now entry.now) }
 {
     if let Some(row) = find_row(rows, entry.id) {
-        things.push(staged(&row.name, node)?)?;
+        let name = row.name.clone()?;
+        let node = node.clone()?;
+        things.push(Thing::Staged { name, node })?;
     }
     Ok(())
 }
@@ -138,7 +107,10 @@ fn add_published(
     ensures { OnOk result (things.new.items ≡ things.old.items ++ published_thing rows.now node.now entry.now) }
 {
     if let Some(row) = find_row(rows, entry.id) {
-        things.push(published(&row.name, node, &entry.target)?)?;
+        let name = row.name.clone()?;
+        let node = node.clone()?;
+        let target = entry.target.clone()?;
+        things.push(Thing::Published { name, node, target })?;
     }
     Ok(())
 }
