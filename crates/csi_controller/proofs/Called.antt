@@ -11,7 +11,8 @@ use Rattle.csi_types.specs.Config.{Config}
 use Rattle.csi_types.specs.Frame.{Frame, IsAllowed}
 use Rattle.csi_controller.specs.State.{ControllerState}
 use Rattle.csi_controller.specs.Fenced.{Fenced, fenced, fenced_parts, fenced_call, kept_for}
-use Rattle.csi_controller.specs.Core.{Parts, IsShown, Answers}
+use Rattle.csi_controller.specs.Core.{Parts, IsShown}
+use Rattle.csi_controller.specs.Step.{Answers}
 
 -- a frame that brings this call, under this number
 pub record Brings (frame : Frame) (number : Number) (call : Call) : Type 0 where

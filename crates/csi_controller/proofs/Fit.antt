@@ -22,9 +22,9 @@ use Rattle.csi_controller.specs.declared.row.NodeHolding.{NodeHolding}
 use Rattle.csi_controller.specs.declared.row.ControllerRow.{ControllerRow}
 use Rattle.csi_controller.specs.Table.{serves}
 use Rattle.csi_controller.specs.Shown.{volume_of_row}
-use Rattle.csi_controller.specs.Core.{IsFit, held_by, RowChange, RowStays, RowEnds, RowAttaches, RowDetaches, RowOutcome, create_line, again_line, by_fault, delete_line, delete_held, publish_line, held_line, attach_line, unpublish_line}
+use Rattle.csi_controller.specs.OneRow.{IsFit, RowChange, RowStays, RowEnds, RowAttaches, RowDetaches, RowOutcome, create_line, again_line, by_fault, delete_line, delete_held, publish_line, held_line, attach_line, unpublish_line, row_line}
+use Rattle.csi_controller.specs.Core.{held_by}
 use Rattle.csi_controller.specs.Counts.{is_node_full}
-use Rattle.csi_controller.specs.OneRow.{row_line}
 use Rattle.csi_controller.proofs.Recounted.{IsMove}
 
 either : {X : Type 0} (P : X → Type 0) (b : Bool) (x y : X) → (b ≡ true → P x) → (b ≡ false → P y) → P (cond b x y)

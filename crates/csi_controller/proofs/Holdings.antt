@@ -14,7 +14,8 @@ use Rattle.csi_controller.specs.declared.row.NodeHolding.{NodeHolding}
 use Rattle.csi_controller.specs.declared.row.ControllerRow.{ControllerRow}
 use Rattle.csi_controller.specs.State.{is_held_at}
 use Rattle.csi_controller.specs.Shown.{holdings_in, holdings_in_row}
-use Rattle.csi_controller.specs.Core.{IsSoundRow, held_by, RowChange, RowStays, RowEnds, RowAttaches, RowDetaches, items_after}
+use Rattle.csi_controller.specs.Core.{IsSoundRow, held_by}
+use Rattle.csi_controller.specs.OneRow.{RowChange, RowStays, RowEnds, RowAttaches, RowDetaches, items_after}
 
 -- all holdings after a change of the row of this id
 abbrev pub held_after : ℕ → RowChange → List Holding → List Holding

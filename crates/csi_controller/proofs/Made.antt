@@ -10,7 +10,8 @@ use Rattle.csi_lists.proofs.Searches.{find-of_map}
 use Rattle.csi_lists.specs.Places.{AtMostOne}
 use Rattle.csi_controller.specs.declared.controller.state.Core.{Core}
 use Rattle.csi_controller.specs.Catalog.{rows_of}
-use Rattle.csi_controller.specs.CoreParts.{parts_of, IsMade}
+use Rattle.csi_controller.specs.CoreParts.{parts_of}
+use Rattle.csi_controller.specs.Making.{IsMade, new_line, made_volume}
 use Rattle.std.specs.Prelude.{Option, Some, None, option_map, find, ◌==◌, ◌||◌, nat_le, nat_lt, codes, IsTrue}
 use Rattle.std.specs.List.{AllByRecursion}
 use Rattle.std.proofs.lemmas.Bool.Decides.{nat_tests}
@@ -38,7 +39,9 @@ use Rattle.csi_controller.specs.State.{Volume, ControllerState, volume_named}
 use Rattle.csi_controller.specs.Table.{Outcome, Stays, Makes, create, create_named, controller_row, refused}
 use Rattle.csi_controller.specs.Fenced.{fenced_call, kept_for, carried_out, kept_in}
 use Rattle.csi_controller.specs.Shown.{volume_of_row, holdings_in}
-use Rattle.csi_controller.specs.Core.{IsShown, Answers, IsSound, IsSoundRow, IsRising, AreCompatible, held_by, next_shown, argument_fault, new_line, made_volume}
+use Rattle.csi_controller.specs.Core.{IsShown, IsSound, IsSoundRow, IsRising, AreCompatible, held_by, next_shown}
+use Rattle.csi_controller.specs.Step.{Answers}
+use Rattle.csi_controller.specs.OneRow.{argument_fault}
 use Rattle.csi_controller.proofs.Lines.{length-view}
 use Rattle.csi_controller.proofs.Steps.{nowhere-answers}
 

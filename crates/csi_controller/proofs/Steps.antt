@@ -25,7 +25,9 @@ use Rattle.csi_controller.specs.State.{Volume, ControllerState, is_row_for, row_
 use Rattle.csi_controller.specs.Table.{Outcome, Stays, controller_row, changed, ended}
 use Rattle.csi_controller.specs.Fenced.{kept_in, keep, carried_out, judged, fenced_call, kept_for}
 use Rattle.csi_controller.specs.Shown.{volume_of_row, holdings_in}
-use Rattle.csi_controller.specs.Core.{IsShown, Answers, held_by, RowChange, RowStays, RowEnds, RowAttaches, RowDetaches, RowOutcome, outcome_of, change_of, RowGives, row_after, live_after, items_after}
+use Rattle.csi_controller.specs.Core.{IsShown, held_by}
+use Rattle.csi_controller.specs.Step.{Answers}
+use Rattle.csi_controller.specs.OneRow.{RowChange, RowStays, RowEnds, RowAttaches, RowDetaches, RowOutcome, outcome_of, change_of, RowGives, row_after, live_after, items_after}
 use Rattle.csi_controller.proofs.Holdings.{held_after, row_list-after, own_list-after, other_list-after}
 
 -- the volumes after a change of the row of this id, before the reply is kept

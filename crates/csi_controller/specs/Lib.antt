@@ -6,6 +6,8 @@ pub mod Rows
 pub mod Laws
 pub mod Core
 pub mod OneRow
+pub mod Making
+pub mod Step
 pub mod Line
 pub mod Catalog
 pub mod Counts

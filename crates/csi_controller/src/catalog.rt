@@ -7,7 +7,7 @@ ghost use Rattle.csi_controller.specs.Catalog.{rows_of, IsIndexed};
 ghost use Rattle.csi_controller.specs.Core.{IsSound};
 ghost use Rattle.csi_controller.specs.Views.{AreSameRows};
 
-use crate::controller::new_row::copied_row;
+use crate::controller::copies::copied_row;
 use crate::fault::CoreFault;
 use crate::row::ControllerRow;
 use csi_types::{Name, VolumeId};

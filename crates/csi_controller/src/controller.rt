@@ -5,6 +5,7 @@ ghost use Rattle.csi_types.specs.declared.call.Call.{Call as OneCall};
 
 mod answer;
 mod changes;
+pub(crate) mod copies;
 mod counts;
 mod fence;
 mod finding;
@@ -12,10 +13,11 @@ mod line;
 pub(crate) mod lines;
 mod listing;
 mod making;
-pub(crate) mod new_row;
+mod new_row;
 mod readers;
 mod state;
 mod step;
+mod views;
 
 use crate::catalog::Catalog;
 use crate::fault::CoreFault;
@@ -23,10 +25,10 @@ use crate::record::ControllerRecord;
 use crate::row::ControllerRow;
 use counts::counted;
 use csi_types::{Body, Call, Config, Frame, Holding, Name, Number, VolumeId};
-use new_row::attachments;
 use state::Core;
 use std::alloc::Global;
 use std::marker::Model;
+use views::attachments;
 
 /// The controller plugin of CSI's spec.md, "Controller Service RPC": the volumes that it made, the nodes at
 /// which each is published, and the last call that it answered for each. A contract sees its configuration,

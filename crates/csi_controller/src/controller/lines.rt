@@ -12,10 +12,10 @@ ghost use Rattle.csi_types.specs.Reply.{has_id_by_rule};
 ghost use Rattle.csi_controller.specs.Table.{serves as is_served};
 ghost use Rattle.csi_controller.specs.Shown.{volume_of_row};
 ghost use Rattle.csi_controller.specs.Line.{line_told};
-ghost use Rattle.csi_controller.specs.Core.{held_by, by_line, delete_line as delete_told, again_line as again_told, create_line as create_told, argument_fault as fault_told, unpublish_line as unpublish_told, publish_line as publish_told};
-ghost use Rattle.csi_controller.specs.Core.RowChange.{RowStays, RowEnds, RowAttaches, RowDetaches};
+ghost use Rattle.csi_controller.specs.Core.{held_by};
+ghost use Rattle.csi_controller.specs.OneRow.{by_line, delete_line as delete_told, again_line as again_told, create_line as create_told, argument_fault as fault_told, unpublish_line as unpublish_told, publish_line as publish_told, held_so, row_line, row_change};
+ghost use Rattle.csi_controller.specs.OneRow.RowChange.{RowStays, RowEnds, RowAttaches, RowDetaches};
 ghost use Rattle.csi_controller.specs.Counts.{is_node_full};
-ghost use Rattle.csi_controller.specs.OneRow.{held_so, row_line, row_change};
 
 use super::counts::{MAX_NODES, has_node, is_full};
 use super::line::{Line, met, refused};

@@ -26,9 +26,11 @@ impl Core {
     ghost use Rattle.csi_controller.specs.State.{ControllerState};
     ghost use Rattle.csi_controller.specs.Table.{Makes, Stays};
     ghost use Rattle.csi_controller.specs.Fenced.{fenced_call, kept_for};
-    ghost use Rattle.csi_controller.specs.Core.{IsShown, Answers, new_line, next_shown};
+    ghost use Rattle.csi_controller.specs.Core.{IsShown, next_shown};
+    ghost use Rattle.csi_controller.specs.Step.{Answers};
+    ghost use Rattle.csi_controller.specs.Making.{new_line, IsMade};
     ghost use Rattle.csi_controller.specs.Catalog.{IsIndexed};
-    ghost use Rattle.csi_controller.specs.CoreParts.{parts_of, IsKept, IsMade};
+    ghost use Rattle.csi_controller.specs.CoreParts.{parts_of, IsKept};
 
     // The id and the capacity of the volume that is made for a new name, or the table's refusal.
     fn room_for(&self, required: u64, limit: u64) -> Result<(VolumeId, u64), Line<'static>>

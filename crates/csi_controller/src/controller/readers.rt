@@ -3,7 +3,7 @@ ghost use Rattle.std.specs.Prelude.{◌≡◌, ◌==◌, None, find, option_map,
 ghost use Rattle.csi_types.specs.Same.{same_text};
 ghost use Rattle.csi_controller.specs.Views.{row_if_live, IsCopyOf};
 
-use super::new_row::copied_row;
+use super::copies::copied_row;
 use super::state::Core;
 use crate::fault::CoreFault;
 use crate::row::ControllerRow;

@@ -18,7 +18,8 @@ impl Core {
     ghost use Rattle.csi_controller.specs.Fenced.{fenced, fenced_call, kept_for};
     ghost use Rattle.csi_controller.specs.Shown.{volume_of_row};
     ghost use Rattle.csi_controller.specs.Catalog.{rows_of};
-    ghost use Rattle.csi_controller.specs.Core.{IsShown, Answers, IsAnsweredOk, IsUndoing};
+    ghost use Rattle.csi_controller.specs.Core.{IsShown, IsAnsweredOk, IsUndoing};
+    ghost use Rattle.csi_controller.specs.Step.{Answers};
     ghost use Rattle.csi_controller.specs.CoreParts.{parts_of, IsKept};
     ghost use Rattle.csi_controller.specs.Repeats.{IsPlainRepeat};
 

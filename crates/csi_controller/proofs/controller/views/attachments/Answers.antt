@@ -3,7 +3,7 @@ use Rattle.std.proofs.Common.{◌≡◌, ◌<◌, ◌++◌, List, get_or, length
 use Rattle.csi_controller.specs.Shown.{holdings_in_row}
 use Rattle.csi_types.specs.declared.holding.Holding.{Holding}
 use Rattle.csi_controller.proofs.Attached.{one_more_row}
-use Rattle.csi_controller.proofs.controller.new_row.attachments.Goals as goal
+use Rattle.csi_controller.proofs.controller.views.attachments.Goals as goal
 
 pub loop-row-preserved : goal.loop-row-preserved
 loop-row-preserved c =

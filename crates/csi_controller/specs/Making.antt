@@ -1,0 +1,36 @@
+-- A volume that is made: what a new name is answered, and what a core is then. Private functions say so.
+use Rattle.std.specs.Prelude.{◌≡◌, ℕ, ◌<◌, ◌^◌, List, [], ◌∷◌, ◌++◌, true, ◌||◌, nat_le, nat_lt, if◌then◌else◌, codes, ◌+◌, ◌%◌}
+use Rattle.csi_types.specs.declared.capability.Capability.{Capability}
+use Rattle.csi_types.specs.declared.number.Number.{Number}
+use Rattle.csi_types.specs.declared.call.Kind.TheVariants.{CreateVolume}
+use Rattle.csi_types.specs.declared.status.Status.TheVariants.{ResourceExhausted, OutOfRange}
+use Rattle.csi_types.specs.Capacity.{wanted}
+use Rattle.csi_types.specs.Replies.{ok_reply_with}
+use Rattle.csi_controller.specs.declared.row.ControllerRow.{ControllerRow}
+use Rattle.csi_controller.specs.State.{Volume}
+use Rattle.csi_controller.specs.Table.{Outcome, Makes, refused}
+use Rattle.csi_controller.specs.Shown.{volume_of_row}
+use Rattle.csi_controller.specs.declared.controller.state.Core.{Core}
+use Rattle.csi_controller.specs.Catalog.{rows_of}
+
+-- a volume that was just made
+abbrev pub made_volume : Number → ℕ → List ℕ → ℕ → List Capability → Volume
+made_volume number id name capacity capabilities =
+    record { id = id; name = name; capacity = capacity; capabilities = capabilities; is_live = true; kept = record { number = number; kind = CreateVolume; reply = ok_reply_with id } }
+
+-- CreateVolume of a new name, by what the controller has
+abbrev pub new_line : ℕ → ℕ → ℕ → List ℕ → ℕ → ℕ → List Capability → Outcome
+new_line greatest count next name required limit capabilities =
+    if nat_lt greatest (wanted required limit) then refused OutOfRange (codes "range")
+    else if nat_le 4096 count || nat_le (2 ^ 64) next then refused ResourceExhausted (codes "volumes")
+    else record { reply = ok_reply_with next; change = Makes name (wanted required limit) capabilities }
+
+-- the volume was made, and stands last
+pub record IsMade (old new : Core) (number : Number) (id : ℕ) (name : List ℕ) (capacity : ℕ) (capabilities : List Capability) : Type 0 where
+  pub row : ControllerRow
+  pub volume : volume_of_row row ≡ made_volume number id name capacity capabilities
+  pub items : row.holdings.items ≡ []
+  pub rows : rows_of new.catalog ≡ rows_of old.catalog ++ row ∷ []
+  pub next : new.next_id ≡ (old.next_id + 1) % 2 ^ 64
+  pub config : new.config ≡ old.config
+  pub fits : old.next_id < 2 ^ 64
