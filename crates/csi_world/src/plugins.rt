@@ -17,20 +17,14 @@ pub(crate) fn copied_config(config: &Config) -> Result<Config, NoMemory>
     Ok(config.clone()?)
 }
 
-// A copy of a node's id.
-fn copied_id(id: &NodeId) -> Result<NodeId, NoMemory>
-    ensures { IfOk result (λ copy. copy ≡ id.now) }
-{
-    Ok(id.clone()?)
-}
-
 /// The ids of these nodes, in order.
 pub(crate) fn ids_of(alloc: Global, nodes: &[NodeSlots]) -> Result<Vec<NodeId>, NoMemory>
     ensures { IfOk result (λ ids. ids.items ≡ map node_id nodes.now) }
 {
     let mut ids = Vec::new(alloc);
     for node in nodes {
-        ids.push(copied_id(&node.id)?)?;
+        let id = node.id.clone()?;
+        ids.push(id)?;
     }
     Ok(ids)
 }
@@ -39,7 +33,7 @@ pub(crate) fn ids_of(alloc: Global, nodes: &[NodeSlots]) -> Result<Vec<NodeId>, 
 fn new_node(alloc: Global, slots: &NodeSlots) -> Result<Node, NoMemory>
     ensures { IfOk result (λ node. node ≡ new_node_parts slots.now) }
 {
-    let id = copied_id(&slots.id)?;
+    let id = slots.id.clone()?;
     Ok(Node::new(alloc, id))
 }
 

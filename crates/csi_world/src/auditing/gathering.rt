@@ -10,15 +10,8 @@ ghost use Rattle.csi_world.specs.Listed.{node_listed, AreDistinct, IsListed, IsL
 use super::lists::NodeLists;
 use csi_controller::Controller;
 use csi_node::{Node, Published, Staged};
-use csi_types::{NoMemory, NodeId};
+use csi_types::NoMemory;
 use std::alloc::Global;
-
-// A node's id.
-fn id_of(node: &Node) -> Result<NodeId, NoMemory>
-    ensures { IfOk result (λ id. id ≡ node.now.id) }
-{
-    Ok(node.id().clone()?)
-}
 
 // What it has staged.
 fn staged_at(node: &Node) -> Result<Vec<Staged>, NoMemory>
@@ -44,7 +37,7 @@ fn published_at(node: &Node) -> Result<Vec<Published>, NoMemory>
 fn list_node(node: &Node) -> Result<NodeLists, NoMemory>
     ensures { IfOk result (λ lists. IsListOf node.now (node_listed lists)) }
 {
-    let id = id_of(node)?;
+    let id = node.id().clone()?;
     let staged = staged_at(node)?;
     let published = published_at(node)?;
     Ok(NodeLists {
