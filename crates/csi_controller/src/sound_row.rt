@@ -6,7 +6,7 @@ ghost use Rattle.csi_types.specs.Same.{has_capability as is_among};
 ghost use Rattle.csi_controller.specs.Core.{next_shown};
 ghost use Rattle.csi_controller.specs.SoundRow.{has_fit_numbers as are_fit_numbers, has_own_reply as is_own_reply, are_beside as beside, are_all_beside as all_beside, has_fit_holdings as are_fit_holdings, is_sound_row as is_sound};
 
-use crate::controller::lines::{MAX_HOLDINGS, use_of};
+use crate::controller::holdings::{MAX_HOLDINGS, use_of};
 use crate::row::{ControllerRow, NodeHolding};
 use csi_types::{Kind, MAX_CAPACITY, Party, Reply, Status, can_use_both, has_capability};
 

@@ -5,7 +5,7 @@ ghost use Rattle.csi_types.specs.Config.{has_node as is_configured};
 ghost use Rattle.csi_types.specs.Same.{same_text};
 ghost use Rattle.csi_controller.specs.Counts.{place_of, count_held, count_at as count_told, is_node_full, AreCounted, moved_told, recounted};
 
-use super::lines::is_held_at;
+use super::holdings::is_held_at;
 use crate::row::ControllerRow;
 use csi_types::{NodeId, NodeSlots};
 

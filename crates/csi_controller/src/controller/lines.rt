@@ -1,109 +1,21 @@
 //! The controller's table, for the row of a call's volume: a reply that changes nothing, or `None` where the
 //! call is carried out.
-ghost use Rattle.std.specs.Prelude.{◌≡◌, ◌≤◌, ◌||◌, ℕ, IsTrue, not, nat_le, length, IfSome, [], option_map};
-ghost use Rattle.std.specs.List.{find, list_any, list_all};
-ghost use Rattle.std.specs.Option.{option_copied};
-ghost use Rattle.csi_types.specs.declared.call.Kind.TheVariants.{CreateVolume, DeleteVolume, ControllerPublishVolume, ControllerUnpublishVolume};
+ghost use Rattle.std.specs.Prelude.{◌≡◌, ◌≤◌, ◌||◌, IsTrue, nat_le, length, IfSome, [], option_map};
+ghost use Rattle.csi_types.specs.declared.call.Kind.TheVariants.{DeleteVolume, ControllerPublishVolume, ControllerUnpublishVolume};
 ghost use Rattle.csi_types.specs.Call.{kind_of};
 ghost use Rattle.csi_types.specs.Config.{has_node as is_configured};
-ghost use Rattle.csi_types.specs.Holding.{same_holding, is_compatible};
-ghost use Rattle.csi_types.specs.Same.{same_text, has_capability as is_among};
 ghost use Rattle.csi_types.specs.Reply.{has_id_by_rule};
-ghost use Rattle.csi_controller.specs.Table.{serves as is_served};
-ghost use Rattle.csi_controller.specs.Shown.{volume_of_row};
-ghost use Rattle.csi_controller.specs.Line.{line_told};
-ghost use Rattle.csi_controller.specs.Core.{held_by};
-ghost use Rattle.csi_controller.specs.OneRow.{by_line, delete_line as delete_told, again_line as again_told, create_line as create_told, argument_fault as fault_told, unpublish_line as unpublish_told, publish_line as publish_told, held_so, row_line, row_change};
-ghost use Rattle.csi_controller.specs.OneRow.RowChange.{RowStays, RowEnds, RowAttaches, RowDetaches};
 ghost use Rattle.csi_controller.specs.Counts.{is_node_full};
+ghost use Rattle.csi_controller.specs.Line.{line_told};
+ghost use Rattle.csi_controller.specs.OneRow.{by_line, delete_line as delete_told, unpublish_line as unpublish_told, publish_line as publish_told, held_so, row_line, row_change};
+ghost use Rattle.csi_controller.specs.OneRow.RowChange.{RowEnds, RowAttaches, RowDetaches};
 
 use super::counts::{MAX_NODES, has_node, is_full};
+use super::create_lines::create_line;
+use super::holdings::{MAX_HOLDINGS, excluding, held_at, is_held_at, is_held_so};
 use super::line::{Line, met, refused};
-use crate::row::{ControllerRow, NodeHolding};
-use csi_types::{
-    Call, Capability, NodeId, NodeSlots, NodeUse, Status, can_use_both, has_capability,
-    is_bad_range, is_empty_range, same_way,
-};
-
-/// The most nodes at which a volume is held.
-pub const MAX_HOLDINGS: usize = 64;
-
-// Whether the list has each of these capabilities.
-fn has_each(capabilities: &[Capability], wished: &[Capability]) -> bool
-    ensures { result ≡ list_all (is_among capabilities.now) wished.now }
-{
-    wished
-        .iter()
-        .all(|capability| has_capability(capabilities, capability))
-}
-
-// Whether the volume has a capacity in the range, where a limit of 0 is none, and each capability.
-fn serves(row: &ControllerRow, required: u64, limit: u64, wished: &[Capability]) -> bool
-    ensures { result ≡ is_served (volume_of_row row.now) required limit wished.now }
-{
-    required <= row.capacity
-        && (limit == 0 || row.capacity <= limit)
-        && has_each(row.capabilities.as_slice(), wished)
-}
-
-/// Whether the volume is held at the node.
-pub fn is_held_at(row: &ControllerRow, node: &NodeId) -> bool
-    ensures { result ≡ list_any (λ held. same_text held.node node.now) row.now.holdings.items }
-{
-    row.holdings.iter().any(|held| held.node == *node)
-}
-
-/// What is wrong with the arguments of a CreateVolume, as the table answers it, if anything is.
-pub fn argument_fault(required: u64, limit: u64, wished: &[Capability]) -> Option<Line<'static>>
-    ensures ok { option_map line_told result ≡ fault_told required limit wished.now }
-    ensures id { IfSome result (λ line. IsTrue (has_id_by_rule CreateVolume (line_told line))) }
-    ensures plain { IfSome result (λ line. (line_told line).status ≡ Status.Ok → (line_told line).detail ≡ []) }
-{
-    if wished.is_empty() {
-        return Some(refused(Status::InvalidArgument, "capabilities"));
-    }
-    if is_bad_range(required, limit) {
-        return Some(refused(Status::InvalidArgument, "capacity"));
-    }
-    if is_empty_range(required, limit) {
-        return Some(refused(Status::OutOfRange, "range"));
-    }
-    None
-}
-
-// CreateVolume with good arguments, of a name that has this row.
-fn again_line(
-    row: &ControllerRow,
-    required: u64,
-    limit: u64,
-    wished: &[Capability],
-) -> Line<'static>
-    ensures ok { again_told row.now required limit wished.now ≡ record { reply = line_told result; change = RowStays } }
-    ensures id { IsTrue (has_id_by_rule CreateVolume (line_told result)) }
-    ensures plain { (line_told result).status ≡ Status.Ok → (line_told result).detail ≡ [] }
-{
-    if row.live && serves(row, required, limit, wished) {
-        return met(Some(row.id));
-    }
-    refused(Status::AlreadyExists, "name")
-}
-
-// CreateVolume of a name that has this row.
-fn create_line(
-    row: &ControllerRow,
-    required: u64,
-    limit: u64,
-    wished: &[Capability],
-) -> Line<'static>
-    ensures ok { create_told row.now required limit wished.now ≡ record { reply = line_told result; change = RowStays } }
-    ensures id { IsTrue (has_id_by_rule CreateVolume (line_told result)) }
-    ensures plain { (line_told result).status ≡ Status.Ok → (line_told result).detail ≡ [] }
-{
-    match argument_fault(required, limit, wished) {
-        Some(line) => line,
-        None => again_line(row, required, limit, wished),
-    }
-}
+use crate::row::ControllerRow;
+use csi_types::{Call, NodeId, NodeSlots, NodeUse, Status, has_capability};
 
 // DeleteVolume of this row's volume.
 fn delete_line(row: &ControllerRow) -> Option<Line<'_>>
@@ -118,46 +30,6 @@ fn delete_line(row: &ControllerRow) -> Option<Line<'_>>
         Some(held) => Some(refused(Status::FailedPrecondition, held.node.as_str())),
         None => None,
     }
-}
-
-// Whether the volume is held so: at this node, with this capability and flag.
-fn is_held_so(held: &NodeHolding, wanted: NodeUse) -> bool
-    ensures { (id : ℕ) → result ≡ same_holding (held_by id held.now) (held_by id (held_so wanted.entry)) }
-{
-    held.node == *wanted.node
-        && same_way(
-            &held.capability,
-            held.readonly,
-            wanted.capability,
-            wanted.readonly,
-        )
-}
-
-/// A holding of the row, lent.
-pub fn use_of(held: &NodeHolding) -> NodeUse<'_>
-    ensures { held_so result ≡ held.now }
-{
-    NodeUse {
-        node: &held.node,
-        capability: &held.capability,
-        readonly: held.readonly,
-    }
-}
-
-// How the volume is held at the node, if it is.
-fn held_at<'a>(row: &'a ControllerRow, node: &NodeId) -> Option<&'a NodeHolding>
-    ensures { option_copied result ≡ find (λ held. same_text held.node node.now) row.now.holdings.items }
-{
-    row.holdings.iter().find(|held| held.node == *node)
-}
-
-// The first holding that can't be held with this one.
-fn excluding<'a>(row: &'a ControllerRow, wanted: NodeUse) -> Option<&'a NodeHolding>
-    ensures { option_copied result ≡ find (λ other. not (is_compatible (held_by row.now.id (held_so wanted.entry)) (held_by row.now.id other))) row.now.holdings.items }
-{
-    row.holdings
-        .iter()
-        .find(|held| !can_use_both(wanted, use_of(held)))
 }
 
 // Whether the node takes no more volumes, or the volume is at as many nodes as it may be.

@@ -10,8 +10,8 @@ ghost use Rattle.csi_types.specs.Same.{same_text};
 ghost use Rattle.csi_controller.specs.Line.{line_told};
 
 use super::answer::{carried, done, unkept};
+use super::create_lines::argument_fault;
 use super::line::{Line, refused};
-use super::lines::argument_fault;
 use super::new_row::new_row;
 use super::state::Core;
 use crate::fault::CoreFault;

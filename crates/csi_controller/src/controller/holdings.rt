@@ -1,0 +1,61 @@
+//! Where the volume of a row is held, and how.
+ghost use Rattle.std.specs.Prelude.{◌≡◌, ℕ, not};
+ghost use Rattle.std.specs.List.{find, list_any};
+ghost use Rattle.std.specs.Option.{option_copied};
+ghost use Rattle.csi_types.specs.Holding.{same_holding, is_compatible};
+ghost use Rattle.csi_types.specs.Same.{same_text};
+ghost use Rattle.csi_controller.specs.Core.{held_by};
+ghost use Rattle.csi_controller.specs.OneRow.{held_so};
+
+use crate::row::{ControllerRow, NodeHolding};
+use csi_types::{NodeId, NodeUse, can_use_both, same_way};
+
+/// The most nodes at which a volume is held.
+pub const MAX_HOLDINGS: usize = 64;
+
+/// Whether the volume is held at the node.
+pub fn is_held_at(row: &ControllerRow, node: &NodeId) -> bool
+    ensures { result ≡ list_any (λ held. same_text held.node node.now) row.now.holdings.items }
+{
+    row.holdings.iter().any(|held| held.node == *node)
+}
+
+/// Whether the volume is held so: at this node, with this capability and flag.
+pub fn is_held_so(held: &NodeHolding, wanted: NodeUse) -> bool
+    ensures { (id : ℕ) → result ≡ same_holding (held_by id held.now) (held_by id (held_so wanted.entry)) }
+{
+    held.node == *wanted.node
+        && same_way(
+            &held.capability,
+            held.readonly,
+            wanted.capability,
+            wanted.readonly,
+        )
+}
+
+/// A holding of the row, lent.
+pub fn use_of(held: &NodeHolding) -> NodeUse<'_>
+    ensures { held_so result ≡ held.now }
+{
+    NodeUse {
+        node: &held.node,
+        capability: &held.capability,
+        readonly: held.readonly,
+    }
+}
+
+/// How the volume is held at the node, if it is.
+pub fn held_at<'a>(row: &'a ControllerRow, node: &NodeId) -> Option<&'a NodeHolding>
+    ensures { option_copied result ≡ find (λ held. same_text held.node node.now) row.now.holdings.items }
+{
+    row.holdings.iter().find(|held| held.node == *node)
+}
+
+/// The first holding that can't be held with this one.
+pub fn excluding<'a>(row: &'a ControllerRow, wanted: NodeUse) -> Option<&'a NodeHolding>
+    ensures { option_copied result ≡ find (λ other. not (is_compatible (held_by row.now.id (held_so wanted.entry)) (held_by row.now.id other))) row.now.holdings.items }
+{
+    row.holdings
+        .iter()
+        .find(|held| !can_use_both(wanted, use_of(held)))
+}
