@@ -32,12 +32,15 @@ use Rattle.csi_frames.proofs.ReplyReaders.{SaysReply, reply_agrees}
 
 -- ---- version and kind
 
+-- the version and the kind's number, as bytes
 abbrev head : BodyKind → List ℕ
 head kind = 1 ∷ body_kind_number kind ∷ []
 
+-- the bytes were read as a version, 1, and then a kind
 abbrev WasHead : BodyKind → List ℕ → Type 0
 WasHead = Then (IsByte (λ b. b == 1)) (λ version. Spelled Always (λ kind. body_kind_number kind ∷ []))
 
+-- a version and a kind that were read are spelled so
 head-there : (value : BodyKind) (bytes : List ℕ) → WasHead value bytes → Spelled Always head value bytes
 head-there value bytes s =
     record {
@@ -45,10 +48,12 @@ head-there value bytes s =
       are = s.parts ∙ ap (λ (t : List ℕ). t ++ s.back) s.first.one ∙ ap (λ (n : ℕ). n ∷ s.back) (eqb-true _ _ s.first.is_allowed) ∙ ap (λ (t : List ℕ). 1 ∷ t) s.second.are;
     }
 
+-- the spelling of a version and a kind is a version and then a kind
 head-back : (value : BodyKind) (bytes : List ℕ) → Spelled Always head value bytes → WasHead value bytes
 head-back value bytes s =
     record { before = 1; front = 1 ∷ []; back = body_kind_number value ∷ []; parts = s.are; first = record { is_allowed = refl; one = refl }; second = record { fits = tt; are = refl } }
 
+-- the reader of the version and the kind agrees with the grammar
 head_agrees : (next : BodyKind → Grammar) → Agrees head_at (Spelled Always head) (Byte (λ b. b == 1) BadVersion (λ _. Byte is_body_kind BadKind (λ b. next (body_kind_of b)))) next
 unfolding head_at
 head_agrees next =
@@ -57,21 +62,26 @@ head_agrees next =
 
 -- ---- the number
 
+-- the session and the call, as bytes
 abbrev number : Number → List ℕ
 number n = spelling.word n.session ++ spelling.word n.call
 
+-- the bytes were read as a session and then a call
 abbrev WasNumber : Number → List ℕ → Type 0
 WasNumber = After (λ session. session < 2 ^ 64) spelling.word (λ session. Made (λ call. call < 2 ^ 64) spelling.word (λ call. record { session = session; call = call }))
 
+-- a session and a call that were read are a number within its limits, and are spelled so
 number-there : (value : Number) (bytes : List ℕ) → WasNumber value bytes → Spelled IsNumber number value bytes
 number-there value bytes s =
     subst (λ (v : Number). Spelled IsNumber number v bytes) (sym s.second.same)
     (record { fits = record { session_fits = s.fits; call_fits = s.second.fits }; are = join2 bytes (spelling.word s.before) (spelling.word s.second.before) s.back s.parts s.second.are })
 
+-- the spelling of a number is a session and then a call
 number-back : (value : Number) (bytes : List ℕ) → Spelled IsNumber number value bytes → WasNumber value bytes
 number-back value bytes s =
     record { before = value.session; fits = s.fits.session_fits; back = spelling.word value.call; parts = s.are; second = record { before = value.call; fits = s.fits.call_fits; same = refl; are = refl } }
 
+-- the reader of a number agrees with the grammar
 number_agrees : (next : Grammar) → Agrees number_at (Spelled IsNumber number) (Word any (λ _. Word any (λ _. next))) (λ _. next)
 unfolding number_at
 number_agrees next =
@@ -80,13 +90,16 @@ number_agrees next =
 
 -- ---- the party
 
+-- the party is within its limits, and is one to which such calls go
 pub record IsPartyOf (kind : BodyKind) (party : Party) : Type 0 where
   pub fits : IsParty party
   pub of_kind : is_party_of (kind_in kind) party ≡ true
 
+-- the bytes were read as the byte of the party, and then a node's id where it says so
 abbrev WasParty : BodyKind → Party → List ℕ → Type 0
 WasParty kind = Then (IsByte (is_party_number kind)) (λ b. Either (b == 0) (Given Controller) (Made (IsText 1 255) spelling.text Node))
 
+-- the party is a node where one is asked for, and else the controller
 abbrev party_on : Bool → Party → Bool
 party_on node Controller = not node
 party_on node (Node id) = node
@@ -97,16 +110,19 @@ record Fitting (node : Bool) (value : Party) (b : ℕ) (back : List ℕ) : Type 
   of_kind : party_on node value ≡ true
   are : b ∷ back ≡ spelling.party value
 
+-- the party that was read by its byte is within its limits, is the one that the byte says, and is spelled so
 fitting : (node : Bool) (value : Party) (back : List ℕ) → Either ((cond node 1 0) == 0) (Given Controller) (Made (IsText 1 255) spelling.text Node) value back → Fitting node value (cond node 1 0) back
 fitting true value back s =
     subst (λ (v : Party). Fitting true v 1 back) (sym s.same) (record { fits = s.fits; of_kind = refl; are = ap (λ (t : List ℕ). 1 ∷ t) s.are })
 fitting false value back s =
     subst (λ (v : Party). Fitting false v 0 back) (sym s.same) (record { fits = tt; of_kind = refl; are = ap (λ (t : List ℕ). 0 ∷ t) s.none })
 
+-- whether a kind's calls go to this party is whether they go to a node and it is one, or neither
 on_is : (kind : Kind) (party : Party) → party_on (is_node_kind kind) party ≡ is_party_of kind party
 on_is kind Controller = refl
 on_is kind (Node id) = refl
 
+-- a party that was read is within its limits, is one to which such calls go, and is spelled so
 party-there : (kind : BodyKind) (value : Party) (bytes : List ℕ) → WasParty kind value bytes → Spelled (IsPartyOf kind) spelling.party value bytes
 party-there kind value bytes s =
     let node = is_node_kind (kind_in kind) in
@@ -117,6 +133,7 @@ party-there kind value bytes s =
       are = s.parts ∙ ap (λ (t : List ℕ). t ++ s.back) s.first.one ∙ ap (λ (b : ℕ). b ∷ s.back) b-is ∙ f.are;
     }
 
+-- 1 where a kind's calls go to a node, and else 0, is the party's byte for that kind
 party-number : (kind : Kind) (node : Bool) → is_node_kind kind ≡ node → (cond node 1 0 == party_number kind) ≡ true
 party-number kind true e = rw e refl
 party-number kind false e = rw e refl
@@ -125,6 +142,7 @@ is_false : (b : Bool) → not b ≡ true → b ≡ false
 is_false true e = absurd cc
 is_false false e = refl
 
+-- the spelling of a party to which such calls go is the kind's byte and then its id where it is a node
 party-back : (kind : BodyKind) (value : Party) (bytes : List ℕ) → Spelled (IsPartyOf kind) spelling.party value bytes → WasParty kind value bytes
 party-back kind Controller bytes s =
     record {
@@ -145,6 +163,7 @@ party-back kind (Node id) bytes s =
       second = record { before = id; fits = s.fits.fits; same = refl; are = refl };
     }
 
+-- the reader of the party agrees with the grammar
 party_agrees : (kind : BodyKind) → Agrees (party_at kind) (Spelled (IsPartyOf kind) spelling.party) (party_grammar kind) (λ _. fields_grammar kind)
 unfolding party_at
 party_agrees kind =
@@ -155,19 +174,23 @@ party_agrees kind =
 
 -- ---- the kind's fields
 
+-- the body is a call of this kind, or a reply to one, whose id is there exactly where it must be
 abbrev pub IsBodyOf : BodyKind → Body → Type 0
 IsBodyOf (body_kinds.Call kind) (bodies.Call call) = kind_of call ≡ kind
 IsBodyOf (body_kinds.Call kind) (bodies.Reply k reply) = ⊥
 IsBodyOf (body_kinds.Reply kind) (bodies.Call call) = ⊥
 IsBodyOf (body_kinds.Reply kind) (bodies.Reply k reply) = (k ≡ kind) × (has_id_by_rule kind reply ≡ true)
 
+-- the body is of this kind, and within its limits
 pub record FitsKind (kind : BodyKind) (body : Body) : Type 0 where
   pub of_kind : IsBodyOf kind body
   pub fits : IsBody body
 
+-- a body of this kind, and its fields
 abbrev SaysFields : BodyKind → Body → List ℕ → Type 0
 SaysFields kind = Spelled (FitsKind kind) spelling.body_fields
 
+-- the call, or below the reply, that was read is a body of its kind, and is spelled so; and back
 call-there : (kind : Kind) (value : Body) (bytes : List ℕ) → Then (SaysCall kind) (λ call. Given (bodies.Call call)) value bytes → SaysFields (body_kinds.Call kind) value bytes
 call-there kind value bytes s =
     subst (λ (v : Body). SaysFields (body_kinds.Call kind) v bytes) (sym s.second.same)
@@ -195,6 +218,7 @@ reply-back kind (bodies.Reply k reply) bytes s =
     }
 reply-back kind (bodies.Call call) bytes s = absurd s.fits.of_kind
 
+-- the reader of the kind's fields agrees with the grammar
 fields_agree : (kind : BodyKind) → Agrees (fields_at kind) (SaysFields kind) (fields_grammar kind) (λ _. End)
 unfolding fields_at
 fields_agree (body_kinds.Call kind) =
@@ -204,22 +228,26 @@ fields_agree (body_kinds.Reply kind) =
 
 -- ---- the whole body
 
+-- the bytes were read as a head, a number, a party and the kind's fields
 abbrev WasFrame : Frame → List ℕ → Type 0
 WasFrame =
     After Always head (λ kind. After IsNumber number (λ n. After (IsPartyOf kind) spelling.party (λ party. Made (FitsKind kind) spelling.body_fields (λ body. record { number = n; party = party; body = body }))))
 
+-- a party to which such calls go, and a body of this kind, may stand together in a frame
 allowed-there : (kind : BodyKind) (party : Party) (body : Body) → is_party_of (kind_in kind) party ≡ true → IsBodyOf kind body → IsAllowed party body
 allowed-there (body_kinds.Call kind) party (bodies.Call call) p e = rw e p
 allowed-there (body_kinds.Call kind) party (bodies.Reply k reply) p e = absurd e
 allowed-there (body_kinds.Reply kind) party (bodies.Call call) p e = absurd e
 allowed-there (body_kinds.Reply kind) party (bodies.Reply k reply) p e = rw e.0 (p, e.1)
 
+-- the number of a body kind is the one with which each body of it is spelled
 number-there-of : (kind : BodyKind) (body : Body) → IsBodyOf kind body → body_kind_number kind ≡ spelling.body_kind body
 number-there-of (body_kinds.Call kind) (bodies.Call call) e = ap kind_number (sym e)
 number-there-of (body_kinds.Call kind) (bodies.Reply k reply) e = absurd e
 number-there-of (body_kinds.Reply kind) (bodies.Call call) e = absurd e
 number-there-of (body_kinds.Reply kind) (bodies.Reply k reply) e = ap (λ (k : Kind). 128 + kind_number k) (sym e.0)
 
+-- the parts that were read are a frame within its limits, and are spelled as its body
 frame-there : (value : Frame) (bytes : List ℕ) → WasFrame value bytes → Spelled IsFrame spelling.frame_body value bytes
 unfolding spelling.frame_body
 frame-there value bytes s =
@@ -239,10 +267,12 @@ record OfItself (party : Party) (body : Body) : Type 0 where
   of_party : is_party_of (kind_in kind) party ≡ true
   of_body : IsBodyOf kind body
 
+-- where a party and a body may stand together, the body has a kind, whose calls go to this party
 of_itself : (party : Party) (body : Body) → IsAllowed party body → OfItself party body
 of_itself party (bodies.Call call) a = record { kind = body_kinds.Call (kind_of call); numbered = refl; of_party = a; of_body = refl }
 of_itself party (bodies.Reply kind reply) a = record { kind = body_kinds.Reply kind; numbered = refl; of_party = a.0; of_body = (refl, a.1) }
 
+-- the spelling of a frame's body is its head, its number, its party and its kind's fields
 frame-back : (value : Frame) (bytes : List ℕ) → Spelled IsFrame spelling.frame_body value bytes → WasFrame value bytes
 unfolding spelling.frame_body
 frame-back value bytes s =
@@ -268,6 +298,7 @@ frame-back value bytes s =
       };
     }
 
+-- the reader of a body agrees with the grammar
 pub frame_agrees : Agrees frame_at (Spelled IsFrame spelling.frame_body) body_grammar (λ _. End)
 unfolding frame_at body_grammar
 frame_agrees =

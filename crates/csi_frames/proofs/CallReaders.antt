@@ -22,6 +22,7 @@ use Rattle.csi_frames.proofs.CapabilityReaders.{any_word_agrees, id_agrees, any_
 
 -- ---- parts put together
 
+-- a list that is cut after one part, and again after the next, is these parts one after another; down to four of them
 pub join2 : (x a b r : List ℕ) → x ≡ a ++ r → r ≡ b → x ≡ a ++ b
 join2 x a b r e f = e ∙ ap (λ (t : List ℕ). a ++ t) f
 
@@ -32,6 +33,7 @@ pub join4 : (x a b c d r q p : List ℕ) → x ≡ a ++ r → r ≡ b ++ q → q
 join4 x a b c d r q p e f g h =
     join3 x a b (c ++ d) r q e f (join2 q c d p g h) ∙ sym (append_assoc (a ++ b) c d)
 
+-- the parts of a list, joined from the left, are the same joined from the right
 pub cut3 : (x a b c : List ℕ) → x ≡ a ++ b ++ c → x ≡ a ++ (b ++ c)
 cut3 x a b c e = e ∙ append_assoc a b c
 
@@ -48,17 +50,21 @@ pub record SaysCall (kind : Kind) (value : Call) (bytes : List ℕ) : Type 0 whe
 
 -- CreateVolume
 
+-- the bytes were read as a count, of at most 8, and so many capabilities
 abbrev WasCounted : List ℕ → ℕ → ℕ → Call → List ℕ → Type 0
 WasCounted name required limit = Then (IsByte (at_most 8)) (λ count. Made (AreCapabilities count) (flat_map spelling.capability) (λ capabilities. calls.CreateVolume name required limit capabilities))
 
+-- the bytes were read as the fields of a CreateVolume
 abbrev SaysCreate : Call → List ℕ → Type 0
 SaysCreate = After IsName spelling.text (λ name. After IsWord spelling.word (λ required. After IsWord spelling.word (λ limit. WasCounted name required limit)))
 
+-- a count and the capabilities that it counts are spelled as their length and then each of them
 counted : (bytes front back : List ℕ) (count : ℕ) (capabilities : List Capability) → bytes ≡ front ++ back → front ≡ count ∷ [] → back ≡ flat_map spelling.capability capabilities → length capabilities ≡ count
     → bytes ≡ length capabilities ∷ flat_map spelling.capability capabilities
 counted bytes front back count capabilities e f g h =
     e ∙ ap (λ (t : List ℕ). t ++ back) f ∙ ap (λ (t : List ℕ). count ∷ t) g ∙ ap (λ (n : ℕ). n ∷ flat_map spelling.capability capabilities) (sym h)
 
+-- the fields that were read are those of a CreateVolume within its limits
 create-there : (value : Call) (bytes : List ℕ) → SaysCreate value bytes → SaysCall kinds.CreateVolume value bytes
 create-there value bytes s =
     let name = s.before in let s1 = s.second in let required = s1.before in let s2 = s1.second in let limit = s2.before in let s3 = s2.second in
@@ -72,6 +78,7 @@ create-there value bytes s =
       are = join4 bytes (spelling.text name) (spelling.word required) (spelling.word limit) (length capabilities ∷ flat_map spelling.capability capabilities) s.back s1.back s2.back s.parts s1.parts s2.parts last;
     })
 
+-- the spelling of a CreateVolume's fields is a name, two numbers, a count and the capabilities
 create-back : (value : Call) (bytes : List ℕ) → SaysCall kinds.CreateVolume value bytes → SaysCreate value bytes
 create-back (calls.CreateVolume name required limit capabilities) bytes s =
     let last : List ℕ = length capabilities ∷ flat_map spelling.capability capabilities in
@@ -103,6 +110,7 @@ create-back (calls.CreateVolume name required limit capabilities) bytes s =
     }
 create-back _ bytes s = absurd (cc s.of_kind)
 
+-- the reader of a CreateVolume agrees with the grammar
 create_agrees : Agrees create_at (SaysCall kinds.CreateVolume) (call_grammar kinds.CreateVolume) (λ _. End)
 unfolding create_at call_grammar
 create_agrees =
@@ -115,6 +123,7 @@ create_agrees =
 
 -- calls with an id alone
 
+-- what was read is such a call within its limits and is spelled so, and back: of each call below
 delete-there : (value : Call) (bytes : List ℕ) → Made IsVolumeId spelling.word (λ id. calls.DeleteVolume id) value bytes → SaysCall kinds.DeleteVolume value bytes
 delete-there value bytes s = subst (λ (v : Call). SaysCall kinds.DeleteVolume v bytes) (sym s.same) (record { of_kind = refl; fits = s.fits; are = s.are })
 
@@ -131,6 +140,7 @@ unstage-back _ bytes s = absurd (cc s.of_kind)
 
 -- calls with an id and a text
 
+-- the bytes were read as an id and a text
 abbrev SaysIdText : (ℕ → List ℕ → Call) → Call → List ℕ → Type 0
 SaysIdText make = After IsVolumeId spelling.word (λ id. Made (IsText 1 255) spelling.text (make id))
 
@@ -156,6 +166,7 @@ node_unpublish-back _ bytes s = absurd (cc s.of_kind)
 
 -- NodeStageVolume
 
+-- the bytes were read as an id and a capability
 abbrev SaysStage : Call → List ℕ → Type 0
 SaysStage = After IsVolumeId spelling.word (λ id. Made IsCapability spelling.capability (λ c. calls.NodeStageVolume id c))
 
@@ -171,6 +182,7 @@ stage-back _ bytes s = absurd (cc s.of_kind)
 
 -- calls with an id, a text, a capability and a flag
 
+-- the bytes were read as an id, a text, a capability and a flag
 abbrev SaysPublish : (ℕ → List ℕ → Capability → Bool → Call) → Call → List ℕ → Type 0
 SaysPublish make = After IsVolumeId spelling.word (λ id. After (IsText 1 255) spelling.text (λ place. After IsCapability spelling.capability (λ c. Made Always spelling.flag (make id place c))))
 
@@ -222,6 +234,7 @@ node_publish-back _ bytes s = absurd (cc s.of_kind)
 
 -- each kind
 
+-- the reader of a call agrees with the grammar of its kind
 pub call_agrees : (kind : Kind) → Agrees (call_at kind) (SaysCall kind) (call_grammar kind) (λ _. End)
 unfolding call_at id_alone_at id_and_text_at stage_at publish_at call_grammar
 call_agrees kinds.CreateVolume = create_agrees

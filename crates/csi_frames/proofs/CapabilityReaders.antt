@@ -24,6 +24,7 @@ use Rattle.csi_frames.proofs.Codes.{mode_code, flag_code, flag_number}
 
 -- ---- words, texts, flags
 
+-- this and the next four: the reader of each single field agrees with the grammar, and its values have one spelling
 pub any_word_agrees : (next : ℕ → Grammar) → Agrees (word_at any) (Spelled IsWord spelling.word) (Word any next) next
 any_word_agrees next =
     in_words (Spelled IsWord spelling.word) (λ n bytes s. record { fits = s.fits; are = s.eight }) (λ n bytes s. record { fits = s.fits; is_allowed = refl; eight = s.are }) (word_agrees any next)
@@ -50,9 +51,11 @@ mode_agrees next = code_agrees is_mode BadMode mode_of mode_number next mode_cod
 
 -- ---- capabilities
 
+-- what spells the access behind its first byte
 abbrev WasAccess : ℕ → Access → List ℕ → Type 0
 WasAccess b = Either (b == 0) (Given Block) (Made (IsText 0 128) spelling.text Mount)
 
+-- an access that was read by its first byte is within its limits, and is spelled so
 access-there : (b : ℕ) → at_most 1 b ≡ true → (value : Access) (back : List ℕ) → WasAccess b value back → Spelled IsAccess spelling.access value (b ∷ back)
 access-there zero low value back s =
     subst (λ (v : Access). Spelled IsAccess spelling.access v (0 ∷ back)) (sym s.same) (record { fits = tt; are = ap (λ (t : List ℕ). 0 ∷ t) s.none })
@@ -60,18 +63,22 @@ access-there (suc zero) low value back s =
     subst (λ (v : Access). Spelled IsAccess spelling.access v (1 ∷ back)) (sym s.same) (record { fits = s.fits; are = ap (λ (t : List ℕ). 1 ∷ t) s.are })
 access-there (suc (suc n)) low value back s = absurd (omega (arith, leb-true (suc (suc n)) 1 low))
 
+-- the first byte of an access, and what follows it
 abbrev SaysAccess : Access → List ℕ → Type 0
 SaysAccess = Then (IsByte (at_most 1)) WasAccess
 
+-- an access within its limits, as it is spelled, is a first byte and what follows it
 access-back : (value : Access) (bytes : List ℕ) → Spelled IsAccess spelling.access value bytes → SaysAccess value bytes
 access-back Block bytes s =
     record { before = 0; front = 0 ∷ []; back = []; parts = s.are; first = record { is_allowed = refl; one = refl }; second = record { same = refl; none = refl } }
 access-back (Mount fs_type) bytes s =
     record { before = 1; front = 1 ∷ []; back = spelling.text fs_type; parts = s.are; first = record { is_allowed = refl; one = refl }; second = record { before = fs_type; fits = s.fits; same = refl; are = refl } }
 
+-- the grammar of an access, and what comes after it
 abbrev access_grammar : Grammar → Grammar
 access_grammar next = Byte (at_most 1) BadAccess (λ b. cond (b == 0) next (Text 0 128 (λ _. next)))
 
+-- the reader of an access agrees with the grammar
 access_agrees : (next : Grammar) → Agrees access_at (Spelled IsAccess spelling.access) (access_grammar next) (λ _. next)
 unfolding access_at
 access_agrees next =
@@ -81,18 +88,22 @@ access_agrees next =
     (then (byte_agrees (at_most 1) BadAccess (λ b. cond (b == 0) next (Text 0 128 (λ _. next))))
     (λ b. either (b == 0) (gives {next = λ _. next} Block) (makes Mount (λ _. next) (any_text_agrees 0 128 (λ _. next)))))
 
+-- an access and then a mode
 abbrev SaysCapability : Capability → List ℕ → Type 0
 SaysCapability = After IsAccess spelling.access (λ access. Made Always (λ mode. mode_number mode ∷ []) (λ mode. record { access = access; mode = mode }))
 
+-- an access and then a mode are the spelling of the capability that was made of them
 capability-there : (value : Capability) (bytes : List ℕ) → SaysCapability value bytes → Spelled IsCapability spelling.capability value bytes
 capability-there value bytes s =
     subst (λ (v : Capability). Spelled IsCapability spelling.capability v bytes) (sym s.second.same)
     (record { fits = s.fits; are = s.parts ∙ ap (λ (t : List ℕ). spelling.access s.before ++ t) s.second.are })
 
+-- the spelling of a capability is that of its access and then that of its mode
 capability-back : (value : Capability) (bytes : List ℕ) → Spelled IsCapability spelling.capability value bytes → SaysCapability value bytes
 capability-back value bytes s =
     record { before = value.access; fits = s.fits; back = mode_number value.mode ∷ []; parts = s.are; second = record { before = value.mode; fits = tt; same = refl; are = refl } }
 
+-- the reader of a capability agrees with the grammar
 pub capability_agrees : (next : Grammar) → Agrees capability_at (Spelled IsCapability spelling.capability) (capability_grammar next) (λ _. next)
 unfolding capability_at
 capability_agrees next =
@@ -104,12 +115,15 @@ pub record AreCapabilities (count : ℕ) (capabilities : List Capability) : Type
   pub counted : length capabilities ≡ count
   pub each : AllByRecursion IsCapability capabilities
 
+-- a capability, and then so many more
 abbrev SaysMore : ℕ → List Capability → List ℕ → Type 0
 SaysMore n = After IsCapability spelling.capability (λ first. Made (AreCapabilities n) (flat_map spelling.capability) (λ others. first ∷ others))
 
+-- so many capabilities, each within its limits, one after another
 abbrev SaysCapabilities : ℕ → List Capability → List ℕ → Type 0
 SaysCapabilities n = Spelled (AreCapabilities n) (flat_map spelling.capability)
 
+-- a capability and then so many more are spelled as one more than these
 more-there : (n : ℕ) (value : List Capability) (bytes : List ℕ) → SaysMore n value bytes → SaysCapabilities (suc n) value bytes
 more-there n value bytes s =
     subst (λ (v : List Capability). SaysCapabilities (suc n) v bytes) (sym s.second.same)
@@ -118,6 +132,7 @@ more-there n value bytes s =
       are = s.parts ∙ ap (λ (t : List ℕ). spelling.capability s.before ++ t) s.second.are ∙ sym (flat_map-cons spelling.capability s.before s.second.before);
     })
 
+-- one more than so many capabilities are spelled as a capability and then these
 more-back : (n : ℕ) (value : List Capability) (bytes : List ℕ) → SaysCapabilities (suc n) value bytes → SaysMore n value bytes
 more-back n [] bytes s = absurd (cc s.fits.counted)
 more-back n (first ∷ others) bytes s =
@@ -129,14 +144,17 @@ more-back n (first ∷ others) bytes s =
       second = record { before = others; fits = record { counted = omega (arith, s.fits.counted); each = s.fits.each.1 }; same = refl; are = refl };
     }
 
+-- no capabilities are spelled by no bytes
 nil-there : (value : List Capability) (bytes : List ℕ) → Given [] value bytes → SaysCapabilities 0 value bytes
 nil-there value bytes s =
     subst (λ (v : List Capability). SaysCapabilities 0 v bytes) (sym s.same) (record { fits = record { counted = refl; each = tt }; are = s.none })
 
+-- no bytes spell no capabilities
 nil-back : (value : List Capability) (bytes : List ℕ) → SaysCapabilities 0 value bytes → Given [] value bytes
 nil-back [] bytes s = record { same = refl; none = s.are }
 nil-back (first ∷ others) bytes s = absurd (cc s.fits.counted)
 
+-- the reader of so many capabilities agrees with the grammar
 pub capabilities_agree : (n : ℕ) → Agrees (capabilities_at n) (SaysCapabilities n) (capabilities_grammar n) (λ _. End)
 unfolding capabilities_at
 capabilities_agree zero = in_words (SaysCapabilities 0) nil-there nil-back (gives {next = λ _. End} [])

@@ -17,6 +17,7 @@ use Rattle.csi_frames.specs.Grammar.{at_most}
 use Rattle.csi_types.specs.Same.{kind_number}
 use Rattle.csi_frames.proofs.Says.{IsCode}
 
+-- an allowed byte is the number of its mode; each mode's number is allowed; and that number stands for the mode
 mode-back : (b : ℕ) → is_mode b ≡ true → mode_number (mode_of b) ≡ b
 mode-back zero e = absurd cc
 mode-back (suc zero) e = refl
@@ -40,11 +41,13 @@ mode-again MultiNodeReaderOnly = refl
 mode-again MultiNodeSingleWriter = refl
 mode-again MultiNodeMultiWriter = refl
 
+-- each allowed byte stands for one mode, and each mode has one; below the same of statuses, of the kinds of bodies, and of flags
 pub mode_code : IsCode is_mode mode_of mode_number
 mode_code = record { back = mode-back; is_allowed = mode-allowed; again = mode-again }
 
 -- ---- statuses
 
+-- an allowed byte is the code of its status; each status's code is allowed; and that code stands for the status
 status-back : (b : ℕ) → is_status b ≡ true → status_code (status_of b) ≡ b
 status-back zero e = refl
 status-back (suc zero) e = refl
@@ -111,6 +114,7 @@ status_codes = record { back = status-back; is_allowed = status-allowed; again =
 some_is : (a b : Kind) → Some b ≡ Some a → a ≡ b
 some_is a b e = cc
 
+-- a number at which a kind is found is that kind's
 kind-back : (n : ℕ) (kind : Kind) → kind_from_number n ≡ Some kind → kind_number kind ≡ n
 kind-back zero kind e = absurd cc
 kind-back (suc zero) kind e = ap kind_number (some_is kind kinds.CreateVolume e)
@@ -123,23 +127,28 @@ kind-back (suc (suc (suc (suc (suc (suc (suc zero))))))) kind e = ap kind_number
 kind-back (suc (suc (suc (suc (suc (suc (suc (suc zero)))))))) kind e = ap kind_number (some_is kind kinds.NodeUnpublishVolume e)
 kind-back (suc (suc (suc (suc (suc (suc (suc (suc (suc n))))))))) kind e = absurd cc
 
+-- a call has its kind's number, and a reply that number and 128
 abbrev pub body_kind_number : BodyKind → ℕ
 body_kind_number (Call kind) = kind_number kind
 body_kind_number (Reply kind) = 128 + kind_number kind
 
+-- a number at which a kind is found is that of its calls
 call-back : (n : ℕ) (found : Option Kind) → kind_from_number n ≡ found → is_some (option_map Call found) ≡ true → body_kind_number (unwrap_or (option_map Call found) (Call kinds.CreateVolume)) ≡ n
 call-back n None e yes_it = absurd cc
 call-back n (Some kind) e yes_it = kind-back n kind e
 
+-- a number from 128 on, at which a kind is found once 128 is taken off, is that of its replies
 reply-back : (n : ℕ) (found : Option Kind) → 128 ≤ n → kind_from_number (n - 128) ≡ found → is_some (option_map Reply found) ≡ true → body_kind_number (unwrap_or (option_map Reply found) (Call kinds.CreateVolume)) ≡ n
 reply-back n None le e yes_it = absurd cc
 reply-back n (Some kind) le e yes_it = omega (arith, kind-back (n - 128) kind e)
 
+-- the same two, by whether the number is below 128
 either-back : (n : ℕ) (b : Bool) → ltb n 128 ≡ b → is_some (cond b (option_map Call (kind_from_number n)) (option_map Reply (kind_from_number (n - 128)))) ≡ true
     → body_kind_number (unwrap_or (cond b (option_map Call (kind_from_number n)) (option_map Reply (kind_from_number (n - 128)))) (Call kinds.CreateVolume)) ≡ n
 either-back n true low yes_it = call-back n (kind_from_number n) refl yes_it
 either-back n false high yes_it = reply-back n (kind_from_number (n - 128)) (ltb-false _ _ high) refl yes_it
 
+-- an allowed byte is the number of its kind of body; each such number is allowed; and it stands for that kind
 body_kind-back : (n : ℕ) → is_body_kind n ≡ true → body_kind_number (body_kind_of n) ≡ n
 body_kind-back n yes_it = either-back n (ltb n 128) refl yes_it
 
@@ -184,11 +193,13 @@ body_kind_code = record { back = body_kind-back; is_allowed = body_kind-allowed;
 
 -- ---- flags
 
+-- an allowed byte is the number of its flag; each flag's number is allowed; and that number stands for the flag
 flag-back : (b : ℕ) → at_most 1 b ≡ true → (if (b == 1) then 1 else 0) ≡ b
 flag-back zero e = refl
 flag-back (suc zero) e = refl
 flag-back (suc (suc n)) e = absurd (omega (arith, leb-true (suc (suc n)) 1 e))
 
+-- 1 where the flag is set
 abbrev pub flag_number : Bool → ℕ
 flag_number b = if b then 1 else 0
 

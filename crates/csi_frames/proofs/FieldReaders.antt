@@ -18,10 +18,12 @@ use Rattle.csi_frames.proofs.Readers.{Took, Refuses, Agrees, done, ok_is, refuse
 
 -- ---- a byte
 
+-- the bytes are this one byte, an allowed one
 pub record IsByte (allowed : ℕ → Bool) (n : ℕ) (bytes : List ℕ) : Type 0 where
   pub is_allowed : allowed n ≡ true
   pub one : bytes ≡ n ∷ []
 
+-- a byte that is read is an allowed one, and leads to what follows it; by whether it is allowed
 byte-takes : (allowed : ℕ → Bool) (fault : FaultKind) (next : ℕ → Grammar) (b : ℕ) (bytes : List ℕ) (t : Bool) (x : ℕ × List ℕ) → allowed b ≡ t → cond t (done b bytes) (stopped fault (b ∷ bytes)) ≡ Ok x
     → Took (IsByte allowed) (Byte allowed fault next) next (b ∷ bytes) x
 byte-takes allowed fault next b bytes true x is_so e =
@@ -29,11 +31,13 @@ byte-takes allowed fault next b bytes true x is_so e =
     (record { front = b ∷ []; parts = refl; says = record { is_allowed = is_so; one = refl }; leads = byte allowed fault next b [] (next b) is_so (nothing (next b)) })
 byte-takes allowed fault next b bytes false x is_so e = absurd cc
 
+-- where the reader stops at a byte, the grammar refuses it; by whether it is allowed
 byte-stops : (allowed : ℕ → Bool) (fault : FaultKind) (next : ℕ → Grammar) (b : ℕ) (bytes : List ℕ) (t : Bool) (stop : Stop) → allowed b ≡ t → cond t (done b bytes) (stopped fault (b ∷ bytes)) ≡ Err stop
     → Refuses (Byte allowed fault next) (b ∷ bytes) stop
 byte-stops allowed fault next b bytes true stop is_so e = absurd cc
 byte-stops allowed fault next b bytes false stop is_so e = refuses_here {A = ℕ × List ℕ} (Byte allowed fault next) (b ∷ bytes) fault stop (rw is_so refl) e
 
+-- this and the next two: what the reader of a byte takes, where it stops, and that it reads an allowed byte again
 byte_at-takes : (allowed : ℕ → Bool) (fault : FaultKind) (next : ℕ → Grammar) (bytes : List ℕ) (x : ℕ × List ℕ) → byte_at allowed fault bytes ≡ Ok x → Took (IsByte allowed) (Byte allowed fault next) next bytes x
 unfolding byte_at
 byte_at-takes allowed fault next [] x e = absurd cc
@@ -48,6 +52,7 @@ byte_at-again : (allowed : ℕ → Bool) (fault : FaultKind) (n : ℕ) (front re
 unfolding byte_at
 byte_at-again allowed fault n front rest s = ap (λ (t : List ℕ). byte_at allowed fault (t ++ rest)) s.one ∙ rw (s.is_allowed) refl
 
+-- the reader of a byte agrees with the grammar's byte
 pub byte_agrees : (allowed : ℕ → Bool) (fault : FaultKind) (next : ℕ → Grammar) → Agrees (byte_at allowed fault) (IsByte allowed) (Byte allowed fault next) next
 byte_agrees allowed fault next = record {
   takes = λ bytes fits x e. byte_at-takes allowed fault next bytes x e;
@@ -57,11 +62,13 @@ byte_agrees allowed fault next = record {
 
 -- ---- a number of 64 bits
 
+-- the eight bytes of this number, an allowed one
 pub record IsWordOf (allowed : ℕ → Bool) (n : ℕ) (bytes : List ℕ) : Type 0 where
   pub fits : IsWord n
   pub is_allowed : allowed n ≡ true
   pub eight : bytes ≡ big_bytes 8 n
 
+-- a number that is read is an allowed one, spelled by these eight bytes; by how many bytes there are and whether it is allowed
 word-takes : (allowed : ℕ → Bool) (next : ℕ → Grammar) (bytes : List ℕ) (short t : Bool) (x : ℕ × List ℕ) → AreBytes bytes → ltb (length bytes) 8 ≡ short → allowed (big_number 8 bytes) ≡ t
     → cond short (stopped LengthDiffers bytes) (cond t (done (big_number 8 bytes) (drop 8 bytes)) (stopped BadId bytes)) ≡ Ok x → Took (IsWordOf allowed) (Word allowed next) next bytes x
 word-takes allowed next bytes true t x fits is_short is_so e = absurd cc
@@ -81,12 +88,14 @@ word-takes allowed next bytes false true x fits is_short is_so e =
       leads = subst (λ (t : List ℕ). Leads (Word allowed next) t (next n)) (append-nil (take 8 bytes)) led;
     })
 
+-- where the reader of a number stops, the grammar refuses; by how many bytes there are and whether the number is allowed
 word-stops : (allowed : ℕ → Bool) (next : ℕ → Grammar) (bytes : List ℕ) (short t : Bool) (stop : Stop) → ltb (length bytes) 8 ≡ short → allowed (big_number 8 bytes) ≡ t
     → cond short (stopped LengthDiffers bytes) (cond t (done (big_number 8 bytes) (drop 8 bytes)) (stopped BadId bytes)) ≡ Err stop → Refuses (Word allowed next) bytes stop
 word-stops allowed next bytes true t stop is_short is_so e = refuses_here {A = ℕ × List ℕ} (Word allowed next) bytes LengthDiffers stop (rw is_short refl) e
 word-stops allowed next bytes false true stop is_short is_so e = absurd cc
 word-stops allowed next bytes false false stop is_short is_so e = refuses_here {A = ℕ × List ℕ} (Word allowed next) bytes BadId stop (rw (is_short, is_so) refl) e
 
+-- this and the next two: what the reader of a number takes, where it stops, and that it reads an allowed number again
 word_at-takes : (allowed : ℕ → Bool) (next : ℕ → Grammar) (bytes : List ℕ) (x : ℕ × List ℕ) → AreBytes bytes → word_at allowed bytes ≡ Ok x → Took (IsWordOf allowed) (Word allowed next) next bytes x
 unfolding word_at
 word_at-takes allowed next bytes x fits e = word-takes allowed next bytes (ltb (length bytes) 8) (allowed (big_number 8 bytes)) x fits refl refl e
@@ -101,6 +110,7 @@ word_at-eight allowed n rest fits is_so =
     let long : ltb (length (big_bytes 8 n ++ rest)) 8 ≡ false = le-ltb _ _ (omega (arith, length-append (big_bytes 8 n) rest)) in
     rw (long, word-again n rest fits, is_so, drop_at (big_bytes 8 n) rest 8 refl) refl
 
+-- the reader of a number of 64 bits agrees with the grammar's word
 pub word_agrees : (allowed : ℕ → Bool) (next : ℕ → Grammar) → Agrees (word_at allowed) (IsWordOf allowed) (Word allowed next) next
 word_agrees allowed next = record {
   takes = λ bytes fits x e. word_at-takes allowed next bytes x fits e;
@@ -110,19 +120,23 @@ word_agrees allowed next = record {
 
 -- ---- a text
 
+-- a length byte and then this text, which is within its limits
 pub record IsTextOf (least most : ℕ) (value bytes : List ℕ) : Type 0 where
   pub fits : IsText least most value
   pub counted : bytes ≡ length value ∷ value
 
+-- where two tests hold together, each of them holds
 and_both : (a b : Bool) → (a && b) ≡ true → (a ≡ true) × (b ≡ true)
 and_both true true e = (refl, refl)
 and_both true false e = absurd cc
 and_both false b e = absurd cc
 
+-- a test whose opposite doesn't hold does
 not_true : (b : Bool) → not b ≡ false → b ≡ true
 not_true true e = refl
 not_true false e = absurd cc
 
+-- a text that is read is within its limits and has its length before it; by the three tests of the reader
 text-takes : (least most : ℕ) (next : List ℕ → Grammar) (n : ℕ) (bytes : List ℕ) (out short utf8 : Bool) (x : List ℕ × List ℕ)
     → not (leb least n && leb n most) ≡ out → ltb (length bytes) n ≡ short → is_utf8 (take n bytes) ≡ utf8
     → cond out (stopped BadText (n ∷ bytes)) (cond short (stopped LengthDiffers (n ∷ bytes)) (cond utf8 (done (take n bytes) (drop n bytes)) (stopped BadText (n ∷ bytes)))) ≡ Ok x
@@ -148,6 +162,7 @@ text-takes least most next n bytes false false true x is_out is_short is_utf e =
       leads = subst (λ (t : List ℕ). Leads (Text least most next) t (next (take n bytes))) (ap (λ (k : ℕ). k ∷ take n bytes ++ []) count ∙ ap (λ (t : List ℕ). n ∷ t) (append-nil (take n bytes))) led;
     })
 
+-- where the reader of a text stops, the grammar refuses; by the three tests of the reader
 text-stops : (least most : ℕ) (next : List ℕ → Grammar) (n : ℕ) (bytes : List ℕ) (out short utf8 : Bool) (stop : Stop)
     → not (leb least n && leb n most) ≡ out → ltb (length bytes) n ≡ short → is_utf8 (take n bytes) ≡ utf8
     → cond out (stopped BadText (n ∷ bytes)) (cond short (stopped LengthDiffers (n ∷ bytes)) (cond utf8 (done (take n bytes) (drop n bytes)) (stopped BadText (n ∷ bytes)))) ≡ Err stop
@@ -157,6 +172,7 @@ text-stops least most next n bytes false true utf8 stop is_out is_short is_utf e
 text-stops least most next n bytes false false true stop is_out is_short is_utf e = absurd cc
 text-stops least most next n bytes false false false stop is_out is_short is_utf e = refuses_here {A = List ℕ × List ℕ} (Text least most next) (n ∷ bytes) BadText stop (rw (is_out, is_short, is_utf) refl) e
 
+-- this and the next two: what the reader of a text takes, where it stops, and that it reads a text within its limits again
 text_at-takes : (least most : ℕ) (next : List ℕ → Grammar) (bytes : List ℕ) (x : List ℕ × List ℕ) → text_at least most bytes ≡ Ok x → Took (IsTextOf least most) (Text least most next) next bytes x
 unfolding text_at
 text_at-takes least most next [] x e = absurd cc
@@ -175,6 +191,7 @@ text_at-again least most value rest fits =
     let long : ltb (length (value ++ rest)) (length value) ≡ false = le-ltb _ _ (omega (arith, length-append value rest)) in
     rw (low, high, long, take_at value rest (length value) refl, is_utf8-from_IsUtf8 value fits.utf8, drop_at value rest (length value) refl) refl
 
+-- the reader of a text agrees with the grammar's text
 pub text_agrees : (least most : ℕ) (next : List ℕ → Grammar) → Agrees (text_at least most) (IsTextOf least most) (Text least most next) next
 text_agrees least most next = record {
   takes = λ bytes fits x e. text_at-takes least most next bytes x e;

@@ -15,6 +15,7 @@ use Rattle.csi_frames.proofs.Bytes.{word-eight}
 use Rattle.csi_frames.proofs.FieldReaders.{byte_agrees, text_agrees}
 use Rattle.csi_frames.proofs.Readers.{done}
 
+-- a field that was read, and then how what comes after it fares
 abbrev pub judged : {A : Type 0} → Result (A × List ℕ) Stop → (A → List ℕ → Result (Unit {0}) Stop) → Result (Unit {0}) Stop
 judged (Ok x) next = next x.0 x.1
 judged (Err stop) next = Err stop
@@ -29,12 +30,14 @@ judge (Text least most next) bytes = judged (text_at least most bytes) (λ t res
 
 -- ---- what leads through a grammar leaves the rest to be judged
 
+-- eight bytes that are an allowed number are read as that number, whatever comes after them
 word_at-led : (allowed : ℕ → Bool) (eight rest : List ℕ) → length eight ≡ 8 → allowed (big_number 8 eight) ≡ true → word_at allowed (eight ++ rest) ≡ Ok (big_number 8 eight, rest)
 unfolding word_at
 word_at-led allowed eight rest long is_so =
     let enough : ltb (length (eight ++ rest)) 8 ≡ false = le-ltb _ _ (omega (arith, length-append eight rest)) in
     rw (enough, word-eight eight rest long, is_so, drop_at eight rest 8 long) refl
 
+-- bytes that begin with allowed values of the first fields fare as the rest of them fares in the rest of the grammar
 pub judge-Leads : (g : Grammar) (front : List ℕ) (h : Grammar) (bytes : List ℕ) → Leads g front h → judge g (front ++ bytes) ≡ judge h bytes
 unfolding judge
 judge-Leads g front h bytes (nothing _) = refl
@@ -53,9 +56,11 @@ judge-Leads g front h bytes (text least most next value more _ low high utf8 res
 
 -- ---- what a grammar refuses is judged so
 
+-- stopping with either of two equal kinds is the same
 kind_is : {A : Type 0} (kind fault : FaultKind) (bytes : List ℕ) → Some fault ≡ Some kind → stopped {A = A} fault bytes ≡ stopped kind bytes
 kind_is kind fault bytes e = let same : fault ≡ kind = cc in ap (λ (k : FaultKind). stopped k bytes) same
 
+-- a byte that is refused with this fault is judged so; then the same of a word, and of a text
 refused-byte : (allowed : ℕ → Bool) (fault : FaultKind) (next : ℕ → Grammar) (b : ℕ) (bytes : List ℕ) (kind : FaultKind) (t : Bool) → allowed b ≡ t → cond t None (Some fault) ≡ Some kind
     → cond t (done b bytes) (stopped fault (b ∷ bytes)) ≡ stopped kind (b ∷ bytes)
 refused-byte allowed fault next b bytes kind true is_so e = absurd cc
@@ -74,6 +79,7 @@ refused-text value rest bytes kind false true utf8 e = kind_is kind LengthDiffer
 refused-text value rest bytes kind false false true e = absurd cc
 refused-text value rest bytes kind false false false e = kind_is kind BadText bytes e
 
+-- what the grammar refuses at the front of bytes is judged to stop there, with the same kind of fault
 pub judge-refusal : (g : Grammar) (bytes : List ℕ) (kind : FaultKind) → refusal g bytes ≡ Some kind → judge g bytes ≡ stopped kind bytes
 unfolding judge byte_at word_at text_at
 judge-refusal End [] kind e = absurd cc
@@ -89,12 +95,14 @@ judge-refusal (Text least most next) (n ∷ bytes) kind e =
 
 -- ---- so each list of bytes has one verdict
 
+-- bytes that are stuck at a place are judged to stop there, with that fault, and the place is within them
 pub judge-IsStuck : (g : Grammar) (bytes : List ℕ) (kind : FaultKind) (place : ℕ) → IsStuck g bytes kind place → (judge g bytes ≡ Err (record { kind = kind; left = length bytes - place })) × (place ≤ length bytes)
 judge-IsStuck g bytes kind place s =
     let total : length bytes ≡ place + length s.back = ap length s.parts ∙ length-append s.front s.back ∙ ap (λ (n : ℕ). n + length s.back) s.here in
     let left : length s.back ≡ length bytes - place = omega arith in
     (ap (judge g) s.parts ∙ judge-Leads g s.front s.next s.back s.leads ∙ judge-refusal s.next s.back kind s.refused ∙ ap (λ (n : ℕ). Err (record { kind = kind; left = n })) left, omega arith)
 
+-- bytes that are allowed values of a grammar's fields, up to its end, are judged good
 pub judge-end : (g : Grammar) (bytes : List ℕ) → Leads g bytes End → judge g bytes ≡ Ok tt
 unfolding judge
 judge-end g bytes led = ap (judge g) (sym (append-nil bytes)) ∙ judge-Leads g bytes End [] led

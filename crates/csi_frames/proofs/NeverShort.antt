@@ -21,10 +21,12 @@ NeverShort (Text least most next) = (t : List ℕ) → NeverShort (next t)
 
 -- ---- it holds of a body
 
+-- a grammar that is one of two by a test has no Short where neither of them has
 choice : (t : Bool) (g h : Grammar) → NeverShort g → NeverShort h → NeverShort (cond t g h)
 choice true g h first second = first
 choice false g h first second = second
 
+-- down to `body`: the grammar of each part of a body has no Short, where what follows the part has none
 mode : (next : Grammar) → NeverShort next → NeverShort (mode_grammar next)
 mode next never = (λ e. cc, λ m. never)
 
@@ -66,15 +68,18 @@ body = (λ e. cc, λ version. (λ e. cc, λ kind session number. party (body_kin
 
 -- ---- so nothing in it is refused with Short
 
+-- what comes after the first fields of such a grammar is such a grammar too
 after : (g : Grammar) (front : List ℕ) (h : Grammar) → Leads g front h → NeverShort g → NeverShort h
 after g front h (nothing _) never = never
 after g front h (byte allowed fault next b more _ is_allowed rest) never = after (next b) more h rest (never.1 b)
 after g front h (word allowed next eight more _ long is_allowed rest) never = after (next (big_number 8 eight)) more h rest (never (big_number 8 eight))
 after g front h (text least most next value more _ low high utf8 rest) never = after (next value) more h rest (never value)
 
+-- a refusal that is told as a fault other than Short isn't Short
 told : (fault kind : FaultKind) → fault ≢ Short → Some fault ≡ Some kind → kind ≢ Short
 told fault kind never e s = let same : fault ≡ kind = cc in never (same ∙ s)
 
+-- the faults that a word and a text may have aren't Short
 differs : LengthDiffers ≢ Short
 differs e = cc
 
@@ -84,6 +89,7 @@ bad_id e = cc
 bad_text : BadText ≢ Short
 bad_text e = cc
 
+-- a refusal by the tests of a byte whose own fault isn't Short isn't Short; nor is one by those of a word or a text
 told-byte : (t : Bool) (fault kind : FaultKind) → fault ≢ Short → cond t None (Some fault) ≡ Some kind → kind ≢ Short
 told-byte true fault kind never e = absurd cc
 told-byte false fault kind never e = told fault kind never e
@@ -99,6 +105,7 @@ told-text false true utf8 kind e = told LengthDiffers kind differs e
 told-text false false true kind e = absurd cc
 told-text false false false kind e = told BadText kind bad_text e
 
+-- what such a grammar refuses, it doesn't refuse with Short
 refused : (g : Grammar) (bytes : List ℕ) (kind : FaultKind) → NeverShort g → refusal g bytes ≡ Some kind → kind ≢ Short
 refused End [] kind never e = absurd cc
 refused End (b ∷ bytes) kind never e = told LengthDiffers kind differs e
@@ -108,6 +115,7 @@ refused (Word allowed next) bytes kind never e = told-word (ltb (length bytes) 8
 refused (Text least most next) [] kind never e = told LengthDiffers kind differs e
 refused (Text least most next) (n ∷ bytes) kind never e = told-text (not (leb least n && leb n most)) (ltb (length bytes) n) (is_utf8 (take n bytes)) kind e
 
+-- where the grammar of a body is stuck, the fault isn't Short
 stuck : (bytes : List ℕ) (kind : FaultKind) (place : ℕ) → IsStuck body_grammar bytes kind place → kind ≢ Short
 stuck bytes kind place s = refused s.next s.back kind (after body_grammar s.front s.next s.leads body) s.refused
 

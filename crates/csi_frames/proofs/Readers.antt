@@ -12,6 +12,7 @@ use Rattle.csi_frames.proofs.Bytes.{AreBytes-back}
 
 -- ---- leading through a grammar goes on
 
+-- allowed values of the first fields, and then of those after them, are allowed values of all of these
 pub Leads-append : (g : Grammar) (a : List ℕ) (h : Grammar) (b : List ℕ) (k : Grammar) → Leads g a h → Leads h b k → Leads g (a ++ b) k
 Leads-append g a h b k (nothing _) after = after
 Leads-append g a h b k (byte allowed fault next n more _ is_allowed rest) after =
@@ -48,6 +49,7 @@ pub record Agrees {A : Type 0} (read : Reader A) (Says : A → List ℕ → Type
 
 -- ---- one reader after another
 
+-- where going on gave a value, the first reader gave one, and what came after it gave that value
 go_on_ok : {A B : Type 0} (r : Result (A × List ℕ) Stop) (k : A → Reader B) (y : B × List ℕ) → go_on r k ≡ Ok y → (x : A × List ℕ) × (r ≡ Ok x) × (k x.0 x.1 ≡ Ok y)
 go_on_ok (Ok x) k y e = (x, refl, e)
 go_on_ok (Err stop) k y e = absurd cc
@@ -58,6 +60,7 @@ record Later {A B : Type 0} (r : Result (A × List ℕ) Stop) (k : A → Reader 
   was : r ≡ Ok read
   stopped : k read.0 read.1 ≡ Err stop
 
+-- where going on stopped, the first reader stopped there, or it gave a value and what came after it stopped
 go_on_err : {A B : Type 0} (r : Result (A × List ℕ) Stop) (k : A → Reader B) (stop : Stop) → go_on r k ≡ Err stop → (r ≡ Err stop) ⊎ Later r k stop
 go_on_err (Ok x) k stop e = inr (record { read = x; was = refl; stopped = e })
 go_on_err (Err d) k stop e = inl cc
@@ -71,6 +74,7 @@ pub record Then {A B : Type 0} (First : A → List ℕ → Type 0) (Second : A �
   pub first : First before front
   pub second : Second before value back
 
+-- a reader that agrees with a grammar, and then one that agrees with what follows each value, agree one after another
 pub then : {A B : Type 0} {r : Reader A} {k : A → Reader B} {First : A → List ℕ → Type 0} {Second : A → B → List ℕ → Type 0} {g : Grammar} {mid : A → Grammar} {next : B → Grammar}
     → Agrees r First g mid → ((a : A) → Agrees (k a) (Second a) (mid a) next) → Agrees (r >>= k) (Then First Second) g next
 then {A} {B} {r} {k} {First} {Second} {g} {mid} {next} one two = record {
@@ -111,12 +115,15 @@ pub record Given {A : Type 0} (made value : A) (bytes : List ℕ) : Type 0 where
   pub same : value ≡ made
   pub none : bytes ≡ []
 
+-- a value was read, and these bytes come after it
 abbrev pub done : {A : Type 0} → A → List ℕ → Result (A × List ℕ) Stop
 done x bytes = Ok (x, bytes)
 
+-- of two answers that are the same, the values and the bytes behind them are the same
 pub ok_is : {A : Type 0} (x : A) (bytes : List ℕ) (y : A × List ℕ) → done x bytes ≡ Ok y → (x, bytes) ≡ y
 ok_is x bytes y e = cc
 
+-- of two stops that are the same, the kind and what is left are the same
 pub err_is : {A : Type 0} (kind : FaultKind) (bytes : List ℕ) (stop : Stop) → stopped {A = A} kind bytes ≡ Err stop → (record { kind = kind; left = length bytes }) ≡ stop
 err_is kind bytes stop e = cc
 
@@ -134,6 +141,7 @@ refuses_here {A} g bytes kind stop refused e =
       refused = refused ∙ ap (λ (s : Stop). Some s.kind) same;
     }
 
+-- a value that is given without reading agrees with the grammar that follows it
 pub gives : {A : Type 0} {next : A → Grammar} (made : A) → Agrees (give made) (Given made) (next made) next
 gives {A} {next} made = record {
   takes = λ bytes fits x e. subst (λ (y : A × List ℕ). Took (Given made) (next made) next bytes y) (ok_is made bytes x e)
@@ -144,6 +152,7 @@ gives {A} {next} made = record {
 
 -- ---- the same in other words, and a choice
 
+-- what spells a reader's values may be put in other words that say the same
 pub in_words : {A : Type 0} {r : Reader A} {Says : A → List ℕ → Type 0} {g : Grammar} {next : A → Grammar} (Other : A → List ℕ → Type 0)
     → ((value : A) (bytes : List ℕ) → Says value bytes → Other value bytes) → ((value : A) (bytes : List ℕ) → Other value bytes → Says value bytes) → Agrees r Says g next → Agrees r Other g next
 in_words Other there back one = record {
@@ -156,6 +165,7 @@ in_words Other there back one = record {
 abbrev pub Either : {A : Type 0} → Bool → (A → List ℕ → Type 0) → (A → List ℕ → Type 0) → A → List ℕ → Type 0
 Either b First Second value bytes = MatchBool b (First value bytes) (Second value bytes)
 
+-- of two readers that agree with a grammar each, the one that a test chooses agrees with the grammar that it chooses
 pub either : {A : Type 0} {r k : Reader A} {First Second : A → List ℕ → Type 0} {g h : Grammar} {next : A → Grammar} (b : Bool)
     → Agrees r First g next → Agrees k Second h next → Agrees (cond b r k) (Either b First Second) (cond b g h) next
 either true one two = one

@@ -24,6 +24,7 @@ use Rattle.csi_frames.proofs.Codes.{status_codes}
 use Rattle.csi_frames.proofs.CapabilityReaders.{any_text_agrees}
 use Rattle.csi_frames.proofs.CallReaders.{join3}
 
+-- the reader of a status agrees with the grammar
 pub status_agrees : (next : Status → Grammar) → Agrees status_at (Spelled Always (λ status. status_code status ∷ [])) (Byte is_status BadStatus (λ b. next (status_of b))) next
 unfolding status_at
 status_agrees next = code_agrees is_status BadStatus status_of status_code next status_codes
@@ -35,15 +36,19 @@ pub record IsReplyId (kind : Kind) (status : Status) (id : Option ℕ) : Type 0 
   pub fits : IfSome id IsVolumeId
   pub rule : cond (is_create kind && is_ok_status status) (is_some id) (not (is_some id)) ≡ true
 
+-- the bytes were read as a number that a reply to such a call may have for its id
 abbrev SaysId : Kind → Status → Option ℕ → List ℕ → Type 0
 SaysId kind status = Then (IsWordOf (is_reply_id kind status)) (λ n. Given (reply_id_of n))
 
+-- an id is there where it must be, and only there
 abbrev rule_on : Bool → Option ℕ → Bool
 rule_on must id = cond must (is_some id) (not (is_some id))
 
+-- a number stands for an id where there must be one, and is 0 elsewhere
 abbrev number_on : Bool → ℕ → Bool
 number_on must n = cond must (ltb 0 n) (eqb n 0)
 
+-- a number other than 0 stands for itself as an id
 reply_id_of-suc : (n : ℕ) → reply_id_of (suc n) ≡ Some (suc n)
 reply_id_of-suc n = rw (eqb-suc-zero n) refl
 
@@ -54,6 +59,7 @@ id-there true (suc n) e fits = rw (reply_id_of-suc n) (refl, refl, record { from
 id-there false zero e fits = (refl, refl, tt)
 id-there false (suc n) e fits = absurd (cc (eqb-suc-zero n))
 
+-- an id that is there exactly where it must be is spelled as a number that says so, and that stands for it
 id-back : (must : Bool) (id : Option ℕ) → rule_on must id ≡ true → IfSome id IsVolumeId → (n : ℕ) × (number_on must n ≡ true) × (n < 2 ^ 64) × (spelling.reply_id id ≡ spelling.word n) × (id ≡ reply_id_of n)
 id-back true None e fits = absurd cc
 id-back true (Some zero) e fits = absurd (omega (arith, fits.from_one))
@@ -61,6 +67,7 @@ id-back true (Some (suc n)) e fits = (suc n, lt-ltb _ _ fits.from_one, fits.in_r
 id-back false None e fits = (0, refl, omega arith, refl, refl)
 id-back false (Some n) e fits = absurd cc
 
+-- the reader of a reply's id agrees with the grammar
 pub reply_id_agrees : (kind : Kind) (status : Status) (next : Grammar) → Agrees (reply_id_at kind status) (Spelled (IsReplyId kind status) spelling.reply_id) (Word (is_reply_id kind status) (λ _. next)) (λ _. next)
 unfolding reply_id_at
 reply_id_agrees kind status next =
@@ -82,10 +89,12 @@ pub record SaysReply (kind : Kind) (value : Reply) (bytes : List ℕ) : Type 0 w
   pub rule : has_id_by_rule kind value ≡ true
   pub are : bytes ≡ spelling.reply_fields value
 
+-- the bytes were read as a status, an id and a detail
 abbrev WasReply : Kind → Reply → List ℕ → Type 0
 WasReply kind =
     After Always (λ status. status_code status ∷ []) (λ status. After (IsReplyId kind status) spelling.reply_id (λ id. Made (IsText 0 255) spelling.text (λ detail. record { status = status; id = id; detail = detail })))
 
+-- a status, an id and a detail that were read are a reply by the rule within its limits, and are spelled so
 reply-there : (kind : Kind) (value : Reply) (bytes : List ℕ) → WasReply kind value bytes → SaysReply kind value bytes
 reply-there kind value bytes s =
     let s1 = s.second in let s2 = s1.second in
@@ -96,6 +105,7 @@ reply-there kind value bytes s =
       are = join3 bytes (status_code s.before ∷ []) (spelling.reply_id s1.before) (spelling.text s2.before) s.back s1.back s.parts s1.parts s2.are;
     })
 
+-- the spelling of a reply is a status, an id and a detail
 reply-back : (kind : Kind) (value : Reply) (bytes : List ℕ) → SaysReply kind value bytes → WasReply kind value bytes
 reply-back kind value bytes s =
     record {
@@ -112,6 +122,7 @@ reply-back kind value bytes s =
       };
     }
 
+-- the reader of a reply agrees with the grammar of its call's kind
 pub reply_agrees : (kind : Kind) → Agrees (reply_at kind) (SaysReply kind) (reply_grammar kind) (λ _. End)
 unfolding reply_at reply_grammar
 reply_agrees kind =

@@ -27,6 +27,7 @@ pub record Made {A B : Type 0} (Fits : A → Type 0) (spell : A → List ℕ) (m
   pub same : value ≡ make before
   pub are : bytes ≡ spell before
 
+-- a field with one spelling, and then a reader of what follows it, agree with the grammar one after the other
 pub after : {A B : Type 0} {r : Reader A} {k : A → Reader B} {Fits : A → Type 0} {spell : A → List ℕ} {Second : A → B → List ℕ → Type 0} {g : Grammar} {mid : A → Grammar} {next : B → Grammar}
     → Agrees r (Spelled Fits spell) g mid → ((a : A) → Agrees (k a) (Second a) (mid a) next) → Agrees (r >>= k) (After Fits spell Second) g next
 after {A} {B} {r} {k} {Fits} {spell} {Second} one two =
@@ -35,6 +36,7 @@ after {A} {B} {r} {k} {Fits} {spell} {Second} one two =
     (λ value bytes s. record { before = s.before; front = spell s.before; back = s.back; parts = s.parts; first = record { fits = s.fits; are = refl }; second = s.second })
     (then one two)
 
+-- a reader that makes its value of one field agrees with the grammar where the field's reader does
 pub makes : {A B : Type 0} {r : Reader A} {Fits : A → Type 0} {spell : A → List ℕ} {g : Grammar} (make : A → B) (next : B → Grammar)
     → Agrees r (Spelled Fits spell) g (λ a. next (make a)) → Agrees (r >>= λ a. give (make a)) (Made Fits spell make) g next
 makes {A} {B} {r} {Fits} {spell} make next one =
@@ -47,11 +49,13 @@ makes {A} {B} {r} {Fits} {spell} make next one =
 abbrev pub Always : {A : Type 0} → A → Type 0
 Always a = Unit {0}
 
+-- each allowed byte is the number of the value that it stands for, and each value has one byte, an allowed one
 pub record IsCode {A : Type 0} (allowed : ℕ → Bool) (value_of : ℕ → A) (number : A → ℕ) : Type 0 where
   pub back : (b : ℕ) → allowed b ≡ true → number (value_of b) ≡ b
   pub is_allowed : (a : A) → allowed (number a) ≡ true
   pub again : (a : A) → value_of (number a) ≡ a
 
+-- a reader of a byte that stands for a value agrees with the grammar, and each value is spelled as its byte
 pub code_agrees : {A : Type 0} (allowed : ℕ → Bool) (fault : FaultKind) (value_of : ℕ → A) (number : A → ℕ) (next : A → Grammar) → IsCode allowed value_of number
     → Agrees (byte_at allowed fault >>= λ b. give (value_of b)) (Spelled Always (λ a. number a ∷ [])) (Byte allowed fault (λ b. next (value_of b))) next
 code_agrees {A} allowed fault value_of number next code =

@@ -23,9 +23,11 @@ use Rattle.csi_frames.proofs.Splitting.{size_is}
 
 -- ---- the frames of a stream are one list
 
+-- no frame begins these bytes
 abbrev NoFrame : List ℕ → Type 0
 NoFrame bytes = (frame : Frame) (n : ℕ) → BeginsWith bytes frame n → ⊥
 
+-- the spelling of a frame and more bytes begin with that frame
 spelled_first : (frame : Frame) (more : List ℕ) → IsFrame frame → BeginsWith (spelling frame ++ more) frame (length (spelling frame))
 spelled_first frame more fits = record {
   within = omega (arith, length-append (spelling frame) more);
@@ -39,6 +41,7 @@ one_first f g x y f-fits g-fits e =
     let other = first_frame-begins (spelling f ++ x) g (length (spelling g)) (subst (λ (bytes : List ℕ). BeginsWith bytes g (length (spelling g))) (sym e) (spelled_first g y g-fits)) in
     (same_frame f g (length (spelling f)) (length (spelling g)) (read ∙ other)).0
 
+-- bytes are frames, and a rest that begins with none, in one way
 unique : (fs gs : List Frame) (x y : List ℕ) → AllByRecursion IsFrame fs → AllByRecursion IsFrame gs → NoFrame x → NoFrame y → flat_map spelling fs ++ x ≡ flat_map spelling gs ++ y → (fs ≡ gs) × (x ≡ y)
 unique [] [] x y f-each g-each no-x no-y e = (refl, e)
 unique [] (g ∷ gs) x y f-each g-each no-x no-y e =
@@ -56,15 +59,18 @@ unique (f ∷ fs) (g ∷ gs) x y f-each g-each no-x no-y e =
 
 -- ---- more bytes don't mend a fault
 
+-- more bytes don't change what the first four say
 length_of-more : (bytes more : List ℕ) → 4 ≤ length bytes → length_of (bytes ++ more) ≡ length_of bytes
 length_of-more bytes more long = big_from-append 4 bytes more long
 
+-- more bytes don't change a body that is there
 body-more : (bytes more : List ℕ) → 4 ≤ length bytes → 4 + length_of bytes ≤ length bytes → take (length_of (bytes ++ more)) (drop 4 (bytes ++ more)) ≡ take (length_of bytes) (drop 4 bytes)
 body-more bytes more long whole =
     ap (λ (n : ℕ). take n (drop 4 (bytes ++ more))) (length_of-more bytes more long)
     ∙ ap (take (length_of bytes)) (drop-append-le 4 bytes more long)
     ∙ take-append-le (length_of bytes) (drop 4 bytes) more (omega (arith, length-drop 4 bytes))
 
+-- a fault other than Short stays the same, with the same place, whatever bytes follow
 faulty-more : (bytes more : List ℕ) (kind : FaultKind) (place : ℕ) → kind ≢ Short → IsFaulty bytes kind place → IsFaulty (bytes ++ more) kind place
 faulty-more bytes more kind place other (no_length few) = absurd (other refl)
 faulty-more bytes more kind place other (too_long long much) =
@@ -83,12 +89,14 @@ abbrev IsDropped : Option FrameFault → List ℕ → List ℕ → Type 0
 IsDropped None kept dropped = dropped ≡ []
 IsDropped (Some fault) kept dropped = (fault.kind ≢ Short) × IsFaulty kept fault.kind fault.place
 
+-- the stream is the frames that were given, what is kept, and what was fed and not kept
 record Stands (stream : List ℕ) (given : List Frame) (fault : Option FrameFault) (kept : List ℕ) : Type 0 where
   dropped : List ℕ
   whole : stream ≡ flat_map spelling given ++ (kept ++ dropped)
   each : AllByRecursion IsFrame given
   is_dropped : IsDropped fault kept dropped
 
+-- a piece that is fed is kept, or dropped after a fault, and the stream has it at its end
 stands-feed : (stream piece : List ℕ) (given : List Frame) (fault : Option FrameFault) (kept : List ℕ) → Stands stream given fault kept → Stands (stream ++ piece) given fault (kept_after fault kept piece)
 stands-feed stream piece given None kept s = record {
   dropped = [];
@@ -109,6 +117,7 @@ stands-feed stream piece given (Some fault) kept s = record {
   is_dropped = s.is_dropped;
 }
 
+-- where each frame is within its limits, and one more is, each of them all is
 each-push : (frames : List Frame) (frame : Frame) → AllByRecursion IsFrame frames → IsFrame frame → AllByRecursion IsFrame (frames ++ frame ∷ [])
 each-push [] frame each fits = (fits, tt)
 each-push (f ∷ frames) frame each fits = (each.0, each-push frames frame each.1 fits)
@@ -117,6 +126,7 @@ each-push (f ∷ frames) frame each fits = (each.0, each-push frames frame each.
 stands-none : (stream : List ℕ) (given : List Frame) (fault : Option FrameFault) (kept : List ℕ) → Stands stream given fault kept → Stands stream (given ++ []) fault kept
 stands-none stream given fault kept s = subst (λ (gs : List Frame). Stands stream gs fault kept) (sym (append-nil given)) s
 
+-- a frame that is given is taken off what is kept, and the stream stays
 stands-frame : (stream : List ℕ) (given : List Frame) (kept : List ℕ) (frame : Frame) → Stands stream given None kept → BeginsWith kept frame (length (spelling frame)) → Stands stream (given ++ frame ∷ []) None (drop (length (spelling frame)) kept)
 stands-frame stream given kept frame s b =
     let n = length (spelling frame) in
@@ -134,9 +144,11 @@ stands-frame stream given kept frame s b =
       is_dropped = s.is_dropped;
     }
 
+-- the same, by what a splitter shows
 abbrev StandsSo : List ℕ → List Frame → Splitting → Type 0
 StandsSo stream given s = Stands stream given s.fault s.kept
 
+-- whatever the splitter answers to the next call, it still stands in its stream as it shows
 stands-next : (stream : List ℕ) (given : List Frame) (kept : List ℕ) (taken : ℕ) (fault : Option FrameFault) (answer : Result (Option Frame) FrameFault) → Stands stream given fault kept → IsNext fault kept answer
     → StandsSo stream (given ++ frame_in answer) (after_next (record { kept = kept; taken = taken; fault = fault }) answer)
 stands-next stream given kept taken None (Ok (Some frame)) s found = stands-frame stream given kept frame s found
@@ -148,6 +160,7 @@ stands-next stream given kept taken (Some g) (Err f) s found =
     let same : g ≡ f = cc in
     stands-none stream given (Some f) kept (subst (λ (h : FrameFault). Stands stream given (Some h) kept) same s)
 
+-- a splitter that was fed a stream in any pieces, and gave these frames, stands in that stream as it shows
 stands : (stream : List ℕ) (given : List Frame) (s : Splitting) → Splits stream given s → StandsSo stream given s
 stands stream given s begins = record { dropped = []; whole = refl; each = tt; is_dropped = refl }
 stands stream given s (feeds before piece _ t run) = stands-feed before piece given t.fault t.kept (stands before given t run)
@@ -155,6 +168,7 @@ stands stream given s (asks _ before t answer run found) = stands-next stream be
 
 -- ---- nothing more is given
 
+-- where a splitter would give no frame, none begins what is kept and what was dropped behind it
 no_more : (fault : Option FrameFault) (kept dropped : List ℕ) → AreBytes (kept ++ dropped) → IsDropped fault kept dropped → ((frame : Frame) → IsNext fault kept (Ok (Some frame)) → ⊥) → NoFrame (kept ++ dropped)
 no_more None kept dropped fits nothing none frame n b =
     let here : BeginsWith kept frame n = subst (λ (bytes : List ℕ). BeginsWith bytes frame n) (ap (λ (bytes : List ℕ). kept ++ bytes) nothing ∙ append-nil kept) b in
@@ -167,6 +181,7 @@ left-is : (fault : Option FrameFault) (kept dropped rest : List ℕ) → IsDropp
 left-is None kept dropped rest nothing is = sym (append-nil kept) ∙ ap (λ (bytes : List ℕ). kept ++ bytes) (sym nothing) ∙ is
 left-is (Some f) kept dropped rest faulty is = subst (λ (bytes : List ℕ). IsFaulty bytes f.kind f.place) is (faulty-more kept dropped f.kind f.place faulty.0 faulty.1)
 
+-- what a splitter gave until it gives no more are the frames of the stream, and the rest of the stream is left
 pub given_are : (stream rest : List ℕ) (given frames : List Frame) (s : Splitting) → AreBytes stream → Splits stream given s → HasNoFrame s → FramesOf stream frames rest → (given ≡ frames) × IsLeft s.fault s.kept rest
 given_are stream rest given frames s fits run none of =
     let at = stands stream given s run in

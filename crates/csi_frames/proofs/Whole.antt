@@ -28,6 +28,7 @@ pub record IsStopped (body : List ℕ) (stop : Stop) : Type 0 where
   pub within : stop.left ≤ length body
   pub stuck : IsStuck body_grammar body stop.kind (length body - stop.left)
 
+-- where the reader of a body stopped and the grammar refuses, the body is at fault
 stuck_of : (body : List ℕ) (stop : Stop) → Refuses body_grammar body stop → IsStopped body stop
 stuck_of body stop r =
     let total : length body ≡ length r.front + length r.back = ap length r.parts ∙ length-append r.front r.back in
@@ -36,6 +37,7 @@ stuck_of body stop r =
       stuck = record { front = r.front; back = r.back; next = r.next; parts = r.parts; here = omega (arith, r.here); leads = r.leads; refused = r.refused };
     }
 
+-- bytes that are read as a frame, with nothing left, are this frame's body
 whole-ok : (body : List ℕ) → AreBytes body → (x : Frame × List ℕ) (frame : Frame) → frame_at body ≡ Ok x → all_of (Ok x) ≡ Ok frame → IsBodyOf frame body
 whole-ok body fits (f, []) frame e all =
     let t = frame_agrees.takes body fits (f, []) e in
@@ -45,6 +47,7 @@ whole-ok body fits (f, []) frame e all =
     (record { fits = t.says.fits; are = front-is ∙ t.says.are; leads = subst (λ (b : List ℕ). Leads body_grammar b End) (sym front-is) t.leads })
 whole-ok body fits (f, b ∷ rest) frame e all = absurd cc
 
+-- bytes that are read as a frame, with something left, are a body at fault
 whole-err : (body : List ℕ) → AreBytes body → (x : Frame × List ℕ) (stop : Stop) → frame_at body ≡ Ok x → all_of (Ok x) ≡ Err stop → IsStopped body stop
 whole-err body fits (f, []) stop e all = absurd cc
 whole-err body fits (f, b ∷ rest) stop e all =
@@ -53,6 +56,7 @@ whole-err body fits (f, b ∷ rest) stop e all =
     subst (IsStopped body) same (stuck_of body (record { kind = LengthDiffers; left = length (b ∷ rest) })
     (record { front = t.front; back = b ∷ rest; next = End; parts = t.parts; here = refl; leads = t.leads; refused = refl }))
 
+-- the same two, whatever reading gave
 judged_ok : (body : List ℕ) → AreBytes body → (r : Result (Frame × List ℕ) Stop) (frame : Frame) → frame_at body ≡ r → all_of r ≡ Ok frame → IsBodyOf frame body
 judged_ok body fits (Ok x) frame e all = whole-ok body fits x frame e all
 judged_ok body fits (Err stop) frame e all = absurd cc
@@ -63,12 +67,15 @@ judged_err body fits (Err d) stop e all =
     let same : d ≡ stop = cc in
     subst (IsStopped body) same (stuck_of body d (frame_agrees.stops body fits d e))
 
+-- bytes that are read whole as a frame are that frame's body
 pub all_of-ok : (body : List ℕ) (frame : Frame) → AreBytes body → all_of (frame_at body) ≡ Ok frame → IsBodyOf frame body
 all_of-ok body frame fits e = judged_ok body fits (frame_at body) frame refl e
 
+-- bytes that aren't read as a whole body are a body at fault, of the kind and at the place where reading stopped
 pub all_of-err : (body : List ℕ) (stop : Stop) → AreBytes body → all_of (frame_at body) ≡ Err stop → IsStopped body stop
 all_of-err body stop fits e = judged_err body fits (frame_at body) stop refl e
 
+-- the body of a frame whose parts are within their limits is read as that frame, with nothing left
 pub all_of-spelled : (frame : Frame) → IsFrame frame → all_of (frame_at (frame_body frame)) ≡ Ok frame
 all_of-spelled frame fits =
     ap (λ (t : List ℕ). all_of (frame_at t)) (sym (append-nil (frame_body frame))) ∙ ap all_of (frame_agrees.again frame (frame_body frame) [] (record { fits = fits; are = refl }))
@@ -77,12 +84,15 @@ all_of-spelled frame fits =
 abbrev verdict : Stop → Result (Unit {0}) Stop
 verdict stop = Err stop
 
+-- two stops that are answered alike are the same
 verdict_is : (a b : Stop) → verdict a ≡ verdict b → a ≡ b
 verdict_is a b e = cc
 
+-- bytes aren't judged to be good and to stop
 no_verdict : (j : Result (Unit {0}) Stop) (stop : Stop) → j ≡ Ok tt → j ≡ Err stop → ⊥
 no_verdict j stop good bad = cc
 
+-- where a body is stuck, the answer to reading it is that fault at that place
 stuck-all : (body : List ℕ) → AreBytes body → (kind : FaultKind) (place : ℕ) → IsStuck body_grammar body kind place → (r : Result Frame Stop) → all_of (frame_at body) ≡ r
     → r ≡ Err (record { kind = kind; left = length body - place })
 stuck-all body fits kind place s (Ok frame) e =
@@ -95,6 +105,7 @@ stuck-all body fits kind place s (Err stop) e =
     let same = verdict_is (record { kind = stop.kind; left = length body - (length body - stop.left) }) (record { kind = kind; left = length body - place }) (sym first.0 ∙ second.0) in
     ap Err (ap (λ (n : ℕ). record { kind = stop.kind; left = n }) (sym back) ∙ same)
 
+-- reading a body that is stuck stops at that place, with that kind of fault
 pub all_of-stuck : (body : List ℕ) (kind : FaultKind) (place : ℕ) → AreBytes body → IsStuck body_grammar body kind place → all_of (frame_at body) ≡ Err (record { kind = kind; left = length body - place })
 all_of-stuck body kind place fits s = stuck-all body fits kind place s (all_of (frame_at body)) refl
 
