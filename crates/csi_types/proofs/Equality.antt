@@ -19,9 +19,11 @@ use Rattle.csi_types.specs.Same.{same_text, same_flag, same_access, same_capabil
 use Rattle.csi_types.specs.Holding.{same_holding}
 use Rattle.csi_types.specs.Key.{Key, Exists, Attached, Staged, Published, same_key}
 
+-- the test of two texts holds exactly where they are equal
 pub same_text-tells : (a b : List ℕ) → IsTrue (same_text a b) ↔ (a ≡ b)
 same_text-tells a b = bytes_decides a b
 
+-- of flags, accesses, capabilities and more below: values that pass the test are equal, and each value passes with itself
 same_flag-then : (a b : Bool) → same_flag a b ≡ true → a ≡ b
 same_flag-then true b h = sym h
 same_flag-then false true h = absurd (false≢true h)
@@ -31,6 +33,7 @@ same_flag-self : (a : Bool) → same_flag a a ≡ true
 same_flag-self true = refl
 same_flag-self false = refl
 
+-- modes that have the same number are equal
 mode_number-then : (a b : Mode) → mode_number a ≡ mode_number b → a ≡ b
 mode_number-then SingleNodeWriter SingleNodeWriter h = refl
 mode_number-then SingleNodeReaderOnly SingleNodeReaderOnly h = refl
@@ -60,6 +63,7 @@ same_capability-self : (a : Capability) → same_capability a a ≡ true
 same_capability-self a =
     and_from (same_access a.access a.access) (mode_number a.mode == mode_number a.mode) (same_access-self a.access) (eq-eqb (mode_number a.mode) (mode_number a.mode) refl)
 
+-- the test of two capabilities holds exactly where they are equal; below the same of holdings, numbers, kinds, parties and keys
 pub same_capability-tells : (a b : Capability) → IsTrue (same_capability a b) ↔ (a ≡ b)
 same_capability-tells a b =
     (same_capability-then a b, λ e. subst (λ x. same_capability a x ≡ true) e (same_capability-self a))
@@ -98,6 +102,7 @@ pub same_number-tells : (a b : Number) → IsTrue (same_number a b) ↔ (a ≡ b
 same_number-tells a b =
     (same_number-then a b, λ e. subst (λ x. same_number a x ≡ true) e (same_number-self a))
 
+-- kinds that have the same number are equal
 kind_number-then : (a b : Kind) → kind_number a ≡ kind_number b → a ≡ b
 kind_number-then kinds.CreateVolume kinds.CreateVolume h = refl
 kind_number-then kinds.DeleteVolume kinds.DeleteVolume h = refl

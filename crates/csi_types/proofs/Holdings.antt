@@ -8,6 +8,7 @@ use Rattle.csi_types.specs.Same.{same_text}
 use Rattle.csi_types.specs.Sharing.{is_multi_node}
 use Rattle.csi_types.proofs.Equality.{same_text-tells, same_holding-tells}
 
+-- the test holds of exactly the pairs of holdings that can be held together
 pub compatible-tells : (a b : Holding) → IsTrue (is_compatible a b) ↔ CanHoldBoth a b
 compatible-tells a b = by (same_text a.node b.node) refl
   where

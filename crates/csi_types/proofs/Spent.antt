@@ -7,9 +7,11 @@ use Rattle.csi_types.specs.declared.number.Number.{Number}
 use Rattle.csi_types.specs.Number.{is_before, IsBefore}
 use Rattle.csi_types.specs.Fence.{IsSpent}
 
+-- a number before another passes the test for it
 is_before-then : (a b : Number) → IsBefore a b → is_before a b ≡ true
 is_before-then a b h = rw h refl
 
+-- a number before a spent one is spent
 pub spent-earlier : (last : Option Number) (earlier later : Number) → IsBefore earlier later → IsSpent last later → IsSpent last earlier
 spent-earlier None earlier later before h = h
 spent-earlier (Some last) earlier later before h = by (is_before last earlier) refl
