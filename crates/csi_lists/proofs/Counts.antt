@@ -9,6 +9,7 @@ use Rattle.csi_lists.proofs.Members.{among-kept, has-some, in_filter, some-has}
 use Rattle.csi_lists.proofs.Searches.{find-missed}
 use Rattle.csi_lists.proofs.Tests.{alike, any-then, then-any}
 
+-- of a list with one more at its front, as many pass as of the rest, and one more where it does
 pub count-cons : {X : Type 0} (p : X → Bool) (x : X) (xs : List X) → count_by p (x ∷ xs) ≡ cond (p x) 1 0 + count_by p xs
 count-cons p x xs = sum_by-cons (λ y. cond (p y) 1 0) x xs
 

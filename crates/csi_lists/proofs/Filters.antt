@@ -25,6 +25,7 @@ each-passes p (x ∷ xs) = by (p x) refl (each-passes p xs)
     by true e all = (e, all)
     by false e all = all
 
+-- a filter keeps no more than there were
 pub filter-no_longer : {X : Type 0} (p : X → Bool) (xs : List X) → length (filter p xs) ≤ length xs
 filter-no_longer p [] = omega arith
 filter-no_longer p (x ∷ xs) = by (p x) (filter-no_longer p xs)
@@ -51,6 +52,7 @@ filter-append_passes p (y ∷ ys) x passes = by (p y) (filter-append_passes p ys
 
 -- ---- two filters
 
+-- a filter keeps the same whether one element was taken out before or not, where it wasn't if it passes
 inner : {X : Type 0} (q : X → Bool) (y : X) (rest all : List X) (b c : Bool) → q y ≡ b → (b ≡ true → c ≡ true) → filter q rest ≡ all
     → filter q (cond c (y ∷ rest) rest) ≡ cond (q y) (y ∷ all) all
 inner q y rest all b true e f h = ap (λ (r : List _). cond (q y) (y ∷ r) r) h
@@ -62,6 +64,7 @@ pub filter-filter : {X : Type 0} (q p : X → Bool) (xs : List X) → ((x : X) �
 filter-filter q p [] f = refl
 filter-filter q p (y ∷ ys) f = inner q y (filter p ys) (filter q ys) (q y) (p y) refl (f y) (filter-filter q p ys f)
 
+-- of one element, two filters keep the same in either order
 swapped : {X : Type 0} (p q : X → Bool) (y : X) (a b : List X) (c d : Bool) → p y ≡ c → q y ≡ d → filter p a ≡ filter q b
     → filter p (cond d (y ∷ a) a) ≡ filter q (cond c (y ∷ b) b)
 swapped p q y a b true true e f h = rw (e, f) (ap (λ (r : List _). y ∷ r) h)
@@ -85,6 +88,7 @@ filter-none p (y ∷ ys) = by (p y) refl (filter-none p ys)
 
 -- ---- tests that all pass (for two that agree the kit has `filter_agree`)
 
+-- a filter that each value passes keeps all
 pub filter-all : {X : Type 0} (p : X → Bool) (xs : List X) → ((x : X) → p x ≡ true) → filter p xs ≡ xs
 filter-all p [] all = refl
 filter-all p (y ∷ ys) all = let first = all y in rw first (ap (λ (r : List _). y ∷ r) (filter-all p ys all))
@@ -100,6 +104,7 @@ filter-of_map p f (y ∷ ys) = by (p (f y)) (filter-of_map p f ys)
     by true h = ap (λ (r : List _). f y ∷ r) h
     by false h = h
 
+-- where one element passes exactly where another does, and is that one if so, a filter keeps the same with either
 same_one : {X : Type 0} (q : X → Bool) (y z : X) (rest all : List X) (b : Bool) → q z ≡ b → q y ≡ q z → (b ≡ true → y ≡ z) → rest ≡ all
     → cond (q y) (y ∷ rest) rest ≡ cond (q z) (z ∷ all) all
 same_one q y z rest all true e same f h = let first : q y ≡ true = same ∙ e in let equal : y ≡ z = f refl in rw (first, e, equal, h) refl
@@ -112,6 +117,7 @@ filter-map q f (y ∷ ys) same stays = same_one q (f y) y (filter q (map f ys)) 
 
 -- ---- searches that find nothing
 
+-- where a search of one element and the rest finds nothing, that element isn't taken out either
 none_taken : {X : Type 0} (y : X) (rest all : List X) (found : Option X) (b : Bool) → (found ≡ None → rest ≡ all) → cond b (Some y) found ≡ None → cond (not b) (y ∷ rest) rest ≡ y ∷ all
 none_taken y rest all found true f h = cc
 none_taken y rest all found false f h = ap (λ (r : List _). y ∷ r) (f h)

@@ -12,11 +12,13 @@ use Rattle.csi_lists.proofs.Each.{each-place, each-by_places}
 
 -- ---- each, and each one
 
+-- what holds of each element holds of one that is among the list
 pub each_of : {X : Type 0} (P : X → Type 0) (xs : List X) (x : X) → AllByRecursion P xs → IsAmong x xs → P x
 each_of P [] x all among = absurd among
 each_of P (y ∷ ys) x all (inl e) = subst P (sym e) all.0
 each_of P (y ∷ ys) x all (inr among) = each_of P ys x all.1 among
 
+-- what holds of all that is among the list holds of each element
 pub all_of : {X : Type 0} (P : X → Type 0) (xs : List X) → ((x : X) → IsAmong x xs → P x) → AllByRecursion P xs
 all_of P [] f = tt
 all_of P (y ∷ ys) f = (f y (inl refl), all_of P ys (λ x among. f x (inr among)))
@@ -29,17 +31,21 @@ one-of_all P (y ∷ ys) x all (inr among) = one-of_all P ys x (λ k d lt. all (s
 
 -- ---- lists that are empty, and others
 
+-- a list that nothing is among is empty
 pub empty-where : {X : Type 0} (xs : List X) → ((x : X) → IsAmong x xs → ⊥) → xs ≡ []
 empty-where [] none = refl
 empty-where (x ∷ xs) none = absurd (none x (inl refl))
 
+-- nothing is among an empty list
 pub among-empty : {X : Type 0} (x : X) (xs : List X) → xs ≡ [] → IsAmong x xs → ⊥
 among-empty x xs e among = subst (IsAmong x) e among
 
+-- of a list with a length above 0 some element is there
 pub has-some : {X : Type 0} (xs : List X) → nat_lt 0 (length xs) ≡ true → (x : X) × IsAmong x xs
 has-some [] e = absurd (false≢true e)
 has-some (x ∷ xs) e = (x, inl refl)
 
+-- a list that something is among has a length above 0
 pub some-has : {X : Type 0} (xs : List X) (x : X) → IsAmong x xs → nat_lt 0 (length xs) ≡ true
 some-has [] x among = absurd among
 some-has (y ∷ ys) x among = grind (arith, nat_tests)
@@ -51,6 +57,7 @@ among-one P x y (inr among) own = absurd among
 
 -- ---- two lists, one after the other
 
+-- what is among one of two lists is among the two, one after the other; and what is among the two is among one of them
 pub among-append : {X : Type 0} (xs ys : List X) (x : X) → IsAmong x xs → IsAmong x (xs ++ ys)
 among-append [] ys x among = absurd among
 among-append (y ∷ rest) ys x (inl e) = inl e
@@ -69,6 +76,7 @@ among-joined (y ∷ rest) ys x (inr there) = later (among-joined rest ys x there
     later (inl among) = inl (inr among)
     later (inr among) = inr among
 
+-- one that was added at the end is among the list
 pub among-last : {X : Type 0} (xs : List X) (x : X) → IsAmong x (xs ++ x ∷ [])
 among-last xs x = among-right xs (x ∷ []) x (inl refl)
 
@@ -83,6 +91,7 @@ among-either xs y x among = told (among-joined xs (y ∷ []) x among)
 
 -- ---- a list for each
 
+-- what is among the lists that each element gives is among the one of some element; and back
 pub among-flat : {X Y : Type 0} (f : X → List Y) (xs : List X) (y : Y) → IsAmong y (flat_map f xs) → (x : X) × IsAmong x xs × IsAmong y (f x)
 among-flat f [] y among = absurd among
 among-flat f (x ∷ xs) y among = either (λ there. among-flat f xs y there) (among-joined (f x) (flat_map f xs) y among)
@@ -108,6 +117,7 @@ among-kept p (y ∷ ys) x among = by (p y) refl among (among-kept p ys x)
     by true e (inr there) rest = let found = rest there in (inr found.0, found.1)
     by false e there rest = let found = rest there in (inr found.0, found.1)
 
+-- what a filter kept was there, and it passes: each by itself
 pub among-filter : {X : Type 0} (p : X → Bool) (xs : List X) (x : X) → IsAmong x (filter p xs) → IsAmong x xs
 among-filter p xs x among = (among-kept p xs x among).0
 
@@ -141,6 +151,7 @@ among-by_key key xs ys same x among =
 
 -- ---- maps
 
+-- what one of a list is mapped to is among what the list is mapped to
 pub in-map : {X Y : Type 0} (f : X → Y) (xs : List X) (x : X) → IsAmong x xs → IsAmong (f x) (map f xs)
 in-map f [] x among = absurd among
 in-map f (y ∷ ys) x (inl e) = inl (ap f e)
@@ -152,6 +163,7 @@ among-map f [] y among = absurd among
 among-map f (x ∷ xs) y (inl e) = (x, inl refl, e)
 among-map f (x ∷ xs) y (inr there) = let found = among-map f xs y there in (found.0, inr found.1, found.2)
 
+-- what an element gives is among what the list gives; and what is among that is given by some element
 pub in-filter_map : {X Y : Type 0} (f : X → Option Y) (xs : List X) (x : X) (y : Y) → IsAmong x xs → f x ≡ Some y → IsAmong y (filter_map f xs)
 in-filter_map f [] x y among e = absurd among
 in-filter_map f (z ∷ zs) x y (inl is) e = subst (λ o. IsAmong y (cons_option o (filter_map f zs))) (sym (ap f (sym is) ∙ e)) (inl refl)
@@ -201,6 +213,7 @@ none_passes p xs x h among = by (p x) refl
 
 -- ---- in another order
 
+-- lists that are one another's permutation have the same members
 pub among-moved : {X : Type 0} (xs ys : List X) (x : X) → IsPermutation xs ys → IsAmong x ys → IsAmong x xs
 among-moved xs ys x moved among =
     let own = all_of (λ z. IsAmong z xs) xs (λ z there. there) in

@@ -10,9 +10,11 @@ some_is_not_none x h = cc
 
 -- ---- the first of two, if there is one (the kit's `option_or`)
 
+-- where the first is there, it is the one
 pub option_or-some : {X : Type 0} (o other : Option X) (x : X) → o ≡ Some x → option_or o other ≡ Some x
 option_or-some o other x h = ap (λ p. option_or p other) h
 
+-- where the first isn't there, the other is the one
 pub option_or-none : {X : Type 0} (o other : Option X) → o ≡ None → option_or o other ≡ other
 option_or-none o other h = ap (λ p. option_or p other) h
 
@@ -26,12 +28,14 @@ pub option_or-read : {X Y : Type 0} (f : X → Y) (o other : Option X) (y : Y) �
 option_or-read f None other y h = absurd (none-some y h)
 option_or-read f (Some x) other y h = h
 
+-- where the first is there, one of the two is
 pub option_or-is_some : {X : Type 0} (o other : Option X) → is_some o ≡ true → is_some (option_or o other) ≡ true
 option_or-is_some None other h = absurd (false≢true h)
 option_or-is_some (Some x) other h = refl
 
 -- ---- what is read of it
 
+-- something is read exactly where something is there
 pub is_some-map : {X Y : Type 0} (f : X → Y) (o : Option X) → is_some (option_map f o) ≡ is_some o
 is_some-map f None = refl
 is_some-map f (Some x) = refl
@@ -46,10 +50,12 @@ pub some-from_map : {X Y : Type 0} (f : X → Y) (o : Option X) (y : Y) → opti
 some-from_map f None y h = absurd (none-some y h)
 some-from_map f (Some x) y h = (x, refl, same_Some (f x) y h)
 
+-- what isn't there by the test is nothing
 pub none-from_is_some : {X : Type 0} (o : Option X) → is_some o ≡ false → o ≡ None
 none-from_is_some None h = refl
 none-from_is_some (Some x) h = cc
 
+-- nothing is there where no value can be
 pub none-where : {X : Type 0} (o : Option X) → ((x : X) → o ≡ Some x → ⊥) → o ≡ None
 none-where None f = refl
 none-where (Some x) f = absurd (f x refl)

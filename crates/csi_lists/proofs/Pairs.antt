@@ -56,15 +56,18 @@ pub two-more : {X : Type 0} (R S : X → X → Type 0) (xs : List X) → ((a b :
 two-more R S [] f two = tt
 two-more R S (x ∷ xs) f two = (all_of (S x) xs (λ y among. f x y (each_of (R x) xs y two.0 among)), two-more R S xs f two.1)
 
+-- what holds of what stands at any two places, the first one first, holds of each element and each after it
 pub two-by_places : {X : Type 0} (R : X → X → Type 0) (xs : List X) → ((i j : ℕ) (d : X) → i < j → j < length xs → R (get_or xs i d) (get_or xs j d)) → EachTwo R xs
 two-by_places R [] f = tt
 two-by_places R (x ∷ xs) f =
     (each-by_places (R x) xs x (λ j inside. f 0 (suc j) x (omega arith) (omega arith)), two-by_places R xs (λ i j d before inside. f (suc i) (suc j) d (omega arith) (omega arith)))
 
+-- where the first is kept, what holds of each two of the list holds of it and each one after it
 two_first : {X : Type 0} (R : X → X → Type 0) (b : Bool) (x : X) (rest : List X) → b ≡ true → EachTwo R (cond b (x ∷ rest) rest) → AllByRecursion (R x) rest
 two_first R true x rest e two = two.0
 two_first R false x rest e two = absurd (false≢true e)
 
+-- what holds of each two of a list, with its first kept or not, holds of each two of the rest
 two_rest : {X : Type 0} (R : X → X → Type 0) (b : Bool) (x : X) (rest : List X) → EachTwo R (cond b (x ∷ rest) rest) → EachTwo R rest
 two_rest R true x rest two = two.1
 two_rest R false x rest two = two

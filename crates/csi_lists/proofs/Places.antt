@@ -13,11 +13,13 @@ use Rattle.csi_lists.proofs.Maps.{map-none_shown}
 
 -- ---- what stands at a place
 
+-- what is read at a place within the list stands there
 pub at-index : {X : Type 0} (xs : List X) (i : ℕ) (d : X) → i < length xs → IsAt xs i (get_or xs i d)
 at-index [] i d within = absurd (omega arith)
 at-index (x ∷ xs) zero d within = refl
 at-index (x ∷ xs) (suc i) d within = at-index xs i d (omega arith)
 
+-- at most one value stands at a place
 pub same-at : {X : Type 0} (xs : List X) (place : ℕ) (x y : X) → IsAt xs place x → IsAt xs place y → x ≡ y
 same-at [] place x y at other = absurd at
 same-at (z ∷ zs) zero x y at other = sym at ∙ other
@@ -33,6 +35,7 @@ find-not_none p (y ∷ ys) (suc i) x at passes h = find-not_none p ys i x at pas
 
 -- ---- the first that passes
 
+-- what is read at a place is the first that passes, where it passes and none before it does
 first-from : {X : Type 0} (p : X → Bool) (xs : List X) (i : ℕ) (d : X) → i < length xs → p (get_or xs i d) ≡ true → ((k : ℕ) → k < i → p (get_or xs k d) ≡ false) → FirstAt p xs i (get_or xs i d)
 first-from p [] i d inside here before = absurd (omega arith)
 first-from p (x ∷ xs) zero d inside here before = (here, refl)
@@ -44,11 +47,13 @@ FirstAt-position p xs i x at is =
     let found = position-Some p xs i x at in
     subst (λ y. FirstAt p xs i y) (sym is) (first-from p xs i x found.0 found.1 found.2)
 
+-- the first that passes is what a search finds
 pub FirstAt-find : {X : Type 0} (p : X → Bool) (xs : List X) (i : ℕ) (x : X) → FirstAt p xs i x → find p xs ≡ Some x
 FirstAt-find p [] i x h = absurd h
 FirstAt-find p (y ∷ ys) zero x h = rw (h.0) (ap Some (h.1))
 FirstAt-find p (y ∷ ys) (suc i) x h = rw (h.0) (FirstAt-find p ys i x (h.1))
 
+-- the first that passes does pass; it stands at its place; and its place is within the list: this and the next two
 pub FirstAt-passes : {X : Type 0} (p : X → Bool) (xs : List X) (i : ℕ) (x : X) → FirstAt p xs i x → p x ≡ true
 FirstAt-passes p [] i x h = absurd h
 FirstAt-passes p (y ∷ ys) zero x h = ap p (sym (h.1)) ∙ h.0
@@ -64,6 +69,7 @@ FirstAt-within p [] i x first = absurd first
 FirstAt-within p (y ∷ ys) zero x first = omega arith
 FirstAt-within p (y ∷ ys) (suc i) x first = let rest = FirstAt-within p ys i x (first.1) in omega (arith, rest)
 
+-- the place of the first that passes is the count of those before it
 FirstAt-len : {X : Type 0} (p : X → Bool) (xs : List X) (i : ℕ) (x : X) → FirstAt p xs i x → position_or_len p xs ≡ i
 FirstAt-len p [] i x first = absurd first
 FirstAt-len p (y ∷ ys) zero x first = rw (first.0) refl
@@ -76,6 +82,7 @@ position-first p xs i x first =
     let within : i < length xs = FirstAt-within p xs i x first in
     grind (arith, nat_tests, at, within)
 
+-- where none passes, that count is the list's length
 none-len : {X : Type 0} (p : X → Bool) (xs : List X) → ((k : ℕ) (d : X) → k < length xs → p (get_or xs k d) ≡ false) → position_or_len p xs ≡ length xs
 none-len p [] none = refl
 none-len p (x ∷ xs) none =
@@ -121,17 +128,20 @@ find-and_first view p q (y ∷ ys) (suc i) r first one = rw (first.0) (find-and_
 
 -- ---- another in its place
 
+-- where one that doesn't pass is put in place of one that doesn't, a search finds the same
 pub find-set_other : {X : Type 0} (q : X → Bool) (xs : List X) (i : ℕ) (x y : X) → IsAt xs i x → q x ≡ false → q y ≡ false → find q (set xs i y) ≡ find q xs
 find-set_other q [] i x y at not_x not_y = absurd at
 find-set_other q (z ∷ zs) zero x y at not_x not_y =
     let own : q z ≡ false = ap q at ∙ not_x in rw (own, not_y) refl
 find-set_other q (z ∷ zs) (suc i) x y at not_x not_y = ap (λ o. cond (q z) (Some z) o) (find-set_other q zs i x y at not_x not_y)
 
+-- where one that passes is put in place of the first that does, a search finds it
 pub find-set_first : {X : Type 0} (q : X → Bool) (xs : List X) (i : ℕ) (x y : X) → FirstAt q xs i x → q y ≡ true → find q (set xs i y) ≡ Some y
 find-set_first q [] i x y first passes = absurd first
 find-set_first q (z ∷ zs) zero x y first passes = rw passes refl
 find-set_first q (z ∷ zs) (suc i) x y first passes = rw (first.0) (find-set_first q zs i x y (first.1) passes)
 
+-- where one that passes exactly where the one in its place did is put there, a search that found nothing finds nothing
 pub find-set_none : {X : Type 0} (q : X → Bool) (xs : List X) (i : ℕ) (x y : X) → IsAt xs i x → q y ≡ q x → find q xs ≡ None → find q (set xs i y) ≡ None
 find-set_none q [] i x y at same none = none
 find-set_none q (z ∷ zs) zero x y at same none =
@@ -143,6 +153,7 @@ find-set_none q (z ∷ zs) (suc i) x y at same none =
 
 -- ---- at most one
 
+-- at most one passes still, where one that passes exactly where the one in its place did is put there
 pub AtMostOne-set : {X : Type 0} (q : X → Bool) (xs : List X) (i : ℕ) (x y : X) → IsAt xs i x → q y ≡ q x → AtMostOne q xs → AtMostOne q (set xs i y)
 AtMostOne-set q [] i x y at same one = absurd at
 AtMostOne-set q (z ∷ zs) zero x y at same one = (λ e. one.0 (ap q at ∙ sym same ∙ e), one.1)
@@ -158,6 +169,7 @@ AtMostOne-append q (y ∷ ys) x one none =
     by e true f = absurd (some_is_not_none y (ap (λ b. cond b (Some y) (find q ys)) (sym e) ∙ none f))
     by e false f = find-append_other q ys x f ∙ one.0 e
 
+-- at most one of those that are kept passes, where at most one of all did
 pub AtMostOne-filter : {X : Type 0} (p q : X → Bool) (xs : List X) → AtMostOne p xs → AtMostOne p (filter q xs)
 AtMostOne-filter p q [] one = tt
 AtMostOne-filter p q (x ∷ xs) one = by (q x) (AtMostOne-filter p q xs (one.1))

@@ -66,6 +66,7 @@ find-append_other p xs x fails = find-append p xs x ∙ ap (λ (b : Bool). optio
 
 -- ---- some taken out
 
+-- a search finds the same whether one element is kept or not, where it is kept if it passes
 kept_first : {X : Type 0} (p : X → Bool) (y : X) (rest : List X) (found : Option X) (a b : Bool) → p y ≡ a → (a ≡ true → b ≡ true) → find p rest ≡ found → find p (cond b (y ∷ rest) rest) ≡ cond (p y) (Some y) found
 kept_first p y rest found a true e f h = ap (cond (p y) (Some y)) h
 kept_first p y rest found true false e f h = absurd (false≢true (f refl))
@@ -187,6 +188,7 @@ find-same p q xs same = find-same_among p q xs (λ x among. same x)
 
 -- ---- places
 
+-- where the place of the first that passes is beyond the list, a search finds nothing
 find-beyond : {X : Type 0} (p : X → Bool) (xs : List X) → length xs ≤ position_or_len p xs → find p xs ≡ None
 find-beyond p [] h = refl
 find-beyond p (x ∷ xs) h = by (p x) (find-beyond p xs) h
@@ -195,6 +197,7 @@ find-beyond p (x ∷ xs) h = by (p x) (find-beyond p xs) h
     by true rest k = absurd (omega arith)
     by false rest k = rest (omega arith)
 
+-- where no place is given, since it isn't within the list, it is at its end or beyond
 beyond : (place size : ℕ) (b : Bool) → nat_lt place size ≡ b → cond b (Some place) None ≡ None → size ≤ place
 beyond place size true e h = absurd (some_is_not_none place h)
 beyond place size false e h = grind (arith, nat_tests)

@@ -18,6 +18,7 @@ not-where b f = ap not (false_from_ne_true b f)
 
 -- ---- all
 
+-- where all pass, each one among the list does; and back
 pub all-then : {X : Type 0} (p : X → Bool) (xs : List X) → list_all p xs ≡ true → (x : X) → IsAmong x xs → p x ≡ true
 all-then p [] h x among = absurd among
 all-then p (y ∷ ys) h x (inl e) = ap p e ∙ (and_parts (p y) (list_all p ys) h).0
@@ -38,11 +39,13 @@ any-then p (y ∷ ys) h = by (λ e. any-then p ys e) (or_cases (p y) (list_any p
     by later (inl e) = (y, inl refl, e)
     by later (inr e) = let found = later e in (found.0, inr found.1, found.2)
 
+-- where one among the list passes, some do
 pub then-any : {X : Type 0} (p : X → Bool) (xs : List X) (x : X) → IsAmong x xs → p x ≡ true → list_any p xs ≡ true
 then-any p [] x among h = absurd among
 then-any p (y ∷ ys) x (inl e) h = or_left (p y) (list_any p ys) (ap p (sym e) ∙ h)
 then-any p (y ∷ ys) x (inr among) h = or_right (p y) (list_any p ys) (then-any p ys x among h)
 
+-- where none among the list passes, the test for some doesn't hold
 pub any-none : {X : Type 0} (p : X → Bool) (xs : List X) → ((x : X) → IsAmong x xs → p x ≡ false) → list_any p xs ≡ false
 any-none p [] none = refl
 any-none p (y ∷ ys) none = rw (none y (inl refl)) (any-none p ys (λ x among. none x (inr among)))
@@ -62,6 +65,7 @@ any-find p (x ∷ xs) = by (p x) (any-find p xs)
     by true h = refl
     by false h = h
 
+-- where a search finds none, none passes
 pub any-find_none : {X : Type 0} (p : X → Bool) (xs : List X) → find p xs ≡ None → list_any p xs ≡ false
 any-find_none p xs none = any-find p xs ∙ ap is_some none
 
