@@ -15,20 +15,24 @@ use Rattle.csi_streams.specs.Streaming.{AreReplies}
 use Rattle.csi_streams.specs.Handling.{Handles}
 use Rattle.csi_streams.specs.Replay.{replay_config, replies_from, answered}
 
+-- the replies to no frames have no bytes
 pub answered-none : answered [] ≡ []
 unfolding answered
 answered-none = refl
 
+-- the state after frames and one more is what that one leaves of the state after the frames
 pub after_frames-push : (state : ControllerState) (frames : List Frame) (frame : Frame) → after_frames replay_config state (frames ++ frame ∷ []) ≡ (fenced replay_config (after_frames replay_config state frames) frame).state
 after_frames-push state [] frame = refl
 after_frames-push state (f ∷ frames) frame = after_frames-push (fenced replay_config state f).state frames frame
 
+-- the replies to frames and one more are those to the frames, and then the one to that frame if it has any
 replies_from-push : (state : ControllerState) (frames : List Frame) (frame : Frame) → replies_from state (frames ++ frame ∷ []) ≡ replies_from state frames ++ option_to_list (fenced replay_config (after_frames replay_config state frames) frame).reply
 replies_from-push state [] frame = append-nil (option_to_list (fenced replay_config state frame).reply)
 replies_from-push state (f ∷ frames) frame =
     ap (λ more. option_to_list (fenced replay_config state f).reply ++ more) (replies_from-push (fenced replay_config state f).state frames frame)
     ∙ sym (append_assoc (option_to_list (fenced replay_config state f).reply) (replies_from (fenced replay_config state f).state frames) _)
 
+-- the bytes of the replies to frames and one more are those of the replies to the frames, and then of the one to that frame
 pub answered-push : (frames : List Frame) (frame : Frame) → answered (frames ++ frame ∷ []) ≡ answered frames ++ flat_map spelling (option_to_list (fenced replay_config (after_frames replay_config empty_controller frames) frame).reply)
 unfolding answered
 answered-push frames frame = ap (flat_map spelling) (replies_from-push empty_controller frames frame) ∙ flat_map-append spelling (replies_from empty_controller frames) _

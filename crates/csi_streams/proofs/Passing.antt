@@ -31,6 +31,7 @@ early gives fed given faults.NoMemory stop = stop
 fresh : (before after more bytes : List ℕ) → before ≡ [] → after ≡ before ++ more → bytes ≡ after → bytes ≡ more
 fresh before after more bytes none appended is = is ∙ appended ∙ ap (λ (front : List ℕ). front ++ more) none
 
+-- bytes that begin with others still do so once the same bytes stand before both
 grows-behind : (given front all : List ℕ) → Grows front all → Grows (given ++ front) (given ++ all)
 grows-behind given front all grows = record { more = grows.more; appended = ap (λ (bytes : List ℕ). given ++ bytes) grows.appended ∙ sym (append_assoc given front grows.more) }
 

@@ -23,10 +23,12 @@ use Rattle.csi_streams.specs.Progress.{Progress, Rests}
 use Rattle.csi_streams.proofs.FaultPlaces.{place_within}
 use Rattle.csi_streams.proofs.Streams.{AreBytes-both, spelling-not-empty, frames_few, splits_at, front_of, none_in_nothing}
 
+-- where each frame is within its limits, and one more is, each of them all is
 each-push : (frames : List Frame) (frame : Frame) → AllByRecursion IsFrame frames → IsFrame frame → AllByRecursion IsFrame (frames ++ frame ∷ [])
 each-push [] frame each fits = (fits, tt)
 each-push (f ∷ frames) frame each fits = (each.0, each-push frames frame each.1 fits)
 
+-- the spellings of frames and one more are those of the frames and then that of the one
 spellings-push : (frames : List Frame) (frame : Frame) → flat_map spelling (frames ++ frame ∷ []) ≡ flat_map spelling frames ++ spelling frame
 spellings-push frames frame = flat_map-append spelling frames (frame ∷ []) ∙ ap (λ more. flat_map spelling frames ++ more) (append-nil (spelling frame))
 
@@ -40,6 +42,7 @@ pub kept-less : (splitter : Splitting) (frame : Frame) → IsNext splitter.fault
 kept-less splitter frame next =
     omega (arith, (begins_kept splitter.fault splitter.kept frame next).within, spelling-not-empty frame, length-drop (length (spelling frame)) splitter.kept)
 
+-- a new splitter waits for more, and has no frame to give
 pub rests-new : Rests new_splitting
 rests-new = (no_length (omega arith), λ frame next. none_in_nothing [] (omega arith) frame (length (spelling frame)) next)
 
@@ -50,6 +53,7 @@ faulty-something bytes kind place other (too_long long much) = λ nothing. omega
 faulty-something bytes kind place other (short long fits few) = absurd (other refl)
 faulty-something bytes kind place other (in_body k p whole fits stuck) = λ nothing. omega (arith, ap length nothing)
 
+-- this and the next three: what a splitter keeps and answers, and what is left, while it has answered no fault
 kept_after-open : (fault : Option FrameFault) (kept piece : List ℕ) → fault ≡ None → kept_after fault kept piece ≡ kept ++ piece
 kept_after-open None kept piece e = refl
 kept_after-open (Some f) kept piece e = absurd cc

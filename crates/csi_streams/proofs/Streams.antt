@@ -19,6 +19,7 @@ same_frame bytes f g n m first second = (one_found f g n m (sym (first_frame-beg
 pub AreBytes-drop : (n : ℕ) (bytes : List ℕ) → AreBytes bytes → AreBytes (drop n bytes)
 AreBytes-drop n bytes are = λ i. rw (get_or-drop n bytes i 0) (are (n + i))
 
+-- two lists of bytes, one after the other, are a list of bytes
 pub AreBytes-both : (xs ys : List ℕ) → AreBytes xs → AreBytes ys → AreBytes (xs ++ ys)
 AreBytes-both xs ys first second = λ i. by xs i first
   where
@@ -27,6 +28,7 @@ AreBytes-both xs ys first second = λ i. by xs i first
     by (x ∷ xs) zero are = are 0
     by (x ∷ xs) (suc i) are = by xs i (λ j. are (suc j))
 
+-- a frame's spelling has at least one byte
 pub spelling-not-empty : (f : Frame) → 0 < length (spelling f)
 unfolding spelling frame_body
 spelling-not-empty f = omega (arith, length-append {A = ℕ})
@@ -36,12 +38,15 @@ pub frames_few : (frames : List Frame) → length frames ≤ length (flat_map sp
 frames_few [] = omega arith
 frames_few (f ∷ fs) = omega (arith, frames_few fs, spelling-not-empty f, length-append (spelling f) (flat_map spelling fs))
 
+-- a frame with which bytes begin takes as many of them as its spelling has
 pub count_is : (bytes : List ℕ) (f : Frame) (n : ℕ) → BeginsWith bytes f n → n ≡ length (spelling f)
 count_is bytes f n begins = let e : length (take n bytes) ≡ length (spelling f) = ap length begins.spelled.are in omega (arith, begins.within, length-take {A = ℕ})
 
+-- bytes that begin with a frame are its spelling and what is behind it
 pub splits_at : (bytes : List ℕ) (f : Frame) (n : ℕ) → BeginsWith bytes f n → bytes ≡ spelling f ++ drop n bytes
 splits_at bytes f n begins = sym (take-append-drop n bytes) ∙ ap (λ front. front ++ drop n bytes) begins.spelled.are
 
+-- the spelling of a frame, and more bytes, begin with it
 begins_so : (f : Frame) (more : List ℕ) → IsFrame f → BeginsWith (spelling f ++ more) f (length (spelling f))
 begins_so f more fits = record {
   within = omega (arith, length-append {A = ℕ});
@@ -66,6 +71,7 @@ front_of (d ∷ ds) (f ∷ fs) more rest done_each each longest whole =
     let front : (later : List Frame) × (fs ≡ ds ++ later) = front_of ds fs more rest done_each.1 each.1 longest others in
     (front.0, ap (λ gs. f ∷ gs) front.1 ∙ ap (λ g. g ∷ (ds ++ front.0)) (sym same))
 
+-- frames that are at most none are none
 nothing-more : (later : List Frame) → length later ≤ 0 → later ≡ []
 nothing-more [] few = refl
 nothing-more (f ∷ fs) few = absurd (omega arith)
@@ -102,5 +108,6 @@ frames_within (suc fuel) bytes are small =
           )
     ]
 
+-- the same, without a bound of their count
 pub frames_of : (bytes : List ℕ) → AreBytes bytes → (frames : List Frame) × (rest : List ℕ) × FramesOf bytes frames rest
 frames_of bytes are = frames_within (length bytes) bytes are (omega arith)

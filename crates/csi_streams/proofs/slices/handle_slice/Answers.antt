@@ -19,6 +19,7 @@ loop-rest-init g c = record {
   rests = subst Rests (sym c.new-stream.ensures.splitter) rests-new;
 }
 
+-- an input of what was fed and a rest is, once a piece of the rest was fed, what was fed, the piece and what is behind it
 parted : (input fed rest piece behind : List ℕ) (n : ℕ) → input ≡ fed ++ rest → piece ≡ take n rest → behind ≡ drop n rest → input ≡ (fed ++ piece) ++ behind
 parted input fed rest piece behind n is front back =
     is ∙ ap (λ (bytes : List ℕ). fed ++ bytes) (sym (take-append-drop n rest)) ∙ sym (append_assoc fed (take n rest) (drop n rest))
@@ -53,6 +54,7 @@ loop-rest-preserved g c =
       rests = on.1;
     }
 
+-- bytes whose count is 0 are none
 nothing : (bytes : List ℕ) (t : Bool) → t ≡ (length bytes == 0) → t ≡ true → bytes ≡ []
 nothing [] t is some = refl
 nothing (b ∷ bytes) t is some = absurd (omega (arith, eqb-true (length (b ∷ bytes)) 0 (sym is ∙ some)))
