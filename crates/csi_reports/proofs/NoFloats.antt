@@ -12,16 +12,19 @@ use Rattle.csi_reports.specs.Outcomes.{outcome_entry}
 use Rattle.csi_reports.specs.Gathered.{Gathered}
 use Rattle.csi_reports.specs.Report.{report_of, live_rows}
 
+-- items that are entries without a float have none
 each-plain : {A : Type 0} (entry : A → Data) → ((x : A) → has_float (entry x) ≡ false) → (items : List A) → items_have_float (items_of (map entry items)) ≡ false
 each-plain entry plain [] = refl
 each-plain entry plain (x ∷ xs) = rw (plain x, each-plain entry plain xs) refl
 
+-- the entry of a thing that is known has no float
 known-plain : (entry : Thing × Known) → has_float (known_entry entry) ≡ false
 known-plain (Exists name, known) = refl
 known-plain (Attached name node, known) = refl
 known-plain (Staged name node, known) = refl
 known-plain (Published name node target, known) = refl
 
+-- the report of a world has no float
 pub report-plain : (world : WorldShown) (gathered : Gathered) → has_float (report_of world gathered) ≡ false
 report-plain world gathered =
     rw (

@@ -35,21 +35,25 @@ use Rattle.csi_reports.proofs.OneOrder.{one-order, same-members}
 
 -- ---- what a place tells
 
+-- the test of two texts, byte by byte, holds exactly where neither comes before the other; then the same of places
 text-ties : (a b : List ℕ) → pointwise nat_eq a b ≡ eq_by_cmp (slice_cmp nat_cmp) a b
 text-ties = lists_ties nat_cmp unsigned_ties
 
 places-ties : (a b : List (List ℕ)) → pointwise (pointwise nat_eq) a b ≡ eq_by_cmp place_order a b
 places-ties = lists_ties (slice_cmp nat_cmp) text-ties
 
+-- places that tie in the order are equal
 one-place : (a b : List (List ℕ)) → place_order a b ≡ Equal → a ≡ b
 one-place a b e = (pointwise_decides bytes_decides a b).0 (places-ties a b ∙ ap is_eq e)
 
+-- flags that have the same number are equal
 one-flag : (a b : Bool) → flag_number a ≡ flag_number b → a ≡ b
 one-flag true true e = refl
 one-flag true false e = cc
 one-flag false true e = cc
 one-flag false false e = refl
 
+-- two attached things at one place have the same entry; below the same of staged and of published ones
 attached-told : (a b : Holding) → attached_place a ≡ attached_place b → attached_entry a ≡ attached_entry b
 attached-told a b e =
     let id : a.volume ≡ b.volume = ap (λ p. get_or (get_or p 0 []) 0 0) e in
@@ -75,15 +79,19 @@ published-told a b e =
 
 -- ---- what is known
 
+-- the thing of the first is before that of the second, by the order of things
 abbrev ComesBefore : Thing × Known → Thing × Known → Type 0
 ComesBefore a b = thing_order a.0 b.0 ≡ Less
 
+-- nothing known comes before itself
 not-before-itself : (x : Thing × Known) → ComesBefore x x → ⊥
 not-before-itself x e = true≢false (sym (ap is_lt e) ∙ ap is_lt (tied_itself things-total x.0))
 
+-- of two that are known, not each comes before the other
 not-back : (x y : Thing × Known) → ComesBefore x y → ComesBefore y x → ⊥
 not-back x y e f = true≢false (sym (ap is_lt e) ∙ ap is_lt (things-total.antisymm x.0 y.0) ∙ ap (λ o. is_lt (Rattle.std.specs.Ordering.ordering_reverse o)) f)
 
+-- what is known of all things is listed in one way that is in order
 one-list : (known : Thing → Known) (xs ys : List (Thing × Known)) → ListsKnown known xs → ListsKnown known ys → IsInOrder xs → IsInOrder ys → xs ≡ ys
 one-list known xs ys first second up also =
     same-members ComesBefore not-before-itself not-back xs ys up also
@@ -92,6 +100,7 @@ one-list known xs ys first second up also =
 
 -- ---- what an audit finds
 
+-- of two answers that an audit of a world may give, both find something, or neither does
 one-finding : (marks : Thing → Known) (world : World) (a b : Option Violation) → Finds marks world a → Finds marks world b → is_some a ≡ is_some b
 one-finding marks world None None p q = refl
 one-finding marks world None (Some violations.TwoNodes) p q = absurd (q p.0)
@@ -108,6 +117,7 @@ one-finding marks world (Some v) (Some w) p q = refl
 
 -- a world that the plugins show
 
+-- where the rows of each node show a state, the nodes have these states
 states-of : (nodes : List NodeParts) → AllByRecursion ShowsAState nodes → (states : List NodeAt) × AreNodesShown nodes states
 states-of [] all = ([], tt)
 states-of (node ∷ nodes) all =
@@ -116,6 +126,7 @@ states-of (node ∷ nodes) all =
 
 -- ---- the whole
 
+-- a world whose plugins show a state each has one report
 pub one-report : (world : WorldShown) → (state : ControllerState) × IsShown world.controller state → AllByRecursion ShowsAState world.nodes → HasOneReport world
 one-report world controller nodes a b first second =
     let states = states-of world.nodes nodes in
