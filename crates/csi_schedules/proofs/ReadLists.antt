@@ -12,6 +12,7 @@ use Rattle.csi_schedules.specs.Json.{read_all, read_first, unless_bad, Reads}
 use Rattle.csi_schedules.specs.Events.{event_of}
 use Rattle.csi_schedules.specs.Schedule.{events_or_fault, event_fault, IsFaultOf}
 
+-- one more item is read behind an item, where it is read behind those after it
 more_after : {A : Type 0} (r : Option A) (a b : Result (List A) ℕ) (place : ℕ) (old : List A) (x : A) → ((ys : List A) → a ≡ Ok ys → b ≡ Ok (ys ++ x ∷ []))
     → read_first place r a ≡ Ok old → read_first place r b ≡ Ok (old ++ x ∷ [])
 more_after None a b place old x f h = cc
@@ -24,6 +25,7 @@ more : {A : Type 0} (read : Data → Option A) (place : ℕ) (done : List Data) 
 more read place [] d old x is h = let same : [] ≡ old = cc in rw (is, ← same) refl
 more read place (e ∷ es) d old x is h = more_after (read e) (read_all read (suc place) es) (read_all read (suc place) (es ++ d ∷ [])) place old x (λ ys. more read (suc place) es d ys x is) h
 
+-- where reading on stops at a place, it stops there with an item before it that was read, too
 stop_after : {A : Type 0} (r : Option A) (a b : Result (List A) ℕ) (place bad : ℕ) (old : List A) → ((ys : List A) → a ≡ Ok ys → b ≡ Err bad)
     → read_first place r a ≡ Ok old → read_first place r b ≡ Err bad
 stop_after None a b place bad old f h = cc
@@ -37,24 +39,29 @@ stop read place bad [] d rest old is at h = let e : place ≡ bad = omega arith 
 stop read place bad (e ∷ es) d rest old is at h =
     stop_after (read e) (read_all read (suc place) es) (read_all read (suc place) (es ++ d ∷ rest)) place bad old (λ ys. stop read (suc place) bad es d rest ys is (omega arith)) h
 
+-- a list that is seen item by item is what is before a place, the item there, and what is behind it
 halves : {X Y : Type 0} (f : X → Y) (xs : List X) (i : ℕ) (x : X) → i < length xs → x ≡ get_or xs i x → map f xs ≡ map f (take i xs) ++ f x ∷ map f (drop (suc i) xs)
 halves f [] i x h e = absurd (omega arith)
 halves f (y ∷ ys) zero x h e = let same : x ≡ y = e in rw same refl
 halves f (y ∷ ys) (suc i) x h e = ap (λ (zs : List _). f y ∷ zs) (halves f ys i x (omega arith) e)
 
+-- one item more is taken, as it is seen
 taken : {X Y : Type 0} (f : X → Y) (xs : List X) (i : ℕ) (x : X) → i < length xs → x ≡ get_or xs i x → map f (take (i + 1) xs) ≡ map f (take i xs) ++ f x ∷ []
 taken f xs i x h e = let last : get_or xs i x ≡ x = sym e in map_more f xs i x h ∙ ap (λ z. map f (take i xs) ++ f z ∷ []) last
 
+-- as many are taken as the place tells
 taken_len : {X Y : Type 0} (f : X → Y) (xs : List X) (i : ℕ) → i < length xs → length (map f (take i xs)) ≡ i
 taken_len f [] i h = absurd (omega arith)
 taken_len f (y ∷ ys) zero h = refl
 taken_len f (y ∷ ys) (suc i) h = ap suc (taken_len f ys i (omega arith))
 
+-- where all before an item were read, and it is read and added, all up to it are read
 pushed : {A : Type 0} (read : Data → Option A) (done : List Data) (d : Data) (old new : List A) (r : Option A) → read d ≡ r → option_map (λ x. old ++ x ∷ []) r ≡ Some new
     → read_all read 1 done ≡ Ok old → read_all read 1 (done ++ d ∷ []) ≡ Ok new
 pushed read done d old new None is one h = cc
 pushed read done d old new (Some x) is one h = let last : old ++ x ∷ [] ≡ new = cc in rw (← last) (more read 1 done d old x is h)
 
+-- nothing was added, so the item wasn't read
 unread : {A : Type 0} (old : List A) (r : Option A) → option_map (λ x. old ++ x ∷ []) r ≡ None → r ≡ None
 unread old None h = refl
 unread old (Some x) h = cc
@@ -78,6 +85,7 @@ pub refuses : {A B : Type 0} (shown : B → List A) (read : Data → Option A) (
 refuses shown read xs i x old new Bad h e one was = ap unless_bad (stops read xs i x old h e one was)
 refuses shown read xs i x old new NoMemory h e one was = tt
 
+-- the same of events, of which the fault tells the place
 pub faulty : (xs : List Value) (i : ℕ) (x : Value) (old new : List Event) (flaw : Flaw) → i < length xs → x ≡ get_or xs i x
     → Reads {A = Unit {0}} {B = List Event} (λ _. new) (Err flaw) (option_map (λ y. old ++ y ∷ []) (event_of (view x))) → read_all event_of 1 (map view (take i xs)) ≡ Ok old
     → IsFaultOf (events_or_fault (read_all event_of 1 (map view xs))) (event_fault flaw (i + 1))
