@@ -17,6 +17,7 @@ use Rattle.csi_commands.specs.Ending.{EndsAs}
 use Rattle.csi_commands.specs.Running.{Runs, IsRefused}
 use Rattle.csi_commands.specs.Streaming.{StreamsAs, StreamEndsAs, WasCut, ending_of_stream, ending_of_written}
 
+-- all bytes begin with none; and all begin with themselves
 grows-all : (bytes : List ℕ) → Grows [] bytes
 grows-all bytes = record { more = bytes; appended = refl }
 
@@ -56,6 +57,7 @@ module _ (bytes rest : List ℕ) (frames : List Frame) (of : FramesOf bytes fram
   show_ends at_end out (Err stops.Output) ends = shown out
   show_ends at_end out (Err stops.Endless) ends = (ends.0, shown out)
 
+-- where the frames of a reader were answered, the command ends as on its bytes; and below where they were shown
 pub answers_so : (left now had has : Option (List ℕ)) (result : Result ℕ StreamFault) → Streams AreReplies left now had has result → StreamsAs Answer left now had has (ending_of_stream result)
 answers_so left now had has result s = record { bytes = s.read; consumed = s.consumed; out = s.out; written = s.written; ends = answer_ends s.read s.rest s.frames s.stream (IsAtEnd now) s.out result s.ends }
 
