@@ -20,7 +20,7 @@ pub each-by_places : {X : Type 0} (P : X → Type 0) (xs : List X) (d : X) → (
 each-by_places P [] d f = tt
 each-by_places P (x ∷ xs) d f = (f 0 (omega arith), each-by_places P xs d (λ k inside. f (suc k) (omega arith)))
 
--- what holds of each element of two lists holds of each of the two, one after the other
+-- what holds of each element of two lists holds of each element of the list that has both
 pub each-append : {X : Type 0} (P : X → Type 0) (xs ys : List X) → AllByRecursion P xs → AllByRecursion P ys → AllByRecursion P (xs ++ ys)
 each-append P [] ys first second = second
 each-append P (x ∷ xs) ys first second = (first.0, each-append P xs ys first.1 second)

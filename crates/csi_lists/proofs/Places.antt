@@ -82,7 +82,7 @@ position-first p xs i x first =
     let within : i < length xs = FirstAt-within p xs i x first in
     grind (arith, nat_tests, at, within)
 
--- where none passes, that count is the list's length
+-- where none passes, the count of those before the first that does is the list's length
 none-len : {X : Type 0} (p : X → Bool) (xs : List X) → ((k : ℕ) (d : X) → k < length xs → p (get_or xs k d) ≡ false) → position_or_len p xs ≡ length xs
 none-len p [] none = refl
 none-len p (x ∷ xs) none =
