@@ -23,7 +23,7 @@ use Rattle.csi_streams.specs.Progress.{Progress, Rests}
 use Rattle.csi_streams.proofs.FaultPlaces.{place_within}
 use Rattle.csi_streams.proofs.Streams.{AreBytes-both, spelling-not-empty, frames_few, splits_at, front_of, none_in_nothing}
 
--- where each frame is within its limits, and one more is, each of them all is
+-- frames within their limits, and one more within its limits, are all within them
 each-push : (frames : List Frame) (frame : Frame) → AllByRecursion IsFrame frames → IsFrame frame → AllByRecursion IsFrame (frames ++ frame ∷ [])
 each-push [] frame each fits = (fits, tt)
 each-push (f ∷ frames) frame each fits = (each.0, each-push frames frame each.1 fits)
