@@ -29,7 +29,7 @@ AreBytes-back front back h = subst AreBytes (drop_at front back (length front) r
 from_be_is : (bytes : List ℕ) → big_number 8 bytes ≡ from_be_bytes w64 bytes
 from_be_is bytes = omega arith
 
--- a number of 64 bits is spelled in eight bytes
+-- a word is spelled in eight bytes
 pub length-word : (n : ℕ) → length (big_bytes 8 n) ≡ 8
 length-word n = refl
 

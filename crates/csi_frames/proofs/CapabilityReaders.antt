@@ -51,7 +51,7 @@ mode_agrees next = code_agrees is_mode BadMode mode_of mode_number next mode_cod
 
 -- ---- capabilities
 
--- what spells the access behind its first byte
+-- the bytes behind an access's first one were read as the rest of this access
 abbrev WasAccess : ℕ → Access → List ℕ → Type 0
 WasAccess b = Either (b == 0) (Given Block) (Made (IsText 0 128) spelling.text Mount)
 
@@ -63,11 +63,11 @@ access-there (suc zero) low value back s =
     subst (λ (v : Access). Spelled IsAccess spelling.access v (1 ∷ back)) (sym s.same) (record { fits = s.fits; are = ap (λ (t : List ℕ). 1 ∷ t) s.are })
 access-there (suc (suc n)) low value back s = absurd (omega (arith, leb-true (suc (suc n)) 1 low))
 
--- the first byte of an access, and what follows it
+-- the bytes were read as an access's first byte and the rest of it
 abbrev SaysAccess : Access → List ℕ → Type 0
 SaysAccess = Then (IsByte (at_most 1)) WasAccess
 
--- an access within its limits, as it is spelled, is a first byte and what follows it
+-- the spelling of an access within its limits is a first byte and the rest of it
 access-back : (value : Access) (bytes : List ℕ) → Spelled IsAccess spelling.access value bytes → SaysAccess value bytes
 access-back Block bytes s =
     record { before = 0; front = 0 ∷ []; back = []; parts = s.are; first = record { is_allowed = refl; one = refl }; second = record { same = refl; none = refl } }
@@ -88,7 +88,7 @@ access_agrees next =
     (then (byte_agrees (at_most 1) BadAccess (λ b. cond (b == 0) next (Text 0 128 (λ _. next))))
     (λ b. either (b == 0) (gives {next = λ _. next} Block) (makes Mount (λ _. next) (any_text_agrees 0 128 (λ _. next)))))
 
--- an access and then a mode
+-- the bytes were read as an access and then a mode
 abbrev SaysCapability : Capability → List ℕ → Type 0
 SaysCapability = After IsAccess spelling.access (λ access. Made Always (λ mode. mode_number mode ∷ []) (λ mode. record { access = access; mode = mode }))
 
@@ -115,15 +115,15 @@ pub record AreCapabilities (count : ℕ) (capabilities : List Capability) : Type
   pub counted : length capabilities ≡ count
   pub each : AllByRecursion IsCapability capabilities
 
--- a capability, and then so many more
+-- the bytes were read as a capability, and then so many more
 abbrev SaysMore : ℕ → List Capability → List ℕ → Type 0
 SaysMore n = After IsCapability spelling.capability (λ first. Made (AreCapabilities n) (flat_map spelling.capability) (λ others. first ∷ others))
 
--- so many capabilities, each within its limits, one after another
+-- so many capabilities, each within its limits, and their spellings one after another
 abbrev SaysCapabilities : ℕ → List Capability → List ℕ → Type 0
 SaysCapabilities n = Spelled (AreCapabilities n) (flat_map spelling.capability)
 
--- a capability and then so many more are spelled as one more than these
+-- a capability and then so many more that were read are one more than these, and are spelled so
 more-there : (n : ℕ) (value : List Capability) (bytes : List ℕ) → SaysMore n value bytes → SaysCapabilities (suc n) value bytes
 more-there n value bytes s =
     subst (λ (v : List Capability). SaysCapabilities (suc n) v bytes) (sym s.second.same)
@@ -132,7 +132,7 @@ more-there n value bytes s =
       are = s.parts ∙ ap (λ (t : List ℕ). spelling.capability s.before ++ t) s.second.are ∙ sym (flat_map-cons spelling.capability s.before s.second.before);
     })
 
--- one more than so many capabilities are spelled as a capability and then these
+-- the spelling of one more than so many capabilities is a capability's and then that of so many
 more-back : (n : ℕ) (value : List Capability) (bytes : List ℕ) → SaysCapabilities (suc n) value bytes → SaysMore n value bytes
 more-back n [] bytes s = absurd (cc s.fits.counted)
 more-back n (first ∷ others) bytes s =

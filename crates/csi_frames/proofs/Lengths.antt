@@ -74,7 +74,7 @@ length-node_call node (calls.NodePublishVolume id target c readonly) e fits =
     omega (arith, length-append (spelling.word id ++ spelling.text target ++ spelling.capability c) (spelling.flag readonly), length-append (spelling.word id ++ spelling.text target) (spelling.capability c), fits.1.no_longer, length-capability c fits.2)
 length-node_call node (calls.NodeUnpublishVolume id target) e fits = omega (arith, fits.1.no_longer)
 
--- the party and the kind's fields together have at most 1195 bytes, since the longest calls are the controller's
+-- the party and the kind's fields together have at most 1195 bytes
 length-party_and_fields : (p : Party) (body : Body) → IsParty p → IsBody body → IsAllowed p body → length (spelling.party p) + length (spelling.body_fields body) ≤ 1195
 length-party_and_fields Controller body p-fits fits allowed = omega (arith, length-body body fits)
 length-party_and_fields (Node id) (bodies.Call call) p-fits fits allowed = omega (arith, p-fits.no_longer, length-node_call id call allowed fits)

@@ -117,7 +117,7 @@ stands-feed stream piece given (Some fault) kept s = record {
   is_dropped = s.is_dropped;
 }
 
--- where each frame is within its limits, and one more is, each of them all is
+-- frames within their limits, and one more within its limits, are all within them
 each-push : (frames : List Frame) (frame : Frame) → AllByRecursion IsFrame frames → IsFrame frame → AllByRecursion IsFrame (frames ++ frame ∷ [])
 each-push [] frame each fits = (fits, tt)
 each-push (f ∷ frames) frame each fits = (each.0, each-push frames frame each.1 fits)
@@ -144,7 +144,7 @@ stands-frame stream given kept frame s b =
       is_dropped = s.is_dropped;
     }
 
--- the same, by what a splitter shows
+-- the same as `Stands`, by what a splitter shows
 abbrev StandsSo : List ℕ → List Frame → Splitting → Type 0
 StandsSo stream given s = Stands stream given s.fault s.kept
 
