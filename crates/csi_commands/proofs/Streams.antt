@@ -31,6 +31,7 @@ module _ (bytes rest : List ℕ) (frames : List Frame) (of : FramesOf bytes fram
       let same = one_stream bytes frames fs rest more of of' in
       subst (λ (x : List ℕ). P fs x) same.1 (subst (λ (gs : List Frame). P gs rest) same.0 here)
 
+  -- replies to all frames of the bytes are a front of what the command appends
   all_given : (out : List ℕ) → AreReplies frames out → WasCut Answer bytes out
   all_given out given = record {
     all = out;
@@ -38,6 +39,7 @@ module _ (bytes rest : List ℕ) (frames : List Frame) (of : FramesOf bytes fram
     grows = grows-none out;
   }
 
+  -- however the answering of a stream ended, the command ends so on its bytes
   answer_ends : (at_end : Type 0) (out : List ℕ) (result : Result ℕ StreamFault) → StreamEnds AreReplies bytes frames rest at_end out result → StreamEndsAs Answer at_end bytes out (ending_of_stream result)
   answer_ends at_end out (Ok count) ends = (ends.0, (for_all (λ fs more. EndsAs Answer fs more [] out endings.Done) (ends.1, ends.3), tt))
   answer_ends at_end out (Err (stops.Frame kind place)) ends = (ends.0, (for_all (λ fs more. EndsAs Answer fs more [] out (endings.FrameFault kind place)) (ends.1, ends.2), tt))
@@ -46,9 +48,11 @@ module _ (bytes rest : List ℕ) (frames : List Frame) (of : FramesOf bytes fram
   answer_ends at_end out (Err stops.Output) ends = record { all = ends.0; appended = for_all (λ fs more. GivesFront AreReplies fs ends.0) ends.2; grows = ends.1 }
   answer_ends at_end out (Err stops.Endless) ends = (ends.0, all_given out ends.2)
 
+  -- whatever was written of lines is a front of what the command may append
   shown : (out : List ℕ) → WasCut Show bytes out
   shown out = record { all = out; appended = tt; grows = grows-none out }
 
+  -- however the showing of a stream ended, the command ends so on its bytes
   show_ends : (at_end : Type 0) (out : List ℕ) (result : Result ℕ StreamFault) → StreamEnds AreLines bytes frames rest at_end out result → StreamEndsAs Show at_end bytes out (ending_of_stream result)
   show_ends at_end out (Ok count) ends = (ends.0, (for_all (λ fs more. EndsAs Show fs more [] out endings.Done) (ends.1, grows-all out), tt))
   show_ends at_end out (Err (stops.Frame kind place)) ends = (ends.0, (for_all (λ fs more. EndsAs Show fs more [] out (endings.FrameFault kind place)) (ends.1, grows-all out), tt))

@@ -14,9 +14,11 @@ use Rattle.csi_lists.proofs.Members.{each_of}
 use Rattle.csi_lists.proofs.Pairs.{two-by_places}
 
 module _ {X K : Type 0} (R : K → K → Ordering) (total : IsTotalOrder R) (apart : (a b : K) → R a b ≡ Equal → a ≡ b) (place : X → K) where
+  -- no later element has a place before an earlier one's
   abbrev Rises : List X → Type 0
   Rises xs = EachTwo (λ a b. is_lt (R (place b) (place a)) ≡ false) xs
 
+  -- a list that is sorted by place rises
   rises : (xs : List X) → IsSortedBy (λ a b. is_lt (R (place a) (place b))) xs → Rises xs
   rises xs sorted =
       two-by_places (λ a b. is_lt (R (place b) (place a)) ≡ false) xs (λ i j d before inside. sorted_far (λ a b. is_lt (R (place a) (place b))) (ranks_by total place) xs sorted i j d (omega arith) inside)
@@ -25,6 +27,7 @@ module _ {X K : Type 0} (R : K → K → Ordering) (total : IsTotalOrder R) (apa
   abbrev AreAlike : List X → List X → Type 0
   AreAlike xs ys = (f : K → ℕ) → sum_by (λ x. f (place x)) xs ≡ sum_by (λ x. f (place x)) ys
 
+  -- where no element is before a place, the count of those before it is 0
   none-below : (k : K) (xs : List X) → AllByRecursion (λ x. is_lt (R (place x) k) ≡ false) xs → sum_by (λ x. cond (is_lt (R (place x) k)) 1 0) xs ≡ 0
   none-below k [] all = refl
   none-below k (x ∷ xs) all = sum_by-cons (λ z. cond (is_lt (R (place z) k)) 1 0) x xs ∙ ap₂ ◌+◌ (ap (λ b. cond b 1 0) all.0) (none-below k xs all.1)
@@ -40,6 +43,7 @@ module _ {X K : Type 0} (R : K → K → Ordering) (total : IsTotalOrder R) (apa
           let some = sum_by-cons (λ z. cond (is_lt (R (place z) (place y))) 1 0) x xs ∙ ap (λ b. cond b 1 0 + sum_by (λ z. cond (is_lt (R (place z) (place y))) 1 0) xs) e in
           absurd (omega (arith, none, some, alike (λ k. cond (is_lt (R k (place y))) 1 0)))
 
+  -- two places neither of which is before the other tie
   level : (a b : K) → is_lt (R a b) ≡ false → is_lt (R b a) ≡ false → R a b ≡ Equal
   level a b p q = by (R a b) refl p (sym (ap is_lt (total.antisymm b a)) ∙ q)
     where
@@ -48,6 +52,7 @@ module _ {X K : Type 0} (R : K → K → Ordering) (total : IsTotalOrder R) (apa
       by Equal e p q = e
       by Greater e p q = absurd (true≢false q)
 
+  -- lists that are alike, and begin at one place, are alike without their first elements
   rest-alike : (x y : X) (xs ys : List X) → place x ≡ place y → AreAlike (x ∷ xs) (y ∷ ys) → AreAlike xs ys
   rest-alike x y xs ys here alike f =
       let left = sum_by-cons (λ z. f (place z)) x xs in
@@ -55,6 +60,7 @@ module _ {X K : Type 0} (R : K → K → Ordering) (total : IsTotalOrder R) (apa
       let first = ap f here in
       omega (arith, left, right, first, alike f)
 
+  -- lists that rise and are alike have the same entries, where an entry is told by its place
   same-entries : {E : Type 0} (entry : X → E) → ((a b : X) → place a ≡ place b → entry a ≡ entry b) → (xs ys : List X) → Rises xs → Rises ys → AreAlike xs ys
       → map entry xs ≡ map entry ys
   same-entries entry tells [] [] up also alike = refl
@@ -65,6 +71,7 @@ module _ {X K : Type 0} (R : K → K → Ordering) (total : IsTotalOrder R) (apa
       let here = apart (place x) (place y) (level (place x) (place y) (not-below x y xs ys also alike) (not-below y x ys xs up back)) in
       ap₂ ◌∷◌ (tells x y here) (same-entries entry tells xs ys up.1 also.1 (rest-alike x y xs ys here alike))
 
+  -- the entries of a list have one sorted order, where an entry is told by its place
   pub one-order : {E : Type 0} (entry : X → E) → ((a b : X) → place a ≡ place b → entry a ≡ entry b) → (items xs ys : List X)
       → IsPermutation items xs → IsSortedBy (λ a b. is_lt (R (place a) (place b))) xs → IsPermutation items ys → IsSortedBy (λ a b. is_lt (R (place a) (place b))) ys
       → map entry xs ≡ map entry ys
@@ -75,6 +82,7 @@ module _ {X K : Type 0} (R : K → K → Ordering) (total : IsTotalOrder R) (apa
 -- ---- members
 
 module _ {X : Type 0} (L : X → X → Type 0) (itself : (x : X) → L x x → ⊥) (back : (x y : X) → L x y → L y x → ⊥) where
+  -- two lists in order that have the same members are one
   pub same-members : (xs ys : List X) → EachTwo L xs → EachTwo L ys → ((x : X) → IsAmong x xs → IsAmong x ys) → ((x : X) → IsAmong x ys → IsAmong x xs) → xs ≡ ys
   same-members [] [] up also there here = refl
   same-members [] (y ∷ ys) up also there here = absurd (here y (inl refl))

@@ -45,6 +45,7 @@ stop_here gives fed given fault stop are frames rest of =
     stop [] rest frames (subst AreBytes (sym (append-nil fed)) are) (subst (λ (bytes : List ℕ). FramesOf bytes frames rest) (sym (append-nil fed)) of)
 
 module _ {H : Type 0} (has_handled : H → List Frame → Type 0) (gives : List Frame → List ℕ → Type 0) where
+  -- all that was given was written, and the splitter waits for more
   pub passed : (fed given before after bytes : List ℕ) (splitter : Splitting) (count : ℕ) (handler : H) (had has : Option (List ℕ)) → HandlesAll has_handled gives fed given splitter count handler before after (Ok tt) → before ≡ [] → bytes ≡ after
       → Appends had has bytes → Passes has_handled gives fed given splitter count handler had has
   passed fed given before after bytes splitter count handler had has on none is written = record {
@@ -54,6 +55,7 @@ module _ {H : Type 0} (has_handled : H → List Frame → Type 0) (gives : List 
     rests = on.1;
   }
 
+  -- all that was given before it stopped was written
   pub passed_fault : (fed given before after bytes : List ℕ) (splitter : Splitting) (count : ℕ) (handler : H) (had has : Option (List ℕ)) (fault : AnswerFault) → HandlesAll has_handled gives fed given splitter count handler before after (Err fault) → before ≡ [] → bytes ≡ after
       → Appends had has bytes → StopsWritten gives fed given had has fault
   passed_fault fed given before after bytes splitter count handler had has fault stop none is written = record {
@@ -62,10 +64,12 @@ module _ {H : Type 0} (has_handled : H → List Frame → Type 0) (gives : List 
     stops = stop.2;
   }
 
+  -- a stop whose bytes were written is one of the ways in which a piece is passed on
   pub passed_stop : (fed given : List ℕ) (splitter : Splitting) (count : ℕ) (handler : H) (had has : Option (List ℕ)) (fault : AnswerFault) → StopsWritten gives fed given had has fault → PassesOn has_handled gives fed given splitter count handler had has (Err (stream_fault fault))
   passed_stop fed given splitter count handler had has (faults.Frame kind place) stop = stop
   passed_stop fed given splitter count handler had has faults.NoMemory stop = stop
 
+  -- the writer failed, so a front of what was given was written
   pub not_passed : (fed given before after bytes : List ℕ) (splitter : Splitting) (count : ℕ) (handler : H) (had has : Option (List ℕ)) (result : Result (Unit {0}) AnswerFault) → HandlesAll has_handled gives fed given splitter count handler before after result → before ≡ [] → bytes ≡ after
       → WritesFront had has bytes → StopsUnwritten gives fed given had has
   not_passed fed given before after bytes splitter count handler had has (Ok done) on none is written = record {

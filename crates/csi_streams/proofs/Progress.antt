@@ -71,6 +71,7 @@ left-open None kept rest e left = left
 left-open (Some g) kept rest e left = absurd cc
 
 module _ {H : Type 0} (has_handled : H → List Frame → Type 0) (gives : List Frame → List ℕ → Type 0) where
+  -- a new splitter, before anything was fed, has handled and given nothing
   pub begun : (splitter : Splitting) (count : ℕ) (handler : H) → splitter ≡ new_splitting → count ≡ 0 → has_handled handler [] → gives [] [] → Progress has_handled gives [] splitter count handler []
   begun splitter count handler new none handled gave = record {
     are = λ i. omega arith;
@@ -183,6 +184,7 @@ module _ {H : Type 0} (has_handled : H → List Frame → Type 0) (gives : List 
             (handled_more fed (given ++ on.more) between after splitter count handler handler' next.0 p next.1 h));
       }
 
+  -- where no frame is there behind what was handled, all frames that are there were
   pub resting : (fed given before between after : List ℕ) (splitter new : Splitting) (count : ℕ) (handler handler' : H) → HandlesOn has_handled gives fed given splitter count handler before between
       → HandlesNext has_handled gives splitter new handler handler' between after (Ok false) → HandlesAll has_handled gives fed given new count handler' before after (Ok tt)
   resting fed given before between after splitter new count handler handler' on next = (
@@ -196,6 +198,7 @@ module _ {H : Type 0} (has_handled : H → List Frame → Type 0) (gives : List 
     subst Rests (sym next.1) next.0,
   )
 
+  -- where the next frame isn't handled, it stops there, with what was given before
   pub stopping : (fed given before between after : List ℕ) (splitter new : Splitting) (count : ℕ) (handler handler' : H) (fault : AnswerFault) → HandlesOn has_handled gives fed given splitter count handler before between
       → HandlesNext has_handled gives splitter new handler handler' between after (Err fault) → (more : List ℕ) × (after ≡ before ++ more) × StopsIn gives fed (given ++ more) fault
   stopping fed given before between after splitter new count handler handler' (faults.Frame kind place) on next =
@@ -203,6 +206,7 @@ module _ {H : Type 0} (has_handled : H → List Frame → Type 0) (gives : List 
   stopping fed given before between after splitter new count handler handler' faults.NoMemory on next =
       (on.more, next ∙ on.appended, stopped_early fed (given ++ on.more) splitter count handler on.progress)
 
+  -- before one more frame is handled, no more bytes are given
   pub none_yet : (fed given before : List ℕ) (splitter : Splitting) (count : ℕ) (handler : H) → Progress has_handled gives fed splitter count handler given → HandlesOn has_handled gives fed given splitter count handler before before
   none_yet fed given before splitter count handler p = record {
     more = [];
