@@ -27,16 +27,19 @@ use Rattle.csi_records.proofs.Readers.{Took, Reads, done, some_is, Spelled, Alwa
 abbrev pub one_byte : ℕ → List ℕ
 one_byte b = b ∷ []
 
+-- a byte that is read stands first, and is the one that is given
 byte-takes : (bytes : List ℕ) (x : ℕ × List ℕ) → byte_in bytes ≡ Some x → Took (Spelled Always one_byte) bytes x
 unfolding byte_in
 byte-takes [] x e = absurd cc
 byte-takes (b ∷ bytes) x e =
     subst (λ (y : ℕ × List ℕ). Took (Spelled Always one_byte) (b ∷ bytes) y) (some_is b bytes x e) (record { front = b ∷ []; parts = refl; says = record { fits = tt; are = refl } })
 
+-- a byte that stands first is read
 byte-again : (b : ℕ) (front rest : List ℕ) → Spelled Always one_byte b front → byte_in (front ++ rest) ≡ Some (b, rest)
 unfolding byte_in
 byte-again b front rest s = ap (λ (t : List ℕ). byte_in (t ++ rest)) s.are
 
+-- the reader of a byte takes one byte, and any
 pub byte_reads : Reads byte_in (Spelled Always one_byte)
 byte_reads = record { takes = λ bytes fits x e. byte-takes bytes x e; again = byte-again }
 
@@ -51,16 +54,19 @@ pub record WasCode {A : Type 0} (value_of : ℕ → Option A) (b : ℕ) (value :
   pub is : value_of b ≡ Some value
   pub none : bytes ≡ []
 
+-- an option that is given as a value has it, and takes no bytes
 or_none-some : {A : Type 0} (found : Option A) (bytes : List ℕ) (x : A × List ℕ) → or_none found bytes ≡ Some x → (found ≡ Some x.0) × (bytes ≡ x.1)
 or_none-some (Some a) bytes x e = let same = some_is a bytes x e in (ap (λ y. Some y.0) same, ap (λ y. y.1) same)
 or_none-some None bytes x e = absurd cc
 
+-- the last step of reading a code takes no bytes, and gives what the byte stands for
 code-last : {A : Type 0} (value_of : ℕ → Option A) (b : ℕ) → Reads (or_none (value_of b)) (WasCode value_of b)
 code-last value_of b = record {
   takes = λ bytes fits x e. let p = or_none-some (value_of b) bytes x e in record { front = []; parts = p.1; says = record { is = p.0; none = refl } };
   again = λ value front rest s. rw (s.none, s.is) refl;
 }
 
+-- where values and bytes stand for one another, the reader of a code reads a value's byte and no other
 pub code_reads : {A : Type 0} (value_of : ℕ → Option A) (number : A → ℕ) → IsCode value_of number → Reads (code_in value_of) (Spelled Always (λ a. number a ∷ []))
 unfolding code_in
 code_reads {A} value_of number code =
@@ -74,6 +80,7 @@ code_reads {A} value_of number code =
 
 -- ---- codes
 
+-- an option that is there and whose value is this is this value
 some-inside : {A : Type 0} (found : Option A) (d a : A) → is_some found ≡ true → unwrap_or found d ≡ a → found ≡ Some a
 some-inside (Some x) d a is e = ap (λ y. Some y) e
 some-inside None d a is e = absurd cc
@@ -81,6 +88,7 @@ some-inside None d a is e = absurd cc
 abbrev flag_number : Bool → ℕ
 flag_number readonly = cond readonly 1 0
 
+-- a byte that stands for a flag is the one that spells it
 flag-back : (b : ℕ) (a : Bool) → flag_from b ≡ Some a → flag_number a ≡ b
 flag-back zero true e = absurd cc
 flag-back zero false e = refl
@@ -88,13 +96,16 @@ flag-back (suc zero) true e = refl
 flag-back (suc zero) false e = absurd cc
 flag-back (suc (suc n)) a e = absurd cc
 
+-- the byte that spells a flag stands for it
 flag-again : (a : Bool) → flag_from (flag_number a) ≡ Some a
 flag-again true = refl
 flag-again false = refl
 
+-- the reader of a flag reads what spells one
 pub flag_reads : Reads (code_in flag_from) (Spelled Always spelling.flag)
 flag_reads = code_reads flag_from flag_number (record { back = flag-back; again = flag-again })
 
+-- a byte that stands for live or deleted is the one that spells it
 live-back : (b : ℕ) (a : Bool) → live_from b ≡ Some a → state_byte a ≡ b
 live-back zero a e = absurd cc
 live-back (suc zero) true e = refl
@@ -103,10 +114,12 @@ live-back (suc (suc zero)) true e = absurd cc
 live-back (suc (suc zero)) false e = refl
 live-back (suc (suc (suc n))) a e = absurd cc
 
+-- the byte that spells live or deleted stands for it
 live-again : (a : Bool) → live_from (state_byte a) ≡ Some a
 live-again true = refl
 live-again false = refl
 
+-- the readers of a volume's state, a mode and a status read what spells one
 pub live_reads : Reads (code_in live_from) (Spelled Always (λ a. state_byte a ∷ []))
 live_reads = code_reads live_from state_byte (record { back = live-back; again = live-again })
 
@@ -122,6 +135,7 @@ status_reads = code_reads status_from_code status_code (record {
   again = λ a. some-inside (status_from_code (status_code a)) _ a (status_codes.is_allowed a) (status_codes.again a);
 })
 
+-- a number that stands for a kind is that kind's
 number-back : (n : ℕ) (kind : Kind) → kind_from_number n ≡ Some kind → kind_number kind ≡ n
 number-back zero kind e = absurd cc
 number-back (suc zero) kind e = let same : kinds.CreateVolume ≡ kind = cc in ap kind_number (sym same)
@@ -134,10 +148,12 @@ number-back (suc (suc (suc (suc (suc (suc (suc zero))))))) kind e = let same : k
 number-back (suc (suc (suc (suc (suc (suc (suc (suc zero)))))))) kind e = let same : kinds.NodeUnpublishVolume ≡ kind = cc in ap kind_number (sym same)
 number-back (suc (suc (suc (suc (suc (suc (suc (suc (suc n))))))))) kind e = absurd cc
 
+-- a byte that stands for a reply's kind is that kind's number and 128
 kind-back-by : (n : ℕ) (low : Bool) (kind : Kind) → ltb n 128 ≡ low → cond low None (kind_from_number (n - 128)) ≡ Some kind → 128 + kind_number kind ≡ n
 kind-back-by n true kind is e = absurd cc
 kind-back-by n false kind is e = let high : 128 ≤ n = ltb-false _ _ is in let same = number-back (n - 128) kind e in omega (arith, same, high)
 
+-- the kind byte of a reply stands for its kind
 kind-again : (kind : Kind) → kind_from (128 + kind_number kind) ≡ Some kind
 kind-again kinds.CreateVolume = refl
 kind-again kinds.DeleteVolume = refl
@@ -148,6 +164,7 @@ kind-again kinds.NodeUnstageVolume = refl
 kind-again kinds.NodePublishVolume = refl
 kind-again kinds.NodeUnpublishVolume = refl
 
+-- the reader of a reply's kind byte reads what spells one
 pub kind_reads : Reads (code_in kind_from) (Spelled Always (λ kind. (128 + kind_number kind) ∷ []))
 kind_reads = code_reads kind_from (λ kind. 128 + kind_number kind) (record { back = λ b a e. kind-back-by b (ltb b 128) a refl e; again = kind-again })
 
@@ -156,6 +173,7 @@ kind_reads = code_reads kind_from (λ kind. 128 + kind_number kind) (record { ba
 pub record IsCount (most n : ℕ) : Type 0 where
   pub within : n ≤ most
 
+-- a byte that is read as a count is at most so much; the test is a flag here
 count-takes : (most b : ℕ) (bytes : List ℕ) (t : Bool) (x : ℕ × List ℕ) → leb b most ≡ t → cond t (done b bytes) None ≡ Some x → Took (Spelled (IsCount most) one_byte) (b ∷ bytes) x
 count-takes most b bytes true x is e =
     subst (λ (y : ℕ × List ℕ). Took (Spelled (IsCount most) one_byte) (b ∷ bytes) y) (some_is b bytes x e) (record { front = b ∷ []; parts = refl; says = record { fits = record { within = leb-true _ _ is }; are = refl } })
@@ -164,24 +182,29 @@ count-takes most b bytes false x is e = absurd cc
 abbrev counted_by : Bool → ℕ → Reader ℕ
 counted_by t b = cond t (give b) nothing
 
+-- a test that chooses between two readers chooses between what they read
 counted-open : (t : Bool) (b : ℕ) (bytes : List ℕ) → counted_by t b bytes ≡ cond t (done b bytes) None
 counted-open true b bytes = refl
 counted-open false b bytes = refl
 
+-- a byte that is read as a count is at most so much
 count_in-takes : (most : ℕ) (bytes : List ℕ) (x : ℕ × List ℕ) → count_in most bytes ≡ Some x → Took (Spelled (IsCount most) one_byte) bytes x
 unfolding count_in byte_in
 count_in-takes most [] x e = absurd cc
 count_in-takes most (b ∷ bytes) x e = count-takes most b bytes (leb b most) x refl (sym (counted-open (leb b most) b bytes) ∙ e)
 
+-- a byte of at most so much is read as a count
 count_in-again : (most b : ℕ) (front rest : List ℕ) → Spelled (IsCount most) one_byte b front → count_in most (front ++ rest) ≡ Some (b, rest)
 unfolding count_in byte_in
 count_in-again most b front rest s = let low : leb b most ≡ true = le-leb _ _ s.fits.within in ap (λ (t : List ℕ). count_in most (t ++ rest)) s.are ∙ rw low refl
 
+-- the reader of a count reads one byte of at most so much
 pub count_reads : (most : ℕ) → Reads (count_in most) (Spelled (IsCount most) one_byte)
 count_reads most = record { takes = λ bytes fits x e. count_in-takes most bytes x e; again = count_in-again most }
 
 -- ---- a number of 64 bits
 
+-- what is read as a number of 64 bits are the eight bytes that spell it; the test is a flag here
 word-takes : (bytes : List ℕ) (short : Bool) (x : ℕ × List ℕ) → AreBytes bytes → ltb (length bytes) 8 ≡ short → cond short None (done (big_number 8 bytes) (drop 8 bytes)) ≡ Some x → Took (Spelled IsWord spelling.word) bytes x
 word-takes bytes true x fits is e = absurd cc
 word-takes bytes false x fits is e =
@@ -192,16 +215,19 @@ word-takes bytes false x fits is e =
     subst (λ (y : ℕ × List ℕ). Took (Spelled IsWord spelling.word) bytes y) (some_is n (drop 8 bytes) x e)
     (record { front = take 8 bytes; parts = sym (take-append-drop 8 bytes); says = record { fits = word-fits bytes fits; are = back } })
 
+-- what is read as a number of 64 bits are the eight bytes that spell it
 word_in-takes : (bytes : List ℕ) → AreBytes bytes → (x : ℕ × List ℕ) → word_in bytes ≡ Some x → Took (Spelled IsWord spelling.word) bytes x
 unfolding word_in
 word_in-takes bytes fits x e = word-takes bytes (ltb (length bytes) 8) x fits refl e
 
+-- the eight bytes of a number are read as it
 word_in-eight : (n : ℕ) (rest : List ℕ) → IsWord n → word_in (big_bytes 8 n ++ rest) ≡ Some (n, rest)
 unfolding word_in
 word_in-eight n rest fits =
     let long : ltb (length (big_bytes 8 n ++ rest)) 8 ≡ false = le-ltb _ _ (omega (arith, length-append (big_bytes 8 n) rest)) in
     rw (long, word-again n rest fits, drop_at (big_bytes 8 n) rest 8 refl) refl
 
+-- the reader of a number of 64 bits reads what spells one
 pub word_reads : Reads word_in (Spelled IsWord spelling.word)
 word_reads = record { takes = word_in-takes; again = λ n front rest s. ap (λ (t : List ℕ). word_in (t ++ rest)) s.are ∙ word_in-eight n rest s.fits }
 
@@ -216,6 +242,7 @@ not_true : (b : Bool) → not b ≡ false → b ≡ true
 not_true true e = refl
 not_true false e = absurd cc
 
+-- what is read as a text is its length and its bytes, within the limits; the tests are flags here
 text-takes : (least most n : ℕ) (bytes : List ℕ) (out short utf8 : Bool) (x : List ℕ × List ℕ) → not (leb least n && leb n most) ≡ out → ltb (length bytes) n ≡ short → is_utf8 (take n bytes) ≡ utf8
     → cond out None (cond short None (cond utf8 (done (take n bytes) (drop n bytes)) None)) ≡ Some x → Took (Spelled (IsText least most) spelling.text) (n ∷ bytes) x
 text-takes least most n bytes true short utf8 x is_out is_short is_utf e = absurd cc
@@ -237,11 +264,13 @@ text-takes least most n bytes false false true x is_out is_short is_utf e =
       };
     })
 
+-- what is read as a text is its length and its bytes, within the limits
 text_in-takes : (least most : ℕ) (bytes : List ℕ) (x : List ℕ × List ℕ) → text_in least most bytes ≡ Some x → Took (Spelled (IsText least most) spelling.text) bytes x
 unfolding text_in
 text_in-takes least most [] x e = absurd cc
 text_in-takes least most (n ∷ bytes) x e = text-takes least most n bytes _ _ _ x refl refl refl e
 
+-- a text within the limits is read behind its length
 text_in-again : (least most : ℕ) (value rest : List ℕ) → IsText least most value → text_in least most (length value ∷ value ++ rest) ≡ Some (value, rest)
 unfolding text_in
 text_in-again least most value rest fits =
@@ -250,6 +279,7 @@ text_in-again least most value rest fits =
     let long : ltb (length (value ++ rest)) (length value) ≡ false = le-ltb _ _ (omega (arith, length-append value rest)) in
     rw (low, high, long, take_at value rest (length value) refl, is_utf8-from_IsUtf8 value fits.utf8, drop_at value rest (length value) refl) refl
 
+-- the reader of a text reads what spells one within the limits
 pub text_reads : (least most : ℕ) → Reads (text_in least most) (Spelled (IsText least most) spelling.text)
 text_reads least most = record {
   takes = λ bytes fits x e. text_in-takes least most bytes x e;
@@ -264,19 +294,23 @@ pub record IsTag (n : ℕ) (value : Unit {0}) (bytes : List ℕ) : Type 0 where
 abbrev tag_by : Bool → Reader (Unit {0})
 tag_by t = cond t (give tt) nothing
 
+-- what is read as a given byte is that byte; the test is a flag here
 tag-takes : (n b : ℕ) (bytes : List ℕ) (t : Bool) (x : Unit {0} × List ℕ) → eqb b n ≡ t → tag_by t bytes ≡ Some x → Took (IsTag n) (b ∷ bytes) x
 tag-takes n b bytes true x is e =
     subst (λ (y : Unit {0} × List ℕ). Took (IsTag n) (b ∷ bytes) y) (some_is tt bytes x e) (record { front = b ∷ []; parts = refl; says = record { one = ap (λ (k : ℕ). k ∷ []) (eqb-true _ _ is) } })
 tag-takes n b bytes false x is e = absurd cc
 
+-- what is read as a given byte is that byte
 tag_in-takes : (n : ℕ) (bytes : List ℕ) (x : Unit {0} × List ℕ) → tag_in n bytes ≡ Some x → Took (IsTag n) bytes x
 unfolding tag_in byte_in
 tag_in-takes n [] x e = absurd cc
 tag_in-takes n (b ∷ bytes) x e = tag-takes n b bytes (eqb b n) x refl e
 
+-- a given byte that stands first is read
 tag_in-again : (n : ℕ) (value : Unit {0}) (front rest : List ℕ) → IsTag n value front → tag_in n (front ++ rest) ≡ Some (value, rest)
 unfolding tag_in byte_in
 tag_in-again n value front rest s = let same : eqb n n ≡ true = eq-eqb n n refl in ap (λ (t : List ℕ). tag_in n (t ++ rest)) s.one ∙ rw same refl
 
+-- the reader of a given byte takes that byte and no other
 pub tag_reads : (n : ℕ) → Reads (tag_in n) (IsTag n)
 tag_reads n = record { takes = λ bytes fits x e. tag_in-takes n bytes x e; again = tag_in-again n }

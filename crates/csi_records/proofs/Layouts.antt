@@ -13,11 +13,13 @@ pub record IsOneToOne {H R : Type 0} (layout : Layout H R) : Type 0 where
   pub rows : (a b : R) → layout.is_row a → layout.is_row b → layout.row a ≡ layout.row b → a ≡ b
   pub fronts : (first : H) (rs : List R) (k : ℕ) → layout.are_rows first rs → layout.are_rows first (take k rs)
 
+-- what is so of each of a list is so of each of a front of it
 each-take : {X : Type 0} (P : X → Type 0) (xs : List X) (k : ℕ) → AllByRecursion P xs → AllByRecursion P (take k xs)
 each-take P xs zero all = tt
 each-take P [] (suc k) all = tt
 each-take P (x ∷ xs) (suc k) all = (all.0, each-take P xs k all.1)
 
+-- equal parts of rows mean equal rows
 pub rows-same : {H R : Type 0} (layout : Layout H R) → IsOneToOne layout → (rs ss : List R) → AllByRecursion layout.is_row rs → AllByRecursion layout.is_row ss → map layout.row rs ≡ map layout.row ss → rs ≡ ss
 rows-same layout one [] [] fit fits e = refl
 rows-same layout one [] (s ∷ ss) fit fits e = absurd cc

@@ -9,10 +9,12 @@ use Rattle.csi_records.specs.Reading.{Reader, go_on, give, items_in}
 abbrev pub with_front : {A : Type 0} → List A → Option (List A × List ℕ) → Option (List A × List ℕ)
 with_front front read = go_on read (λ others. give (front ++ others))
 
+-- it is the same whether an item is read with the rest or counts among those read before
 regroup : {A : Type 0} (front : List A) (x : A) (read : Option (List A × List ℕ)) → with_front front (go_on read (λ others. give (x ∷ others))) ≡ with_front (front ++ x ∷ []) read
 regroup front x (Some y) = ap (λ (xs : List _). Some (xs, y.1)) (simp append_assoc)
 regroup front x None = refl
 
+-- where one item more is read, those that were read and the rest are still what reading gives
 pub goes_on : {A : Type 0} (read : Reader A) (front : List A) (count i : ℕ) (bytes : List ℕ) (x : A) (after : List ℕ) (total : Option (List A × List ℕ)) → i < count → read bytes ≡ Some (x, after)
     → with_front front (items_in read (count - i) bytes) ≡ total → with_front (front ++ x ∷ []) (items_in read (count - (i + 1)) after) ≡ total
 unfolding items_in
@@ -21,6 +23,7 @@ goes_on read front count i bytes x after total lt h so_far =
     let one : with_front front (items_in read (count - i) bytes) ≡ with_front (front ++ x ∷ []) (items_in read (count - (i + 1)) after) = rw (k, h) (regroup front x (items_in read (count - (i + 1)) after)) in
     sym one ∙ so_far
 
+-- where no item is read and some are still to come, reading gives nothing
 pub ends : {A : Type 0} (read : Reader A) (front : List A) (count i : ℕ) (bytes : List ℕ) (total : Option (List A × List ℕ)) → i < count → read bytes ≡ None
     → with_front front (items_in read (count - i) bytes) ≡ total → total ≡ None
 unfolding items_in
@@ -29,6 +32,7 @@ ends read front count i bytes total lt h so_far =
     let one : with_front front (items_in read (count - i) bytes) ≡ None = rw (k, h) refl in
     sym so_far ∙ one
 
+-- where no more items are to come, reading gives those that were read
 pub is_done : {A : Type 0} (read : Reader A) (front : List A) (count i : ℕ) (bytes : List ℕ) (total : Option (List A × List ℕ)) → count ≤ i
     → with_front front (items_in read (count - i) bytes) ≡ total → total ≡ Some (front, bytes)
 unfolding items_in
@@ -41,5 +45,6 @@ is_done {A} read front count i bytes total le so_far =
 abbrev pub failed : {Y : Type 0} → Stop → Result Y Stop
 failed stop = Err stop
 
+-- an error that is handed on is the one that was answered, whichever value the result would have
 pub same_error : {X Y : Type 0} (result : Result X Stop) (made was stop : Stop) → result ≡ Err made → made ≡ was → IsErrOf result stop → IsErrOf (failed {Y = Y} was) stop
 same_error {X} {Y} result made was stop p q is = let e : was ≡ stop = cc in ap (λ (s : Stop). failed {Y = Y} s) e

@@ -19,6 +19,7 @@ pub record ArePlain {H R : Type 0} (layout : Layout H R) : Type 0 where
   pub rows : (row : R) → layout.is_row row → IsPart (layout.row row)
   pub few : (first : H) (rs : List R) → layout.are_rows first rs → length rs ≤ 4096
 
+-- equal parts mean equal records
 pub parts-tell : {H R : Type 0} (layout : Layout H R) → IsOneToOne layout → PartsTell layout
 parts-tell layout one first other rows others parts p q = parts-same layout one first other rows others parts p q
 
@@ -28,6 +29,7 @@ record FitParts (parts : List StoredPart) : Type 0 where
   some : 1 ≤ length parts
   few : length parts < 2 ^ 32
 
+-- the parts of a record are within their limits, and there are some, and fewer than 2^32
 fit-parts : {H R : Type 0} (layout : Layout H R) → ArePlain layout → (parts : List StoredPart) → IsRecordOf layout parts → FitParts parts
 fit-parts layout plain parts is =
     let s = is.spelled in
@@ -73,6 +75,7 @@ record Goes (few many : List StoredPart) (left right : List ℕ) : Type 0 where
   are : many ≡ few ++ more
   left_is : left ≡ flat more ++ right
 
+-- of parts whose bytes, with a rest, are the same, the fewer are a front of the more
 goes : (few many : List StoredPart) (left right : List ℕ) → AllByRecursion IsPart few → AllByRecursion IsPart many → flat few ++ left ≡ flat many ++ right → length few ≤ length many → Goes few many left right
 goes [] many left right fit fits e le = record { more = many; are = refl; left_is = e }
 goes (p ∷ ps) [] left right fit fits e le = absurd (omega arith)
@@ -84,6 +87,7 @@ goes (p ∷ ps) (q ∷ qs) left right fit fits e le =
 abbrev Refuses : (List StoredPart → Type 0) → List StoredPart → List ℕ → Type 0
 Refuses Is before rest = (part : StoredPart) (more : List ℕ) → IsPart part → rest ≡ part_bytes part ++ more → Is (before ++ part ∷ []) → ⊥
 
+-- the parts of a record, or of nothing yet, are within their limits
 begun-fit : {H R : Type 0} (layout : Layout H R) → ArePlain layout → (before : List StoredPart) → Begins (IsRecordOf layout) before → AllByRecursion IsPart before
 begun-fit layout plain before (inl none) = subst (AllByRecursion IsPart) (sym none) tt
 begun-fit layout plain before (inr is) = (fit-parts layout plain before is).fit
@@ -131,6 +135,7 @@ record Bad {H R : Type 0} (layout : Layout H R) (bytes : List ℕ) (place : ℕ)
 abbrev HasNone : List ℕ → Type 0
 HasNone bytes = (count : ℕ) (rest : List ℕ) → 1 ≤ count → count < 2 ^ 32 → bytes ≡ record_head count ++ rest → ⊥
 
+-- bytes with a refused part have no number of parts and are refused at 0, or are as `Bad` says
 seen : {H R : Type 0} (layout : Layout H R) → ArePlain layout → (bytes : List ℕ) (place : ℕ) → IsBadAt (IsRecordOf layout) bytes place → ((place ≡ 0) × HasNone bytes) ⊎ Bad layout bytes place
 seen layout plain bytes _ (no_head none) = inl (refl, none)
 seen layout plain bytes _ (bad_part count before rest to below are begins refuses) =
@@ -159,6 +164,7 @@ seen layout plain bytes _ (more_bytes parts rest is some are) =
       why = inr (refl, some, is);
     })
 
+-- where parts alone and parts with a rest have the same bytes, the rest has none
 no-rest : (parts : List StoredPart) (rest : List ℕ) → flat parts ++ [] ≡ flat parts ++ rest → rest ≡ []
 no-rest parts rest e = sym (append_cancel_left (flat parts) [] rest e)
 
@@ -181,6 +187,7 @@ spelled-clash {H} {R} layout one plain bytes parts place is are bad =
             none [] long here = here
             none (p ∷ ps) long here = absurd (omega (arith, w.0, count, ap length long ∙ length-append bad.before (p ∷ ps)))
 
+-- bytes that are refused at one place aren't refused at a later one
 same-place : {H R : Type 0} (layout : Layout H R) → IsOneToOne layout → ArePlain layout → (bytes : List ℕ) (a b : ℕ) → Bad layout bytes a → Bad layout bytes b → a < b → ⊥
 same-place {H} {R} layout one plain bytes a b p q less =
     let whole : record_head p.count ++ (flat p.before ++ p.rest) ≡ record_head q.count ++ (flat q.before ++ q.rest) = sym p.are ∙ q.are in
@@ -193,6 +200,7 @@ same-place {H} {R} layout one plain bytes a b p q less =
     by count e (inr w) (inl v) = omega (arith, p.here, q.here, less, w.0, count, v.0)
     by count e (inr w) (inr v) = omega (arith, p.here, q.here, less, w.0, count, v.0)
 
+-- bytes are a record's in one way, or are refused at one place at most, and not both
 pub one-reading : {H R : Type 0} (layout : Layout H R) → IsOneToOne layout → ArePlain layout → (bytes : List ℕ) → HasOneReading (IsRecordOf layout) bytes
 one-reading {H} {R} layout one plain bytes = record {
   spelled = λ parts place is are bad. clash parts place is are (seen layout plain bytes place bad);
@@ -236,6 +244,7 @@ record GoesOn (front longer : List StoredPart) (part : StoredPart) : Type 0 wher
   more : List StoredPart
   are : longer ≡ front ++ part ∷ more
 
+-- of two fronts of a list, each with the part behind it, the longer begins with the shorter and its part
 goes-on : (front longer : List StoredPart) (p q : StoredPart) (x y : List StoredPart) → front ++ p ∷ x ≡ longer ++ q ∷ y → length front < length longer → GoesOn front longer p
 goes-on front [] p q x y e less = absurd (omega arith)
 goes-on [] (b ∷ bs) p q x y e less = let same : b ≡ p = cc in record { more = bs; are = ap (λ (r : StoredPart). r ∷ bs) same }
@@ -255,11 +264,13 @@ begun-front layout one front p more whole are (inr is) =
     by (inl none) = absurd (omega (arith, length-append front (p ∷ []), ap length none))
     by (inr here) = here
 
+-- parts that are refused at one place aren't refused at a later one
 refused-clash : {H R : Type 0} (layout : Layout H R) → IsOneToOne layout → (parts : List StoredPart) (a b : ℕ) → IsRefusedAt (IsRecordOf layout) parts a → IsRefusedAt (IsRecordOf layout) parts b → a < b → ⊥
 refused-clash layout one parts a b first second less =
     let on = goes-on first.before second.before first.part second.part first.after second.after (sym first.are ∙ second.are) (omega (arith, first.here, second.here, less)) in
     first.refused (begun-front layout one first.before first.part on.more second.before on.are second.begins)
 
+-- parts are a record's, or have one first part that is refused at most, and not both
 pub one-refusal : {H R : Type 0} (layout : Layout H R) → IsOneToOne layout → (parts : List StoredPart) → HasOneRefusal (IsRecordOf layout) parts
 one-refusal layout one parts = record {
   none = λ place is at. at.refused (begun-front layout one at.before at.part at.after parts at.are (inr is));

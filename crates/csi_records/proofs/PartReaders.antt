@@ -47,6 +47,7 @@ SaysVolume id =
     After (AreFew IsHolding 64) (counted holding_bytes) (λ holdings.
     Made IsKept kept_bytes (λ kept. make_volume id is_live name capacity capabilities holdings kept))))))
 
+-- the fields of a volume's row, one after another, are the row's spelling behind the version
 volume-there : (id : ℕ) → IsVolumeId id → (value : VolumeRow) (bytes : List ℕ) → SaysVolume id value bytes → Spelled (IsVolumeOf id) volume_body value bytes
 volume-there id is_id value bytes s =
     let s1 = s.second in
@@ -74,6 +75,7 @@ volume-there id is_id value bytes s =
         p1 ∙ ap (λ (t : List ℕ). a ++ t) (p2 ∙ ap (λ (t : List ℕ). b ++ t) (p3 ∙ ap (λ (t : List ℕ). c ++ t) (p4 ∙ ap (λ (t : List ℕ). d ++ t) (p5 ∙ ap (λ (t : List ℕ). e ++ t) p6))))
         ∙ simp append_assoc
 
+-- a volume's row behind the version is spelled by its fields, one after another
 volume-back : (id : ℕ) (value : VolumeRow) (bytes : List ℕ) → Spelled (IsVolumeOf id) volume_body value bytes → SaysVolume id value bytes
 volume-back id value bytes s =
     let v = value.volume in
@@ -119,6 +121,7 @@ volume-back id value bytes s =
     apart6 : (a b c d e f : List ℕ) → a ++ b ++ c ++ d ++ e ++ f ≡ a ++ (b ++ (c ++ (d ++ (e ++ f))))
     apart6 a b c d e f = simp append_assoc
 
+-- the reader of a volume's row reads what spells a row of this id behind the version
 volume_reads : (id : ℕ) → IsVolumeId id → Reads (volume_in id) (Spelled (IsVolumeOf id) volume_body)
 unfolding volume_in
 volume_reads id is_id =
@@ -147,6 +150,7 @@ abbrev SaysAnswered : ℕ → RowShown → List ℕ → Type 0
 SaysAnswered id =
     After IsStagedSo staged_bytes (λ staged. After (AreFew IsTargetRow 16) (counted target_bytes) (λ targets. Made IsKept kept_bytes (λ kept. make_answered id staged targets kept)))
 
+-- the fields of a node's row, one after another, are the row's spelling behind the version
 answered-there : (id : ℕ) → IsVolumeId id → (value : RowShown) (bytes : List ℕ) → SaysAnswered id value bytes → Spelled (IsAnsweredOf id) answered_body value bytes
 answered-there id is_id value bytes s =
     let s1 = s.second in
@@ -158,6 +162,7 @@ answered-there id is_id value bytes s =
           ∙ sym (append_assoc (staged_bytes s.before) (counted target_bytes s1.before) (kept_bytes s2.before));
     })
 
+-- a node's row behind the version is spelled by its fields, one after another
 answered-back : (id : ℕ) (value : RowShown) (bytes : List ℕ) → Spelled (IsAnsweredOf id) answered_body value bytes → SaysAnswered id value bytes
 answered-back id value bytes s =
     let fits = s.fits.fits in
@@ -175,6 +180,7 @@ answered-back id value bytes s =
       };
     }
 
+-- the reader of a node's row reads what spells a row of this id behind the version
 answered_reads : (id : ℕ) → IsVolumeId id → Reads (answered_in id) (Spelled (IsAnsweredOf id) answered_body)
 unfolding answered_in
 answered_reads id is_id =
@@ -183,6 +189,7 @@ answered_reads id is_id =
 
 -- ---- heads, behind the version
 
+-- a reader behind a given byte reads that byte and what it reads itself
 tagged : {A : Type 0} {read : Reader A} (n : ℕ) (Fits : A → Type 0) (spell : A → List ℕ) → Reads read (Spelled Fits spell) → Reads (λ bytes. go_on (tag_in n bytes) (λ _. read)) (Spelled Fits (λ value. n ∷ spell value))
 tagged {A} {read} n Fits spell one =
     in_words (Spelled Fits (λ (value : A). n ∷ spell value))
@@ -190,25 +197,30 @@ tagged {A} {read} n Fits spell one =
     (λ value bytes s. record { before = tt; front = n ∷ []; back = spell value; parts = s.are; first = record { one = refl }; second = record { fits = s.fits; are = refl } })
     (then (tag_reads n) (λ _. one))
 
+-- the reader of a controller's head reads what spells one behind the version
 pub controller_head_reads : Reads controller_head_in (Spelled IsWord (λ next_id. 0 ∷ spelling.word next_id))
 unfolding controller_head_in
 controller_head_reads = tagged 0 IsWord spelling.word word_reads
 
+-- the reader of a node's head reads what spells one behind the version
 pub node_head_reads : Reads node_head_in (Spelled IsNodeId (λ node. 1 ∷ spelling.text node))
 unfolding node_head_in
 node_head_reads = tagged 1 IsNodeId spelling.text (text_reads 1 255)
 
 -- ---- whole values
 
+-- where a whole value is given, it was read and no byte is left
 ended-some : {A : Type 0} (read : Option (A × List ℕ)) (value : A) → ended read ≡ Some value → read ≡ Some (value, [])
 ended-some (Some (x, [])) value e = let same : x ≡ value = cc in ap (λ y. Some (y, [])) same
 ended-some (Some (x, b ∷ bytes)) value e = absurd cc
 ended-some None value e = absurd cc
 
+-- where bytes are left, no whole value is given
 pub ended-more : {A : Type 0} (value : A) (bytes : List ℕ) → (bytes ≡ [] → ⊥) → ended (Some (value, bytes)) ≡ None
 ended-more value [] some = absurd (some refl)
 ended-more value (b ∷ bytes) some = refl
 
+-- a whole value that is read is within its limits, and the bytes are the version and its spelling
 whole-takes : {A : Type 0} {read : Reader A} (Fits : A → Type 0) (spell : A → List ℕ) → Reads read (Spelled Fits spell) → (bytes : List ℕ) → AreBytes bytes → (value : A) → whole read bytes ≡ Some value
     → Fits value × (bytes ≡ 1 ∷ spell value)
 unfolding whole
@@ -216,33 +228,42 @@ whole-takes {A} {read} Fits spell one bytes fits value e =
     let took = (tagged 1 Fits spell one).takes bytes fits (value, []) (ended-some (go_on (tag_in 1 bytes) (λ _. read)) value e) in
     (took.says.fits, took.parts ∙ append-nil took.front ∙ took.says.are)
 
+-- a value within its limits is read from the version and its spelling
 whole-again : {A : Type 0} {read : Reader A} (Fits : A → Type 0) (spell : A → List ℕ) → Reads read (Spelled Fits spell) → (value : A) → Fits value → whole read (1 ∷ spell value) ≡ Some value
 unfolding whole
 whole-again {A} {read} Fits spell one value fits =
     let again : go_on (tag_in 1 (1 ∷ spell value ++ [])) (λ _. read) ≡ Some (value, []) = (tagged 1 Fits spell one).again value (1 ∷ spell value) [] (record { fits = fits; are = refl }) in
     ap (λ (t : List ℕ). ended (go_on (tag_in 1 (1 ∷ t)) (λ _. read))) (sym (append-nil (spell value))) ∙ ap ended again
 
+-- a volume's row that is read is a row of this id, and the bytes are its spelling
 pub volume-read : (id : ℕ) → IsVolumeId id → (bytes : List ℕ) → AreBytes bytes → (row : VolumeRow) → whole (volume_in id) bytes ≡ Some row → IsVolumeOf id row × (bytes ≡ volume_bytes row)
 volume-read id is_id bytes fits row e = whole-takes (IsVolumeOf id) volume_body (volume_reads id is_id) bytes fits row e
 
+-- a volume's row is read from its spelling
 pub volume-again : (row : VolumeRow) → IsVolumeRow row → whole (volume_in row.volume.id) (volume_bytes row) ≡ Some row
 volume-again row fits = whole-again (IsVolumeOf row.volume.id) volume_body (volume_reads row.volume.id fits.id) row (record { has_id = refl; fits = fits })
 
+-- a node's row that is read is a row of this id, and the bytes are its spelling
 pub answered-read : (id : ℕ) → IsVolumeId id → (bytes : List ℕ) → AreBytes bytes → (row : RowShown) → whole (answered_in id) bytes ≡ Some row → IsAnsweredOf id row × (bytes ≡ answered_bytes row)
 answered-read id is_id bytes fits row e = whole-takes (IsAnsweredOf id) answered_body (answered_reads id is_id) bytes fits row e
 
+-- a node's row is read from its spelling
 pub answered-again : (row : RowShown) → IsAnsweredRow row → whole (answered_in row.id) (answered_bytes row) ≡ Some row
 answered-again row fits = whole-again (IsAnsweredOf row.id) answered_body (answered_reads row.id fits.id) row (record { has_id = refl; fits = fits })
 
+-- a next id that is read is a number of 64 bits, and the bytes are a controller's head with it
 pub controller_head-read : (bytes : List ℕ) → AreBytes bytes → (next_id : ℕ) → whole controller_head_in bytes ≡ Some next_id → IsWord next_id × (bytes ≡ 1 ∷ 0 ∷ spelling.word next_id)
 controller_head-read bytes fits next_id e = whole-takes IsWord (λ n. 0 ∷ spelling.word n) controller_head_reads bytes fits next_id e
 
+-- the next id is read from the value of a controller's head
 pub controller_head-again : (next_id : ℕ) → IsWord next_id → whole controller_head_in (1 ∷ 0 ∷ spelling.word next_id) ≡ Some next_id
 controller_head-again next_id fits = whole-again IsWord (λ n. 0 ∷ spelling.word n) controller_head_reads next_id fits
 
+-- a node id that is read is one, and the bytes are a node's head with it
 pub node_head-read : (bytes : List ℕ) → AreBytes bytes → (node : List ℕ) → whole node_head_in bytes ≡ Some node → IsNodeId node × (bytes ≡ 1 ∷ 1 ∷ spelling.text node)
 node_head-read bytes fits node e = whole-takes IsNodeId (λ n. 1 ∷ spelling.text n) node_head_reads bytes fits node e
 
+-- the node id is read from the value of a node's head
 pub node_head-again : (node : List ℕ) → IsNodeId node → whole node_head_in (1 ∷ 1 ∷ spelling.text node) ≡ Some node
 node_head-again node fits = whole-again IsNodeId (λ n. 1 ∷ spelling.text n) node_head_reads node fits
 
@@ -251,14 +272,17 @@ node_head-again node fits = whole-again IsNodeId (λ n. 1 ∷ spelling.text n) n
 abbrev pub make_part : ℕ → List ℕ → StoredPart
 make_part key value = record { key = key; value = value }
 
+-- what is there isn't missing
 some_is_none : {A : Type 0} (x : A) → Some x ≡ None → ⊥
 some_is_none x e = cc
 
+-- a volume's row that is read from a part's value has that part
 pub volume-spelled : (id : ℕ) (value : List ℕ) (row : VolumeRow) → IsVolumeId id → AreBytes value → whole (volume_in id) value ≡ Some row → IsVolumeRow row × (volume_part row ≡ record { key = id; value = value })
 volume-spelled id value row is_id fits e =
     let read = volume-read id is_id value fits row e in
     (read.0.fits, ap (λ (k : ℕ). make_part k (volume_bytes row)) read.0.has_id ∙ ap (λ (v : List ℕ). make_part id v) (sym read.1))
 
+-- where no volume's row is read from a part's value, none has that part
 pub volume-none : (id : ℕ) (value : List ℕ) → whole (volume_in id) value ≡ None → (row : VolumeRow) → IsVolumeRow row → volume_part row ≡ record { key = id; value = value } → ⊥
 volume-none id value none row fits e =
     let ids : row.volume.id ≡ id = ap (λ (p : StoredPart). p.key) e in
@@ -266,6 +290,7 @@ volume-none id value none row fits e =
     let again : whole (volume_in id) value ≡ Some row = subst (λ (k : ℕ). whole (volume_in k) value ≡ Some row) ids (subst (λ (v : List ℕ). whole (volume_in row.volume.id) v ≡ Some row) values (volume-again row fits)) in
     some_is_none row (sym again ∙ none)
 
+-- volumes' rows with equal parts are equal
 pub volume-same : (a b : VolumeRow) → IsVolumeRow a → IsVolumeRow b → volume_part a ≡ volume_part b → a ≡ b
 volume-same a b fits fit e =
     let ids : a.volume.id ≡ b.volume.id = ap (λ (p : StoredPart). p.key) e in
@@ -276,11 +301,13 @@ volume-same a b fits fit e =
     same_some : (x y : VolumeRow) → Some x ≡ Some y → x ≡ y
     same_some x y h = cc
 
+-- a node's row that is read from a part's value has that part
 pub answered-spelled : (id : ℕ) (value : List ℕ) (row : RowShown) → IsVolumeId id → AreBytes value → whole (answered_in id) value ≡ Some row → IsAnsweredRow row × (answered_part row ≡ record { key = id; value = value })
 answered-spelled id value row is_id fits e =
     let read = answered-read id is_id value fits row e in
     (read.0.fits, ap (λ (k : ℕ). make_part k (answered_bytes row)) read.0.has_id ∙ ap (λ (v : List ℕ). make_part id v) (sym read.1))
 
+-- where no node's row is read from a part's value, none has that part
 pub answered-none : (id : ℕ) (value : List ℕ) → whole (answered_in id) value ≡ None → (row : RowShown) → IsAnsweredRow row → answered_part row ≡ record { key = id; value = value } → ⊥
 answered-none id value none row fits e =
     let ids : row.id ≡ id = ap (λ (p : StoredPart). p.key) e in
@@ -288,6 +315,7 @@ answered-none id value none row fits e =
     let again : whole (answered_in id) value ≡ Some row = subst (λ (k : ℕ). whole (answered_in k) value ≡ Some row) ids (subst (λ (v : List ℕ). whole (answered_in row.id) v ≡ Some row) values (answered-again row fits)) in
     some_is_none row (sym again ∙ none)
 
+-- a node's rows with equal parts are equal
 pub answered-same : (a b : RowShown) → IsAnsweredRow a → IsAnsweredRow b → answered_part a ≡ answered_part b → a ≡ b
 answered-same a b fits fit e =
     let ids : a.id ≡ b.id = ap (λ (p : StoredPart). p.key) e in
@@ -298,11 +326,13 @@ answered-same a b fits fit e =
     same_some : (x y : RowShown) → Some x ≡ Some y → x ≡ y
     same_some x y h = cc
 
+-- where no next id is read from the value of a head, no controller has that head
 pub controller_head-none : (value : List ℕ) → whole controller_head_in value ≡ None → (next_id : ℕ) → IsWord next_id → controller_head next_id ≡ record { key = 0; value = value } → ⊥
 controller_head-none value none next_id fits e =
     let values : 1 ∷ 0 ∷ spelling.word next_id ≡ value = ap (λ (p : StoredPart). p.value) e in
     some_is_none next_id (sym (subst (λ (v : List ℕ). whole controller_head_in v ≡ Some next_id) values (controller_head-again next_id fits)) ∙ none)
 
+-- controllers' heads that are equal have the same next id
 pub controller_head-same : (a b : ℕ) → IsWord a → IsWord b → controller_head a ≡ controller_head b → a ≡ b
 controller_head-same a b fits fit e =
     let values : 1 ∷ 0 ∷ spelling.word a ≡ 1 ∷ 0 ∷ spelling.word b = ap (λ (p : StoredPart). p.value) e in
@@ -312,11 +342,13 @@ controller_head-same a b fits fit e =
     same_some : (x y : ℕ) → Some x ≡ Some y → x ≡ y
     same_some x y h = cc
 
+-- where no node id is read from the value of a head, no node has that head
 pub node_head-none : (value : List ℕ) → whole node_head_in value ≡ None → (node : List ℕ) → IsNodeId node → node_head node ≡ record { key = 0; value = value } → ⊥
 node_head-none value none node fits e =
     let values : 1 ∷ 1 ∷ spelling.text node ≡ value = ap (λ (p : StoredPart). p.value) e in
     some_is_none node (sym (subst (λ (v : List ℕ). whole node_head_in v ≡ Some node) values (node_head-again node fits)) ∙ none)
 
+-- nodes' heads that are equal have the same node id
 pub node_head-same : (a b : List ℕ) → IsNodeId a → IsNodeId b → node_head a ≡ node_head b → a ≡ b
 node_head-same a b fits fit e =
     let values : 1 ∷ 1 ∷ spelling.text a ≡ 1 ∷ 1 ∷ spelling.text b = ap (λ (p : StoredPart). p.value) e in

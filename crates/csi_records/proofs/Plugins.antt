@@ -29,6 +29,7 @@ use Rattle.csi_records.proofs.Layouts.{IsOneToOne, head-refused, row-unread, row
 
 -- ---- the controller's
 
+-- controller's rows that are spelled the same say the same
 same-rows : (rows others : List ControllerRow) → map volume_row rows ≡ map volume_row others → AreSameRows rows others
 same-rows [] [] e = tt
 same-rows [] (b ∷ bs) e = absurd cc
@@ -42,6 +43,7 @@ same-rows (a ∷ rows) (b ∷ bs) e =
 pub sound-shown : (next_id : ℕ) (rows : List ControllerRow) → AreVolumeRows next_id (map volume_row rows) → IsSound next_id rows
 sound-shown next_id rows are = sound-copies next_id are.0 rows (same-rows are.0 rows are.1) are.2
 
+-- the parts of a controller's record are spelled by one value each, and a front of its rows keeps the rules
 pub controller_one : IsOneToOne controller_layout
 controller_one = record {
   heads = controller_head-same;
@@ -64,12 +66,14 @@ abbrev rest_of : {H R : Type 0} → (layout : Layout H R) → (parts : List Stor
 rest_of layout parts rows true read = ([], read.stops ∙ sym (append-nil (map layout.row rows)))
 rest_of layout parts rows false read = (read.stops.0 ∷ read.stops.1, read.stops.2)
 
+-- where a controller's rows so far are sound and the next part is no row, that part is refused
 pub controller-unread : (next_id : ℕ) (rows : List ControllerRow) (parts : List StoredPart) → next_id < 2 ^ 64 → AreRead controller_layout parts (map volume_row rows) false → IsSound next_id rows
     → IsRefusedAt (IsRecordOf controller_layout) (controller_head next_id ∷ parts) (length rows + 1)
 controller-unread next_id rows parts fits read sound =
     subst (λ (n : ℕ). IsRefusedAt (IsRecordOf controller_layout) (controller_head next_id ∷ parts) (n + 1)) (length-map rows volume_row)
     (row-unread controller_layout next_id (map volume_row rows) read.stops.0 read.stops.1 parts fits read.fit (rows, refl, sound) read.stops.2 read.stops.3)
 
+-- where a row is the first that a controller refuses, its part is the first that is refused
 pub controller-badrow : (next_id : ℕ) (rows : List ControllerRow) (parts : List StoredPart) (all : Bool) (place : ℕ) → next_id < 2 ^ 64 → AreRead controller_layout parts (map volume_row rows) all → IsFirstRefused next_id rows place
     → IsRefusedAt (IsRecordOf controller_layout) (controller_head next_id ∷ parts) place
 controller-badrow next_id rows parts all place fits read first =
@@ -84,6 +88,7 @@ stored-split (p ∷ ps) head some is =
 
 -- ---- a node's
 
+-- a front of a node's record keeps a record's rules
 record-take : (rows : List RowShown) (k : ℕ) → IsRecord rows → IsRecord (take k rows)
 record-take rows k is = record {
   rising = λ i j below inside.
@@ -98,6 +103,7 @@ record-take rows k is = record {
     at : (i : ℕ) → i < k → id_at (take k rows) i ≡ id_at rows i
     at i below = ap (λ (ns : List ℕ). get_or ns i 0) (sym (take-map (λ (row : RowShown). row.id) k rows)) ∙ get_or-take k (ids rows) i 0 below
 
+-- the parts of a node's record are spelled by one value each, and a front of its rows keeps the rules
 pub node_one : (wanted : Option (List ℕ)) → IsOneToOne (node_layout wanted)
 node_one wanted = record {
   heads = λ a b fits fit e. node_head-same a b fits.0 fit.0 e;
@@ -110,6 +116,7 @@ asked : (wanted : Option (List ℕ)) (parts : List StoredPart) (rows : List RowS
 asked wanted parts rows true read = record { fit = read.fit; stops = read.stops }
 asked wanted parts rows false read = record { fit = read.fit; stops = read.stops }
 
+-- where a node's rows so far keep the rules and the next part is no row, that part is refused
 pub node-unread : (wanted : Option (List ℕ)) (node : List ℕ) (rows : List NodeRow) (parts : List StoredPart) → IsNodeHead wanted node → AreRead (node_layout None) parts (map shown rows) false → IsRecord (map shown rows)
     → IsRefusedAt (IsRecordOf (node_layout wanted)) (node_head node ∷ parts) (length rows + 1)
 node-unread wanted node rows parts fits read rules =
@@ -117,6 +124,7 @@ node-unread wanted node rows parts fits read rules =
     subst (λ (n : ℕ). IsRefusedAt (IsRecordOf (node_layout wanted)) (node_head node ∷ parts) (n + 1)) (length-map rows shown)
     (row-unread (node_layout wanted) node (map shown rows) now.stops.0 now.stops.1 parts fits now.fit rules now.stops.2 now.stops.3)
 
+-- where a row is the first that a node refuses, its part is the first that is refused
 pub node-badrow : (wanted : Option (List ℕ)) (node : List ℕ) (rows : List NodeRow) (parts : List StoredPart) (all : Bool) (place : ℕ) → IsNodeHead wanted node → AreRead (node_layout None) parts (map shown rows) all → IsFirstRefusedRow rows place
     → IsRefusedAt (IsRecordOf (node_layout wanted)) (node_head node ∷ parts) place
 node-badrow wanted node rows parts all place fits read first =
@@ -138,14 +146,17 @@ few-each : (rows : List NodeRow) → AllByRecursion IsRow (map shown rows) → A
 few-each [] each = tt
 few-each (r ∷ rs) each = ((each.0).targets.limit, few-each rs each.1)
 
+-- the rows of a node's record have at most 16 targets each
 pub few-targets : (rows : List NodeRow) → IsRecord (map shown rows) → AllByRecursion ArePublishedFew rows
 few-targets rows is = few-each rows (recursion_from_All IsRow (map shown rows) is.each)
 
 -- ---- what their parts are
 
+-- a number of 64 bits is spelled in eight bytes
 word-size : (n : ℕ) → length (spelling.word n) ≡ 8
 word-size n = refl
 
+-- a controller's parts are within their limits, and there are at most 4,096 rows
 pub controller_plain : ArePlain controller_layout
 controller_plain = record {
   heads = λ next_id fits. record { key = omega arith; value = omega arith };
@@ -153,6 +164,7 @@ controller_plain = record {
   few = λ next_id rows are. omega (arith, are.2.limit, length-map are.0 volume_row, ap length are.1);
 }
 
+-- a node's parts are within their limits, and there are at most 4,096 rows
 pub node_plain : (wanted : Option (List ℕ)) → ArePlain (node_layout wanted)
 node_plain wanted = record {
   heads = λ node fits. record { key = omega arith; value = omega (arith, (fits.0).no_longer) };

@@ -18,6 +18,7 @@ pub record Reads {A : Type 0} (read : Reader A) (Says : A → List ℕ → Type 
 
 -- ---- one reader after another
 
+-- where two readers in turn give a value, the first gave one, and the second gave it behind that
 pub go_on-some : {A B : Type 0} (r : Option (A × List ℕ)) (k : A → Reader B) (y : B × List ℕ) → go_on r k ≡ Some y → (x : A × List ℕ) × (r ≡ Some x) × (k x.0 x.1 ≡ Some y)
 go_on-some (Some x) k y e = (x, refl, e)
 go_on-some None k y e = absurd cc
@@ -31,6 +32,7 @@ pub record Then {A B : Type 0} (First : A → List ℕ → Type 0) (Second : A �
   pub first : First before front
   pub second : Second before value back
 
+-- two readers one after another read what the first and then the second reads
 pub then : {A B : Type 0} {r : Reader A} {k : A → Reader B} {First : A → List ℕ → Type 0} {Second : A → B → List ℕ → Type 0}
     → Reads r First → ((a : A) → Reads (k a) (Second a)) → Reads (r >>= k) (Then First Second)
 then {A} {B} {r} {k} {First} {Second} one two = record {
@@ -57,9 +59,11 @@ pub record Given {A : Type 0} (made value : A) (bytes : List ℕ) : Type 0 where
 abbrev pub done : {A : Type 0} → A → List ℕ → Option (A × List ℕ)
 done x bytes = Some (x, bytes)
 
+-- equal answers have the same value and the same rest
 pub some_is : {A : Type 0} (x : A) (bytes : List ℕ) (y : A × List ℕ) → done x bytes ≡ Some y → (x, bytes) ≡ y
 some_is x bytes y e = cc
 
+-- a value that is given takes no bytes
 pub gives : {A : Type 0} (made : A) → Reads (give made) (Given made)
 gives {A} made = record {
   takes = λ bytes fits x e. subst (λ (y : A × List ℕ). Took (Given made) bytes y) (some_is made bytes x e) (record { front = []; parts = refl; says = record { same = refl; none = refl } });
@@ -68,6 +72,7 @@ gives {A} made = record {
 
 -- ---- the same in other words, and a choice
 
+-- a reader that reads what one relation says reads what an equivalent one says
 pub in_words : {A : Type 0} {r : Reader A} {Says : A → List ℕ → Type 0} (Other : A → List ℕ → Type 0)
     → ((value : A) (bytes : List ℕ) → Says value bytes → Other value bytes) → ((value : A) (bytes : List ℕ) → Other value bytes → Says value bytes) → Reads r Says → Reads r Other
 in_words Other there back one = record {
@@ -79,6 +84,7 @@ in_words Other there back one = record {
 abbrev pub Either : {A : Type 0} → Bool → (A → List ℕ → Type 0) → (A → List ℕ → Type 0) → A → List ℕ → Type 0
 Either b First Second value bytes = MatchBool b (First value bytes) (Second value bytes)
 
+-- a choice of two readers by a test reads what the chosen one reads
 pub either : {A : Type 0} {r k : Reader A} {First Second : A → List ℕ → Type 0} (b : Bool) → Reads r First → Reads k Second → Reads (cond b r k) (Either b First Second)
 either true one two = one
 either false one two = two
@@ -105,6 +111,7 @@ pub record Made {A B : Type 0} (Fits : A → Type 0) (spell : A → List ℕ) (m
   pub same : value ≡ make before
   pub are : bytes ≡ spell before
 
+-- a reader of a field with one spelling, and one behind it, read that spelling and then what the second reads
 pub after : {A B : Type 0} {r : Reader A} {k : A → Reader B} {Fits : A → Type 0} {spell : A → List ℕ} {Second : A → B → List ℕ → Type 0}
     → Reads r (Spelled Fits spell) → ((a : A) → Reads (k a) (Second a)) → Reads (r >>= k) (After Fits spell Second)
 after {A} {B} {r} {k} {Fits} {spell} {Second} one two =
@@ -113,6 +120,7 @@ after {A} {B} {r} {k} {Fits} {spell} {Second} one two =
     (λ value bytes s. record { before = s.before; front = spell s.before; back = s.back; parts = s.parts; first = record { fits = s.fits; are = refl }; second = s.second })
     (then one two)
 
+-- what is made of a value with one spelling is read from that spelling
 pub makes : {A B : Type 0} {r : Reader A} {Fits : A → Type 0} {spell : A → List ℕ} (make : A → B) → Reads r (Spelled Fits spell) → Reads (r >>= λ a. give (make a)) (Made Fits spell make)
 makes {A} {B} {r} {Fits} {spell} make one =
     in_words (Made Fits spell make)

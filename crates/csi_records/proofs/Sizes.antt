@@ -18,6 +18,7 @@ use Rattle.csi_node.specs.OneRow.{RowShown}
 use Rattle.csi_records.specs.Spelling.{VolumeRow, state_byte, counted, holding_bytes, target_bytes, kept_bytes, staged_bytes, volume_bytes, answered_bytes}
 use Rattle.csi_records.specs.Records.{IsHolding, IsTargetRow, IsStagedSo, IsKept, IsVolumeRow, IsAnsweredRow}
 
+-- how long the spelling of each value is at most
 access-size : (a : Access) → IsAccess a → length (spelling.access a) ≤ 130
 access-size Block fits = omega arith
 access-size (Mount fs_type) fits = omega (arith, fits.no_longer)
@@ -60,15 +61,18 @@ staged-size : (s : Option Capability) → IsStagedSo s → length (staged_bytes 
 staged-size None fits = omega arith
 staged-size (Some c) fits = omega (arith, capability-size c fits)
 
+-- the length of six pieces, and below of three, is the sum of theirs
 length6 : (a b c d e f : List ℕ) → length (a ++ b ++ c ++ d ++ e ++ f) ≡ length a + length b + length c + length d + length e + length f
 length6 a b c d e f = simp length-append
 
 length3 : (a b c : List ℕ) → length (a ++ b ++ c) ≡ length a + length b + length c
 length3 a b c = simp length-append
 
+-- lengths below these limits add up to less than 2^32
 small : (n a b c d e f : ℕ) → n ≡ a + b + c + d + e + f → a ≤ 200 → b ≤ 200 → c ≤ 200 → d ≤ 2000 → e ≤ 30000 → f ≤ 300 → n < 2 ^ 32
 small n a b c d e f is ha hb hc hd he hf = omega arith
 
+-- the value of a volume's part, and below of a node's row, is shorter than 2^32 bytes
 pub volume-size : (row : VolumeRow) → IsVolumeRow row → length (volume_bytes row) < 2 ^ 32
 volume-size row fits =
     let a : List ℕ = 1 ∷ state_byte row.volume.is_live ∷ [] in

@@ -26,6 +26,7 @@ use Rattle.csi_records.proofs.FieldReaders.{flag_reads, mode_reads, status_reads
 
 -- ---- what is made of fields one after another, as one list
 
+-- what is one piece and then a middle, which is two more, is the three pieces
 pub join3 : (whole a b c mid : List ℕ) → whole ≡ a ++ mid → mid ≡ b ++ c → whole ≡ a ++ b ++ c
 join3 whole a b c mid one two = one ∙ ap (λ (t : List ℕ). a ++ t) two ∙ sym (append_assoc a b c)
 
@@ -37,16 +38,19 @@ WasAccess b = Either b (Made (IsText 0 128) spelling.text Mount) (Given Block)
 abbrev SaysAccess : Access → List ℕ → Type 0
 SaysAccess = After Always spelling.flag WasAccess
 
+-- a flag and what it asks for behind it are the spelling of an access
 access-by : (b : Bool) (value : Access) (bytes back : List ℕ) → bytes ≡ spelling.flag b ++ back → WasAccess b value back → Spelled IsAccess spelling.access value bytes
 access-by true value bytes back parts s =
     subst (λ (v : Access). Spelled IsAccess spelling.access v bytes) (sym s.same) (record { fits = s.fits; are = parts ∙ ap (λ (t : List ℕ). 1 ∷ t) s.are })
 access-by false value bytes back parts s =
     subst (λ (v : Access). Spelled IsAccess spelling.access v bytes) (sym s.same) (record { fits = tt; are = parts ∙ ap (λ (t : List ℕ). 0 ∷ t) s.none })
 
+-- the spelling of an access is a flag and what the flag asks for
 access-back : (value : Access) (bytes : List ℕ) → Spelled IsAccess spelling.access value bytes → SaysAccess value bytes
 access-back Block bytes s = record { before = false; fits = tt; back = []; parts = s.are; second = record { same = refl; none = refl } }
 access-back (Mount fs_type) bytes s = record { before = true; fits = tt; back = spelling.text fs_type; parts = s.are; second = record { before = fs_type; fits = s.fits; same = refl; are = refl } }
 
+-- the reader of an access reads what spells one
 access_reads : Reads access_in (Spelled IsAccess spelling.access)
 unfolding access_in
 access_reads =
@@ -56,15 +60,18 @@ access_reads =
 abbrev SaysCapability : Capability → List ℕ → Type 0
 SaysCapability = After IsAccess spelling.access (λ access. Made Always (λ mode. mode_number mode ∷ []) (λ mode. record { access = access; mode = mode }))
 
+-- an access and then a mode are the spelling of a capability
 capability-there : (value : Capability) (bytes : List ℕ) → SaysCapability value bytes → Spelled IsCapability spelling.capability value bytes
 capability-there value bytes s =
     subst (λ (v : Capability). Spelled IsCapability spelling.capability v bytes) (sym s.second.same)
     (record { fits = s.fits; are = s.parts ∙ ap (λ (t : List ℕ). spelling.access s.before ++ t) s.second.are })
 
+-- the spelling of a capability is an access and then a mode
 capability-back : (value : Capability) (bytes : List ℕ) → Spelled IsCapability spelling.capability value bytes → SaysCapability value bytes
 capability-back value bytes s =
     record { before = value.access; fits = s.fits; back = mode_number value.mode ∷ []; parts = s.are; second = record { before = value.mode; fits = tt; same = refl; are = refl } }
 
+-- the reader of a capability reads what spells one
 pub capability_reads : Reads capability_in (Spelled IsCapability spelling.capability)
 unfolding capability_in
 capability_reads =
@@ -83,6 +90,7 @@ SaysMore Fits spell n = After Fits spell (λ first. Made (AreSo Fits n) (flat_ma
 abbrev SaysItems : {A : Type 0} → (A → Type 0) → (A → List ℕ) → ℕ → List A → List ℕ → Type 0
 SaysItems Fits spell n = Spelled (AreSo Fits n) (flat_map spell)
 
+-- a value and so many others are one more, and spelled as such
 more-there : {A : Type 0} (Fits : A → Type 0) (spell : A → List ℕ) (n : ℕ) (value : List A) (bytes : List ℕ) → SaysMore Fits spell n value bytes → SaysItems Fits spell (suc n) value bytes
 more-there {A} Fits spell n value bytes s =
     subst (λ (v : List A). SaysItems Fits spell (suc n) v bytes) (sym s.second.same)
@@ -91,6 +99,7 @@ more-there {A} Fits spell n value bytes s =
       are = s.parts ∙ ap (λ (t : List ℕ). spell s.before ++ t) s.second.are ∙ sym (flat_map-cons spell s.before s.second.before);
     })
 
+-- one more value than so many are a first and so many others, spelled one after the other
 more-back : {A : Type 0} (Fits : A → Type 0) (spell : A → List ℕ) (n : ℕ) (value : List A) (bytes : List ℕ) → SaysItems Fits spell (suc n) value bytes → SaysMore Fits spell n value bytes
 more-back Fits spell n [] bytes s = absurd (cc s.fits.counted)
 more-back Fits spell n (first ∷ others) bytes s =
@@ -102,13 +111,16 @@ more-back Fits spell n (first ∷ others) bytes s =
       second = record { before = others; fits = record { counted = omega (arith, s.fits.counted); each = s.fits.each.1 }; same = refl; are = refl };
     }
 
+-- no values, without a byte, are spelled as such
 nil-there : {A : Type 0} (Fits : A → Type 0) (spell : A → List ℕ) (value : List A) (bytes : List ℕ) → Given [] value bytes → SaysItems Fits spell 0 value bytes
 nil-there {A} Fits spell value bytes s = subst (λ (v : List A). SaysItems Fits spell 0 v bytes) (sym s.same) (record { fits = record { counted = refl; each = tt }; are = s.none })
 
+-- no values are spelled without a byte
 nil-back : {A : Type 0} (Fits : A → Type 0) (spell : A → List ℕ) (value : List A) (bytes : List ℕ) → SaysItems Fits spell 0 value bytes → Given [] value bytes
 nil-back Fits spell [] bytes s = record { same = refl; none = s.are }
 nil-back Fits spell (first ∷ others) bytes s = absurd (cc s.fits.counted)
 
+-- a reader of single values that is asked so many times reads so many
 pub items_read : {A : Type 0} {read : Reader A} (Fits : A → Type 0) (spell : A → List ℕ) (n : ℕ) → Reads read (Spelled Fits spell) → Reads (items_in read n) (SaysItems Fits spell n)
 unfolding items_in
 items_read Fits spell zero one = in_words (SaysItems Fits spell 0) (nil-there Fits spell) (nil-back Fits spell) (gives [])
@@ -124,6 +136,7 @@ pub record AreFew {A : Type 0} (Fits : A → Type 0) (most : ℕ) (values : List
 abbrev SaysCounted : {A : Type 0} → (A → Type 0) → (A → List ℕ) → ℕ → List A → List ℕ → Type 0
 SaysCounted Fits spell most = After (IsCount most) one_byte (λ count. SaysItems Fits spell count)
 
+-- a count and so many values are the spelling of a counted list
 counted-there : {A : Type 0} (Fits : A → Type 0) (spell : A → List ℕ) (most : ℕ) (value : List A) (bytes : List ℕ) → SaysCounted Fits spell most value bytes → Spelled (AreFew Fits most) (counted spell) value bytes
 counted-there Fits spell most value bytes s =
     record {
@@ -131,6 +144,7 @@ counted-there Fits spell most value bytes s =
       are = s.parts ∙ ap (λ (t : List ℕ). s.before ∷ t) s.second.are ∙ ap (λ (n : ℕ). n ∷ flat_map spell value) (sym s.second.fits.counted);
     }
 
+-- the spelling of a counted list is its count and its values
 counted-back : {A : Type 0} (Fits : A → Type 0) (spell : A → List ℕ) (most : ℕ) (value : List A) (bytes : List ℕ) → Spelled (AreFew Fits most) (counted spell) value bytes → SaysCounted Fits spell most value bytes
 counted-back Fits spell most value bytes s =
     record {
@@ -141,6 +155,7 @@ counted-back Fits spell most value bytes s =
       second = record { fits = record { counted = refl; each = s.fits.each }; are = refl };
     }
 
+-- the reader of a counted list reads what spells one of at most so many values
 pub counted_reads : {A : Type 0} {read : Reader A} (Fits : A → Type 0) (spell : A → List ℕ) (most : ℕ) → Reads read (Spelled Fits spell) → Reads (counted_in most read) (Spelled (AreFew Fits most) (counted spell))
 unfolding counted_in
 counted_reads Fits spell most one =
@@ -152,6 +167,7 @@ counted_reads Fits spell most one =
 abbrev SaysHolding : NodeHolding → List ℕ → Type 0
 SaysHolding = After IsNodeId spelling.text (λ node. After IsCapability spelling.capability (λ capability. Made Always spelling.flag (λ readonly. record { node = node; capability = capability; readonly = readonly })))
 
+-- a node id, a capability and a flag are the spelling of a holding
 holding-there : (value : NodeHolding) (bytes : List ℕ) → SaysHolding value bytes → Spelled IsHolding holding_bytes value bytes
 holding-there value bytes s =
     let s1 = s.second in
@@ -162,6 +178,7 @@ holding-there value bytes s =
       are = join3 bytes (spelling.text s.before) (spelling.capability s1.before) (spelling.flag s2.before) s.back s.parts (s1.parts ∙ ap (λ (t : List ℕ). spelling.capability s1.before ++ t) s2.are);
     })
 
+-- the spelling of a holding is a node id, a capability and a flag
 holding-back : (value : NodeHolding) (bytes : List ℕ) → Spelled IsHolding holding_bytes value bytes → SaysHolding value bytes
 holding-back value bytes s =
     record {
@@ -178,6 +195,7 @@ holding-back value bytes s =
       };
     }
 
+-- the reader of a holding reads what spells one
 pub holding_reads : Reads holding_in (Spelled IsHolding holding_bytes)
 unfolding holding_in
 holding_reads =
@@ -187,15 +205,18 @@ holding_reads =
 abbrev SaysTarget : NodeTarget → List ℕ → Type 0
 SaysTarget = After IsTarget spelling.text (λ target. Made Always spelling.flag (λ readonly. record { target = target; readonly = readonly }))
 
+-- a text and a flag are the spelling of a target
 target-there : (value : NodeTarget) (bytes : List ℕ) → SaysTarget value bytes → Spelled IsTargetRow target_bytes value bytes
 target-there value bytes s =
     subst (λ (v : NodeTarget). Spelled IsTargetRow target_bytes v bytes) (sym s.second.same)
     (record { fits = s.fits; are = s.parts ∙ ap (λ (t : List ℕ). spelling.text s.before ++ t) s.second.are })
 
+-- the spelling of a target is a text and a flag
 target-back : (value : NodeTarget) (bytes : List ℕ) → Spelled IsTargetRow target_bytes value bytes → SaysTarget value bytes
 target-back value bytes s =
     record { before = value.target; fits = s.fits; back = spelling.flag value.readonly; parts = s.are; second = record { before = value.readonly; fits = tt; same = refl; are = refl } }
 
+-- the reader of a target reads what spells one
 pub target_reads : Reads target_in (Spelled IsTargetRow target_bytes)
 unfolding target_in
 target_reads =
@@ -210,15 +231,18 @@ number_bytes number = spelling.word number.session ++ spelling.word number.call
 abbrev SaysNumber : Number → List ℕ → Type 0
 SaysNumber = After IsWord spelling.word (λ session. Made IsWord spelling.word (λ call. record { session = session; call = call }))
 
+-- a session and a count are the spelling of a call's number
 number-there : (value : Number) (bytes : List ℕ) → SaysNumber value bytes → Spelled IsNumber number_bytes value bytes
 number-there value bytes s =
     subst (λ (v : Number). Spelled IsNumber number_bytes v bytes) (sym s.second.same)
     (record { fits = record { session_fits = s.fits; call_fits = s.second.fits }; are = s.parts ∙ ap (λ (t : List ℕ). spelling.word s.before ++ t) s.second.are })
 
+-- the spelling of a call's number is a session and a count
 number-back : (value : Number) (bytes : List ℕ) → Spelled IsNumber number_bytes value bytes → SaysNumber value bytes
 number-back value bytes s =
     record { before = value.session; fits = s.fits.session_fits; back = spelling.word value.call; parts = s.are; second = record { before = value.call; fits = s.fits.call_fits; same = refl; are = refl } }
 
+-- the reader of a call's number reads what spells one
 number_reads : Reads number_in (Spelled IsNumber number_bytes)
 unfolding number_in
 number_reads =
@@ -228,15 +252,18 @@ number_reads =
 abbrev IsReplyId : Option ℕ → Type 0
 IsReplyId id = IfSome id IsVolumeId
 
+-- a number of 64 bits stands for an id or, where it is 0, for none, and is spelled as that is
 id-there : (n : ℕ) → IsWord n → IfSome (id_from n) IsVolumeId × (spelling.word n ≡ spelling.reply_id (id_from n))
 id-there zero fits = (tt, refl)
 id-there (suc n) fits = (record { from_one = omega arith; in_range = fits }, refl)
 
+-- an id, or none, is spelled as the number that stands for it
 id-back : (id : Option ℕ) → IsReplyId id → (n : ℕ) × IsWord n × (spelling.reply_id id ≡ spelling.word n) × (id ≡ id_from n)
 id-back None fits = (0, omega arith, refl, refl)
 id-back (Some zero) fits = absurd (omega (arith, fits.from_one))
 id-back (Some (suc n)) fits = (suc n, fits.in_range, refl, refl)
 
+-- the reader of a reply's id reads what spells one, or none
 reply_id_reads : Reads reply_id_in (Spelled IsReplyId spelling.reply_id)
 unfolding reply_id_in
 reply_id_reads =
@@ -251,6 +278,7 @@ abbrev SaysReply : Reply → List ℕ → Type 0
 SaysReply =
     After Always (λ status. status_code status ∷ []) (λ status. After IsReplyId spelling.reply_id (λ id. Made (IsText 0 255) spelling.text (λ detail. record { status = status; id = id; detail = detail })))
 
+-- a status, an id and a detail are the spelling of a reply
 reply-there : (value : Reply) (bytes : List ℕ) → SaysReply value bytes → Spelled IsReply spelling.reply_fields value bytes
 reply-there value bytes s =
     let s1 = s.second in
@@ -261,6 +289,7 @@ reply-there value bytes s =
       are = join3 bytes (status_code s.before ∷ []) (spelling.reply_id s1.before) (spelling.text s2.before) s.back s.parts (s1.parts ∙ ap (λ (t : List ℕ). spelling.reply_id s1.before ++ t) s2.are);
     })
 
+-- the spelling of a reply is a status, an id and a detail
 reply-back : (value : Reply) (bytes : List ℕ) → Spelled IsReply spelling.reply_fields value bytes → SaysReply value bytes
 reply-back value bytes s =
     record {
@@ -277,6 +306,7 @@ reply-back value bytes s =
       };
     }
 
+-- the reader of a reply reads what spells one
 reply_reads : Reads reply_in (Spelled IsReply spelling.reply_fields)
 unfolding reply_in
 reply_reads =
@@ -287,6 +317,7 @@ abbrev SaysKept : Kept → List ℕ → Type 0
 SaysKept =
     After IsNumber number_bytes (λ number. After Always (λ kind. (128 + kind_number kind) ∷ []) (λ kind. Made IsReply spelling.reply_fields (λ reply. record { number = number; kind = kind; reply = reply })))
 
+-- a call's number, a kind byte and a reply are the spelling of what is kept
 kept-there : (value : Kept) (bytes : List ℕ) → SaysKept value bytes → Spelled IsKept kept_bytes value bytes
 kept-there value bytes s =
     let s1 = s.second in
@@ -297,6 +328,7 @@ kept-there value bytes s =
       are = s.parts ∙ ap (λ (t : List ℕ). number_bytes s.before ++ t) (s1.parts ∙ ap (λ (t : List ℕ). (128 + kind_number s1.before) ∷ t) s2.are);
     })
 
+-- the spelling of what is kept is a call's number, a kind byte and a reply
 kept-back : (value : Kept) (bytes : List ℕ) → Spelled IsKept kept_bytes value bytes → SaysKept value bytes
 kept-back value bytes s =
     record {
@@ -313,6 +345,7 @@ kept-back value bytes s =
       };
     }
 
+-- the reader of what is kept reads what spells it
 pub kept_reads : Reads kept_in (Spelled IsKept kept_bytes)
 unfolding kept_in
 kept_reads =
@@ -324,16 +357,19 @@ kept_reads =
 abbrev WasStaged : Bool → Option Capability → List ℕ → Type 0
 WasStaged b = Either b (Made IsCapability spelling.capability (λ c. Some c)) (Given None)
 
+-- a flag and what it asks for behind it are the spelling of how a volume is staged
 staged-by : (b : Bool) (value : Option Capability) (bytes back : List ℕ) → bytes ≡ spelling.flag b ++ back → WasStaged b value back → Spelled IsStagedSo staged_bytes value bytes
 staged-by true value bytes back parts s =
     subst (λ (v : Option Capability). Spelled IsStagedSo staged_bytes v bytes) (sym s.same) (record { fits = s.fits; are = parts ∙ ap (λ (t : List ℕ). 1 ∷ t) s.are })
 staged-by false value bytes back parts s =
     subst (λ (v : Option Capability). Spelled IsStagedSo staged_bytes v bytes) (sym s.same) (record { fits = tt; are = parts ∙ ap (λ (t : List ℕ). 0 ∷ t) s.none })
 
+-- the spelling of how a volume is staged is a flag and what the flag asks for
 staged-back : (value : Option Capability) (bytes : List ℕ) → Spelled IsStagedSo staged_bytes value bytes → After Always spelling.flag WasStaged value bytes
 staged-back None bytes s = record { before = false; fits = tt; back = []; parts = s.are; second = record { same = refl; none = refl } }
 staged-back (Some c) bytes s = record { before = true; fits = tt; back = spelling.capability c; parts = s.are; second = record { before = c; fits = s.fits; same = refl; are = refl } }
 
+-- the reader of how a volume is staged reads what spells it
 pub staged_reads : Reads staged_in (Spelled IsStagedSo staged_bytes)
 unfolding staged_in
 staged_reads =

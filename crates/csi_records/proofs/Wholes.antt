@@ -32,6 +32,7 @@ long n = big_bytes 4 n
 pub record IsLong (n : ℕ) : Type 0 where
   pub fits : n < 2 ^ 32
 
+-- what is read as a number of 32 bits are the four bytes that spell it; the test is a flag here
 long-takes : (bytes : List ℕ) (short : Bool) (x : ℕ × List ℕ) → AreBytes bytes → ltb (length bytes) 4 ≡ short → cond short None (done (big_number 4 bytes) (drop 4 bytes)) ≡ Some x → Took (Spelled IsLong long) bytes x
 long-takes bytes true x fits is e = absurd cc
 long-takes bytes false x fits is e =
@@ -43,16 +44,19 @@ long-takes bytes false x fits is e =
     subst (λ (y : ℕ × List ℕ). Took (Spelled IsLong long) bytes y) (some_is n (drop 4 bytes) x e)
     (record { front = take 4 bytes; parts = sym (take-append-drop 4 bytes); says = record { fits = record { fits = small }; are = back } })
 
+-- what is read as a number of 32 bits are the four bytes that spell it
 long_in-takes : (bytes : List ℕ) → AreBytes bytes → (x : ℕ × List ℕ) → long_in bytes ≡ Some x → Took (Spelled IsLong long) bytes x
 unfolding long_in
 long_in-takes bytes fits x e = long-takes bytes (ltb (length bytes) 4) x fits refl e
 
+-- the four bytes of a number are read as it
 long_in-four : (n : ℕ) (rest : List ℕ) → n < 2 ^ 32 → long_in (big_bytes 4 n ++ rest) ≡ Some (n, rest)
 unfolding long_in
 long_in-four n rest fits =
     let enough : ltb (length (big_bytes 4 n ++ rest)) 4 ≡ false = le-ltb _ _ (omega (arith, length-append (big_bytes 4 n) rest)) in
     rw (enough, four-again n rest fits, drop_at (big_bytes 4 n) rest 4 refl) refl
 
+-- the reader of a number of 32 bits reads what spells one
 long_reads : Reads long_in (Spelled IsLong long)
 long_reads = record { takes = long_in-takes; again = λ n front rest s. ap (λ (t : List ℕ). long_in (t ++ rest)) s.are ∙ long_in-four n rest s.fits.fits }
 
@@ -64,6 +68,7 @@ pub record IsOfLength (n : ℕ) (value : List ℕ) : Type 0 where
 abbrev pub itself : List ℕ → List ℕ
 itself value = value
 
+-- so many bytes that are read stand first; the test is a flag here
 piece-takes : (n : ℕ) (bytes : List ℕ) (short : Bool) (x : List ℕ × List ℕ) → ltb (length bytes) n ≡ short → cond short None (done (take n bytes) (drop n bytes)) ≡ Some x → Took (Spelled (IsOfLength n) itself) bytes x
 piece-takes n bytes true x is e = absurd cc
 piece-takes n bytes false x is e =
@@ -72,16 +77,19 @@ piece-takes n bytes false x is e =
     subst (λ (y : List ℕ × List ℕ). Took (Spelled (IsOfLength n) itself) bytes y) (some_is (take n bytes) (drop n bytes) x e)
     (record { front = take n bytes; parts = sym (take-append-drop n bytes); says = record { fits = record { counted = counted }; are = refl } })
 
+-- so many bytes that are read stand first
 bytes_in-takes : (n : ℕ) (bytes : List ℕ) (x : List ℕ × List ℕ) → bytes_in n bytes ≡ Some x → Took (Spelled (IsOfLength n) itself) bytes x
 unfolding bytes_in
 bytes_in-takes n bytes x e = piece-takes n bytes (ltb (length bytes) n) x refl e
 
+-- so many bytes that stand first are read
 bytes_in-again : (n : ℕ) (value rest : List ℕ) → length value ≡ n → bytes_in n (value ++ rest) ≡ Some (value, rest)
 unfolding bytes_in
 bytes_in-again n value rest counted =
     let enough : ltb (length (value ++ rest)) n ≡ false = le-ltb _ _ (omega (arith, length-append value rest, counted)) in
     rw (enough, take_at value rest n counted, drop_at value rest n counted) refl
 
+-- the reader of so many bytes takes them as they are
 bytes_read : (n : ℕ) → Reads (bytes_in n) (Spelled (IsOfLength n) itself)
 bytes_read n = record {
   takes = λ bytes fits x e. bytes_in-takes n bytes x e;
@@ -96,6 +104,7 @@ make_part key value = record { key = key; value = value }
 abbrev SaysPart : StoredPart → List ℕ → Type 0
 SaysPart = After IsWord spelling.word (λ key. After IsLong long (λ n. Made (IsOfLength n) itself (λ value. make_part key value)))
 
+-- a key, a length and as many bytes are the spelling of a part
 part-there : (value : StoredPart) (bytes : List ℕ) → SaysPart value bytes → Spelled IsPart part_bytes value bytes
 part-there value bytes s =
     let s1 = s.second in
@@ -106,6 +115,7 @@ part-there value bytes s =
       are = join3 bytes (spelling.word s.before) (long (length s2.before)) s2.before s.back s.parts (s1.parts ∙ ap (λ (t : List ℕ). long s1.before ++ t) s2.are ∙ ap (λ (n : ℕ). long n ++ s2.before) (sym s2.fits.counted));
     })
 
+-- the spelling of a part is a key, a length and as many bytes
 part-back : (value : StoredPart) (bytes : List ℕ) → Spelled IsPart part_bytes value bytes → SaysPart value bytes
 part-back value bytes s =
     record {
@@ -122,6 +132,7 @@ part-back value bytes s =
       };
     }
 
+-- the reader of a part reads what spells one
 pub part_reads : Reads part_in (Spelled IsPart part_bytes)
 unfolding part_in
 part_reads =
@@ -140,6 +151,7 @@ part-same a b first second fits fit e =
 
 -- ---- the number of parts
 
+-- the reader of a record's version and number of parts reads what spells them
 pub record_head_reads : Reads record_head_in (Spelled IsLong record_head)
 unfolding record_head_in
 record_head_reads =
@@ -148,13 +160,16 @@ record_head_reads =
     (λ value bytes s. record { before = tt; front = 1 ∷ []; back = long value; parts = s.are; first = record { one = refl }; second = record { fits = s.fits; are = refl } })
     (then (tag_reads 1) (λ _. long_reads))
 
+-- what is there isn't missing
 some_is_none : {A : Type 0} (x : A) → Some x ≡ None → ⊥
 some_is_none x e = cc
 
+-- where no version and number of parts are read, none stand in front
 pub no-head : (bytes : List ℕ) → record_head_in bytes ≡ None → HasNoHead bytes
 no-head bytes none = λ count rest from to are.
     some_is_none (count, rest) (sym (record_head_reads.again count (record_head count) rest (record { fits = record { fits = to }; are = refl })) ∙ ap record_head_in (sym are) ∙ none)
 
+-- where the number of parts that is read is 0, no number from 1 on stands in front
 pub zero-head : (bytes rest : List ℕ) (count : ℕ) → count ≡ 0 → record_head_in bytes ≡ Some (count, rest) → HasNoHead bytes
 zero-head bytes rest count is read = λ other more from to are.
     let e = sym (record_head_reads.again other (record_head other) more (record { fits = record { fits = to }; are = refl })) ∙ ap record_head_in (sym are) ∙ read in
@@ -168,10 +183,12 @@ pub record IsSoFar (bytes : List ℕ) (parts : List StoredPart) (rest : List ℕ
   pub fit : AllByRecursion IsPart parts
   pub are : bytes ≡ flat_map part_bytes parts ++ rest
 
+-- the bytes of parts and one part more are those of the parts and then that part's
 flat_map-one_more : (parts : List StoredPart) (part : StoredPart) → flat_map part_bytes (parts ++ part ∷ []) ≡ flat_map part_bytes parts ++ part_bytes part
 flat_map-one_more [] part = append-nil (part_bytes part)
 flat_map-one_more (p ∷ ps) part = ap (λ (t : List ℕ). part_bytes p ++ t) (flat_map-one_more ps part) ∙ sym (append_assoc (part_bytes p) (flat_map part_bytes ps) (part_bytes part))
 
+-- where parts were read and one more is, the parts with it were read
 pub one-more : (bytes : List ℕ) (parts : List StoredPart) (rest after : List ℕ) (part : StoredPart) → AreBytes bytes → IsSoFar bytes parts rest → part_in rest ≡ Some (part, after) → IsSoFar bytes (parts ++ part ∷ []) after
 one-more bytes parts rest after part fits so_far read =
     let took = part_reads.takes rest (AreBytes-back (flat_map part_bytes parts) rest (subst AreBytes so_far.are fits)) (part, after) read in
@@ -181,6 +198,7 @@ one-more bytes parts rest after part fits so_far read =
           ∙ sym (append_assoc (flat_map part_bytes parts) (part_bytes part) after) ∙ ap (λ (t : List ℕ). t ++ after) (sym (flat_map-one_more parts part));
     }
 
+-- where no part is read, none stands in front
 pub no-part : (rest : List ℕ) → part_in rest ≡ None → (part : StoredPart) (more : List ℕ) → IsPart part → rest ≡ part_bytes part ++ more → ⊥
 no-part rest none part more fits are =
     some_is_none (part, more) (sym (part_reads.again part (part_bytes part) more (record { fits = fits; are = refl })) ∙ ap part_in (sym are) ∙ none)
@@ -237,25 +255,30 @@ whole-split bytes parts split =
 
 -- ---- how splitting ends
 
+-- a number of parts that is read is of 32 bits, and stands in front behind the version
 head-found : (bytes rest : List ℕ) (count : ℕ) → AreBytes bytes → record_head_in bytes ≡ Some (count, rest) → (count < 2 ^ 32) × (bytes ≡ record_head count ++ rest)
 head-found bytes rest count fits read =
     let took = record_head_reads.takes bytes fits (count, rest) read in
     (took.says.fits.fits, took.parts ∙ ap (λ (t : List ℕ). t ++ rest) took.says.are)
 
+-- bytes of which the head and parts were read are split so far, where the splitting may stop there
 split-here : (bytes rest after : List ℕ) (count : ℕ) (parts : List StoredPart) (all : Bool) → AreBytes bytes → record_head_in bytes ≡ Some (count, rest) → 1 ≤ count → IsSoFar rest parts after → SplitStops count parts after all → AreSplit bytes parts all
 split-here bytes rest after count parts all fits read from so_far stops =
     let head = head-found bytes rest count fits read in
     record { count = count; rest = after; from = from; to = head.0; fit = so_far.fit; are = head.1 ∙ ap (λ (t : List ℕ). record_head count ++ t) so_far.are; stops = stops }
 
+-- where no part is read and fewer were than the head says, splitting stops there
 pub split-stopped : (bytes rest after : List ℕ) (count : ℕ) (parts : List StoredPart) → AreBytes bytes → record_head_in bytes ≡ Some (count, rest) → 1 ≤ count → IsSoFar rest parts after → length parts < count → part_in after ≡ None → AreSplit bytes parts false
 split-stopped bytes rest after count parts fits read from so_far fewer none = split-here bytes rest after count parts false fits read from so_far (inr (fewer, no-part after none))
 
+-- where as many parts were read as the head says, splitting took all if no byte is left, and else not all
 pub split-ended : (bytes rest after : List ℕ) (count : ℕ) (parts : List StoredPart) (empty : Bool) → AreBytes bytes → record_head_in bytes ≡ Some (count, rest) → 1 ≤ count → IsSoFar rest parts after → length parts ≡ count → empty ≡ eqb (length after) 0 → AreSplit bytes parts empty
 split-ended bytes rest [] count parts true fits read from so_far all is = split-here bytes rest [] count parts true fits read from so_far (all, refl)
 split-ended bytes rest [] count parts false fits read from so_far all is = absurd cc
 split-ended bytes rest (b ∷ after) count parts true fits read from so_far all is = absurd (omega (arith, eqb-true (length (b ∷ after)) 0 (sym is)))
 split-ended bytes rest (b ∷ after) count parts false fits read from so_far all is = split-here bytes rest (b ∷ after) count parts false fits read from so_far (inl (all, λ e. cc))
 
+-- what stands behind a record's head are bytes
 pub bytes-after : (bytes rest : List ℕ) (count : ℕ) → AreBytes bytes → record_head_in bytes ≡ Some (count, rest) → AreBytes rest
 bytes-after bytes rest count fits read = AreBytes-back (record_head count) rest (subst AreBytes (head-found bytes rest count fits read).1 fits)
 
@@ -269,6 +292,7 @@ err-by Is parts_of bytes parts false place split (inl none) =
     subst (λ (n : ℕ). IsBadAt Is bytes n) (ap length none.0 ∙ sym none.1) (bad-end Is bytes parts split (inl none.0))
 err-by Is parts_of bytes parts all place split (inr at) = bad-among Is bytes parts all place split at
 
+-- a part that is refused among the parts of bytes is refused in the bytes
 pub err-bytes : {X : Type 0} (Is : List StoredPart → Type 0) (parts_of : X → List StoredPart) (bytes : List ℕ) (parts : List StoredPart) (all : Bool) (stop : RecordStop) → AreSplit bytes parts all
     → ReadsParts Is parts_of parts (Err stop) → ReadsBytes Is parts_of bytes (Err stop)
 err-bytes Is parts_of bytes parts all (BadRecord place) split read = err-by Is parts_of bytes parts all place split read

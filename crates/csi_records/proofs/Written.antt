@@ -6,6 +6,7 @@ use Rattle.csi_lists.proofs.Each.{each-append_one}
 use Rattle.csi_records.specs.Part.{StoredPart}
 use Rattle.csi_records.specs.Spelling.{part_bytes}
 
+-- what was written in two, three or four pieces is what was there before, and then the pieces
 pub written2 : (old a new x y : List ℕ) → a ≡ old ++ x → new ≡ a ++ y → new ≡ old ++ (x ++ y)
 written2 old a new x y p q = q ∙ ap (λ (t : List ℕ). t ++ y) p ∙ append_assoc old x y
 
@@ -17,13 +18,16 @@ written4 old a b c new x y z w p q r s = written2 old c new (x ++ y ++ z) w (wri
 
 -- ---- rows that are written one after another
 
+-- the first items and the next one are one more of the first
 one_more : {X : Type 0} (xs : List X) (i : ℕ) (x : X) → i < length xs → x ≡ get_or xs i x → take (i + 1) xs ≡ take i xs ++ x ∷ []
 one_more xs i x inside is = take_more xs i x inside ∙ ap (λ y. take i xs ++ y ∷ []) (sym is)
 
+-- the spelling of a list and one item more is that of the list and then the item's
 flat_map-last : {X : Type 0} (f : X → List ℕ) (xs : List X) (x : X) → flat_map f (xs ++ x ∷ []) ≡ flat_map f xs ++ f x
 flat_map-last f [] x = append-nil (f x)
 flat_map-last f (y ∷ ys) x = ap (λ (t : List ℕ). f y ++ t) (flat_map-last f ys x) ∙ sym (append_assoc (f y) (flat_map f ys) (f x))
 
+-- where the parts of the first rows were written and the next row's part is, those of one row more were
 pub one_more_row : {X R : Type 0} (shown : X → R) (part : R → StoredPart) (rows : List X) (i : ℕ) (row : X) (old before after : List ℕ) → i < length rows → row ≡ get_or rows i row
     → before ≡ old ++ flat_map part_bytes (map part (map shown (take i rows))) → after ≡ before ++ part_bytes (part (shown row)) → after ≡ old ++ flat_map part_bytes (map part (map shown (take (i + 1) rows)))
 one_more_row shown part rows i row old before after inside is so_far one =
@@ -33,6 +37,7 @@ one_more_row shown part rows i row old before after inside is so_far one =
     one ∙ ap (λ (t : List ℕ). t ++ part_bytes (part (shown row))) so_far ∙ append_assoc old (flat_map part_bytes rows_so_far) (part_bytes (part (shown row)))
     ∙ ap (λ (t : List ℕ). old ++ t) (sym (flat_map-last part_bytes rows_so_far (part (shown row)))) ∙ ap (λ ps. old ++ flat_map part_bytes ps) (sym more)
 
+-- where the first rows are as they should be and the next is, one row more is so
 pub one_more_fit : {X R : Type 0} (shown : X → R) (P : R → Type 0) (rows : List X) (i : ℕ) (row : X) → i < length rows → row ≡ get_or rows i row → AllByRecursion P (map shown (take i rows)) → P (shown row)
     → AllByRecursion P (map shown (take (i + 1) rows))
 one_more_fit shown P rows i row inside is each own =
