@@ -40,6 +40,7 @@ done_then node state number call id v room =
     ≡ record { reply = Some (reply_frame number (Node node) (kind_of call) (lifecycle_row state call).reply); state = keep (volume_of call) kept (changed state (lifecycle_row state call).change) } = simp room in
     plain ∙ ap (λ (o : Option ℕ). let f : Fenced = record { reply = Some (reply_frame number (Node node) (kind_of call) (lifecycle_row state call).reply); state = keep o kept (changed state (lifecycle_row state call).change) } in f) v
 
+-- a call that is carried out where there is no room is refused, and changes nothing
 full_then : (node : List ℕ) (state : NodeState) (number : Number) (call : Call) → has_no_room state call ≡ true
     → carried_out node state number call (node_row state call) ≡ answered_only node state number (kind_of call) (plain_reply ResourceExhausted (codes "rows"))
 full_then node state number call full = simp full

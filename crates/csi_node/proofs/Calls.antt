@@ -25,17 +25,20 @@ use Rattle.csi_node.proofs.Steps.{row_of, all-from_shows, shows-from_all}
 use Rattle.csi_node.proofs.Answering.{GivesAll, gives-again, gives-anew, gives-full}
 use Rattle.csi_node.proofs.Rules.{id_at-parts, found-at, absent-gap, after-set, after-insert, rules-set, rules-insert}
 
+-- the row as it is shown, at a place, is what is shown of the row there
 pub parts-at : (rows : List NodeRow) (place : ℕ) (d : NodeRow) → get_or (parts rows) place (shown d) ≡ shown (get_or rows place d)
 parts-at [] place d = refl
 parts-at (row ∷ rows) zero d = refl
 parts-at (row ∷ rows) (suc place) d = parts-at rows place d
 
+-- what is shown of rows with a row more is what was shown, with that row more
 pub parts-insert : (rows : List NodeRow) (place : ℕ) (row : NodeRow) → parts (insert rows place row) ≡ insert (parts rows) place (shown row)
 parts-insert rows place row =
     map-append shown (take place rows) (row ∷ drop place rows)
     ∙ ap (λ (front : List RowShown). front ++ shown row ∷ map shown (drop place rows)) (sym (take-map shown place rows))
     ∙ ap (λ (back : List RowShown). take place (map shown rows) ++ shown row ∷ back) (sym (drop-map shown place rows))
 
+-- rows that show what a call leads to, as they are shown, show it themselves
 gives-from_all : (rows : List NodeRow) (frame : Frame) (fenced : Fenced) → GivesAll (parts rows) frame fenced → Gives rows frame fenced
 gives-from_all rows frame fenced gives = record { reply = gives.reply; shows = shows-from_all rows fenced.state gives.shows }
 
@@ -46,6 +49,7 @@ pub record There (rows : List NodeRow) (id place : ℕ) (row : NodeRow) : Type 0
   pub rules : IsRow (shown row)
   pub at_place : row.id ≡ id_at (parts rows) place
 
+-- the row at the place of an id is that id's, is found by it, and keeps the rules
 pub there : (rows : List NodeRow) (id place : ℕ) (row : NodeRow) → row ≡ get_or rows place row → IsRecord (parts rows) → IsAt (parts rows) id place → There rows id place row
 there rows id place row is rules at =
     let shown_at : get_or (parts rows) place (shown row) ≡ shown row = parts-at rows place row ∙ ap shown (sym is) in
@@ -65,6 +69,7 @@ answers-id node number call old new frame Stale h = ap (λ (r : RowShown). r.id)
 answers-id node number call old new frame Repeated h = ap (λ (r : RowShown). r.id) h.1
 answers-id node number call old new frame Fresh h = h.1.id
 
+-- a row keeps its id, whether its call is answered or ends in an error
 pub kept_id : {E : Type 0} (r : Result Frame E) (node : List ℕ) (number : Number) (call : Call) (old new : RowShown) (verdict : Verdict)
     → IfOk r (λ frame. RowAnswers node number call old new frame verdict) → OnErr r (new ≡ old) → new.id ≡ old.id
 kept_id (Ok frame) node number call old new verdict ok err = answers-id node number call old new frame verdict ok
@@ -98,6 +103,7 @@ gives-first node id number call rows place new state frame v gap few shows is af
     (gives-anew node id number call (parts rows) (insert (parts rows) place (shown new)) state v (all-from_shows rows state shows) (shown new) frame (absent-gap (parts rows) id place gap)
     (let many = length-map rows shown in omega arith) (after-insert (parts rows) id place (shown new) gap after.id) is after))
 
+-- the rules once a new row stands in the gap of its id
 pub rules-first : (id : ℕ) (rows : List NodeRow) (place : ℕ) (new : NodeRow) → IsRecord (parts rows) → IsGapFor (parts rows) id place → length rows < 4096 → IsRow (shown new) → new.id ≡ id
     → IsRecord (parts (insert rows place new))
 rules-first id rows place new rules gap few own same =

@@ -26,15 +26,18 @@ use Rattle.csi_node.proofs.Passages.{Passage, stale, repeated, no_room, carried,
 use Rattle.csi_node.proofs.Numbers.{answered_spent, spent_still}
 use Rattle.csi_node.proofs.Things.{row_id, kept_at, kept_on-at, IsFor, is_for, keep-held, kept_either, kept_none, held_none}
 
+-- ResourceExhausted, and below Aborted, isn't OK
 refused_status : {A : Type 0} → ResourceExhausted ≡ Ok → A
 refused_status h = cc
 
 aborted : {A : Type 0} → Aborted ≡ Ok → A
 aborted h = cc
 
+-- each view is the same as itself
 same_view : (view : View) → IsSameView view view
 same_view view = record { held = λ key. refl; is_spent = λ key number. refl; kept = λ key. refl }
 
+-- where there is no thing, there isn't one
 no_key : (key : Key) → None ≡ Some key → ⊥
 no_key key h = cc
 
@@ -49,6 +52,7 @@ reply_id state _ _ (publishes p fits) = refl
 reply_id state _ _ (was_unpublished id target none) = refl
 reply_id state _ _ (unpublishes id target there is) = refl
 
+-- for a node's call, a reply without an id is as the rule asks
 without_id : (node : List ℕ) (call : Call) (key : Key) (reply : Reply) → key_of node call ≡ Some key → reply.id ≡ None → IsTrue (has_id_by_rule (kind_of call) reply)
 without_id node (calls.NodeStageVolume id capability) key reply is none = ap (λ (o : Option ℕ). not (is_some o)) none
 without_id node (calls.NodeUnstageVolume id) key reply is none = ap (λ (o : Option ℕ). not (is_some o)) none
@@ -59,6 +63,7 @@ without_id node (calls.DeleteVolume id) key reply is none = absurd (no_key key i
 without_id node (calls.ControllerPublishVolume id there capability readonly) key reply is none = absurd (no_key key is)
 without_id node (calls.ControllerUnpublishVolume id there) key reply is none = absurd (no_key key is)
 
+-- what the table answers to a call has its effect on the call's thing, and none on others
 effect_for : (node : List ℕ) (state : NodeState) (call : Call) (key : Key) → key_of node call ≡ Some key → Effect node state call (lifecycle_row state call) key
 effect_for node state call key is = subst (EffectAt node state call (lifecycle_row state call)) is (effect node state call (lifecycle_row state call) (lifecycle_moves state call))
 
@@ -208,8 +213,10 @@ delivered node state number call party =
     let for = is_for node call party in
     delivered_by node state number call for.0 for.1 (fenced node state (call_frame number (Node node) call)) (passes node state number call)
 
+-- a node that has answered nothing holds nothing, has no number spent, and keeps nothing
 pub empty : (node : List ℕ) → IsEmpty (view_of node empty_node)
 empty node = record { held = held_none node; is_spent = λ key number. ap (λ (o : Option Kept). is_spent (last_of o) number) (kept_none node key); kept = kept_none node }
 
+-- what came before a number that is spent is spent
 pub closed : (node : List ℕ) (state : NodeState) → IsClosed (view_of node state)
 closed node state key earlier later before spent = spent-earlier (last_of (kept_on node state key)) earlier later before spent

@@ -30,6 +30,7 @@ abbrev pub EffectAt : List ℕ → NodeState → Call → Outcome → Option Key
 EffectAt node state call outcome None = Unit {0}
 EffectAt node state call outcome (Some key) = Effect node state call outcome key
 
+-- things that the test tells apart aren't equal
 is_not : (a b : Key) → same_key a b ≡ false → a ≡ b → ⊥
 is_not a b other same = clash (sym ((same_key-tells a b).1 same) ∙ other)
   where

@@ -33,20 +33,24 @@ pub record LeavesRest (old new : NodeState) (call : Call) : Type 0 where
   pub staged : filter (λ staged. is_another (volume_of call) staged.volume) new.staged ≡ filter (λ staged. is_another (volume_of call) staged.volume) old.staged
   pub published : filter (λ published. is_another (volume_of call) published.volume) new.published ≡ filter (λ published. is_another (volume_of call) published.volume) old.published
 
+-- a refusal changes nothing; after an OK the reply is the plain one, and the call would be met; and other volumes are as they were
 pub record Facts (state : NodeState) (call : Call) (outcome : Outcome) : Type 0 where
   pub stays : outcome.reply.status ≢ Ok → outcome.change ≡ Stays
   pub plain : outcome.reply.status ≡ Ok → outcome.reply ≡ ok_reply
   pub ready : outcome.reply.status ≡ Ok → IsReady (changed state outcome.change) call
   pub others : LeavesRest state (changed state outcome.change) call
 
+-- all that `Facts` says is so of a refusal
 refused_facts : (state : NodeState) (call : Call) (status : Status) (detail : List ℕ) → (status ≡ Ok → ⊥) → Facts state call (refused status detail)
 refused_facts state call status detail not_ok =
     record { stays = λ h. refl; plain = λ h. absurd (not_ok h); ready = λ h. absurd (not_ok h); others = record { staged = refl; published = refl } }
 
+-- all that `Facts` says is so where the call was met before
 met_facts : (state : NodeState) (call : Call) → IsReady state call → Facts state call met
 met_facts state call ready =
     record { stays = λ h. refl; plain = λ h. refl; ready = λ h. ready; others = record { staged = refl; published = refl } }
 
+-- all that `Facts` says is so where the call is carried out
 done_facts : (state : NodeState) (call : Call) (change : Change) → IsReady (changed state change) call → LeavesRest state (changed state change) call → Facts state call (done change)
 done_facts state call change ready others =
     record { stays = λ h. absurd (h refl); plain = λ h. refl; ready = λ h. ready; others = others }
@@ -54,13 +58,16 @@ done_facts state call change ready others =
 same_id : (id : ℕ) → (id == id) ≡ true
 same_id id = eq-eqb id id refl
 
+-- a volume isn't another one than itself
 not_another : (id : ℕ) → not (id == id) ≡ false
 not_another id = rw (same_id id) refl
 
+-- what isn't of a volume isn't at a target of it
 not_at : (a b : Bool) → not a ≡ true → not (a && b) ≡ true
 not_at true b h = cc
 not_at false b h = refl
 
+-- all that `Facts` says is so of each move
 move_facts : (state : NodeState) (call : Call) (outcome : Outcome) → Move state call outcome → Facts state call outcome
 unfolding IsReady
 move_facts state _ _ (refuses call status detail not_ok) = refused_facts state call status detail not_ok
@@ -87,6 +94,7 @@ move_facts state _ _ (unpublishes id target there is) =
       published = filter-filter (λ (p : PublishedVolume). not (p.volume == id)) (λ (p : PublishedVolume). not (is_published_at id target p)) state.published (λ p h. not_at (p.volume == id) (same_text p.target target) h);
     })
 
+-- all that `Facts` says is so of what the table answers where there is room
 pub lifecycle_facts : (state : NodeState) (call : Call) → Facts state call (lifecycle_row state call)
 lifecycle_facts state call = move_facts state call (lifecycle_row state call) (lifecycle_moves state call)
 
@@ -96,9 +104,11 @@ pub record IsMet (state : NodeState) (outcome : Outcome) : Type 0 where
   pub staged : (changed state outcome.change).staged ≡ state.staged
   pub published : (changed state outcome.change).published ≡ state.published
 
+-- a call that was met before is answered OK, and changes nothing
 stays_met : (state : NodeState) → IsMet state met
 stays_met state = record { is_ok = refl; staged = refl; published = refl }
 
+-- NodeStageVolume of what is staged so is answered OK, and changes nothing
 ready_stage : (state : NodeState) (id : ℕ) (capability : Capability) (o : Option Capability) → o ≡ Some capability → IsMet state (stage (record { volume = id; capability = capability }) o)
 ready_stage state id capability o is =
     let staged : StagedVolume = record { volume = id; capability = capability } in
@@ -106,16 +116,19 @@ ready_stage state id capability o is =
     subst (λ (o : Option Capability). IsMet state (stage staged o)) (sym is)
     (subst (λ (b : Bool). IsMet state (cond b met (refused AlreadyExists (codes "staged otherwise")))) (sym self) (stays_met state))
 
+-- NodeUnstageVolume of what is neither staged nor published is answered OK, and changes nothing
 ready_unstage : (state : NodeState) (id : ℕ) (targets : List PublishedVolume) → targets ≡ [] → staged_of id state ≡ None → IsMet state (unstage id targets)
 ready_unstage state id targets is none =
     let found = none-from_map (λ (staged : StagedVolume). staged.capability) (find (λ (staged : StagedVolume). staged.volume == id) state.staged) none in
     subst (λ (targets : List PublishedVolume). IsMet state (unstage id targets)) (sym is)
     (record { is_ok = refl; staged = filter-not_none (λ (staged : StagedVolume). staged.volume == id) state.staged found; published = refl })
 
+-- a flag passes the test against itself
 same_flag-self : (a : Bool) → same_flag a a ≡ true
 same_flag-self true = refl
 same_flag-self false = refl
 
+-- NodePublishVolume of what is published so at an absolute target is answered OK, and changes nothing
 ready_publish : (state : NodeState) (p : PublishedVolume) → published_at p.volume p.target state ≡ Some p → begins_with_slash p.target ≡ true → IsMet state (publish state p)
 ready_publish state p is slash =
     let self : same_capability p.capability p.capability ≡ true = (same_capability-tells p.capability p.capability).1 refl in
@@ -125,6 +138,7 @@ ready_publish state p is slash =
     (subst (λ (o : Option PublishedVolume). IsMet state (publish_at_target state p o)) (sym is)
     (subst (λ (b : Bool). IsMet state (cond b met (refused AlreadyExists (codes "published otherwise")))) (sym both) (stays_met state)))
 
+-- a call that is ready is answered OK, and changes nothing
 pub ready_met : (state : NodeState) (call : Call) → IsReady state call → IsMet state (lifecycle_row state call)
 unfolding IsReady
 ready_met state (calls.NodeStageVolume id capability) h = ready_stage state id capability (staged_of id state) h
@@ -148,6 +162,7 @@ ready_kept state rows (calls.DeleteVolume id) h = absurd h
 ready_kept state rows (calls.ControllerPublishVolume id node capability readonly) h = absurd h
 ready_kept state rows (calls.ControllerUnpublishVolume id node) h = absurd h
 
+-- a call that is ready is about a volume
 pub ready_volume : (state : NodeState) (call : Call) → IsReady state call → (id : ℕ) × (volume_of call ≡ Some id)
 unfolding IsReady
 ready_volume state (calls.NodeStageVolume id capability) h = (id, refl)
@@ -159,6 +174,7 @@ ready_volume state (calls.DeleteVolume id) h = absurd h
 ready_volume state (calls.ControllerPublishVolume id node capability readonly) h = absurd h
 ready_volume state (calls.ControllerUnpublishVolume id node) h = absurd h
 
+-- what a call that is ready does is so already
 pub ready_done : (state : NodeState) (call : Call) → IsReady state call → IsDone state call
 unfolding IsReady
 ready_done state (calls.NodeStageVolume id capability) h = h

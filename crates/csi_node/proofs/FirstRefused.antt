@@ -19,19 +19,23 @@ abbrev pub last_id : ℕ → List RowShown → ℕ
 last_id n [] = n
 last_id n (row ∷ rows) = last_id row.id rows
 
+-- the last id, where a row was added at the end, is that row's
 last_id-append : (n : ℕ) (rows : List RowShown) (row : RowShown) → last_id n (rows ++ row ∷ []) ≡ row.id
 last_id-append n [] row = refl
 last_id-append n (r ∷ rs) row = last_id-append r.id rs row
 
+-- the last id is the id at the last place
 last_id-at : (n : ℕ) (row : RowShown) (rows : List RowShown) → last_id n (row ∷ rows) ≡ id_at (row ∷ rows) (length rows)
 last_id-at n row [] = refl
 last_id-at n row (r ∷ rs) = last_id-at row.id r rs
 
+-- more rows behind leave the ids at the places before as they were
 id_at-front : (rows more : List RowShown) (k : ℕ) → k < length rows → id_at (rows ++ more) k ≡ id_at rows k
 id_at-front [] more k inside = absurd (omega arith)
 id_at-front (r ∷ rs) more zero inside = refl
 id_at-front (r ∷ rs) more (suc k) inside = id_at-front rs more k (omega arith)
 
+-- the id at the place behind rows is that of the row that was added there
 id_at-end : (rows : List RowShown) (row : RowShown) → id_at (rows ++ row ∷ []) (length rows) ≡ row.id
 id_at-end [] row = refl
 id_at-end (r ∷ rs) row = id_at-end rs row
@@ -49,6 +53,7 @@ le-last_id n (r ∷ rs) j rising inside = by (cases_lt j (length rs))
         let here : id_at (r ∷ rs) j ≡ id_at (r ∷ rs) (length rs) = ap (id_at (r ∷ rs)) {x = j} {y = length rs} (omega arith) in
         let last : last_id n (r ∷ rs) ≡ id_at (r ∷ rs) (length rs) = last_id-at n r rs in omega (arith, here, last)
 
+-- rising ids and a higher one behind them rise
 IsRising-append : (n : ℕ) (rows : List RowShown) (row : RowShown) → IsRising rows → last_id n rows < row.id → IsRising (rows ++ row ∷ [])
 IsRising-append n rows row rising below = λ i j less inside.
     let long : length (rows ++ row ∷ []) ≡ length rows + 1 = length_push rows row in
@@ -64,6 +69,7 @@ IsRising-append n rows row rising below = λ i j less inside.
         let own : id_at (rows ++ row ∷ []) (length rows) ≡ row.id = id_at-end rows row in
         let most : id_at rows i ≤ last_id n rows = le-last_id n rows i rising (omega arith) in omega (arith, first, here, own, most, below)
 
+-- where ids rise, those of a front do
 IsRising-front : (rows more : List RowShown) → IsRising (rows ++ more) → IsRising rows
 IsRising-front rows more rising = λ i j less inside.
     let long : length (rows ++ more) ≡ length rows + length more = length-append rows more in
@@ -71,6 +77,7 @@ IsRising-front rows more rising = λ i j less inside.
     let second : id_at (rows ++ more) j ≡ id_at rows j = id_at-front rows more j inside in
     let risen : id_at (rows ++ more) i < id_at (rows ++ more) j = rising i j less (omega (arith, long)) in omega (arith, first, second, risen)
 
+-- where ids rise, the last one before a row is below the row's
 last_id-below : (n : ℕ) (rows : List RowShown) (row : RowShown) → n < row.id → IsRising (rows ++ row ∷ []) → last_id n rows < row.id
 last_id-below n [] row above rising = above
 last_id-below n (r ∷ rs) row above rising =
@@ -82,11 +89,13 @@ last_id-below n (r ∷ rs) row above rising =
 
 -- ---- the rules of the first rows
 
+-- where each row keeps the rules, each of a front does
 all-front : (rows more : List RowShown) → All IsRow (rows ++ more) → All IsRow rows
 all-front rows more all = λ k d inside.
     let long : length (rows ++ more) ≡ length rows + length more = length-append rows more in
     subst IsRow (get_or_append_left rows more d k inside) (all k d (omega (arith, long)))
 
+-- a front of a record's rows is a record's
 rules-front : (rows more : List RowShown) → IsRecord (rows ++ more) → IsRecord rows
 rules-front rows more rules =
     record {
@@ -95,6 +104,7 @@ rules-front rows more rules =
       each = all-front rows more rules.each;
     }
 
+-- the first rows of a record's, as they are shown, are a record's
 rules-take_shown : (rows : List RowShown) (k : ℕ) → IsRecord rows → IsRecord (take k rows)
 rules-take_shown rows k rules = rules-front (take k rows) (drop k rows) (subst IsRecord (sym (take-append-drop k rows)) rules)
 
@@ -106,6 +116,7 @@ rules-take rows k rules = subst IsRecord (take-map shown k rows) (rules-take_sho
 pub not-both : (rows : List NodeRow) (place : ℕ) → IsFirstRefused rows place → IsRecord (parts rows) → ⊥
 not-both rows place first rules = first.refused (rules-take rows place rules)
 
+-- the first refused row isn't at an earlier place too
 not-earlier : (rows : List NodeRow) (a b : ℕ) → IsFirstRefused rows a → IsFirstRefused rows b → a < b → ⊥
 not-earlier rows a b one other less =
     one.refused (subst (λ (l : List NodeRow). IsRecord (parts l)) (take-take a (b - 1) rows (omega arith)) (rules-take (take (b - 1) rows) a other.before))
@@ -121,6 +132,7 @@ same-place rows a b one other = by (cases_order a b)
 
 -- ---- one more row
 
+-- a row that may follow a record's rows makes a record with them
 rules-more : (rows : List RowShown) (row : RowShown) → IsRecord rows → may_follow (length rows) (last_id 0 rows) row ≡ true → IsRecord (rows ++ row ∷ [])
 rules-more rows row rules follows =
     let all = and_parts (nat_lt (length rows) 4096 && nat_lt (last_id 0 rows) row.id) (is_sound_row row) follows in
@@ -133,6 +145,7 @@ rules-more rows row rules follows =
       each = All-push IsRow rows row rules.each (sound-row row all.1);
     }
 
+-- a row with which rows are a record's may follow them
 follows-rules : (rows : List RowShown) (row : RowShown) → 0 < row.id → IsRecord (rows ++ row ∷ []) → may_follow (length rows) (last_id 0 rows) row ≡ true
 follows-rules rows row from rules =
     let long : length (rows ++ row ∷ []) ≡ length rows + 1 = length_push rows row in
@@ -149,18 +162,22 @@ pub record SoFar (rows : List NodeRow) (place last : ℕ) : Type 0 where
   pub rules : IsRecord (parts (take place rows))
   pub is_last : last ≡ last_id 0 (parts (take place rows))
 
+-- the rows up to a place and the one there are the rows of one place more
 one-more : (rows : List NodeRow) (place : ℕ) (row : NodeRow) → place < length rows → row ≡ get_or rows place row → parts (take (place + 1) rows) ≡ parts (take place rows) ++ shown row ∷ []
 one-more rows place row inside is = map_more shown rows place row inside ∙ ap (λ (r : NodeRow). parts (take place rows) ++ shown r ∷ []) (sym is)
 
+-- whether the next row may follow is told by the walk's place and last id
 same-test : (rows : List NodeRow) (place last : ℕ) (row : NodeRow) → SoFar rows place last → place < length rows
     → may_follow (length (parts (take place rows))) (last_id 0 (parts (take place rows))) (shown row) ≡ may_follow place last (shown row)
 same-test rows place last row so inside =
     let count : length (parts (take place rows)) ≡ place = length-map (take place rows) shown ∙ length-take-le place rows (omega arith) in
     ap (λ k. may_follow k (last_id 0 (parts (take place rows))) (shown row)) count ∙ ap (λ k. may_follow place k (shown row)) (sym so.is_last)
 
+-- no row, and 0 as the last id, are what the walk begins with
 pub begins : (rows : List NodeRow) → SoFar rows 0 0
 begins rows = record { rules = record { rising = λ i j less inside. absurd (omega arith); limit = omega arith; each = λ k d inside. absurd (omega arith) }; is_last = refl }
 
+-- where the next row may follow, the rows with it are a record's, and its id is the last
 pub goes_on : (rows : List NodeRow) (place last : ℕ) (row : NodeRow) → SoFar rows place last → place < length rows → row ≡ get_or rows place row → may_follow place last (shown row) ≡ true → SoFar rows (place + 1) row.id
 goes_on rows place last row so inside is follows =
     let more : parts (take (place + 1) rows) ≡ parts (take place rows) ++ shown row ∷ [] = one-more rows place row inside is in
@@ -169,6 +186,7 @@ goes_on rows place last row so inside is follows =
       is_last = sym (ap (last_id 0) more ∙ last_id-append 0 (parts (take place rows)) (shown row));
     }
 
+-- where the next row may not follow, it is the first that is refused
 pub refused-there : (rows : List NodeRow) (place last : ℕ) (row : NodeRow) → SoFar rows place last → place < length rows → row ≡ get_or rows place row → 0 < row.id → may_follow place last (shown row) ≡ false
     → IsFirstRefused rows (place + 1)
 refused-there rows place last row so inside is from fails =
@@ -182,5 +200,6 @@ refused-there rows place last row so inside is from fails =
           false≢true (sym fails ∙ sym (same-test rows place last row so inside) ∙ follows-rules (parts (take place rows)) (shown row) from more);
     }
 
+-- where the walk is through, the rows are a record's
 pub ends : (rows : List NodeRow) (place last : ℕ) → SoFar rows place last → length rows ≤ place → IsRecord (parts rows)
 ends rows place last so end = subst (λ (l : List NodeRow). IsRecord (parts l)) (take_all place rows end) so.rules

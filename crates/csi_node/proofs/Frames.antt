@@ -16,6 +16,7 @@ use Rattle.csi_node.proofs.Steps.{ShowsAll, answered_of, row_of-shown, kept-show
 use Rattle.csi_node.proofs.Rules.{absent-gap}
 use Rattle.csi_node.proofs.Calls.{There}
 
+-- what a node does with a frame that is a call is told by the frame's party and the call
 by_parts : (node : List ℕ) (state : NodeState) (frame : Frame) (id : List ℕ) (call : Call) → frame.party ≡ Node id → frame.body ≡ bodies.Call call
     → fenced node state frame ≡ fenced_parts node state frame.number (Node id) (bodies.Call call)
 by_parts node state frame id call party body = λ i. fenced_parts node state frame.number (party i) (body i)
@@ -41,6 +42,7 @@ never_other node frame id call party body same h =
 pub shows-same : (old new : List NodeRow) (state : NodeState) → Shows old state → parts new ≡ parts old → Shows new state
 shows-same old new state shows same = shows-from_all new state (subst (λ l. ShowsAll l state) (sym same) (all-from_shows old state shows))
 
+-- what is so anyway is so of an error
 pub err_holds : {T E : Type 0} (r : Result T E) {P : Type 0} → P → OnErr r P
 err_holds (Ok x) h = tt
 err_holds (Err e) h = h
@@ -56,6 +58,7 @@ row-there rows id place row copy is same = ap Some same ∙ sym is.found ∙ row
 pub row-nowhere : (rows : List NodeRow) (id place : ℕ) → IsGapFor (parts rows) id place → None ≡ option_map shown (row_in id rows)
 row-nowhere rows id place gap = sym (absent-gap (parts rows) id place gap) ∙ row_of-shown id rows
 
+-- a row that is there is found by its id
 pub row-clash : (rows : List NodeRow) (id place : ℕ) (row : NodeRow) → There rows id place row → row_in id rows ≡ None → ⊥
 row-clash rows id place row is none = none_is_not_some (shown row) (sym (row_of-shown id rows ∙ ap (option_map shown) none) ∙ is.found)
 

@@ -13,10 +13,12 @@ use Rattle.csi_node.specs.Fenced.{kept_in, kept_rows, keep}
 use Rattle.csi_node.specs.Laws.{is_another, ids_in, HasAtMostOneMore}
 use Rattle.csi_node.specs.View.{kept_in_row}
 
+-- what is kept changes nothing of what is staged
 pub keep-staged : (volume : Option ℕ) (kept : Kept) (state : NodeState) → (keep volume kept state).staged ≡ state.staged
 keep-staged None kept state = refl
 keep-staged (Some id) kept state = refl
 
+-- what is kept changes nothing of what is published
 pub keep-published : (volume : Option ℕ) (kept : Kept) (state : NodeState) → (keep volume kept state).published ≡ state.published
 keep-published None kept state = refl
 keep-published (Some id) kept state = refl
@@ -42,14 +44,17 @@ kept_ids : (id : ℕ) (kept : Kept) (rows : List Answered) → ids_in (map (kept
 kept_ids id kept [] = refl
 kept_ids id kept (row ∷ rows) = let first = kept_in-id id kept row in let rest = kept_ids id kept rows in λ i. first i ∷ rest i
 
+-- the ids of rows and one row more are theirs, and then that row's
 ids-append_one : (rows : List Answered) (row : Answered) → ids_in (rows ++ row ∷ []) ≡ ids_in rows ++ row.id ∷ []
 ids-append_one [] row = refl
 ids-append_one (first ∷ rows) row = ap (λ (ids : List ℕ). first.id ∷ ids) (ids-append_one rows row)
 
+-- what is kept in a row of a volume leaves the same volumes in the rows, or one more at the end
 rows_grown : (id : ℕ) (kept : Kept) (rows : List Answered) (o : Option Answered) → HasAtMostOneMore rows (kept_rows id kept rows o)
 rows_grown id kept rows None = inr (id, ids-append_one rows (record { id = id; kept = kept }))
 rows_grown id kept rows (Some row) = inl (kept_ids id kept rows)
 
+-- what is kept of a call leaves the same volumes in the rows, or one more at the end
 pub keep-rows : (volume : Option ℕ) (kept : Kept) (state : NodeState) → HasAtMostOneMore state.rows (keep volume kept state).rows
 keep-rows None kept state = inl refl
 keep-rows (Some id) kept state = rows_grown id kept state.rows (row_with_id id state)
@@ -58,9 +63,11 @@ not_true : (b : Bool) → not b ≡ true → b ≡ false
 not_true true h = cc
 not_true false h = refl
 
+-- a row of another id stays as it was
 kept_in-other : (id : ℕ) (kept : Kept) (row : Answered) → not (row.id == id) ≡ true → kept_in id kept row ≡ row
 kept_in-other id kept row h = let other : (row.id == id) ≡ false = not_true (row.id == id) h in rw other refl
 
+-- what is kept for a volume leaves the rows of all others as they were
 other_rows : (id : ℕ) (kept : Kept) (rows : List Answered) (o : Option Answered)
     → filter (λ (row : Answered). not (row.id == id)) (kept_rows id kept rows o) ≡ filter (λ (row : Answered). not (row.id == id)) rows
 other_rows id kept rows None =
@@ -69,6 +76,7 @@ other_rows id kept rows None =
 other_rows id kept rows (Some row) =
     filter-map (λ (row : Answered). not (row.id == id)) (kept_in id kept) rows (λ row. ap (λ n. not (n == id)) (kept_in-id id kept row)) (kept_in-other id kept)
 
+-- what is kept of a call leaves the rows of all volumes but the call's as they were
 pub keep-others : (volume : Option ℕ) (kept : Kept) (state : NodeState)
     → filter (λ row. is_another volume row.id) (keep volume kept state).rows ≡ filter (λ row. is_another volume row.id) state.rows
 keep-others None kept state = refl
@@ -86,12 +94,14 @@ row_kept id kept rows (Some row) h =
     let here : (kept_in id kept row).kept ≡ kept = rw own refl in
     ap (option_map (λ (row : Answered). row.kept)) (moved ∙ ap (option_map (kept_in id kept)) h) ∙ ap Some here
 
+-- the row of a volume keeps what is kept for it
 pub keep-own : (id : ℕ) (kept : Kept) (state : NodeState) → kept_in_row id (keep (Some id) kept state) ≡ Some kept
 keep-own id kept state = row_kept id kept state.rows (row_with_id id state) refl
 
 not_both : true ≡ false → ⊥
 not_both h = cc
 
+-- an id that is equal to one of two different ids isn't equal to the other
 other_id : (other id n : ℕ) → (other == id) ≡ false → (n == other) ≡ true → not (n == id) ≡ true
 other_id other id n differ same = not-where (n == id) (λ h. not_both (sym (eq-eqb other id (sym (eqb-true n other same) ∙ eqb-true n id h)) ∙ differ))
 

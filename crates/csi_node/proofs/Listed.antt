@@ -27,10 +27,12 @@ use Rattle.csi_node.proofs.Rules.{IsRising}
 abbrev IsRowBefore : RowShown → RowShown → Type 0
 IsRowBefore a b = a.id < b.id
 
+-- where an id is below the id at each place, it is below each row's
 above_first : (id : ℕ) (rows : List RowShown) → ((place : ℕ) → place < length rows → id < id_at rows place) → AllByRecursion (λ (row : RowShown). id < row.id) rows
 above_first id [] above = tt
 above_first id (row ∷ rows) above = (above 0 (omega arith), above_first id rows (λ place within. above (suc place) (omega arith)))
 
+-- rows with rising ids have the lower id before the higher, any two of them
 rows_rise : (rows : List RowShown) → IsRising rows → EachTwo IsRowBefore rows
 rows_rise [] rising = tt
 rows_rise (row ∷ rows) rising = (
@@ -38,6 +40,7 @@ rows_rise (row ∷ rows) rising = (
   rows_rise rows (λ i j lt within. rising (suc i) (suc j) (omega arith) (omega arith)),
 )
 
+-- a number above one that is equal to an id isn't equal to it
 higher : (n m id : ℕ) → (n == id) ≡ true → n < m → (m == id) ≡ false
 higher n m id same lt = ne_eqb m id (λ e. (let first = eqb-true n id same in omega (arith, first, e, lt)))
 
@@ -45,14 +48,17 @@ higher n m id same lt = ne_eqb m id (λ e. (let first = eqb-true n id same in om
 abbrev AreOf : {X : Type 0} → (X → ℕ) → ℕ → List X → Type 0
 AreOf volume id xs = AllByRecursion (λ x. volume x ≡ id) xs
 
+-- of a list that is all of a volume, what is of that volume is all
 filter_own : {X : Type 0} (volume : X → ℕ) (id own : ℕ) (xs : List X) → (own == id) ≡ true → AreOf volume own xs → filter (λ x. volume x == id) xs ≡ xs
 filter_own volume id own xs same all =
     filter-each (λ x. volume x == id) xs (each-weaker (λ x. volume x ≡ own) (λ x. (volume x == id) ≡ true) xs (λ x e. eq-eqb (volume x) id (e ∙ eqb-true own id same)) all)
 
+-- of a list that is all of a volume, nothing is of another one
 filter_other : {X : Type 0} (volume : X → ℕ) (id own : ℕ) (xs : List X) → (own == id) ≡ false → AreOf volume own xs → filter (λ x. volume x == id) xs ≡ []
 filter_other volume id own xs other all =
     filter-no_one (λ x. volume x == id) xs (each-weaker (λ x. volume x ≡ own) (λ x. (volume x == id) ≡ false) xs (λ x e. ap (λ n. n == id) e ∙ other) all)
 
+-- of a list that is all of higher volumes, nothing is of the volume
 filter_higher : {X : Type 0} (volume : X → ℕ) (id own : ℕ) (xs : List X) → (own == id) ≡ true → AllByRecursion (λ x. own < volume x) xs → filter (λ x. volume x == id) xs ≡ []
 filter_higher volume id own xs same all =
     filter-no_one (λ x. volume x == id) xs (each-weaker (λ x. own < volume x) (λ x. (volume x == id) ≡ false) xs (λ x lt. higher own (volume x) id same lt) all)
@@ -95,22 +101,27 @@ module _ {X : Type 0} (volume : X → ℕ) (part : RowShown → List X) (own : (
       let above = each_of (λ z. row.id < volume z) (flat_map part rows) y (above_all row.id rows rise.0) there in
       lower x y (omega (arith, own, above)))
 
+-- what a row has staged is of its volume
 staged_own : (id : ℕ) (o : Option Capability) → AreOf (λ (s : StagedVolume). s.volume) id (staged_by id o)
 staged_own id None = tt
 staged_own id (Some capability) = (refl, tt)
 
+-- what a row has staged is staged once
 staged_once : (id : ℕ) (o : Option Capability) → EachTwo IsStagedBefore (staged_by id o)
 staged_once id None = tt
 staged_once id (Some capability) = (tt, tt)
 
+-- all that is published at a volume's targets is of that volume
 targets_own : (id : ℕ) (capability : Capability) (targets : List NodeTarget) → AreOf (λ (p : PublishedVolume). p.volume) id (map (published_so id capability) targets)
 targets_own id capability [] = tt
 targets_own id capability (target ∷ targets) = (refl, targets_own id capability targets)
 
+-- what a row has published is of its volume
 published_own : (id : ℕ) (o : Option Capability) (targets : List NodeTarget) → AreOf (λ (p : PublishedVolume). p.volume) id (published_by id o targets)
 published_own id None targets = tt
 published_own id (Some capability) targets = targets_own id capability targets
 
+-- of what is published of one volume, no two stand against the order
 none_before : (id : ℕ) (xs : List PublishedVolume) → AreOf (λ (p : PublishedVolume). p.volume) id xs → EachTwo IsPublishedBefore xs
 none_before id [] own = tt
 none_before id (x ∷ xs) own =
@@ -139,10 +150,12 @@ staged_same id (x ∷ xs) (y ∷ ys) own other same = joined (first same) (own.0
     joined : x.capability ≡ y.capability → x.volume ≡ y.volume → xs ≡ ys → x ∷ xs ≡ y ∷ ys
     joined capability volume rest = λ i. (record { volume = volume i; capability = capability i }) ∷ rest i
 
+-- what is listed as staged for a volume is what its row alone has staged
 staged_part : (o : Option RowShown) → part_in (λ (s : StagedVolume). s.volume) (λ row. (alone row).staged) (λ row. staged_own row.id row.staged) o ≡ (alone_in o).staged
 staged_part None = refl
 staged_part (Some row) = refl
 
+-- what is listed as published for a volume is what its row alone has published
 published_part : (o : Option RowShown) → part_in (λ (p : PublishedVolume). p.volume) (λ row. (alone row).published) (λ row. published_own row.id row.staged row.targets) o ≡ (alone_in o).published
 published_part None = refl
 published_part (Some row) = refl
@@ -171,11 +184,13 @@ module _ (rows : List RowShown) (state : NodeState) (rise : EachTwo IsRowBefore 
         (λ row. none_before row.id (alone row).published (published_own row.id row.staged row.targets)) rows rise;
   }
 
+-- what a record's rows have staged, one after another, lists what the state has staged
 pub lists-staged : (rows : List NodeRow) (state : NodeState) (list : List StagedVolume) → IsRecord (parts rows) → Shows rows state → list ≡ flat_map (λ (row : NodeRow). (alone (shown row)).staged) rows → ListsStaged list state
 lists-staged rows state list rules shows is =
     subst (λ (l : List StagedVolume). ListsStaged l state) (flat_map-map (λ (row : RowShown). (alone row).staged) shown rows ∙ sym is)
     (staged_listed (parts rows) state (rows_rise (parts rows) rules.rising) (all-from_shows rows state shows))
 
+-- what a record's rows have published, one after another, lists what the state has published
 pub lists-published : (rows : List NodeRow) (state : NodeState) (list : List PublishedVolume) → IsRecord (parts rows) → Shows rows state → list ≡ flat_map (λ (row : NodeRow). (alone (shown row)).published) rows → ListsPublished list state
 lists-published rows state list rules shows is =
     subst (λ (l : List PublishedVolume). ListsPublished l state) (flat_map-map (λ (row : RowShown). (alone row).published) shown rows ∙ sym is)

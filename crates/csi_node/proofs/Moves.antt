@@ -19,6 +19,7 @@ use Rattle.csi_node.specs.Table.{Outcome, Stages, Unstages, Publishes, Unpublish
 abbrev pub stage_call : StagedVolume → Call
 stage_call staged = calls.NodeStageVolume staged.volume staged.capability
 
+-- the call that publishes this
 abbrev pub publish_call : PublishedVolume → Call
 publish_call published = calls.NodePublishVolume published.volume published.target published.capability published.readonly
 
@@ -41,6 +42,7 @@ pub data Move (state : NodeState) : Call → Outcome → Type 0 where
   was_unpublished : (id : ℕ) (target : List ℕ) → published_at id target state ≡ None → Move state (calls.NodeUnpublishVolume id target) met
   unpublishes : (id : ℕ) (target : List ℕ) (there : PublishedVolume) → published_at id target state ≡ Some there → Move state (calls.NodeUnpublishVolume id target) (done (Unpublishes id target))
 
+-- the statuses of refusals aren't OK, one by one
 invalid : InvalidArgument ≡ Ok → ⊥
 invalid h = cc
 
@@ -60,10 +62,12 @@ not_false : (b : Bool) → not b ≡ false → b ≡ true
 not_false true h = refl
 not_false false h = cc
 
+-- where both of two outcomes are moves, so is the one that a test chooses
 by_if : (state : NodeState) (call : Call) (b : Bool) (x y : Outcome) → (b ≡ true → Move state call x) → (b ≡ false → Move state call y) → Move state call (cond b x y)
 by_if state call true x y f g = f refl
 by_if state call false x y f g = g refl
 
+-- what NodeStageVolume is answered, by how the volume is staged, is a move
 stage_moves : (state : NodeState) (staged : StagedVolume) (o : Option Capability) → staged_of staged.volume state ≡ o → Move state (stage_call staged) (stage staged o)
 stage_moves state staged None is = stages staged is
 stage_moves state staged (Some here) is =
@@ -71,10 +75,12 @@ stage_moves state staged (Some here) is =
     (λ same. was_staged staged (is ∙ ap Some ((same_capability-tells here staged.capability).0 same)))
     (λ _. refuses (stage_call staged) AlreadyExists (codes "staged otherwise") exists)
 
+-- what NodeUnstageVolume is answered, by where the volume is published, is a move
 unstage_moves : (state : NodeState) (id : ℕ) (targets : List PublishedVolume) → published_of id state ≡ targets → Move state (calls.NodeUnstageVolume id) (unstage id targets)
 unstage_moves state id (first ∷ others) is = refuses (calls.NodeUnstageVolume id) FailedPrecondition first.target failed
 unstage_moves state id [] is = unstages id is
 
+-- flags that the test finds the same are equal
 same_flag-then : (a b : Bool) → same_flag a b ≡ true → a ≡ b
 same_flag-then true b h = sym h
 same_flag-then false true h = cc
@@ -95,6 +101,7 @@ same_published p there here same =
     let readonly = same_flag-then there.readonly p.readonly way.1 in
     λ i. record { volume = volume i; target = target i; capability = capability i; readonly = readonly i }
 
+-- a flag isn't both false and true
 not_both : {A : Type 0} (b : Bool) → b ≡ false → b ≡ true → A
 not_both true h k = cc
 not_both false h k = cc
@@ -131,12 +138,14 @@ module _ (state : NodeState) (p : PublishedVolume) (slash : begins_with_slash p.
       (λ same. was_published p slash (is ∙ ap Some (same_published p there (find-passes (is_published_at p.volume p.target) state.published there is) same)))
       (λ _. refuses (publish_call p) AlreadyExists (codes "published otherwise") exists)
 
+-- what NodePublishVolume is answered is a move
 publish_moves : (state : NodeState) (p : PublishedVolume) → Move state (publish_call p) (publish state p)
 publish_moves state p =
     by_if state (publish_call p) (not (begins_with_slash p.target)) (refused InvalidArgument (codes "target")) (publish_at_target state p (published_at p.volume p.target state))
     (λ _. refuses (publish_call p) InvalidArgument (codes "target") invalid)
     (λ slash. target_moves state p (not_false (begins_with_slash p.target) slash) (published_at p.volume p.target state) refl)
 
+-- what NodeUnpublishVolume is answered is a move
 unpublish_moves : (state : NodeState) (id : ℕ) (target : List ℕ) (o : Option PublishedVolume) → published_at id target state ≡ o → Move state (calls.NodeUnpublishVolume id target) (unpublish id target o)
 unpublish_moves state id target None is = was_unpublished id target is
 unpublish_moves state id target (Some there) is = unpublishes id target there is

@@ -16,6 +16,7 @@ use Rattle.csi_node.specs.declared.line.Line.{Line}
 use Rattle.csi_node.specs.declared.line.Line.TheVariants.{Refused, Met, Done}
 use Rattle.csi_node.specs.Lines.{WhereDone}
 
+-- an id is equal to itself
 itself : (id : ℕ) → (id == id) ≡ true
 itself id = eq-eqb id id refl
 
@@ -29,6 +30,7 @@ published_at-staged id capability targets target =
     find-of_map (is_published_at id target) (published_so id capability) targets
     ∙ ap (option_map (published_so id capability)) (find-same (λ there. is_published_at id target (published_so id capability there)) (λ there. same_text there.target target) targets (λ there. itself_and id (same_text there.target target)))
 
+-- NodeUnpublishVolume is answered alike by what the state and what the row has at the target
 unpublish-found : (id : ℕ) (capability : Capability) (target : List ℕ) (o : Option NodeTarget)
     → unpublish id target (option_map (published_so id capability) o) ≡ unpublish_by_row id target o
 unpublish-found id capability target None = refl
@@ -61,6 +63,7 @@ published_of-alone row = by row.staged
         filter-of_map (λ (p : PublishedVolume). p.volume == row.id) (published_so row.id capability) row.targets
         ∙ ap (map (published_so row.id capability)) (filter-all (λ (there : NodeTarget). row.id == row.id) row.targets (λ there. itself row.id))
 
+-- NodePublishVolume is answered alike by what the state and what the row has at the target
 publish-found : (row : RowShown) (staged : Capability) (published : PublishedVolume) (o : Option NodeTarget)
     → staged_of published.volume (alone row) ≡ Some staged → published_of published.volume (alone row) ≡ published_by row.id (Some staged) row.targets
     → publish_at_target (alone row) published (option_map (published_so row.id staged) o) ≡ publish_by_row row staged published o
@@ -69,6 +72,7 @@ publish-found row staged published None is all =
     ap (publish_staged (alone row) published) is
     ∙ ap (λ (others : List PublishedVolume). cond (not (same_capability staged published.capability)) (refused FailedPrecondition (codes "staged otherwise")) (publish_new published others)) all
 
+-- where a target is absolute, the second of two outcomes is taken
 absolute : (b : Bool) (x y : Outcome) → b ≡ true → cond (not b) x y ≡ y
 absolute b x y h = rw h refl
 

@@ -25,6 +25,7 @@ use Rattle.csi_node.proofs.Calls.{There, parts-at, parts-insert, answers-id}
 abbrev AreLower : List RowShown → ℕ → ℕ → Type 0
 AreLower rows id place = (j : ℕ) → j < place → id_at rows j < id
 
+-- where the ids before a place are lower, they are so behind the first row
 lower_tail : (row : RowShown) (rows : List RowShown) (id place : ℕ) → AreLower (row ∷ rows) id (suc place) → AreLower rows id place
 lower_tail row rows id place lower j lt = lower (suc j) (omega arith)
 
@@ -78,6 +79,7 @@ row_stays node number call old new frame answers same = by (verdict_of (Some old
         let last : old.kept.number ≡ number = sym same ∙ ap (λ (k : Kept). k.number) h.1.kept in
         absurd (not_again number (subst (λ (n : Number). verdict_of (Some n) number ≡ Fresh) last e))
 
+-- a row that is set where it stands changes nothing
 set_own : (rows : List RowShown) (place : ℕ) (row : RowShown) → get_or rows place row ≡ row → set rows place row ≡ rows
 set_own [] place row own = refl
 set_own (other ∷ others) zero row own = ap (λ (r : RowShown). r ∷ others) (sym own)
@@ -148,10 +150,12 @@ none-put (Some id) rows = record { same = λ same. refl; none = λ none. refl; p
 pub own-id : (id : ℕ) (rows : List RowShown) (row : RowShown) → row_by_id id rows ≡ Some row → row.id ≡ id
 own-id id rows row found = eqb-true row.id id (find-passes (λ (r : RowShown). r.id == id) rows row found)
 
+-- what is so anyway is so of an OK
 pub on_ok_holds : {T E : Type 0} (r : Result T E) {P : Type 0} → P → OnOk r P
 on_ok_holds (Ok x) h = h
 on_ok_holds (Err e) h = tt
 
+-- what follows from a fact of an OK's value is so of the OK
 pub on_ok_of : {T E : Type 0} (r : Result T E) {P : T → Type 0} {Q : Type 0} → ((x : T) → P x → Q) → IfOk r P → OnOk r Q
 on_ok_of (Ok x) f h = f x h
 on_ok_of (Err e) f h = tt

@@ -11,9 +11,11 @@ use Rattle.csi_node.proofs.Steps.{row_of}
 abbrev pub NoneBefore : List RowShown → ℕ → ℕ → Type 0
 NoneBefore rows id place = (j : ℕ) → j < place → id_at rows j ≢ id
 
+-- where no row before a place has the id, none of those behind the first has it
 tail_none : (row : RowShown) (rows : List RowShown) (id place : ℕ) → NoneBefore (row ∷ rows) id (suc place) → NoneBefore rows id place
 tail_none row rows id place none j lt = none (suc j) (omega arith)
 
+-- the row of an id behind the first row is one place earlier in the rest
 tail_at : (row : RowShown) (rows : List RowShown) (id place : ℕ) → IsAt (row ∷ rows) id (suc place) → IsAt rows id place
 tail_at row rows id place at = record { within = omega (arith, at.within); has_id = at.has_id }
 

@@ -32,6 +32,7 @@ use Rattle.csi_node.specs.OneRow.{RowShown, alone, staged_by, published_so, publ
 itself : (id : ℕ) → (id == id) ≡ true
 itself id = eq-eqb id id refl
 
+-- an id is equal to itself, whatever else is asked
 itself_and : (id : ℕ) (b : Bool) → ((id == id) && b) ≡ b
 itself_and id b = rw (itself id) refl
 
@@ -39,6 +40,7 @@ itself_and id b = rw (itself id) refl
 differs : (a b : List ℕ) → same_text a b ≡ false → same_text b a ≡ false
 differs a b h = false_from_ne_true (same_text b a) (λ same. both_ways (same_text a b) h ((same_text-tells a b).1 (sym ((same_text-tells b a).0 same))))
 
+-- where neither of two is there, none of the two is
 or_none : {X : Type 0} (o other : Option X) → o ≡ None → other ≡ None → option_or o other ≡ None
 or_none o other a b = option_or-none o other a ∙ b
 
@@ -46,14 +48,17 @@ or_none o other a b = option_or-none o other a ∙ b
 abbrev of_parts : List StagedVolume → List PublishedVolume → NodeState
 of_parts staged published = record { rows = []; staged = staged; published = published }
 
+-- a staging that is undone leaves nothing staged
 unstaged_by : (id : ℕ) (o : Option Capability) → filter (λ (s : StagedVolume). not (s.volume == id)) (staged_by id o) ≡ []
 unstaged_by id None = refl
 unstaged_by id (Some capability) = rw (itself id) refl
 
+-- without targets nothing is published
 nothing_published : (id : ℕ) (o : Option Capability) → published_by id o [] ≡ []
 nothing_published id None = refl
 nothing_published id (Some capability) = refl
 
+-- taking a target from what is published is taking it from the targets
 unpublished_by : (id : ℕ) (o : Option Capability) (targets : List NodeTarget) (target : List ℕ)
     → filter (λ (p : PublishedVolume). not (is_published_at id target p)) (published_by id o targets) ≡ published_by id o (filter (λ there. not (same_text there.target target)) targets)
 unpublished_by id None targets target = refl
@@ -103,10 +108,12 @@ append_distinct (first ∷ rest) one distinct none = (step (same_text first.targ
         let found = find-append (λ (there : NodeTarget). same_text there.target first.target) rest one in
         found ∙ or_none _ _ distinct.0 (ap (λ (b : Bool). cond b (Some one) None) (other e))
 
+-- absolute targets and one more are absolute
 append_absolute : (targets : List NodeTarget) (one : NodeTarget) → AreAbsolute targets → begins_with_slash one.target ≡ true → AreAbsolute (targets ++ one ∷ [])
 append_absolute [] one all h = (h, tt)
 append_absolute (first ∷ rest) one all h = (all.0, append_absolute rest one all.1 h)
 
+-- targets that are each there once still are after some are left out
 filter_distinct : (p : NodeTarget → Bool) (targets : List NodeTarget) → AreDistinct targets → AreDistinct (filter p targets)
 filter_distinct p [] distinct = tt
 filter_distinct p (first ∷ rest) distinct = step (p first) (filter_distinct p rest distinct.1)
@@ -115,6 +122,7 @@ filter_distinct p (first ∷ rest) distinct = step (p first) (filter_distinct p 
     step true h = (find-none_in_filter (λ there. same_text there.target first.target) p rest distinct.0, h)
     step false h = h
 
+-- absolute targets still are after some are left out
 filter_absolute : (p : NodeTarget → Bool) (targets : List NodeTarget) → AreAbsolute targets → AreAbsolute (filter p targets)
 filter_absolute p [] all = tt
 filter_absolute p (first ∷ rest) all = step (p first) (filter_absolute p rest all.1)
@@ -123,6 +131,7 @@ filter_absolute p (first ∷ rest) all = step (p first) (filter_absolute p rest 
     step true h = (all.0, h)
     step false h = h
 
+-- targets after some are left out are no more
 filter_shorter : (p : NodeTarget → Bool) (targets : List NodeTarget) → length (filter p targets) ≤ length targets
 filter_shorter p [] = omega arith
 filter_shorter p (first ∷ rest) = step (p first) (filter_shorter p rest)
@@ -131,9 +140,11 @@ filter_shorter p (first ∷ rest) = step (p first) (filter_shorter p rest)
     step true h = omega arith
     step false h = omega arith
 
+-- no targets fit however the volume is staged
 no_targets : (staged : Option Capability) → TargetsFit staged []
 no_targets staged = record { unstaged = λ _. refl; absolute = tt; distinct = tt; single = λ capability is one. omega arith; limit = omega arith }
 
+-- what is there isn't missing
 some_is_not_none : {X : Type 0} (x : X) (o : Option X) → o ≡ Some x → o ≡ None → ⊥
 some_is_not_none x o a b = cc
 
@@ -167,18 +178,21 @@ fits-changed row (calls.ControllerUnpublishVolume id node) fits can = absurd can
 abbrev where_done : Line → RowShown → Call → RowShown
 where_done line row call = cond (is_done line) (row_changed row call) row
 
+-- the state of the row alone after an answer is the one after the table's change
 alone-by : (row : RowShown) (call : Call) (line : Line) → volume_of call ≡ Some row.id → TargetsFit row.staged row.targets → WhereDone line (CanChange row call)
     → alone (where_done line row call) ≡ changed (alone row) (outcome_shown (change_of call) line).change
 alone-by row call (Refused status detail) volume fits can = refl
 alone-by row call Met volume fits can = refl
 alone-by row call Done volume fits can = alone-changed row call volume fits can
 
+-- the targets of the row after an answer fit how it is staged
 fits-by : (row : RowShown) (call : Call) (line : Line) → TargetsFit row.staged row.targets → WhereDone line (CanChange row call)
     → TargetsFit (where_done line row call).staged (where_done line row call).targets
 fits-by row call (Refused status detail) fits can = fits
 fits-by row call Met fits can = fits
 fits-by row call Done fits can = fits-changed row call fits can
 
+-- a row that a call changes keeps its id
 id-by : (row : RowShown) (call : Call) → (row_changed row call).id ≡ row.id
 id-by row (calls.NodeStageVolume id capability) = refl
 id-by row (calls.NodeUnstageVolume id) = refl
@@ -189,15 +203,18 @@ id-by row (calls.DeleteVolume id) = refl
 id-by row (calls.ControllerPublishVolume id node capability readonly) = refl
 id-by row (calls.ControllerUnpublishVolume id node) = refl
 
+-- a row keeps its id, whether or not the call is carried out
 id-where : (row : RowShown) (call : Call) (b : Bool) → (cond b (row_changed row call) row).id ≡ row.id
 id-where row call true = id-by row call
 id-where row call false = refl
 
+-- the reply of the outcome is the one that is shown
 reply-by : (change : Change) (line : Line) → (outcome_shown change line).reply ≡ reply_shown line
 reply-by change (Refused status detail) = refl
 reply-by change Met = refl
 reply-by change Done = refl
 
+-- no reply of a line has an id
 no_id-by : (line : Line) → (reply_shown line).id ≡ None
 no_id-by (Refused status detail) = refl
 no_id-by Met = refl

@@ -22,6 +22,7 @@ id_at-row [] place d within = absurd (omega arith)
 id_at-row (row ∷ rows) zero d within = refl
 id_at-row (row ∷ rows) (suc place) d within = id_at-row rows place d (omega arith)
 
+-- the id at a place of the rows as they are shown is that of the row there
 pub id_at-parts : (rows : List NodeRow) (place : ℕ) (d : NodeRow) → place < length rows → id_at (parts rows) place ≡ (get_or rows place d).id
 id_at-parts [] place d within = absurd (omega arith)
 id_at-parts (row ∷ rows) zero d within = refl
@@ -31,10 +32,12 @@ id_at-parts (row ∷ rows) (suc place) d within = id_at-parts rows place d (omeg
 abbrev pub IsRising : List RowShown → Type 0
 IsRising rows = (i j : ℕ) → i < j → j < length rows → id_at rows i < id_at rows j
 
+-- where a search ended: at the row of the id, or in the gap for it
 pub record Searched (rows : List NodeRow) (id : ℕ) (r : Result ℕ ℕ) : Type 0 where
   pub found : IfOk r (IsAt (parts rows) id)
   pub absent : IfErr r (IsGapFor (parts rows) id)
 
+-- where ids rise, so do their comparisons with an id
 comparisons_rise : (rows : List NodeRow) (id : ℕ) → IsRising (parts rows) → IsNonDecreasingBy (λ (row : NodeRow). ordering_index (nat_cmp row.id id)) rows
 comparisons_rise rows id rising = λ i j d le within.
     let many = length-map rows shown in
@@ -77,6 +80,7 @@ searched (first ∷ rest) id (Err at) rising within parted =
 none_before-at : (rows : List RowShown) (id place : ℕ) → IsRising rows → IsAt rows id place → NoneBefore rows id place
 none_before-at rows id place rising at j lt same = omega (arith, rising j place lt at.within, at.has_id)
 
+-- before the gap of an id no row has it
 none_before-gap : (rows : List RowShown) (id place : ℕ) → IsGapFor rows id place → NoneBefore rows id place
 none_before-gap rows id place gap j lt same = omega (arith, gap.before j lt)
 
@@ -88,9 +92,11 @@ found-at rows id place d rising at = row_of-present rows id place d at (none_bef
 pub absent-gap : (rows : List RowShown) (id place : ℕ) → IsGapFor rows id place → row_of id rows ≡ None
 absent-gap rows id place gap = row_of-absent rows id (λ j lt same. grind (arith, gap.before j, gap.after j))
 
+-- a row that is searched for under another id is the one that was found
 is_other : (k id : ℕ) (row : RowShown) (o p : Option RowShown) → (k == id) ≡ false → p ≡ cond (k == id) (Some row) o → p ≡ o
 is_other k id row o p h e = e ∙ ap (λ (b : Bool). cond b (Some row) o) h
 
+-- a row that is searched for under its own id is the new one
 is_this : (id : ℕ) (row : RowShown) (o p : Option RowShown) → p ≡ cond (id == id) (Some row) o → p ≡ Some row
 is_this id row o p e = e ∙ ap (λ (b : Bool). cond b (Some row) o) (itself id)
   where
@@ -135,6 +141,7 @@ rules-set rows place new rules row own within =
       each = All-set IsRow rows place new row rules.each;
     }
 
+-- a row that keeps the rules, in the gap of its id, makes a record where there is room
 pub rules-insert : (rows : List RowShown) (id place : ℕ) (new : RowShown) → IsRecord rows → IsRow new → new.id ≡ id → IsGapFor rows id place → length rows < 4096 → IsRecord (insert rows place new)
 rules-insert rows id place new rules row own gap few =
     let many = length-insert rows place new gap.within in

@@ -53,10 +53,12 @@ in_capability id capability [] p among = absurd among
 in_capability id capability (target ∷ targets) p (inl e) = ap (λ (q : PublishedVolume). q.capability) e
 in_capability id capability (target ∷ targets) p (inr among) = in_capability id capability targets p among
 
+-- what is published by a row is in the capability in which the row is staged
 so_staged : (id : ℕ) (o : Option Capability) (targets : List NodeTarget) (p : PublishedVolume) → IsAmong p (published_by id o targets) → o ≡ Some p.capability
 so_staged id None targets p among = absurd among
 so_staged id (Some capability) targets p among = ap Some (sym (in_capability id capability targets p among))
 
+-- a row publishes no more than it has targets
 no_more : (id : ℕ) (o : Option Capability) (targets : List NodeTarget) → length (published_by id o targets) ≤ length targets
 no_more id None targets = omega arith
 no_more id (Some capability) targets = let same = length-map targets (published_so id capability) in omega arith
@@ -102,5 +104,6 @@ module _ (rows : List RowShown) (state : NodeState) (each : All IsRow rows) (all
     targets = two_allowed state.published (λ p among one. single_by_row p (row_of p.volume rows) refl (among_own p (row_of p.volume rows) refl among) one);
   }
 
+-- in a state that a record's rows show, what is published is right
 pub right-from : (rows : List NodeRow) (state : NodeState) → IsRecord (parts rows) → Shows rows state → IsPublishedRight state
 right-from rows state rules shows = published_right (parts rows) state rules.each (all-from_shows rows state shows)

@@ -32,6 +32,7 @@ use Rattle.csi_lists.proofs.Tests.{not-where}
 abbrev Keeps : NodeState → Change → Type 0
 Keeps state change = IsPublishedRight state → IsPublishedRight (changed state change)
 
+-- a staging keeps what is published right
 stages_keeps : (state : NodeState) (staged : StagedVolume) → Keeps state (Stages staged)
 stages_keeps state staged right = record {
   staged = λ p among.
@@ -63,6 +64,7 @@ shared state p q fits among same =
     false_from_ne_true (allows_one_target p.capability.mode)
     (λ one. true≢false (sym (eq-eqb q.volume p.volume same) ∙ none_kept (λ (r : PublishedVolume). r.volume == p.volume) state.published q (fits.alone one) among))
 
+-- what is published where it may be keeps what is published right
 publishes_keeps : (state : NodeState) (p : PublishedVolume) → Fits state p → Keeps state (Publishes p)
 publishes_keeps state p fits right = record {
   staged = λ q among. by q (among-either state.published p q among);
@@ -76,12 +78,14 @@ publishes_keeps state p fits right = record {
     by q (inl there) = right.staged q there
     by q (inr e) = subst (λ (x : PublishedVolume). staged_of x.volume state ≡ Some x.capability) (sym e) fits.staged
 
+-- a target less keeps what is published right
 unpublishes_keeps : (state : NodeState) (id : ℕ) (target : List ℕ) → Keeps state (Unpublishes id target)
 unpublishes_keeps state id target right = record {
   staged = λ p among. right.staged p (among-filter (λ (q : PublishedVolume). not (is_published_at id target q)) state.published p among);
   targets = two-filter AllowTwo (λ (q : PublishedVolume). not (is_published_at id target q)) state.published right.targets;
 }
 
+-- each outcome of the table keeps what is published right
 move_keeps : (state : NodeState) (call : Call) (outcome : Outcome) → Move state call outcome → Keeps state outcome.change
 move_keeps state _ _ (refuses call status detail not_ok) right = right
 move_keeps state _ _ (was_staged staged is) right = right
@@ -97,6 +101,7 @@ keep_keeps : (volume : Option ℕ) (kept : Kept) (state : NodeState) → IsPubli
 keep_keeps None kept state right = right
 keep_keeps (Some id) kept state right = record { staged = right.staged; targets = right.targets }
 
+-- whatever the fence makes of a call keeps what is published right
 passage_keeps : (node : List ℕ) (state : NodeState) (number : Number) (call : Call) (fenced : Fenced) → Passage node state number call fenced → IsPublishedRight state → IsPublishedRight fenced.state
 passage_keeps node state number call _ (stale spent) right = right
 passage_keeps node state number call _ (repeated kept is same spent) right = right
@@ -104,10 +109,12 @@ passage_keeps node state number call _ (no_room fresh full) right = right
 passage_keeps node state number call _ (carried fresh room) right =
     keep_keeps (volume_of call) (kept_of state number call) (changed state (lifecycle_row state call).change) (move_keeps state call (lifecycle_row state call) (lifecycle_moves state call) right)
 
+-- where both of two outcomes keep it, so does the one that a test chooses
 by_place : (b : Bool) (x y : Fenced) → IsPublishedRight x.state → IsPublishedRight y.state → IsPublishedRight (cond b x y).state
 by_place true x y f g = f
 by_place false x y f g = g
 
+-- whatever a node does with a frame keeps what is published right: by party and body, as a frame, and for all frames
 parts_keep : (node : List ℕ) (state : NodeState) (number : Number) (party : Party) (body : Body) → IsPublishedRight state → IsPublishedRight (fenced_parts node state number party body).state
 parts_keep node state number Controller body right = right
 parts_keep node state number (Node id) (bodies.Reply kind reply) right = right
@@ -123,5 +130,6 @@ pub frames_keep : (node : List ℕ) (state : NodeState) (frames : List Frame) �
 frames_keep node state [] right = right
 frames_keep node state (frame ∷ frames) right = frames_keep node (fenced node state frame).state frames (fenced_keeps node state frame right)
 
+-- in a node that has answered nothing, what is published is right
 pub empty_right : IsPublishedRight empty_node
 empty_right = record { staged = λ p among. absurd among; targets = tt }

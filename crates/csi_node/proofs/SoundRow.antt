@@ -17,10 +17,12 @@ use Rattle.csi_node.specs.Table.{begins_with_slash}
 
 -- ---- the mode
 
+-- where the test of the mode is passed and the volume isn't staged, there are no targets
 none-unstaged : (staged : Option Capability) (targets : List NodeTarget) → fits_mode staged (length targets) ≡ true → staged ≡ None → targets ≡ []
 none-unstaged None targets h e = nil_from_length targets (eqb-true (length targets) 0 h)
 none-unstaged (Some capability) targets h e = absurd (some_is_not_none capability e)
 
+-- where the test of the mode is passed and the mode allows one target, there is at most one
 single-where : (staged : Option Capability) (count : ℕ) → fits_mode staged count ≡ true → (capability : Capability) → staged ≡ Some capability → allows_one_target capability.mode ≡ true → count ≤ 1
 single-where None count h capability e one = absurd (some_is_not_none capability (sym e))
 single-where (Some own) count h capability e one = by (or_cases (not (allows_one_target own.mode)) (nat_le count 1) h)
@@ -29,6 +31,7 @@ single-where (Some own) count h capability e one = by (or_cases (not (allows_one
     by (inl many) = absurd (both_ways (allows_one_target own.mode) (not-true (allows_one_target own.mode) many) (ap (λ (c : Capability). allows_one_target c.mode) (same_Some own capability e) ∙ one))
     by (inr few) = leb-true count 1 few
 
+-- where the rules of the mode are kept, its test is passed
 mode-fits : (staged : Option Capability) (targets : List NodeTarget) → (staged ≡ None → targets ≡ []) → ((capability : Capability) → staged ≡ Some capability → allows_one_target capability.mode ≡ true → length targets ≤ 1)
     → fits_mode staged (length targets) ≡ true
 mode-fits None targets unstaged single = eq-eqb (length targets) 0 (ap length (unstaged refl))
@@ -40,14 +43,17 @@ mode-fits (Some own) targets unstaged single = by (allows_one_target own.mode) r
 
 -- ---- the targets
 
+-- targets that pass the test are paths from the root
 absolute-where : (targets : List NodeTarget) → are_absolute targets ≡ true → AreAbsolute targets
 absolute-where [] h = tt
 absolute-where (there ∷ later) h = let parts = and_parts (begins_with_slash there.target) (are_absolute later) h in (parts.0, absolute-where later parts.1)
 
+-- targets that are paths from the root pass the test
 absolute-tested : (targets : List NodeTarget) → AreAbsolute targets → are_absolute targets ≡ true
 absolute-tested [] all = refl
 absolute-tested (there ∷ later) all = and_from (begins_with_slash there.target) (are_absolute later) all.0 (absolute-tested later all.1)
 
+-- targets that pass the test are each there once
 distinct-where : (targets : List NodeTarget) → are_distinct targets ≡ true → AreDistinct targets
 distinct-where [] h = tt
 distinct-where (there ∷ later) h =
@@ -55,6 +61,7 @@ distinct-where (there ∷ later) h =
     let same : NodeTarget → Bool = λ other. same_text other.target there.target in
     (none-from_is_some (find same later) (sym (any-find same later) ∙ not-true (has_target there.target later) parts.0), distinct-where later parts.1)
 
+-- targets that are each there once pass the test
 distinct-tested : (targets : List NodeTarget) → AreDistinct targets → are_distinct targets ≡ true
 distinct-tested [] all = refl
 distinct-tested (there ∷ later) all =
@@ -64,6 +71,7 @@ distinct-tested (there ∷ later) all =
 
 -- ---- all
 
+-- a row that passes all tests keeps the rules
 pub sound-row : (row : RowShown) → is_sound_row row ≡ true → IsRow row
 sound-row row h =
     let all = and_parts (has_own_reply row) (has_fit_targets row) h in
@@ -83,6 +91,7 @@ sound-row row h =
       };
     }
 
+-- a row that keeps the rules passes all tests
 pub row-sound : (row : RowShown) → IsRow row → is_sound_row row ≡ true
 row-sound row rules =
     let fit = rules.targets in

@@ -31,6 +31,7 @@ AreFound state = (staged : StagedVolume) → IsAmong staged state.staged → sta
 capability_of : StagedVolume → Capability
 capability_of staged = staged.capability
 
+-- where a volume that isn't staged is staged, each staged volume is still found as it is staged
 stages-found : (state : NodeState) (new : StagedVolume) → staged_of new.volume state ≡ None → AreFound state → AreFound (changed state (Stages new))
 stages-found state new none found staged among = by (among-either state.staged new staged among)
   where
@@ -49,6 +50,7 @@ stages-found state new none found staged among = by (among-either state.staged n
         ∙ option_or-read (λ (s : StagedVolume). s.capability) (find (is_of staged.volume) state.staged) (cond (new.volume == staged.volume) (Some new) None) staged.capability (found staged there)
     by (inr e) = subst (λ (s : StagedVolume). staged_of s.volume (changed state (Stages new)) ≡ Some s.capability) (sym e) now
 
+-- where a volume is unstaged, each staged volume is still found as it is staged
 unstages-found : (state : NodeState) (id : ℕ) → AreFound state → AreFound (changed state (Unstages id))
 unstages-found state id found staged among =
     ap (option_map (λ (s : StagedVolume). s.capability)) (find-filter (λ (s : StagedVolume). s.volume == staged.volume) (λ (s : StagedVolume). not (s.volume == id)) state.staged left)
@@ -60,6 +62,7 @@ unstages-found state id found staged among =
     left : (s : StagedVolume) → (s.volume == staged.volume) ≡ true → not (s.volume == id) ≡ true
     left s same = ap (λ n. not (n == id)) (eqb-true s.volume staged.volume same) ∙ stays
 
+-- each outcome of the table leaves each staged volume found as it is staged
 move-found : (state : NodeState) (call : Call) (outcome : Outcome) → Move state call outcome → AreFound state → AreFound (changed state outcome.change)
 move-found state _ _ (refuses call status detail not_ok) found = found
 move-found state _ _ (was_staged staged is) found = found
@@ -75,6 +78,7 @@ keep-found : (volume : Option ℕ) (kept : Kept) (state : NodeState) → AreFoun
 keep-found None kept state found = found
 keep-found (Some id) kept state found = found
 
+-- whatever the fence makes of a call leaves each staged volume found as it is staged
 passage-found : (node : List ℕ) (state : NodeState) (number : Number) (call : Call) (fenced : Fenced) → Passage node state number call fenced → AreFound state → AreFound fenced.state
 passage-found node state number call _ (stale spent) found = found
 passage-found node state number call _ (repeated kept is same spent) found = found
@@ -82,10 +86,12 @@ passage-found node state number call _ (no_room fresh full) found = found
 passage-found node state number call _ (carried fresh room) found =
     keep-found (volume_of call) (kept_of state number call) (changed state (lifecycle_row state call).change) (move-found state call (lifecycle_row state call) (lifecycle_moves state call) found)
 
+-- where both of two outcomes leave it so, the one that a test chooses does
 by_place : (b : Bool) (x y : Fenced) → AreFound x.state → AreFound y.state → AreFound (cond b x y).state
 by_place true x y f g = f
 by_place false x y f g = g
 
+-- whatever a node does with a frame leaves each staged volume found as it is staged
 parts-found : (node : List ℕ) (state : NodeState) (number : Number) (party : Party) (body : Body) → AreFound state → AreFound (fenced_parts node state number party body).state
 parts-found node state number Controller body found = found
 parts-found node state number (Node id) (bodies.Reply kind reply) found = found
@@ -94,9 +100,11 @@ parts-found node state number (Node id) (bodies.Call call) found =
     (passage-found node state number call (fenced_call node state number call (kept_for call state)) (call_passes node state number call (kept_for call state) refl) found)
     found
 
+-- all frames leave each staged volume found as it is staged
 frames-found : (node : List ℕ) (state : NodeState) (frames : List Frame) → AreFound state → AreFound (after_frames node state frames)
 frames-found node state [] found = found
 frames-found node state (frame ∷ frames) found = frames-found node (fenced node state frame).state frames (parts-found node state frame.number frame.party frame.body found)
 
+-- after any frames to a new node, each staged volume is found as it is staged
 pub all_found : (node : List ℕ) (frames : List Frame) → AreFound (after_frames node empty_node frames)
 all_found node frames = frames-found node empty_node frames (λ staged among. absurd among)

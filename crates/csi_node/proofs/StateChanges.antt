@@ -42,17 +42,20 @@ module _ (id : ℕ) (part state : NodeState) (is : IsPart id part state) where
       ap (find (is_published_at id target)) is.published
       ∙ find-filter (is_published_at id target) (λ (p : PublishedVolume). p.volume == id) state.published (λ x h. (and_parts (x.volume == id) (same_text x.target target) h).0)
 
+-- two states that have the same published of a volume answer NodePublishVolume alike, by how the volume is staged
 publish_staged-same : (part state : NodeState) (p : PublishedVolume) (o : Option Capability) → published_of p.volume part ≡ published_of p.volume state
     → publish_staged part p o ≡ publish_staged state p o
 publish_staged-same part state p None h = refl
 publish_staged-same part state p (Some capability) h =
     ap (λ (others : List PublishedVolume). cond (not (same_capability capability p.capability)) (refused FailedPrecondition (codes "staged otherwise")) (publish_new p others)) h
 
+-- two states that have the same of a volume answer NodePublishVolume alike, by what is at the target
 publish_at-same : (part state : NodeState) (p : PublishedVolume) (o : Option PublishedVolume) → staged_of p.volume part ≡ staged_of p.volume state → published_of p.volume part ≡ published_of p.volume state
     → publish_at_target part p o ≡ publish_at_target state p o
 publish_at-same part state p (Some there) s h = refl
 publish_at-same part state p None s h = ap (publish_staged part p) s ∙ publish_staged-same part state p (staged_of p.volume state) h
 
+-- two states that have the same of a volume answer NodePublishVolume alike
 publish-same : (part state : NodeState) (p : PublishedVolume) → staged_of p.volume part ≡ staged_of p.volume state → published_of p.volume part ≡ published_of p.volume state
     → published_at p.volume p.target part ≡ published_at p.volume p.target state → publish part p ≡ publish state p
 publish-same part state p s h at =
@@ -82,10 +85,12 @@ IsAbout id (Unstages volume) = volume ≡ id
 IsAbout id (Publishes published) = published.volume ≡ id
 IsAbout id (Unpublishes volume target) = volume ≡ id
 
+-- where both of two outcomes change that volume at most, so does the one that a test chooses
 about_if : (id : ℕ) (b : Bool) (x y : Outcome) → IsAbout id x.change → IsAbout id y.change → IsAbout id (cond b x y).change
 about_if id true x y a c = a
 about_if id false x y a c = c
 
+-- what each line of the table changes is of the call's volume: one lemma for each line
 about_stage : (id : ℕ) (s : StagedVolume) (o : Option Capability) → s.volume ≡ id → IsAbout id (stage s o).change
 unfolding IsAbout
 about_stage id s None h = h

@@ -31,6 +31,7 @@ abbrev pub alone_in : Option RowShown → NodeState
 alone_in None = empty_node
 alone_in (Some row) = alone row
 
+-- what the row says of the volume's last call
 abbrev pub answered_of : RowShown → Answered
 answered_of row = record { id = row.id; kept = row.kept }
 
@@ -45,10 +46,12 @@ pub record ShowsAll (rows : List RowShown) (state : NodeState) : Type 0 where
 pub row_of-shown : (id : ℕ) (rows : List NodeRow) → row_of id (map shown rows) ≡ option_map shown (row_in id rows)
 row_of-shown id rows = find-of_map (λ (row : RowShown). row.id == id) shown rows
 
+-- what is kept is the same by the row and by the row as it is shown
 pub kept-shown : (o : Option NodeRow) → option_map answered_of (option_map shown o) ≡ option_map answered_of_row o
 kept-shown None = refl
 kept-shown (Some row) = refl
 
+-- how a volume is staged, and below where it is published, is the same by the row and by the row as it is shown
 staged-shown : (o : Option NodeRow) → map (λ (s : StagedVolume). s.capability) (alone_in (option_map shown o)).staged ≡ staged_in o
 staged-shown None = refl
 staged-shown (Some row) = by row.staged row.staged refl refl
@@ -65,6 +68,7 @@ published-shown (Some row) = by row.staged refl
     by None e = rw e refl
     by (Some capability) e = rw e refl
 
+-- rows that show a state show it as they are shown
 pub all-from_shows : (rows : List NodeRow) (state : NodeState) → Shows rows state → ShowsAll (map shown rows) state
 all-from_shows rows state shows = record {
   count = length-map rows shown ∙ shows.count;
@@ -73,6 +77,7 @@ all-from_shows rows state shows = record {
   published = λ id. ap (λ (o : Option RowShown). (alone_in o).published) (row_of-shown id rows) ∙ published-shown (row_in id rows) ∙ shows.published id;
 }
 
+-- rows that show a state as they are shown show it themselves
 pub shows-from_all : (rows : List NodeRow) (state : NodeState) → ShowsAll (map shown rows) state → Shows rows state
 shows-from_all rows state all = record {
   count = sym (length-map rows shown) ∙ all.count;
@@ -95,9 +100,11 @@ pub record RowsAfter (id : ℕ) (old new : List RowShown) (row : RowShown) : Typ
 itself : (id : ℕ) → (id == id) ≡ true
 itself id = eq-eqb id id refl
 
+-- what a row that is found keeps is what was found of it
 answered_id : (o : Option RowShown) (row : Answered) → option_map answered_of o ≡ Some row → (r : RowShown) → o ≡ Some r → answered_of r ≡ row
 answered_id o row h r e = let both : Some (answered_of r) ≡ Some row = ap (option_map answered_of) (sym e) ∙ h in cc
 
+-- a change of the table changes no row
 changed-rows : (state : NodeState) (change : Change) → (changed state change).rows ≡ state.rows
 changed-rows state Stays = refl
 changed-rows state (Stages staged) = refl
@@ -154,6 +161,7 @@ length-kept id kept rows None None h = omega (arith, length-append {A = Answered
 length-kept id kept rows None (Some r) h = cc
 length-kept id kept rows (Some row) (Some r) h = length-map rows (kept_in id kept)
 
+-- what is kept in a row leaves its id
 kept_in-id : (id : ℕ) (kept : Kept) (row : Answered) → (kept_in id kept row).id ≡ row.id
 kept_in-id id kept row = by (row.id == id)
   where
@@ -161,6 +169,7 @@ kept_in-id id kept row = by (row.id == id)
     by true = refl
     by false = refl
 
+-- the row in which something is kept is found with it
 kept-here : (id : ℕ) (kept : Kept) (rows : List Answered) (o : Option Answered) → find (λ (row : Answered). row.id == id) rows ≡ o
     → find (λ (row : Answered). row.id == id) (kept_rows id kept rows o) ≡ Some (record { id = id; kept = kept })
 kept-here id kept rows None h = find-append_one (λ (row : Answered). row.id == id) rows (record { id = id; kept = kept }) (itself id) h
@@ -171,23 +180,29 @@ kept-here id kept rows (Some row) h =
     ∙ ap (option_map (kept_in id kept)) h
     ∙ rw own (ap (λ (n : ℕ). let a : Option Answered = Some (record { id = n; kept = kept }) in a) same)
 
+-- a row of another id stays as it was
 kept_in-other : (id : ℕ) (kept : Kept) (row : Answered) → (row.id == id) ≡ false → kept_in id kept row ≡ row
 kept_in-other id kept row h = rw h refl
 
+-- a row of another id that was found stays as it was
 mapped-other : (id k : ℕ) (kept : Kept) (o : Option Answered) → ((row : Answered) → o ≡ Some row → (row.id == id) ≡ false) → option_map (kept_in id kept) o ≡ o
 mapped-other id k kept None h = refl
 mapped-other id k kept (Some row) h = ap Some (kept_in-other id kept row (h row refl))
 
+-- ids that differ one way differ the other way
 turned : (k id : ℕ) → (k == id) ≡ false → (id == k) ≡ false
 turned k id h = grind (arith, nat_tests)
 
+-- an id that is equal to one of two different ids isn't equal to the other
 apart : (k id n : ℕ) → (k == id) ≡ false → (n == k) ≡ true → (n == id) ≡ false
 apart k id n h e = grind (arith, nat_tests)
 
+-- a volume that isn't the call's is another one
 another : (id k n : ℕ) (call : Call) → volume_of call ≡ Some id → (k == id) ≡ false → (n == k) ≡ true → is_another (volume_of call) n ≡ true
 another id k n call v h e =
     ap (λ (o : Option ℕ). is_another o n) v ∙ ap not (apart k id n h e)
 
+-- what is kept for a volume leaves each other volume's row as it is found
 kept-elsewhere : (id k : ℕ) (kept : Kept) (rows : List Answered) (o : Option Answered) → (k == id) ≡ false
     → find (λ (row : Answered). row.id == k) (kept_rows id kept rows o) ≡ find (λ (row : Answered). row.id == k) rows
 kept-elsewhere id k kept rows None h =
@@ -209,6 +224,7 @@ other_staged id k state call v h =
     ∙ filter-filter (λ (s : StagedVolume). s.volume == k) (λ (s : StagedVolume). is_another (volume_of call) s.volume) old (λ s e. another id k s.volume call v h e) in
     same state.staged (changed state (lifecycle_row state call).change).staged (lifecycle_facts state call).others.staged
 
+-- a call leaves what is published of other volumes as it was
 other_published : (id k : ℕ) (state : NodeState) (call : Call) → volume_of call ≡ Some id → (k == id) ≡ false
     → published_of k (changed state (lifecycle_row state call).change) ≡ published_of k state
 other_published id k state call v h =

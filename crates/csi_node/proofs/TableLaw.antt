@@ -21,11 +21,13 @@ use Rattle.csi_node.proofs.Keeping.{keep-staged, keep-published, keep-others, ke
 use Rattle.csi_node.proofs.Passages.{kept_of, state_then, done_then}
 use Rattle.csi_node.proofs.Facts.{IsReady, lifecycle_facts, ready_met, ready_kept, ready_volume, ready_done}
 
+-- a number that is let through leads to the table, whatever is kept in the row
 let_through : (node : List ℕ) (state : NodeState) (number : Number) (call : Call) (kept : Option Kept) → verdict_of (option_map (λ k. k.number) kept) number ≡ Fresh
     → fenced_call node state number call kept ≡ carried_out node state number call (node_row state call)
 let_through node state number call None h = refl
 let_through node state number call (Some kept) h = rw h refl
 
+-- a call that is let through is carried out
 is_carried_out : (node : List ℕ) (state : NodeState) (number : Number) (call : Call) → IsLetThrough state number call
     → fenced node state (call_frame number (Node node) call) ≡ carried_out node state number call (node_row state call)
 is_carried_out node state number call h =
@@ -37,12 +39,15 @@ with_room : (node : List ℕ) (state : NodeState) (number : Number) (call : Call
     → carried_out node state number call (node_row state call) ≡ done_then node state number call
 with_room node state number call h = simp h
 
+-- where there is room, the table answers by the lifecycle
 row_with_room : (state : NodeState) (call : Call) → has_no_room state call ≡ false → node_row state call ≡ lifecycle_row state call
 row_with_room state call h = rw h refl
 
+-- where there is no room, the table refuses
 row_without : (state : NodeState) (call : Call) → has_no_room state call ≡ true → node_row state call ≡ refused ResourceExhausted (codes "rows")
 row_without state call h = rw h refl
 
+-- where there is no room, the state stays as it was
 state_without : (node : List ℕ) (state : NodeState) (number : Number) (call : Call) (outcome : Outcome) → has_no_room state call ≡ true → (carried_out node state number call outcome).state ≡ state
 state_without node state number call outcome h = rw h refl
 
@@ -52,6 +57,7 @@ volume_kept : (volume : Option ℕ) (id : ℕ) (kept : Kept) (state : NodeState)
 volume_kept None id kept state h = cc
 volume_kept (Some other) id kept state h = keep-own other kept state
 
+-- where something of a row is found, the row is there
 found_then : {X Y : Type 0} (f : X → Y) (o : Option X) (y : Y) → option_map f o ≡ Some y → is_none o ≡ false
 found_then f None y h = cc
 found_then f (Some x) y h = refl
@@ -60,6 +66,7 @@ found_then f (Some x) y h = refl
 fresh : (last later : Number) → IsBefore last later → verdict_of (Some last) later ≡ Fresh
 fresh last later h = rw h refl
 
+-- a call that would be answered OK, with no change, still would be once another reply is kept
 ready_state : (volume : Option ℕ) (kept : Kept) (state : NodeState) (call : Call) → IsReady state call → IsReady (keep volume kept state) call
 ready_state None kept state call h = h
 ready_state (Some id) kept state call h = ready_kept state (kept_rows id kept state.rows (row_with_id id state)) call h
@@ -93,6 +100,7 @@ once_more node after last later call kept is before ready =
 exhausted : ResourceExhausted ≡ Ok → ⊥
 exhausted h = cc
 
+-- where there is no room, a call keeps the laws
 without_room : (node : List ℕ) (state : NodeState) (number : Number) (call : Call) → has_no_room state call ≡ true → IsLetThrough state number call → IsLawful node state number call
 without_room node state number call full through =
     let e : state_after node state number call ≡ state = ap (λ (f : Fenced). f.state) (is_carried_out node state number call through) ∙ state_without node state number call (node_row state call) full in
@@ -104,6 +112,7 @@ without_room node state number call full through =
       others = subst (λ (after : NodeState). LeavesOthers state after call) (sym e) (record { rows = refl; staged = refl; published = refl });
     }
 
+-- where there is room, a call keeps the laws
 having_room : (node : List ℕ) (state : NodeState) (number : Number) (call : Call) → has_no_room state call ≡ false → IsLetThrough state number call → IsLawful node state number call
 having_room node state number call room through =
     let e : state_after node state number call ≡ state_then state number call = ap (λ (f : Fenced). f.state) (is_carried_out node state number call through ∙ with_room node state number call room) in
@@ -136,6 +145,7 @@ having_room node state number call room through =
           });
     }
 
+-- with room or without it, a call keeps the laws
 by_room : (node : List ℕ) (state : NodeState) (number : Number) (call : Call) (b : Bool) → has_no_room state call ≡ b → IsLetThrough state number call → IsLawful node state number call
 by_room node state number call true h through = without_room node state number call h through
 by_room node state number call false h through = having_room node state number call h through

@@ -25,10 +25,12 @@ row_id node (Attached id there) = None
 row_id node (Staged id there) = cond (same_text there node) (Some id) None
 row_id node (Published id there target) = cond (same_text there node) (Some id) None
 
+-- what is kept in the row of a volume, if one is named
 abbrev pub kept_at : Option ℕ → NodeState → Option Kept
 kept_at None state = None
 kept_at (Some id) state = kept_in_row id state
 
+-- what is kept for a thing is what the row that tells it keeps
 pub kept_on-at : (node : List ℕ) (state : NodeState) (key : Key) → kept_on node state key ≡ kept_at (row_id node key) state
 kept_on-at node state (Exists name) = refl
 kept_on-at node state (Attached id there) = refl
@@ -50,9 +52,11 @@ pub record IsFor (node : List ℕ) (call : Call) (key : Key) : Type 0 where
   pub is_volume : volume_of call ≡ Some volume
   pub is_row : row_id node key ≡ Some volume
 
+-- a call about a staging is for that thing and its volume
 staged_for : (node : List ℕ) (call : Call) (id : ℕ) → key_of node call ≡ Some (Staged id node) → volume_of call ≡ Some id → IsFor node call (Staged id node)
 staged_for node call id is_key is_volume = record { is_key = is_key; volume = id; is_volume = is_volume; is_row = rw (here node) refl }
 
+-- a call about a target is for that thing and its volume
 published_for : (node : List ℕ) (call : Call) (id : ℕ) (target : List ℕ) → key_of node call ≡ Some (Published id node target) → volume_of call ≡ Some id → IsFor node call (Published id node target)
 published_for node call id target is_key is_volume = record { is_key = is_key; volume = id; is_volume = is_volume; is_row = rw (here node) refl }
 
@@ -88,6 +92,7 @@ kept_either volume kept state (Some id) = by (keep-either volume id kept state)
     by (inl same) = inl same
     by (inr e) = inr (ap Some e)
 
+-- a node that has answered nothing keeps nothing for any thing
 pub kept_none : (node : List ℕ) (key : Key) → kept_on node empty_node key ≡ None
 kept_none node key = kept_on-at node empty_node key ∙ by (row_id node key)
   where
@@ -99,6 +104,7 @@ either_way : {X : Type 0} (b : Bool) (x : X) → cond b x x ≡ x
 either_way true x = refl
 either_way false x = refl
 
+-- a node that has answered nothing holds no thing
 pub held_none : (node : List ℕ) (key : Key) → held_on node empty_node key ≡ None
 held_none node (Exists name) = refl
 held_none node (Attached id there) = refl

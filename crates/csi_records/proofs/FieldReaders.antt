@@ -45,6 +45,7 @@ byte_reads = record { takes = λ bytes fits x e. byte-takes bytes x e; again = b
 
 -- ---- a byte that stands for a value
 
+-- a byte that stands for a value is the one that spells it, and each value's byte stands for it
 pub record IsCode {A : Type 0} (value_of : ℕ → Option A) (number : A → ℕ) : Type 0 where
   pub back : (b : ℕ) (a : A) → value_of b ≡ Some a → number a ≡ b
   pub again : (a : A) → value_of (number a) ≡ Some a
@@ -179,6 +180,7 @@ count-takes most b bytes true x is e =
     subst (λ (y : ℕ × List ℕ). Took (Spelled (IsCount most) one_byte) (b ∷ bytes) y) (some_is b bytes x e) (record { front = b ∷ []; parts = refl; says = record { fits = record { within = leb-true _ _ is }; are = refl } })
 count-takes most b bytes false x is e = absurd cc
 
+-- the byte, if the test is passed
 abbrev counted_by : Bool → ℕ → Reader ℕ
 counted_by t b = cond t (give b) nothing
 
@@ -288,9 +290,11 @@ text_reads least most = record {
 
 -- ---- a byte of this number
 
+-- the bytes are this one byte
 pub record IsTag (n : ℕ) (value : Unit {0}) (bytes : List ℕ) : Type 0 where
   pub one : bytes ≡ n ∷ []
 
+-- nothing but that it was there, if the test is passed
 abbrev tag_by : Bool → Reader (Unit {0})
 tag_by t = cond t (give tt) nothing
 

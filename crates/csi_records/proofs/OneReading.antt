@@ -66,6 +66,7 @@ front-of {H} {R} layout one (p ∷ ps) more is =
     each-take P [] (suc k) all = tt
     each-take P (x ∷ xs) (suc k) all = (all.0, each-take P xs k all.1)
 
+-- the bytes of parts, one after another
 abbrev flat : List StoredPart → List ℕ
 flat parts = flat_map part_bytes parts
 
@@ -84,6 +85,7 @@ goes (p ∷ ps) (q ∷ qs) left right fit fits e le =
     let rest = goes ps qs left right (fit.1) (fits.1) same.1 (omega arith) in
     record { more = rest.more; are = ap (λ (r : StoredPart). r ∷ qs) (sym same.0) ∙ ap (λ (rs : List StoredPart). p ∷ rs) rest.are; left_is = rest.left_is }
 
+-- with no part that comes next are the parts before it a record
 abbrev Refuses : (List StoredPart → Type 0) → List StoredPart → List ℕ → Type 0
 Refuses Is before rest = (part : StoredPart) (more : List ℕ) → IsPart part → rest ≡ part_bytes part ++ more → Is (before ++ part ∷ []) → ⊥
 
@@ -132,6 +134,7 @@ record Bad {H R : Type 0} (layout : Layout H R) (bytes : List ℕ) (place : ℕ)
   begins : Begins (IsRecordOf layout) before
   why : ((length before < count) × Refuses (IsRecordOf layout) before rest) ⊎ ((length before ≡ count) × (rest ≢ []) × IsRecordOf layout before)
 
+-- no version and number of parts, from 1 on, stand in front
 abbrev HasNone : List ℕ → Type 0
 HasNone bytes = (count : ℕ) (rest : List ℕ) → 1 ≤ count → count < 2 ^ 32 → bytes ≡ record_head count ++ rest → ⊥
 

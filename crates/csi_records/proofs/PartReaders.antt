@@ -38,6 +38,7 @@ pub record IsVolumeOf (id : ℕ) (row : VolumeRow) : Type 0 where
   pub has_id : row.volume.id ≡ id
   pub fits : IsVolumeRow row
 
+-- the fields of a volume's row behind the version, one after another
 abbrev SaysVolume : ℕ → VolumeRow → List ℕ → Type 0
 SaysVolume id =
     After Always (λ a. state_byte a ∷ []) (λ is_live.
@@ -146,6 +147,7 @@ pub record IsAnsweredOf (id : ℕ) (row : RowShown) : Type 0 where
   pub has_id : row.id ≡ id
   pub fits : IsAnsweredRow row
 
+-- the fields of a node's row behind the version, one after another
 abbrev SaysAnswered : ℕ → RowShown → List ℕ → Type 0
 SaysAnswered id =
     After IsStagedSo staged_bytes (λ staged. After (AreFew IsTargetRow 16) (counted target_bytes) (λ targets. Made IsKept kept_bytes (λ kept. make_answered id staged targets kept)))

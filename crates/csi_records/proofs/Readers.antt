@@ -12,6 +12,7 @@ pub record Took {A : Type 0} (Says : A → List ℕ → Type 0) (bytes : List �
   pub parts : bytes ≡ front ++ x.1
   pub says : Says x.0 front
 
+-- what is taken from the front of bytes is spelled there, and what is spelled in front is read again
 pub record Reads {A : Type 0} (read : Reader A) (Says : A → List ℕ → Type 0) : Type 0 where
   pub takes : (bytes : List ℕ) → AreBytes bytes → (x : A × List ℕ) → read bytes ≡ Some x → Took Says bytes x
   pub again : (value : A) (front rest : List ℕ) → Says value front → read (front ++ rest) ≡ Some (value, rest)
@@ -56,6 +57,7 @@ pub record Given {A : Type 0} (made value : A) (bytes : List ℕ) : Type 0 where
   pub same : value ≡ made
   pub none : bytes ≡ []
 
+-- a value that is read, and the bytes behind it
 abbrev pub done : {A : Type 0} → A → List ℕ → Option (A × List ℕ)
 done x bytes = Some (x, bytes)
 
@@ -128,5 +130,6 @@ makes {A} {B} {r} {Fits} {spell} make one =
     (λ value bytes s. record { before = s.before; front = bytes; back = []; parts = sym (append-nil bytes); first = record { fits = s.fits; are = s.are }; second = record { same = s.same; none = refl } })
     (then one (λ a. gives (make a)))
 
+-- no limits
 abbrev pub Always : {A : Type 0} → A → Type 0
 Always a = Unit {0}

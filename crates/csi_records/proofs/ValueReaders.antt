@@ -32,9 +32,11 @@ join3 whole a b c mid one two = one ∙ ap (λ (t : List ℕ). a ++ t) two ∙ s
 
 -- ---- capabilities
 
+-- what stands behind an access's flag, by the flag
 abbrev WasAccess : Bool → Access → List ℕ → Type 0
 WasAccess b = Either b (Made (IsText 0 128) spelling.text Mount) (Given Block)
 
+-- the fields of each value, one after another: here a flag and what it asks for
 abbrev SaysAccess : Access → List ℕ → Type 0
 SaysAccess = After Always spelling.flag WasAccess
 
@@ -80,13 +82,16 @@ capability_reads =
 
 -- ---- so many
 
+-- there are so many, each within its limits
 pub record AreSo {A : Type 0} (Fits : A → Type 0) (count : ℕ) (values : List A) : Type 0 where
   pub counted : length values ≡ count
   pub each : AllByRecursion Fits values
 
+-- a first value, and so many others
 abbrev SaysMore : {A : Type 0} → (A → Type 0) → (A → List ℕ) → ℕ → List A → List ℕ → Type 0
 SaysMore Fits spell n = After Fits spell (λ first. Made (AreSo Fits n) (flat_map spell) (λ others. first ∷ others))
 
+-- the spelling of so many values
 abbrev SaysItems : {A : Type 0} → (A → Type 0) → (A → List ℕ) → ℕ → List A → List ℕ → Type 0
 SaysItems Fits spell n = Spelled (AreSo Fits n) (flat_map spell)
 
@@ -133,6 +138,7 @@ pub record AreFew {A : Type 0} (Fits : A → Type 0) (most : ℕ) (values : List
   pub few : length values ≤ most
   pub each : AllByRecursion Fits values
 
+-- a count, and as many values
 abbrev SaysCounted : {A : Type 0} → (A → Type 0) → (A → List ℕ) → ℕ → List A → List ℕ → Type 0
 SaysCounted Fits spell most = After (IsCount most) one_byte (λ count. SaysItems Fits spell count)
 
@@ -354,6 +360,7 @@ kept_reads =
 
 -- ---- how a volume is staged
 
+-- what stands behind the flag that says whether a volume is staged, by the flag
 abbrev WasStaged : Bool → Option Capability → List ℕ → Type 0
 WasStaged b = Either b (Made IsCapability spelling.capability (λ c. Some c)) (Given None)
 

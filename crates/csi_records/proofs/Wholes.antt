@@ -26,6 +26,7 @@ use Rattle.csi_records.proofs.ValueReaders.{join3}
 
 -- ---- a number of 32 bits
 
+-- the four bytes of a number
 abbrev pub long : ℕ → List ℕ
 long n = big_bytes 4 n
 
@@ -101,6 +102,7 @@ bytes_read n = record {
 abbrev make_part : ℕ → List ℕ → StoredPart
 make_part key value = record { key = key; value = value }
 
+-- the fields of a part, one after another
 abbrev SaysPart : StoredPart → List ℕ → Type 0
 SaysPart = After IsWord spelling.word (λ key. After IsLong long (λ n. Made (IsOfLength n) itself (λ value. make_part key value)))
 
