@@ -17,6 +17,7 @@ refused-left before after first next change leads refused = λ honest only other
       | inr new ↦ inr (new ∙ leads)
     ]
 
+-- a commit that was refused has the cause that a refusal of its changes tells
 pub refused-cause : (before after : Store) (first next : List StoredPart) (change : List StoredPart → List StoredPart) (fault : KeepFault) → change first ≡ next
     → IsCommitFault after.honest before.holds before.fits change before.faults after.faults fault → IsRefusal before after first next fault
 refused-cause before after first next change Device leads cause = cause
@@ -28,6 +29,7 @@ refused-cause before after first next change Full leads cause = λ honest only f
 pub follows-same : (now : Store) → Follows now now
 follows-same now = record { honest = λ h. h; room = λ content h. h; no_more_room = λ content h. h; faults = omega arith }
 
+-- what calls never change, or only raise, is so of one call after another
 pub follows-more : (a b c : Store) → Follows a b → Follows b c → Follows a c
 follows-more a b c first second = record {
   honest = λ h. first.honest (second.honest h);
@@ -36,19 +38,24 @@ follows-more a b c first second = record {
   faults = omega (arith, first.faults, second.faults);
 }
 
+-- a store that isn't called has what it had
 pub rests-same : (now : Store) (content : List StoredPart) → Rests now now content content
 rests-same now content = λ honest only. only
 
+-- a store that has one content and then another has the last after both calls
 pub rests-more : (a b c : Store) (x y z : List StoredPart) → Follows b c → Rests a b x y → Rests b c y z → Rests a c x z
 rests-more a b c x y z follows first second = λ honest only. second honest (first (follows.honest honest) only)
 
+-- what a later call leaves of the content that an earlier one led to is left after both
 pub left-more : (a b c : Store) (x y p q : List StoredPart) → Follows b c → Rests a b x y → LeavesEither b c y p q → LeavesEither a c x p q
 left-more a b c x y p q follows first second = λ honest only. second honest (first (follows.honest honest) only)
 
+-- a count of faults that rose later has risen since before
 pub risen-more : (a b c : ℕ) → a ≤ b → HasRisen b c → HasRisen a c
 risen-more a b c least (inl less) = inl (omega arith)
 risen-more a b c least (inr top) = inr top
 
+-- why a later call was refused is why it was refused since before
 pub refusal-more : (a b c : Store) (x y next : List StoredPart) (fault : KeepFault) → Follows a b → Follows b c → Rests a b x y → IsRefusal b c y next fault → IsRefusal a c x next fault
 refusal-more a b c x y next Device before after first cause = risen-more a.faults b.faults c.faults before.faults cause
 refusal-more a b c x y next NoMemory before after first cause = tt

@@ -24,6 +24,7 @@ use Rattle.csi_serving.proofs.RisingParts.{rows-put, put-head, put-row}
 
 -- ---- rows that say the same are spelled the same
 
+-- rows that say the same are spelled the same: one row, all rows, and a row that may be there
 pub same-shown : (old new : ControllerRow) → IsSameRow old new → volume_row new ≡ volume_row old
 same-shown old new same = λ i. record { volume = same.volume i; holdings = same.items i }
 
@@ -44,20 +45,24 @@ copy-shown (Some old) (Some new) same = ap Some (same-shown old new same)
 
 -- ---- rows by rising id are parts by rising key
 
+-- ids above an id are keys above it
 above-shown : (id : ℕ) (rows : List ControllerRow) → AllByRecursion (λ (later : ControllerRow). id < later.id) rows → AreAbove id (map volume_part (map volume_row rows))
 above-shown id [] above = tt
 above-shown id (row ∷ rows) above = (above.0, above-shown id rows above.1)
 
+-- rows by rising id are parts by rising key
 rising-shown : (rows : List ControllerRow) → AreRising rows → IsRising (map volume_part (map volume_row rows))
 rising-shown [] rising = tt
 rising-shown (row ∷ rows) rising = (above-shown row.id rows rising.0, rising-shown rows rising.1)
 
 -- ---- one change after another
 
+-- some changes and then others are the others after the first
 all-append : (first second : List Change) (parts : List StoredPart) → all_changed (first ++ second) parts ≡ all_changed second (all_changed first parts)
 all-append [] second parts = refl
 all-append (change ∷ changes) second parts = all-append changes second _
 
+-- a head that changes where the next id does is the new head in front of the same parts
 head-changed : (has_new_id : Bool) (old new : ℕ) (parts : List StoredPart) → (has_new_id ≡ false → new ≡ old) → all_changed (head_change has_new_id new) (controller_head old ∷ parts) ≡ controller_head new ∷ parts
 head-changed true old new parts same = put-head (controller_head new) (controller_head old) parts refl
 head-changed false old new parts same = ap (λ (n : ℕ). controller_head n ∷ parts) (sym (same refl))
@@ -91,11 +96,13 @@ pub data Touches (old new : Parts) : Option ℕ → Type 0 where
   no_row : map volume_row new.rows ≡ map volume_row old.rows → Touches old new None
   one_row : (volume : Volume) → 0 < volume.id → ChangesOnly old new volume → Touches old new (Some volume.id)
 
+-- the touched row's change makes the old rows' parts the new ones'
 rows-changed : (old new : Parts) (touched : Option ℕ) → AreRising old.rows → AreRising new.rows → Touches old new touched → (head : StoredPart) → head.key ≡ 0
     → all_changed (touched_change touched new.rows) (head ∷ map volume_part (map volume_row old.rows)) ≡ head ∷ map volume_part (map volume_row new.rows)
 rows-changed old new touched rising rising_too (no_row same) head zero = ap (λ (rows : List VolumeRow). head ∷ map volume_part rows) (sym same)
 rows-changed old new touched rising rising_too (one_row volume positive only) head zero = row-there old new volume rising rising_too only positive head zero
 
+-- what a step changed makes the parts of the old controller those of the new one
 pub parts-changed : (old new : Parts) (has_new_id : Bool) (touched : Option ℕ) → AreRising old.rows → AreRising new.rows → (has_new_id ≡ false → new.next_id ≡ old.next_id) → Touches old new touched
     → controller_parts new.next_id (map volume_row new.rows) ≡ all_changed (head_change has_new_id new.next_id ++ touched_change touched new.rows) (controller_parts old.next_id (map volume_row old.rows))
 parts-changed old new has_new_id touched rising rising_too same touches =
@@ -108,6 +115,7 @@ parts-changed old new has_new_id touched rising rising_too same touches =
 pub same-state : ControllerRowsLaw → (old new : Parts) (before after : ControllerState) → AreOf old before → AreOf new after → after ≡ before → map volume_row new.rows ≡ map volume_row old.rows
 same-state law old new before after of_it of_it_too same = all-shown old.rows new.rows (law.rows before old new of_it (subst (AreOf new) same of_it_too))
 
+-- a step that leaves the state leaves the next id
 pub same-next_id : ControllerRowsLaw → (old new : Parts) (before after : ControllerState) → AreOf old before → AreOf new after → after ≡ before → new.next_id ≡ old.next_id
 same-next_id law old new before after of_it of_it_too same = sym (law.next_id before old new of_it (subst (AreOf new) same of_it_too))
 
@@ -116,6 +124,7 @@ pub record IsTouched (touched : Option ℕ) (before after : Option (ℕ × Numbe
   pub none : touched ≡ None → (before ≡ after) ⊎ (after ≡ None)
   pub some : (id : ℕ) → touched ≡ Some id → (0 < id) × ((number : Number) × (after ≡ Some (id, number)))
 
+-- a call touched nothing, or the row of its volume, as the last numbers tell
 call-touches : ControllerRowsLaw → (old new : Parts) (state : ControllerState) (frame : Frame) (call : Call) (touched : Option ℕ) → AreOf old state → AreOf new (after_frame old.config state frame) → frame.body ≡ bodies.Call call
     → IsTouched touched (option_map last_call (row_for call state)) (option_map last_call (row_for call (after_frame old.config state frame))) → Touches old new touched
 call-touches law old new state frame call None of_it of_it_too is told = elim (told.none refl) [
@@ -134,6 +143,7 @@ call-touches law old new state frame call (Some id) of_it of_it_too is told =
     subst (λ (n : ℕ). Touches old new (Some n)) own
     (one_row volume (omega (arith, own, some.0)) (law.others old new state frame call volume of_it of_it_too is found.1))
 
+-- a frame touched nothing, or the row of its call's volume, as the last numbers tell
 pub frame-touches : ControllerRowsLaw → (old new : Parts) (state : ControllerState) (frame : Frame) (body : Body) (touched : Option ℕ) → AreOf old state → AreOf new (after_frame old.config state frame) → frame.body ≡ body
     → IsTouched touched (last_in body state) (last_in body (after_frame old.config state frame)) → Touches old new touched
 frame-touches law old new state frame (bodies.Call call) touched of_it of_it_too is told = call-touches law old new state frame call touched of_it of_it_too is told
@@ -154,6 +164,7 @@ abbrev touched_in : Option ℕ → List VolumeRow → List Change
 touched_in None rows = []
 touched_in (Some id) rows = shown_change (find (λ (r : VolumeRow). r.volume.id == id) rows)
 
+-- what was touched is told by the rows as they are spelled
 touched-shown : (touched : Option ℕ) (rows : List ControllerRow) → touched_change touched rows ≡ touched_in touched (map volume_row rows)
 touched-shown None rows = refl
 touched-shown (Some id) rows = by (find (λ (r : ControllerRow). r.id == id) rows) ∙ ap shown_change (sym (find-of_map (λ (r : VolumeRow). r.volume.id == id) volume_row rows))
@@ -162,11 +173,13 @@ touched-shown (Some id) rows = by (find (λ (r : ControllerRow). r.id == id) row
     by None = refl
     by (Some row) = refl
 
+-- two controllers that show one state have the same parts
 pub same-parts : ControllerRowsLaw → (old new : Parts) (state : ControllerState) → AreOf old state → AreOf new state → controller_parts new.next_id (map volume_row new.rows) ≡ controller_parts old.next_id (map volume_row old.rows)
 same-parts law old new state of_it of_it_too =
     ap (λ (n : ℕ). controller_parts n (map volume_row new.rows)) (sym (law.next_id state old new of_it of_it_too))
     ∙ ap (λ (rows : List VolumeRow). controller_parts old.next_id rows) (all-shown old.rows new.rows (law.rows state old new of_it of_it_too))
 
+-- two controllers that show one state have the same changes
 pub same-changes : ControllerRowsLaw → (old new : Parts) (state : ControllerState) (has_new_id : Bool) (touched : Option ℕ) → AreOf old state → AreOf new state
     → head_change has_new_id new.next_id ++ touched_change touched new.rows ≡ head_change has_new_id old.next_id ++ touched_change touched old.rows
 same-changes law old new state has_new_id touched of_it of_it_too =

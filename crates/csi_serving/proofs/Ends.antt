@@ -33,22 +33,27 @@ use Rattle.csi_serving.proofs.Runs.{runs-push, output-append}
 use Rattle.csi_serving.proofs.Streams.{AreBytes-append, fault_of_something, frames_of, given_first}
 use Rattle.csi_serving.proofs.Progress.{setting_of, Progress, same-written, taken_front}
 
+-- behind the frames that were answered stands the next one
 get-seam : (done : List Frame) (frame : Frame) (later : List Frame) → slice_get (done ++ frame ∷ later) (length done) ≡ Some frame
 get-seam [] frame later = refl
 get-seam (d ∷ ds) frame later = get-seam ds frame later
 
+-- the splitter's answer that gives a frame, and below the one that gives none
 abbrev given : Frame → Result (Option Frame) FrameFault
 given frame = Ok (Some frame)
 
 abbrev none_given : Result (Option Frame) FrameFault
 none_given = Ok None
 
+-- a frame that is given isn't none
 given_or_none : (frame : Frame) → given frame ≡ none_given → ⊥
 given_or_none frame is = cc
 
+-- a frame that is given is no fault
 given_or_fault : (frame : Frame) (fault : FrameFault) → given frame ≡ Err fault → ⊥
 given_or_fault frame fault is = cc
 
+-- no more bytes leave a stream as it was
 nothing_more_of : (stream bytes : List ℕ) → bytes ≡ [] → stream ≡ stream ++ bytes
 nothing_more_of stream bytes is = sym (append-nil stream) ∙ ap (λ bs. stream ++ bs) (sym is)
 

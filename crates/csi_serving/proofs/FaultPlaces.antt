@@ -5,10 +5,12 @@ use Rattle.csi_frames.specs.declared.fault.FaultKind.{FaultKind}
 use Rattle.csi_frames.specs.Grammar.{Grammar}
 use Rattle.csi_frames.specs.Fault.{IsStuck, IsFaulty, no_length, too_long, short, in_body}
 
+-- where reading is stuck is inside the bytes, or at their end
 stuck_within : (grammar : Grammar) (bytes : List ℕ) (kind : FaultKind) (place : ℕ) → IsStuck grammar bytes kind place → place ≤ length bytes
 stuck_within grammar bytes kind place stuck =
     omega (arith, stuck.here, ap length stuck.parts, length-append stuck.front stuck.back)
 
+-- the place of a fault is inside the bytes, or at their end
 pub place_within : (bytes : List ℕ) (kind : FaultKind) (place : ℕ) → IsFaulty bytes kind place → place ≤ length bytes
 place_within bytes kind place (no_length few) = omega arith
 place_within bytes kind place (too_long there above) = omega arith

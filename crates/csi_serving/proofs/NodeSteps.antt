@@ -11,6 +11,7 @@ use Rattle.csi_records.specs.Spelling.{answered_part, node_head, node_parts}
 use Rattle.csi_serving.specs.Content.{put_in, all_changed}
 use Rattle.csi_serving.specs.NodeServices.{touched_row, last_for}
 
+-- a row goes among rows as its part goes among parts, one row at a time
 put_step : (row other : RowShown) (others : List RowShown) → map answered_part (put_row row others) ≡ put_in (answered_part row) (map answered_part others) → (a b : Bool)
     → map answered_part (cond a (other ∷ put_row row others) (cond b (row ∷ others) (row ∷ other ∷ others)))
     ≡ cond a (answered_part other ∷ put_in (answered_part row) (map answered_part others)) (cond b (answered_part row ∷ map answered_part others) (answered_part row ∷ answered_part other ∷ map answered_part others))

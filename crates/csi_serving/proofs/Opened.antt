@@ -14,16 +14,19 @@ use Rattle.csi_serving.specs.Keeping.{fault_of_stop}
 use Rattle.csi_serving.specs.Stores.{Store}
 use Rattle.csi_serving.specs.Opening.{opened_to, HasOpened, IsOpenFault, HasLoaded}
 
+-- a fault of opening that blames no part is one, whichever parts are bad
 pub cause-weaker : (IsBad : List StoredPart → ℕ → Type 0) (before after : Store) (head : StoredPart) (fault : KeepFault) → IsOpenFault (λ _ _. ⊥) before after head fault → IsOpenFault IsBad before after head fault
 cause-weaker IsBad before after head Device cause = cause
 cause-weaker IsBad before after head NoMemory cause = tt
 cause-weaker IsBad before after head (BadRecord place) cause = λ honest content holds. absurd (cause honest content holds)
 cause-weaker IsBad before after head Full cause = cause
 
+-- where there are some parts, they aren't no parts
 none-empty : (parts : List Part) → 1 ≤ length parts → all_stored_in parts ≡ [] → ⊥
 none-empty [] some e = omega arith
 none-empty (p ∷ ps) some e = cc
 
+-- a list of length 0 is empty
 pub none-of : (parts : List Part) → length parts ≡ 0 → parts ≡ []
 none-of [] zero = refl
 none-of (p ∷ ps) zero = absurd (omega arith)
@@ -39,16 +42,19 @@ stop-cause Is parts_of before after head parts (stops.BadRecord place) some load
 abbrev Holds : (List StoredPart → Type 0) → Store → Store → StoredPart → List StoredPart → Type 0
 Holds Is before after head core = after.honest → (content : List StoredPart) → before.holds content → (core ≡ opened_to head content) × Is core × HasOpened before after head content
 
+-- where nothing was there, the core has the head that was put in, and the store has it too
 pub opened-new : (Is : List StoredPart → Type 0) (before after : Store) (head : StoredPart) (parts : Vec Part) (core : List StoredPart) → parts.items ≡ [] → core ≡ head ∷ [] → Is (head ∷ []) → HasLoaded before after head parts → Holds Is before after head core
 opened-new Is before after head parts core none are is loaded = λ honest content holds.
     let found = loaded honest content holds in
     let empty : [] ≡ content = ap all_stored_in (sym none) ∙ found.0 in
     (are ∙ ap (opened_to head) empty, subst Is (sym are) is, found.1)
 
+-- where some parts were there, opening leaves them
 opened-same : (head : StoredPart) (parts : List Part) (content : List StoredPart) → 1 ≤ length parts → all_stored_in parts ≡ content → content ≡ opened_to head content
 opened-same head parts [] some e = absurd (none-empty parts some e)
 opened-same head parts (c ∷ cs) some e = refl
 
+-- where a record was there, the core has it, and so has the store
 pub opened-old : (Is : List StoredPart → Type 0) (before after : Store) (head : StoredPart) (parts : Vec Part) (kept core : List StoredPart) → 1 ≤ length parts.items → core ≡ kept
     → Is (all_stored_in parts.items) × (all_stored_in parts.items ≡ kept) → HasLoaded before after head parts → Holds Is before after head core
 opened-old Is before after head parts kept core some are read loaded = λ honest content holds.
@@ -58,6 +64,7 @@ opened-old Is before after head parts kept core some are read loaded = λ honest
 
 -- ---- records without rows
 
+-- a head with the next id 1 alone is a controller's record
 pub new-controller : IsRecordOf controller_layout (controller_head 1 ∷ [])
 new-controller = record {
   first = 1;

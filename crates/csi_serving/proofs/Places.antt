@@ -15,6 +15,7 @@ put-behind part other others parts below is =
     let less : nat_lt other.key part.key ≡ true = grind (arith, nat_tests) in
     rw less (ap (λ ps. other ∷ ps) is)
 
+-- a part goes in place of the entry that has its key, where those before have lower keys
 put-same : (part : StoredPart) (entries : List Entry) (i : ℕ) (entry d : Entry) → i < length entries → ((k : ℕ) → k < i → nat_le part.key (get_or entries k d).key ≡ false)
     → (get_or entries i d).key ≡ part.key → stored entry ≡ part → put_in part (all_stored entries) ≡ all_stored (set entries i entry)
 put-same part [] i entry d inside before here is = absurd (omega arith)
@@ -25,6 +26,7 @@ put-same part (e ∷ es) zero entry d inside before here is =
 put-same part (e ∷ es) (suc i) entry d inside before here is =
     put-behind part (stored e) (all_stored es) _ (before 0 (omega arith)) (put-same part es i entry d (omega arith) (λ k below. before (suc k) (omega arith)) here is)
 
+-- a part goes before the first entry with a higher key, where no entry has its own
 put-new : (part : StoredPart) (entries : List Entry) (i : ℕ) (entry d : Entry) → i < length entries → ((k : ℕ) → k < i → nat_le part.key (get_or entries k d).key ≡ false)
     → part.key < (get_or entries i d).key → stored entry ≡ part → put_in part (all_stored entries) ≡ all_stored (insert entries i entry)
 put-new part [] i entry d inside before here is = absurd (omega arith)
@@ -35,6 +37,7 @@ put-new part (e ∷ es) zero entry d inside before here is =
 put-new part (e ∷ es) (suc i) entry d inside before here is =
     put-behind part (stored e) (all_stored es) _ (before 0 (omega arith)) (put-new part es i entry d (omega arith) (λ k below. before (suc k) (omega arith)) here is)
 
+-- a part goes behind all entries where no key reaches its own
 put-last : (part : StoredPart) (entries : List Entry) (entry : Entry) → length entries ≤ position_or_len (λ e. nat_le part.key e.key) entries → stored entry ≡ part → put_in part (all_stored entries) ≡ all_stored (entries ++ entry ∷ [])
 put-last part [] entry none is = ap (λ p. p ∷ []) (sym is)
 put-last part (e ∷ es) entry none is = by (nat_le part.key e.key) refl (λ few. put-last part es entry few is) none
@@ -43,9 +46,11 @@ put-last part (e ∷ es) entry none is = by (nat_le part.key e.key) refl (λ few
     by true t rest few = absurd (omega arith)
     by false t rest few = put-behind part (stored e) (all_stored es) _ t (rest (omega arith))
 
+-- what is there isn't missing
 some_isnt_none : {X : Type 0} (x : X) → Some x ≡ None → ⊥
 some_isnt_none x h = cc
 
+-- a place that isn't below the size is at the end or beyond it
 beyond : (place size : ℕ) (b : Bool) → nat_lt place size ≡ b → cond b (Some place) None ≡ None → size ≤ place
 beyond place size true e h = absurd (some_isnt_none place h)
 beyond place size false e h = grind (arith, nat_tests)
@@ -57,6 +62,7 @@ set-there part entries i entry old at there same is =
     let found = position-Some (λ e. nat_le part.key e.key) entries i old at in
     sym (put-same part entries i entry old found.0 found.2 (ap (λ e. e.key) (sym there) ∙ same) is)
 
+-- an entry that is inserted where the first higher key stands puts its part in
 pub insert-there : (part : StoredPart) (entries : List Entry) (i : ℕ) (entry old : Entry) → position (λ e. nat_le part.key e.key) entries ≡ Some i → old ≡ get_or entries i old → (old.key ≡ part.key → ⊥) → stored entry ≡ part
     → all_stored (insert entries i entry) ≡ put_in part (all_stored entries)
 insert-there part entries i entry old at there other is =
@@ -67,5 +73,6 @@ insert-there part entries i entry old at there other is =
     let above : part.key < (get_or entries i old).key = grind (arith, nat_tests) in
     sym (put-new part entries i entry old found.0 found.2 above is)
 
+-- an entry that is added behind lower keys puts its part in
 pub push-there : (part : StoredPart) (entries : List Entry) (entry : Entry) → position (λ e. nat_le part.key e.key) entries ≡ None → stored entry ≡ part → all_stored (entries ++ entry ∷ []) ≡ put_in part (all_stored entries)
 push-there part entries entry none is = sym (put-last part entries entry (beyond _ _ _ refl none) is)

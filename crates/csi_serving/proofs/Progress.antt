@@ -58,6 +58,7 @@ pub record Progress {C : Type 0} (answers : C → Frame → Option Frame → C �
   pub written : Appends out_before out_after (output_of replies)
   pub follows : Follows before after
 
+-- at first nothing was read, answered or written, and the store is as it was
 pub start : {C : Type 0} (answers : C → Frame → Option Frame → C → Type 0) (parts_of : C → List StoredPart) (core : C) (before : Store) (out : Option (List ℕ))
     → Progress answers parts_of core before before out out [] new_splitting (record { frames = 0; replies = 0 }) core
 start answers parts_of core before out = record {
@@ -90,6 +91,7 @@ same-written a b c earlier first second = subst (Appends a c) (append-nil (outpu
 pub taken_front : (frames done later : List Frame) (k : ℕ) → frames ≡ done ++ later → k ≡ length done → take k frames ≡ done
 taken_front frames done later k are is = ap (λ n. take n frames) is ∙ ap (take (length done)) are ∙ take-append_seam done later
 
+-- the bytes of frames and one frame more are theirs, and then that frame's
 spellings-push : (frames : List Frame) (frame : Frame) → flat_map spelling (frames ++ frame ∷ []) ≡ flat_map spelling frames ++ spelling frame
 spellings-push frames frame = flat_map-append spelling frames (frame ∷ []) ∙ ap (λ more. flat_map spelling frames ++ more) (append-nil (spelling frame))
 

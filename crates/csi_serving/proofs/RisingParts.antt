@@ -17,12 +17,14 @@ part_at key parts = find (λ (part : StoredPart). part.key == key) parts
 at-own : (key : ℕ) (part : StoredPart) (parts : List StoredPart) → (part.key == key) ≡ true → part_at key (part ∷ parts) ≡ Some part
 at-own key part parts same = rw same refl
 
+-- under another key than the first part's, what is found is among the rest
 at-other : (key : ℕ) (part : StoredPart) (parts : List StoredPart) → (part.key == key) ≡ false → part_at key (part ∷ parts) ≡ part_at key parts
 at-other key part parts differs = rw differs refl
 
 itself : (n : ℕ) → (n == n) ≡ true
 itself n = grind (arith, nat_tests)
 
+-- where all keys are above a key, nothing is found under it
 none-below : (key : ℕ) (parts : List StoredPart) → AreAbove key parts → part_at key parts ≡ None
 none-below key [] above = refl
 none-below key (part ∷ parts) above =
@@ -40,6 +42,7 @@ none-before key part parts less rising =
     more high [] less above = tt
     more high (p ∷ ps) less above = (omega (arith, above.0), more high ps less above.1)
 
+-- parts that are found alike are equal
 same-first : (x y : StoredPart) → Some x ≡ Some y → x ≡ y
 same-first x y e = cc
 
@@ -75,6 +78,7 @@ same-parts (x ∷ xs) (y ∷ ys) up up_too same = by (nat_lt x.key y.key) (nat_l
 
 -- ---- a part that is put in
 
+-- a part that was put in is found under its key
 at-put_own : (part : StoredPart) (parts : List StoredPart) → part_at part.key (put_in part parts) ≡ Some part
 at-put_own part [] = at-own part.key part [] (itself part.key)
 at-put_own part (other ∷ others) = by (nat_lt other.key part.key) (other.key == part.key) refl refl (at-put_own part others)
@@ -86,6 +90,7 @@ at-put_own part (other ∷ others) = by (nat_lt other.key part.key) (other.key =
     by false true t u rest = rw (t, u) (at-own part.key part others (itself part.key))
     by false false t u rest = rw (t, u) (at-own part.key part (other ∷ others) (itself part.key))
 
+-- a part that was put in leaves what is found under any other key
 at-put_other : (part : StoredPart) (parts : List StoredPart) (key : ℕ) → (part.key == key) ≡ false → part_at key (put_in part parts) ≡ part_at key parts
 at-put_other part [] key differs = at-other key part [] differs
 at-put_other part (other ∷ others) key differs = by (nat_lt other.key part.key) (other.key == part.key) refl refl (at-put_other part others key differs)

@@ -6,6 +6,7 @@ use Rattle.csi_records.specs.Part.{StoredPart}
 use Rattle.csi_serving.specs.Content.{size_of}
 use Rattle.csi_serving.specs.Memory.{stored, all_stored}
 
+-- a part more takes 8 bytes and those of its value
 size-more : (part : StoredPart) (parts : List StoredPart) → size_of (part ∷ parts) ≡ 8 + length part.value + size_of parts
 size-more part parts = sum_by-cons (λ (p : StoredPart). 8 + length p.value) part parts
 

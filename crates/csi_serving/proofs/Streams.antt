@@ -23,6 +23,7 @@ AreBytes-append [] ys first second i = second i
 AreBytes-append (x ∷ xs) ys first second zero = first 0
 AreBytes-append (x ∷ xs) ys first second (suc i) = AreBytes-append xs ys (λ k. first (suc k)) second i
 
+-- the spelling of a frame has a byte
 pub spelling-not-empty : (f : Frame) → 0 < length (spelling f)
 unfolding spelling frame_body
 spelling-not-empty f = omega (arith, length-append {A = ℕ})
@@ -63,17 +64,20 @@ frames_within (suc fuel) bytes are small =
           )
     ]
 
+-- bytes are frames and a rest with which none begins
 pub frames_of : (bytes : List ℕ) → AreBytes bytes → (frames : List Frame) × (rest : List ℕ) × FramesOf bytes frames rest
 frames_of bytes are = frames_within (length bytes) bytes are (omega arith)
 
 -- ---- a splitter that is asked until it gives no more
 
+-- the frames that come after those that were given, until none comes
 record Drained (stream : List ℕ) (given : List Frame) : Type 0 where
   later : List Frame
   last : Splitting
   splits : Splits stream (given ++ later) last
   none : HasNoFrame last
 
+-- where no frame begins what a splitter keeps, it has given all
 drained_of : (stream : List ℕ) (given : List Frame) (s : Splitting) → s.fault ≡ None → Splits stream given s → ((frame : Frame) (n : ℕ) → BeginsWith s.kept frame n → ⊥) → Drained stream given
 drained_of stream given s clear splits no_frame = record {
   later = [];
@@ -82,6 +86,7 @@ drained_of stream given s clear splits no_frame = record {
   none = λ frame is. no_frame frame (length (spelling frame)) (subst (λ (f : Option FrameFault). IsNext f s.kept (Ok (Some frame))) clear is);
 }
 
+-- a splitter that is asked as often as it keeps bytes gives all
 drained : (fuel : ℕ) (stream : List ℕ) (given : List Frame) (s : Splitting) → s.fault ≡ None → AreBytes s.kept → length s.kept ≤ fuel → Splits stream given s → Drained stream given
 drained zero stream given s clear are small splits = drained_of stream given s clear splits (none_in_nothing s.kept small)
 drained (suc fuel) stream given s clear are small splits =

@@ -11,6 +11,7 @@ use Rattle.csi_serving.specs.Services.{last_in}
 use Rattle.csi_serving.proofs.ControllerChanges.{same-parts, same-changes, parts-changed, frame-touches, IsTouched}
 use Rattle.csi_serving.proofs.controller_changes.answer.Goals as goal
 
+-- where what was read are the last numbers before and after, they tell of the touched row
 told-from : (touched : Option ℕ) (b a before after : Option (ℕ × Number)) → b ≡ before → a ≡ after → (touched ≡ None → (b ≡ a) ⊎ (a ≡ None))
     → IfSome touched (λ id. (number : Number) × (a ≡ Some (id, number))) → IfSome touched IsVolumeId → IsTouched touched before after
 told-from None b a before after is is_too none some fits =
@@ -24,6 +25,7 @@ told-from (Some own) b a before after is is_too none some fits =
       some = λ id e. let same : own ≡ id = same_Some own id e in (subst (λ (n : ℕ). 0 < n) same fits.from_one, (some.0, sym is_too ∙ some.1 ∙ ap (λ (n : ℕ). Some (n, some.0)) same));
     }
 
+-- next ids that the test finds equal are equal
 same-next : (x y new old : ℕ) → x ≡ new → y ≡ old → not (x == y) ≡ false → new ≡ old
 same-next x y new old is is_too same = let one : x ≡ y = grind (arith, nat_tests) in sym is ∙ one ∙ is_too
 

@@ -6,6 +6,7 @@ use Rattle.csi_controller.specs.declared.row.ControllerRow.{ControllerRow}
 use Rattle.csi_controller.specs.Core.{IsSound, IsSoundRow}
 use Rattle.csi_serving.proofs.controller_changes.push_row.Goals as goal
 
+-- a row of a sound controller has at most 64 holdings
 few-held : (next_id id : ℕ) (rows : List ControllerRow) (row : ControllerRow) → IsSound next_id rows → find (λ (r : ControllerRow). r.id == id) rows ≡ Some row → length row.holdings.items ≤ 64
 few-held next_id id rows row sound is = (each_of (IsSoundRow next_id) rows row sound.each (among-find (λ (r : ControllerRow). r.id == id) rows row is)).limit
 

@@ -5,6 +5,7 @@ use Rattle.csi_serving.specs.Stores.{store}
 use Rattle.csi_serving.proofs.Progress.{Progress}
 use Rattle.csi_serving.proofs.serving.serve.Given as goal
 
+-- what was read are frames that were answered, and what the splitter keeps; no count of faults has fallen
 abbrev pub invariant-frames : goal.invariant-frames
 invariant-frames g l =
     let now = store g.K.Keep.is_honest g.K.Keep.holds g.K.Keep.leaves g.K.Keep.fits g.K.Keep.fault_count in
@@ -17,5 +18,6 @@ invariant-frames g l =
       writer_faults : l.fn.writer.faults ≤ l.writer.faults;
     }
 
+-- twice what may still be read, and what is kept
 abbrev pub decreases-frames : goal.decreases-frames
 decreases-frames g l = 2 * (2 ^ 63 + 4096 - (l.splitter.taken + length l.splitter.kept)) + length l.splitter.kept

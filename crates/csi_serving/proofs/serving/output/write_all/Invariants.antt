@@ -2,6 +2,7 @@ use Rattle.std.proofs.Common.{◌≡◌, ◌≤◌, ◌++◌, List, ℕ, length}
 use Rattle.std.specs.Io.KnownBytes.{Appends}
 use Rattle.csi_serving.proofs.serving.output.write_all.Given as goal
 
+-- a front was written, and the rest is still to come
 abbrev pub invariant-loop-rest : goal.invariant-loop-rest
 invariant-loop-rest g l = record {
   front : List ℕ;
@@ -10,5 +11,6 @@ invariant-loop-rest g l = record {
   faults : l.fn.writer.faults ≤ l.writer.faults;
 }
 
+-- what is still to come
 abbrev pub decreases-loop-rest : goal.decreases-loop-rest
 decreases-loop-rest g l = length l.rest
