@@ -5,5 +5,6 @@ use Rattle.csi_node.specs.OneRow.{shown, alone}
 use Rattle.csi_node.specs.Views.{published_shown}
 use Rattle.csi_node.proofs.views.published_in.Given as goal
 
+-- what the rows so far have published was listed
 abbrev pub invariant-loop-row : goal.invariant-loop-row
 invariant-loop-row l = map published_shown l.list.items ≡ flat_map (λ (row : NodeRow). (alone (shown row)).published) (take l.row-index l.rows)

@@ -5,5 +5,6 @@ use Rattle.csi_node.specs.OneRow.{shown, alone}
 use Rattle.csi_node.specs.Views.{staged_shown}
 use Rattle.csi_node.proofs.views.staged_in.Given as goal
 
+-- what the rows so far have staged was listed
 abbrev pub invariant-loop-row : goal.invariant-loop-row
 invariant-loop-row l = map staged_shown l.list.items ≡ flat_map (λ (row : NodeRow). (alone (shown row)).staged) (take l.row-index l.rows)

@@ -5,6 +5,7 @@ use Rattle.csi_records.specs.Spelling.{answered_part, part_bytes}
 use Rattle.csi_records.specs.Records.{IsAnsweredRow}
 use Rattle.csi_records.proofs.node_record.put_rows.Given as goal
 
+-- the parts of the rows so far were written, and the rows are within their limits
 abbrev pub invariant-loop-row : goal.invariant-loop-row
 invariant-loop-row l =
     record {

@@ -4,6 +4,7 @@ use Rattle.csi_records.specs.Spelling.{holding_bytes}
 use Rattle.csi_records.specs.Records.{IsHolding}
 use Rattle.csi_records.proofs.row_values.put_each_holding.Given as goal
 
+-- the holdings so far were written, and are within their limits
 abbrev pub invariant-loop-one : goal.invariant-loop-one
 invariant-loop-one l =
     record {

@@ -4,6 +4,7 @@ use Rattle.csi_records.specs.Spelling.{target_bytes}
 use Rattle.csi_records.specs.Records.{IsTargetRow}
 use Rattle.csi_records.proofs.row_values.put_each_target.Given as goal
 
+-- the targets so far were written, and are within their limits
 abbrev pub invariant-loop-one : goal.invariant-loop-one
 invariant-loop-one l =
     record {

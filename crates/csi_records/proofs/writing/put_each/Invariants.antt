@@ -4,6 +4,7 @@ use Rattle.csi_types.specs.Limits.{IsCapability}
 use Rattle.csi_frames.specs.Spelling.{capability}
 use Rattle.csi_records.proofs.writing.put_each.Given as goal
 
+-- the capabilities so far were written, and are within their limits
 abbrev pub invariant-loop-one : goal.invariant-loop-one
 invariant-loop-one l =
     record {
