@@ -32,6 +32,7 @@ use Rattle.csi_tables.proofs.Stored.{has_key, has_key-row, AreIdsOf}
 
 -- ---- members
 
+-- what is in a list is in every order of it
 pub has_permuted : {X : Type 0} (x : X) (xs ys : List X) → IsPermutation xs ys → Has xs x → Has ys x
 has_permuted {X} x = along_permutation (λ (xs ys : List X). Has xs x → Has ys x)
     (λ xs h. h)
@@ -39,6 +40,7 @@ has_permuted {X} x = along_permutation (λ (xs ys : List X). Has xs x → Has ys
     (λ y z xs h. elim h [ inl e ↦ inr (inl e) | inr k ↦ elim k [ inl e ↦ inl e | inr l ↦ inr (inr l) ] ])
     (λ xs ys zs f g h. g (f h))
 
+-- what is among the values that a function makes is made of one that was there
 pub unmapped : {X Y : Type 0} (f : X → Y) (xs : List X) (y : Y) → Has (map f xs) y → (x : X) × Has xs x × (y ≡ f x)
 unmapped f [] y h = absurd h
 unmapped f (x ∷ xs) y (inl e) = (x, inl refl, e)
@@ -46,6 +48,7 @@ unmapped f (x ∷ xs) y (inr h) = let later = unmapped f xs y h in (later.0, inr
 
 -- ---- the rows that are joined to the parameters
 
+-- joined to the parameters, the rows that pass a test stand one by one behind them
 one_match : (params : Row) (test : Term) (rows : List Row)
     → flat_map (λ r. cond (holds (params ∷ r ∷ []) test && true) ((params ∷ r ∷ []) ∷ []) []) rows ≡ map (λ r. params ∷ r ∷ []) (filter (λ r. holds (params ∷ r ∷ []) test) rows)
 one_match params test [] = refl
@@ -58,12 +61,14 @@ one_match params test (x ∷ rows) = by (holds (params ∷ x ∷ []) test) (one_
     by true more = ap (λ l. (params ∷ x ∷ []) ∷ l) more
     by false more = more
 
+-- joined to the parameters, all rows stand one by one behind them
 pub all_match : (params : Row) (rows : List Row) → flat_map (λ r. (params ∷ r ∷ []) ∷ []) rows ≡ map (λ r. params ∷ r ∷ []) rows
 all_match params [] = refl
 all_match params (x ∷ rows) = ap (λ l. (params ∷ x ∷ []) ∷ l) (all_match params rows)
 
 -- ---- the rows of a key
 
+-- the query finds, in some order, the rowids of the key's rows
 removed_rows : (db : Trees) (key : List ℕ) (found : List Row) → IsAnswer remove_query (overlay db []) (Blob key ∷ []) found
     → IsPermutation (map (λ r. rowid r ∷ []) (filter (λ r. has_key key (drop 1 r)) (db 0))) found
 removed_rows db key found a =
@@ -77,6 +82,7 @@ removed_rows db key found a =
     subst (IsPermutation (map (λ r. rowid r ∷ []) (filter (λ r. has_key key (drop 1 r)) (db 0)))) (sym a.shown)
     (subst (λ l. IsPermutation l (map (λ (o : Output). o.1) a.ordered)) shown (IsPermutation-map (λ (o : Output). o.1) _ _ a.same))
 
+-- the rowids that the query finds are those of the key's rows
 pub removed_ids : (db : Trees) (key : List ℕ) (found : List Row) → IsAnswer remove_query (overlay db []) (Blob key ∷ []) found → AreIdsOf (db 0) (λ r. has_key key (drop 1 r)) (ids_of found)
 removed_ids db key found a =
     let passes = λ (r : Row). has_key key (drop 1 r) in
@@ -93,12 +99,15 @@ removed_ids db key found a =
 
 -- ---- the row of a rowid
 
+-- the row with its rowid twice, its key, and the new value
 abbrev pub updated : Row → Row → Row
 updated params r = rowid r ∷ rowid r ∷ column r 1 ∷ column params 5 ∷ []
 
+-- the row has the rowid that stands among the parameters
 abbrev pub is_numbered : Row → Row → Bool
 is_numbered params r = is_true (binary (Compare Eq Binary) (column r 0) (column params 2))
 
+-- the query finds, in some order, the rows of the rowid with the new value
 pub updated_rows : (db : Trees) (params : Row) (found : List Row) → IsAnswer update_query (overlay db []) params found
     → IsPermutation (map (updated params) (filter (is_numbered params) (db 0))) found
 updated_rows db params found a =
@@ -113,17 +122,21 @@ updated_rows db params found a =
 
 -- ---- a text that only reads
 
+-- a text that was compiled has no RETURNING
 abbrev pub ShowsNone : Result Compiled CompileError → Type 0
 ShowsNone (Ok c) = c.returning ≡ None
 ShowsNone (Err e) = Unit {0}
 
+-- a statement that was parsed has no RETURNING, whichever the schema
 abbrev NeverReturns : Result Parsed CompileError → Type 0
 NeverReturns r = IfOk r (λ p. (schema : Schema) (base : ℕ) → returning schema base p.statement ≡ Ok None)
 
+-- the statement that reads has no RETURNING, whichever the schema
 read_never : NeverReturns (first read_text)
 unfolding everything
 read_never = λ schema base. refl
 
+-- a statement that never has RETURNING has none once it is compiled
 compiled_none : (text : List ℕ) → NeverReturns (first text) → (schema : Schema) → ShowsNone (compiled schema text)
 unfolding compiled planned meaning
 compiled_none text never schema =
@@ -135,10 +148,12 @@ compiled_none text never schema =
       | Err e ↦ λ _. tt
     ] never
 
+-- a text without RETURNING has none where a SELECT alone is let through
 select_none : (r : Result Compiled CompileError) → ShowsNone r → ShowsNone (if_select r)
 select_none (Ok c) none = elim (is_select c.command) as (λ b. ShowsNone (cond b (Ok c) (Err NoSuchTable))) [ true ↦ none | false ↦ tt ]
 select_none (Err e) none = tt
 
+-- the text that reads has no RETURNING as it is understood, whichever the schema
 read_none : (schema : Schema) → ShowsNone (understood schema read_text)
 unfolding understood
 read_none schema =

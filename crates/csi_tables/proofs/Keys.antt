@@ -23,6 +23,7 @@ use Rattle.csi_tables.proofs.Stored.{AreInts, id_of, keyed}
 abbrev pub IsPair : Row → Type 0
 IsPair columns = columns ≡ column columns 0 ∷ column columns 1 ∷ []
 
+-- the first column stands behind the rowid
 pub first_column : (r : Row) → column (drop 1 r) 0 ≡ column r 1
 first_column [] = refl
 first_column (x ∷ r) = refl
@@ -32,10 +33,12 @@ equal_is : (a b : Value) → is_null a ≡ false → is_null b ≡ false → equ
 unfolding binary
 equal_is a b p q = rw (p, q) (elim (is_eq (value_cmp a b)) as (λ t. is_true (from_truth (Some t)) ≡ t) [ true ↦ refl | false ↦ refl ])
 
+-- integers that don't compare equal differ by SQL's <>
 differ_from : (m n : ℤ) → is_ne (value_cmp (Int m) (Int n)) ≡ true → differ (Int m) (Int n) ≡ true
 unfolding binary
 differ_from m n other = rw other refl
 
+-- a row that keeps the columns' types, and that none is NULL, has two columns
 pair_from : (r : Row) → are_typed None 0 parts_table.columns (drop 1 r) ≡ true → are_present None 0 parts_table.columns r ≡ true → IsPair (drop 1 r)
 unfolding parts_table
 pair_from [] typed present = absurd (true≢false (sym present))

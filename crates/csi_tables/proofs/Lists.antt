@@ -15,6 +15,7 @@ filter_on p q [] same = refl
 filter_on {X} p q (x ∷ xs) same =
     ap₂ (λ (b : Bool) (l : List X). cond b (x ∷ l) l) (same x (inl refl)) (filter_on p q xs (λ y h. same y (inr h)))
 
+-- what passes one test and then another are those that pass both
 pub filter_again : {X : Type 0} (p q : X → Bool) (xs : List X) → filter p (filter q xs) ≡ filter (λ x. q x && p x) xs
 filter_again p q [] = refl
 filter_again {X} p q (x ∷ xs) =
@@ -23,10 +24,12 @@ filter_again {X} p q (x ∷ xs) =
       | false ↦ filter_again p q xs
     ]
 
+-- one of the values that a function makes passes where the test passes what one is made of
 pub any-map : {X Y : Type 0} (p : Y → Bool) (f : X → Y) (xs : List X) → list_any p (map f xs) ≡ list_any (λ x. p (f x)) xs
 any-map p f [] = refl
 any-map p f (x ∷ xs) = ap (λ b. p (f x) || b) (any-map p f xs)
 
+-- that neither of two is so is that not one of them is
 pub not_or : (a b : Bool) → (not a && not b) ≡ not (a || b)
 not_or true b = refl
 not_or false b = refl

@@ -25,12 +25,15 @@ pub went : {B E R : Type 0} {b : B} {Stops : E → Type 0} → ((stop : E) × St
 went (inl stopped) = absurd (let e = stopped.2 in cc)
 went (inr on) = on
 
+-- equal answers have equal values
 pub same_value : {B E : Type 0} {a b : B} → ◌≡◌ {A = Result B E} (Ok a) (Ok b) → a ≡ b
 same_value e = cc
 
+-- a table without a row has no rows
 pub no_rows : AreRows [] []
 no_rows = record { ordered = tt; numbered = tt; same = IsPermutation-refl [] }
 
+-- an open database with this schema and these stored rows has the rows
 pub now_has : (new : State) (rows : List KeyedRow) (stored : List Row) → IsTrue new.is_open → IsDatabase new.now → new.now.schema ≡ parts_schema → new.now.trees 0 ≡ stored → AreRows stored (map cells rows) → HasRows new rows
 now_has new rows stored is_open sound declared is are = record {
   is_open = is_open;
@@ -40,6 +43,7 @@ now_has new rows stored is_open sound declared is are = record {
 
 -- ---- a statement that changes nothing
 
+-- a statement that changes nothing leaves the rows
 pub still_has : (old new : State) (rows : List KeyedRow) → IsUnchanged old new → HasRows old rows → HasRows new rows
 still_has old new rows same h = record {
   is_open = same.0.is_open;
@@ -47,15 +51,18 @@ still_has old new rows same h = record {
   stores = subst (λ (d : Database). StoresRows d.trees rows) (sym same.0.now_is) h.stores;
 }
 
+-- a statement that changes nothing leaves a database at rest
 pub still_rests : (old new : State) → IsUnchanged old new → IsAtRest old → IsAtRest new
 still_rests old new same rest = record { autocommit = same.0.mode ∙ rest.autocommit; committed = same.0.now_is ∙ rest.committed ∙ sym same.0.committed_is }
 
 -- ---- the table is made, or was there
 
+-- the declared schema lacks no table for counted rowids
 lacks_none : lacks_sequence parts_schema ≡ false
 unfolding parts_schema parts_table
 lacks_none = refl
 
+-- where nothing was there, the command makes the declared table, without a row
 made_by : (old : State) (tally : Tally) (after : Database) → old.now.schema ≡ no_schema → Does old.step_limit (mode_of old) [] old.now make_text None CreateTable (Ok (tally, after)) → (after.schema ≡ parts_schema) × (after.trees 0 ≡ [])
 made_by old tally after has h =
     let all = went h in
@@ -68,6 +75,7 @@ made_by old tally after has h =
     let now : after ≡ first.0 = ap (λ (p : Tally × Database). p.1) (same_value all.2) ∙ same_value (rw plain at first.2) in
     (ap (λ (d : Database). d.schema) now ∙ schema, ap (λ (d : Database). d.trees 0) now ∙ subst (λ s. first.0.trees (next_tree s) ≡ []) has made.empty)
 
+-- the statement that makes the table leaves it without a row where the database was blank
 pub makes : (old new : State) (r : Result ℕ Error) → IsDatabase old.now → IsBlank old → IsAtRest old → Executes make_text [] old new r → OnOk r (HasRows new [] × IsAtRest new)
 makes old new (Err e) live blank rest h = tt
 makes old new (Ok count) live blank rest h =
@@ -78,6 +86,7 @@ makes old new (Ok count) live blank rest h =
       record { autocommit = w.shown.mode ∙ rest.autocommit; committed = sym (w.shown.committed_is ∙ ap (λ b. cond b old.committed new.now) rest.autocommit) },
     )
 
+-- the statement that makes the table leaves its rows where it was there
 pub finds : (old new : State) (r : Result ℕ Error) (rows : List KeyedRow) → IsDatabase old.now → IsTrue old.is_open → StoresRows old.now.trees rows → IsAtRest old → Executes make_text [] old new r → OnOk r (HasRows new rows × IsAtRest new)
 finds old new (Err e) rows live is_open stores rest h = tt
 finds old new (Ok count) rows live is_open stores rest h =
@@ -99,6 +108,7 @@ may_be old schema db k text has is whole plain h =
     let third = subst (λ t. MayCommit old None k t (timed [] h.0.formats h.1.now) db) (ap (statement_of make_text) known ∙ whole) second in
     subst (λ p. MayCommit old None k text p db) (ap (λ f. timed [] f h.1.now) bare.1) third
 
+-- all that the statement may commit in a blank database is the table without a row
 pub may_make : (old : State) (db : Trees) → IsDatabase old.now → IsBlank old → CommitsBy make_text [] old db → StoresRows db []
 may_make old db live blank h =
     let has = nothing_listed old.now.schema old.now.trees blank.empty live in
@@ -111,6 +121,7 @@ may_make old db live blank h =
           )
     ]
 
+-- where the table is there, the statement that makes it commits nothing
 pub may_find : (old : State) (rows : List KeyedRow) (db : Trees) → IsDatabase old.now → StoresRows old.now.trees rows → ¬ CommitsBy make_text [] old db
 may_find old rows db live stores h =
     let declared = parts_listed old.now.schema old.now.trees stores.listed live in

@@ -44,10 +44,12 @@ use Rattle.csi_tables.proofs.Keys.{first_column, one_key}
 use Rattle.csi_tables.proofs.Answers.{unmapped, has_permuted, updated, is_numbered, updated_rows}
 use Rattle.csi_tables.proofs.Made.{went, same_value, now_has}
 
+-- a choice between a value and itself is that value
 either : (b : Bool) (x : Value) → cond b x x ≡ x
 either true x = refl
 either false x = refl
 
+-- NULL, and below an integer, is itself as an integer
 cast_null : cast Integer Null ≡ Null
 unfolding unary
 cast_null = either _ Null
@@ -56,16 +58,19 @@ cast_int : (n : ℤ) → cast Integer (Int n) ≡ Int n
 unfolding unary
 cast_int n = either _ (Int n)
 
+-- SQL's = of two integers says whether they compare equal
 eq_ints : (a b : ℤ) → equal Binary (Int a) (Int b) ≡ is_eq (value_cmp (Int a) (Int b))
 unfolding binary
 eq_ints a b = elim (is_eq (value_cmp (Int a) (Int b))) as (λ t. is_true (from_truth (Some t)) ≡ t) [ true ↦ refl | false ↦ refl ]
 
 -- ---- the rows that are in the way
 
+-- a flag "and true, or false" is the flag
 alone : (b : Bool) → ((b && true) || false) ≡ b
 alone true = refl
 alone false = refl
 
+-- a row is in the way of a new one where it has its key
 conflict_is : (key value : List ℕ) (id : ℤ) (r : Row) → conflicts (Some (1 ∷ [])) parts_schema.indexes parts_table (Int id ∷ Blob key ∷ Blob value ∷ []) r ≡ has_key key (drop 1 r)
 unfolding parts_schema parts_table first_key
 conflict_is key value id r = alone (equal Binary (column r 1) (Blob key)) ∙ has_key-row key r
@@ -179,12 +184,14 @@ module _ (limit : Option ℕ) (params : Row) where
         fresh = subst (λ l. is_taken l (Int id ∷ Blob key ∷ Blob value ∷ []) ≡ false) left made.1;
       }
 
+-- a row that is in the way is updated
 resolved : (limit : Option ℕ) (key value : List ℕ) (id : ℤ) (db : Trees) (x : Row) (found : List Row) (out : Written) (otherwise : Part Written)
     → Meets (task limit (Blob key ∷ Blob value ∷ [])) otherwise (Int id ∷ Blob key ∷ Blob value ∷ []) db put_clause (x ∷ found) (Ok out)
     → Updates (task limit (Blob key ∷ Blob value ∷ [])) (record { lets = []; body = update_query }) (Blob key ∷ Blob value ∷ rowid x ∷ Int id ∷ Blob key ∷ Blob value ∷ []) db (Ok out)
 unfolding parts_table
 resolved limit key value id db x found out otherwise h = h
 
+-- a row that is inserted or updates another is put in among the rows of other keys
 upserted : (limit : Option ℕ) (key value : List ℕ) (db : Trees) (rows : List KeyedRow) (out : Written) → StoresRows db rows
     → Upserts (task limit (Blob key ∷ Blob value ∷ [])) Abort (Int (next_rowid (db 0)) ∷ Blob key ∷ Blob value ∷ []) db (put_clause ∷ []) (Ok out) → IsPut key value (db 0) (out.trees 0)
 unfolding parts_table
@@ -209,6 +216,7 @@ upserted limit key value db rows out stores h = by h.0 h.1 h.2
         (subst (λ v. Updates (task limit params) (record { lets = []; body = update_query }) (Blob key ∷ Blob value ∷ v ∷ Int (next_rowid (db 0)) ∷ Blob key ∷ Blob value ∷ []) db (Ok out)) (ap rowid from.3)
         (resolved limit key value (next_rowid (db 0)) db x found out (Upserts (task limit params) Abort row db []) more))
 
+-- the statement that puts a row in leaves it, and the rows of other keys
 pub puts : (old new : State) (key value : List ℕ) (rows : List KeyedRow) (count : ℕ) → HasRows old rows → Executes put_text (Blob key ∷ Blob value ∷ []) old new (Ok count)
     → HasRows new (record { key = key; value = value } ∷ without key rows)
 unfolding parts_schema parts_table

@@ -35,15 +35,18 @@ use Rattle.csi_tables.proofs.Sorted.{pairwise-permutation, untied_back, rising_f
 abbrev out : Row → Output
 out columns = (column columns 0 ∷ [], column columns 0 ∷ column columns 1 ∷ [])
 
+-- what the query has of a row are its columns behind the rowid
 out_is : (r : Row) → output read_query ([] ∷ r ∷ []) ≡ out (drop 1 r)
 out_is [] = refl
 out_is (x ∷ r) = refl
 
+-- what the query keeps are the columns of all rows
 kept_is : (db : Trees) (found : List Row) (a : IsAnswer read_query (overlay db []) [] found) → a.kept ≡ map out (map (drop 1) (db 0))
 kept_is db found a =
     let staged = a.grouped ∙ all_match [] (db 0) in
     a.distinct ∙ ap (map (output read_query)) staged ∙ map-map (output read_query) (λ r. [] ∷ r ∷ []) (db 0) ∙ map_same _ (λ r. out (drop 1 r)) out_is (db 0) ∙ sym (map-map out (drop 1) (db 0))
 
+-- what the query answers are the rows by rising key
 answers : (db : Trees) (rows : List KeyedRow) (found : List Row) → AreRows (db 0) (map cells rows) → AreRising rows → IsAnswer read_query (overlay db []) [] found → found ≡ map cells rows
 answers db rows found are rising a =
     let same = IsPermutation-trans _ _ _ (IsPermutation-map out _ _ (IsPermutation-sym _ _ are.same)) (subst (λ l. IsPermutation l a.ordered) (kept_is db found a) a.same) in
@@ -54,10 +57,12 @@ answers db rows found are rising a =
 
 -- ---- rows of any values
 
+-- a function that leaves each value of a list as it is leaves the list
 unchanged : {X : Type 0} (f : X → X) (xs : List X) → AllByRecursion (λ x. f x ≡ x) xs → map f xs ≡ xs
 unchanged f [] h = refl
 unchanged f (x ∷ xs) h = ap₂ ◌∷◌ h.0 (unchanged f xs h.1)
 
+-- what the query answers of rows of any values are these rows by their first column
 any_answers : (db : Trees) (columns found : List Row) → IsSound parts_schema db → AreRows (db 0) columns → IsAnswer read_query (overlay db []) [] found → AreByKey columns found
 any_answers db columns found sound are a =
     let cmp = output_cmp read_query in
@@ -82,11 +87,13 @@ any_answers db columns found sound are a =
       rising = ascending_weaker _ _ (λ x y less. sym (then-Equal _) ∙ less) found (ascending_from_map _ out found (subst (IsAscending (λ x y. cmp x y ≡ Less)) (sym again) rising));
     }
 
+-- the statement shows rows of any values by their first column
 pub reads_any : (old new : State) (columns : List Row) (found : List Row) → HasColumns old columns → Shown read_text [] old new found → AreByKey columns found
 reads_any old new columns found h shown =
     let got = reads_as read_text [] old new parts_schema h.declared (Select (record { lets = []; body = read_query }) (codes "key" ∷ codes "value" ∷ [])) read_is.0 read_plain read_is.1 found shown in
     any_answers old.now.trees columns found h.stores.listed h.stores.stored (got.answer Null)
 
+-- the statement shows the rows by rising key
 pub reads : (old new : State) (rows : List KeyedRow) (found : List Row) → HasRows old rows → AreRising rows → Shown read_text [] old new found → found ≡ map cells rows
 reads old new rows found h rising shown =
     let got = reads_as read_text [] old new parts_schema h.declared (Select (record { lets = []; body = read_query }) (codes "key" ∷ codes "value" ∷ [])) read_is.0 read_plain read_is.1 found shown in
@@ -100,6 +107,7 @@ leaves old new columns found h shown =
     let none = (subst IsPlain (sym known) read_plain).0 in
     (subst (ShowsRows old new read_text shown.0 _ found) none shown.2).3
 
+-- an error of the store isn't one of a text that SQLite doesn't understand
 never_input : (cause : StoreError) (error : Error) → error ≡ store_error cause → ¬ IsInputError error
 never_input OutOfMemory error is bad = let b = bad.1 in absurd (cc)
 never_input Io error is bad = let b = bad.1 in absurd (cc)
@@ -108,6 +116,7 @@ never_input Full error is bad = let b = bad.1 in absurd (cc)
 never_input Broken error is bad = let b = bad.1 in absurd (cc)
 never_input Unstorable error is bad = let b = bad.1 in absurd (cc)
 
+-- why a query is refused to be read isn't that SQLite doesn't understand the text
 never_read : (limit : Option ℕ) (db : Database) (q : Program) (params : Row) (error : Error) → RefusesQuery limit db q params error → ¬ IsInputError error
 never_read limit db q params error (inl typed) bad = let e = typed.0 in let b = bad.1 in absurd (cc)
 never_read limit db q params error (inr (inl over)) bad = let e = over.0 in let b = bad.1 in absurd (cc)

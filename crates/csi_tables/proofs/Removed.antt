@@ -19,6 +19,7 @@ use Rattle.csi_tables.proofs.Stored.{has_key, taken_out, are_kept}
 use Rattle.csi_tables.proofs.Answers.{removed_ids}
 use Rattle.csi_tables.proofs.Made.{went, same_value, now_has}
 
+-- the statement that takes a row out leaves the rows of other keys
 pub removes : (old new : State) (key : List ℕ) (rows : List KeyedRow) (count : ℕ) → HasRows old rows → Executes remove_text (Blob key ∷ []) old new (Ok count) → HasRows new (without key rows)
 unfolding parts_schema parts_table
 removes old new key rows count h ran =

@@ -27,6 +27,7 @@ beside_one R S (x ∷ []) y (z ∷ []) h k = (x, h.0, z, k.0, refl)
 beside_one R S (x ∷ []) y (z ∷ w ∷ zs) h k = absurd k.1
 beside_one R S (x ∷ w ∷ xs) y zs h k = absurd h.1
 
+-- a rowid names one tree
 same_tree : (v : Value) (m n : ℕ) → v ≡ Int (pos (m + 1)) → v ≡ Int (pos (n + 1)) → m ≡ n
 same_tree v m n e f = let same : m + 1 ≡ n + 1 = cc in omega arith
 
@@ -40,6 +41,7 @@ one_table row a b p q =
     let tree = same_tree (rowid row) a.tree b.tree p.described.id q.described.id in
     q.defined.2 ∙ ap₂ (λ (t : Table) (n : ℕ). record t { tree = n }) (sym made) (sym tree) ∙ sym p.defined.2
 
+-- what defines an index of the table, in one tree, defines one index
 same_index : (v : Value) (a b : Index) → IsDefined parts_table a v → IsDefined parts_table b v → a.tree ≡ b.tree → b ≡ a
 unfolding parts_table
 same_index Null a b p q tree = only p.0 q.0 p.1 q.1 p.2 q.2 p.3 q.3
@@ -64,6 +66,7 @@ one_index row a b p q =
     same_index (column row 4) a b (subst (λ t. IsDefined t a (column row 4)) first p.defined) (subst (λ t. IsDefined t b (column row 4)) second q.defined)
     (same_tree (rowid row) a.tree b.tree p.described.id q.described.id)
 
+-- where nothing is listed, the schema is empty
 pub nothing_listed : (schema : Schema) (db : Trees) → IsSound no_schema db → IsSound schema db → schema ≡ no_schema
 nothing_listed schema db none it =
     let objects = db catalog_tree in
@@ -72,6 +75,7 @@ nothing_listed schema db none it =
     let views = beside_none IsViewRow IsViewRow (filter is_view_row objects) schema.views none.lists.listed.views it.lists.listed.views in
     λ i. record { tables = tables i; indexes = indexes i; views = views i }
 
+-- where the declared table and its index are listed, the schema is the declared one
 pub parts_listed : (schema : Schema) (db : Trees) → IsSound parts_schema db → IsSound schema db → schema ≡ parts_schema
 unfolding parts_schema
 parts_listed schema db parts it =

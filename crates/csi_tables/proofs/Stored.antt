@@ -28,20 +28,24 @@ use Rattle.sqlite_keyed.proofs.ListLemmas.{all_of, filter_all, filter_same, filt
 use Rattle.csi_tables.specs.Rows.{KeyedRow, cells, AreRows, without}
 use Rattle.csi_tables.proofs.Lists.{filter_on, filter_again, not_or}
 
+-- each row's rowid is an integer
 abbrev pub AreInts : List Row → Type 0
 AreInts = AllByRecursion (λ r. IsTrue (is_int (rowid r)))
 
+-- a row's rowid as an integer
 abbrev pub id_of : Row → ℤ
 id_of r = id_in (rowid r)
 
 -- ---- rows without some rowids
 
+-- rows without some rowids are those that have none of them
 left_is : (ids : List ℤ) (rows : List Row) → without_all rows ids ≡ filter (λ r. not (list_any (λ id. has_rowid id r) ids)) rows
 left_is [] rows = sym (filter_all (λ r. true) rows (all_of (λ r. true ≡ true) (λ r. refl) rows))
 left_is (id ∷ ids) rows =
     left_is ids (without_rowid id rows) ∙ filter_again (λ r. not (list_any (λ i. has_rowid i r) ids)) (λ r. not (has_rowid id r)) rows
     ∙ filter_same _ _ (λ r. not_or (has_rowid id r) (list_any (λ i. has_rowid i r) ids)) rows
 
+-- an order that the test finds equal is Equal
 equal_is : (o : Ordering) → is_eq o ≡ true → o ≡ Equal
 equal_is Less h = absurd (cc)
 equal_is Equal h = refl
@@ -80,6 +84,7 @@ module _ (rows : List Row) (table : IsTable rows) (ints : AreInts rows) where
 
 -- ---- a row more
 
+-- a row that is put in under a free rowid goes before the others, but for the order
 pub put_moves : (new : Row) (rows : List Row) → is_taken rows new ≡ false → IsPermutation (put_row new rows) (new ∷ rows)
 put_moves new [] free = IsPermutation-refl _
 put_moves new (r ∷ rows) free = go (value_cmp (rowid r) (rowid new)) (or_parts _ _ free).0 (put_moves new rows (or_parts _ _ free).1)
@@ -96,9 +101,11 @@ put_moves new (r ∷ rows) free = go (value_cmp (rowid r) (rowid new)) (or_parts
 abbrev pub has_key : List ℕ → Row → Bool
 has_key key columns = is_true (binary (Compare Eq Binary) (column columns 0) (Blob key))
 
+-- comparing bytes finds them equal where the test of equality does
 same_test : (a b : List ℕ) → is_eq (bytes_cmp a b) ≡ bytes_eq a b
 same_test a b = same_from_decides (is_eq (bytes_cmp a b)) (bytes_eq a b) (same_bytes a b, λ e. subst (λ c. is_eq (bytes_cmp a c) ≡ true) e (bytes_eq_refl a)) (bytes_eq-Decides a b)
 
+-- a row of two BLOBs has the key where its first BLOB is the key
 pub has_key-cells : (key : List ℕ) (row : KeyedRow) → has_key key (cells row) ≡ bytes_eq row.key key
 has_key-cells key row = at_blobs false Eq row.key key ∙ same_test row.key key
 

@@ -79,18 +79,22 @@ update_query = record {
 abbrev pub put_clause : Upsert
 put_clause = record { target = Some (1 ∷ []); update = Some (record { lets = []; body = update_query }) }
 
+-- in an empty schema the text makes a table, which is the declared one
 pub make_is : (command_of (understood no_schema make_text) ≡ CreateTable) × (statement_of make_text (understood no_schema make_text) ≡ make_text) × (table_defined_by make_text ≡ Ok parts_table)
 unfolding understood everything parts_table
 make_is = (refl, refl, refl)
 
+-- each text is plain: it has no RETURNING and asks for no time; so it is below of the others
 pub make_plain : IsPlain (understood no_schema make_text)
 unfolding understood everything
 make_plain = (refl, refl)
 
+-- the declared table makes an empty schema the declared one
 pub created_is : created no_schema parts_table ≡ parts_schema
 unfolding everything parts_table parts_schema
 created_is = refl
 
+-- where the table is there, the text that makes it means nothing
 pub found_is : command_of (understood parts_schema make_text) ≡ Nothing
 unfolding understood everything parts_table parts_schema
 found_is = refl
@@ -99,6 +103,7 @@ pub found_plain : IsPlain (understood parts_schema make_text)
 unfolding understood everything parts_table parts_schema
 found_plain = (refl, refl)
 
+-- the text that reads is this query, with the names of the two columns, and isn't one of the schema's listing
 pub read_is : (command_of (understood parts_schema read_text) ≡ Select (record { lets = []; body = read_query }) (codes "key" ∷ codes "value" ∷ [])) × (reads_listing parts_schema read_text ≡ false)
 unfolding understood everything parts_table parts_schema
 read_is = (refl, refl)
@@ -107,6 +112,7 @@ pub read_plain : IsPlain (understood parts_schema read_text)
 unfolding understood everything parts_table parts_schema
 read_plain = (refl, refl)
 
+-- the text that puts a row in is this insert, which updates a row of the same key
 pub put_is : command_of (understood parts_schema put_text) ≡ InsertOr 0 Abort (Values put_terms 3) (put_clause ∷ [])
 unfolding understood everything parts_table parts_schema
 put_is = refl
@@ -115,6 +121,7 @@ pub put_plain : IsPlain (understood parts_schema put_text)
 unfolding understood everything parts_table parts_schema
 put_plain = (refl, refl)
 
+-- the text that takes a row out deletes what the query finds
 pub remove_is : command_of (understood parts_schema remove_text) ≡ Delete 0 (record { lets = []; body = remove_query })
 unfolding understood everything parts_table parts_schema
 remove_is = refl

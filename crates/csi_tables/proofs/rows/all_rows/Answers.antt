@@ -5,6 +5,7 @@ use Rattle.csi_tables.proofs.Answers.{reading_commits_nothing}
 use Rattle.csi_tables.proofs.Read.{reads, reads_any, leaves, understands}
 use Rattle.csi_tables.proofs.rows.all_rows.Goals as goal
 
+-- what follows from a fact of an OK's value is so of the OK, and below of an error's
 so : {A E : Type 0} (P Q : A → Type 0) (r : Result A E) → ((a : A) → P a → Q a) → IfOk r P → IfOk r Q
 so P Q (Ok a) f h = f a h
 so P Q (Err e) f h = tt
