@@ -25,10 +25,12 @@ mod-split n {m} {c} hm hc =
     ∙ add_assoc (n / c / m * (m * c)) (n / c % m * c) (n % c) in
     ap (λ (x : ℕ). x % (m * c)) split ∙ mul-add-mod_self_right (n / c / m) (m * c) (n / c % m * c + n % c) ∙ mod-eq_of_lt (omega arith)
 
+-- a byte of a number is its digit to the base 256
 byte_at-pow : (k x : ℕ) → byte_at k x ≡ x / 256 ^ k % 256
 byte_at-pow zero x = ap (λ (y : ℕ). y % 256) (sym (div-one x))
 byte_at-pow (suc k) x = refl
 
+-- a power of 256 isn't 0
 above_zero : (n : ℕ) → zero < 256 ^ n
 above_zero n = let h = one-le-pow n 256 (omega arith) in omega arith
 
@@ -36,12 +38,14 @@ above_zero n = let h = one-le-pow n 256 (omega arith) in omega arith
 first_byte : (k n : ℕ) → n % 256 ^ suc k ≡ byte_at k n * 256 ^ k + n % 256 ^ k
 first_byte k n = ap (λ (p : ℕ). n % p) (pow-succ' 256 k) ∙ mod-split n {m = 256} {c = 256 ^ k} (omega arith) (above_zero k) ∙ ap (λ (b : ℕ). b * 256 ^ k + n % 256 ^ k) (sym (byte_at-pow k n))
 
+-- a lower number compares as Less, and below an equal one as Equal
 nat_less : (x y : ℕ) → x < y → nat_cmp x y ≡ Less
 nat_less x y h = grind (arith, nat_tests)
 
 nat_same : (x y : ℕ) → x ≡ y → nat_cmp x y ≡ Equal
 nat_same x y h = grind (arith, nat_tests)
 
+-- of two numbers, the one that is lower by its last k bytes has the lower list of these
 below : (k a b : ℕ) → a % 256 ^ k < b % 256 ^ k → slice_cmp nat_cmp (bytes_high_first k a) (bytes_high_first k b) ≡ Less
 below zero a b h = absurd (omega arith)
 below (suc k) a b h =
@@ -61,15 +65,18 @@ below (suc k) a b h =
       ]
     ]
 
+-- a lower key has the lower list of eight bytes
 pub key_below : (a b : ℕ) → a < b → b < 2 ^ 64 → slice_cmp nat_cmp (big_bytes 8 a) (big_bytes 8 b) ≡ Less
 key_below a b less fits =
     let first : a % 256 ^ 8 ≡ a = mod-eq_of_lt (omega arith) in
     let second : b % 256 ^ 8 ≡ b = mod-eq_of_lt (omega arith) in
     below 8 a b (omega (arith, first, second, less))
 
+-- a key is read again from its eight bytes
 pub key_back : (n : ℕ) → n < 2 ^ 64 → big_number 8 (big_bytes 8 n) ≡ n
 key_back n fits = word-again n [] fits
 
+-- the eight bytes of two keys are the same where the keys are
 pub same_key : (a b : ℕ) → a < 2 ^ 64 → b < 2 ^ 64 → bytes_eq (big_bytes 8 a) (big_bytes 8 b) ≡ (a == b)
 same_key a b low high =
     let back : big_bytes 8 a ≡ big_bytes 8 b → a ≡ b = λ e. sym (key_back a low) ∙ ap (big_number 8) e ∙ key_back b high in

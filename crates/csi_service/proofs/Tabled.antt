@@ -25,6 +25,7 @@ use Rattle.csi_service.proofs.KeyOrder.{key_below, key_back, same_key}
 
 -- ---- in their order
 
+-- parts by rising key are rows by rising key
 pub rising_rows : (content : List StoredPart) → IsRising content → AreKeys content → AreRising (map row_of content)
 rising_rows [] rising keys = tt
 rising_rows (part ∷ parts) rising keys = (go parts rising.0 keys.1, rising_rows parts rising.1 keys.1)
@@ -35,18 +36,22 @@ rising_rows (part ∷ parts) rising keys = (go parts rising.0 keys.1, rising_row
 
 -- ---- one list of parts
 
+-- a list in which each value is below the later ones is sorted
 sorted_from : {X : Type 0} (cmp : X → X → Ordering) → IsTotalOrder cmp → (xs : List X) → IsAscending (λ a b. cmp a b ≡ Less) xs → IsSorted cmp xs
 sorted_from cmp total [] up k d low within = absurd (omega arith)
 sorted_from cmp total (x ∷ []) up k d low within = absurd (omega arith)
 sorted_from cmp total (x ∷ y ∷ xs) up zero d low within = ap is_lt (total.antisymm y x ∙ ap ordering_reverse up.0.0)
 sorted_from cmp total (x ∷ y ∷ xs) up (suc k) d low within = rw add-one (rw add-one at (sorted_from cmp total (y ∷ xs) up.1 k d (omega arith) (omega arith)))
 
+-- the order by the first column
 abbrev by_key : Row → Row → Ordering
 by_key = on (λ c. column c 0) value_cmp
 
+-- the order by the first column is a total one
 by_key_total : IsTotalOrder by_key
 by_key_total = on_total (λ c. column c 0) value_cmp_total
 
+-- rows by rising key rise by their first column
 strict_cells : (rows : List KeyedRow) → AreRising rows → IsAscending (λ a b. by_key a b ≡ Less) (map cells rows)
 strict_cells [] rising = tt
 strict_cells (row ∷ rows) rising = (go rows rising.0, strict_cells rows rising.1)
@@ -59,10 +64,12 @@ strict_cells (row ∷ rows) rising = (go rows rising.0, strict_cells rows rising
 abbrev part_in : Row → StoredPart
 part_in c = record { key = big_number 8 (bytes (column c 0)); value = bytes (column c 1) }
 
+-- the columns of parts' rows are these parts again
 parts_back : (content : List StoredPart) → AreKeys content → map part_in (map cells (map row_of content)) ≡ content
 parts_back [] keys = refl
 parts_back (part ∷ parts) keys = ap₂ (λ (k : ℕ) (l : List StoredPart). record { key = k; value = part.value } ∷ l) (key_back part.key keys.0) (parts_back parts keys.1)
 
+-- a database has one list of parts
 pub one_content : (db : Trees) (a b : List StoredPart) → StoresParts db a → StoresParts db b → b ≡ a
 one_content db a b are also =
     let same = IsPermutation-trans _ _ _ (IsPermutation-sym _ _ are.rows.stored.same) also.rows.stored.same in
@@ -70,6 +77,7 @@ one_content db a b are also =
     let sorted = sorted_from by_key by_key_total _ (strict_cells (map row_of b) (rising_rows b also.rising also.keys)) in
     sym (parts_back b also.keys) ∙ ap (map part_in) (sorted_unique by_key by_key_total _ _ strict same sorted) ∙ parts_back a are.keys
 
+-- where a connection sees these parts, its database has them
 pub stores : (s : State) (content : List StoredPart) → HasParts s content → StoresParts s.now.trees content
 stores s content has = record { rows = has.rows.stores; rising = has.rising; keys = has.keys }
 
@@ -96,6 +104,7 @@ only_left s content other settled has left =
 
 -- ---- changes
 
+-- keys of 64 bits stay so where a part is put in
 keys-put : (part : StoredPart) (parts : List StoredPart) → part.key < 2 ^ 64 → AreKeys parts → AreKeys (put_in part parts)
 keys-put part [] fits keys = (fits, tt)
 keys-put part (other ∷ others) fits keys = by (nat_lt other.key part.key) (other.key == part.key) (keys-put part others fits keys.1)
@@ -109,10 +118,12 @@ keys-put part (other ∷ others) fits keys = by (nat_lt other.key part.key) (oth
 abbrev Lacks : ℕ → List StoredPart → Type 0
 Lacks key = AllByRecursion (λ (part : StoredPart). not (part.key == key) ≡ true)
 
+-- where all keys are above one, none of them is it or a lower one
 above_lacks : (key low : ℕ) (parts : List StoredPart) → key ≤ low → AreAbove low parts → Lacks key parts
 above_lacks key low [] most above = tt
 above_lacks key low (part ∷ parts) most above = ((let less = above.0 in grind (arith, nat_tests)), above_lacks key low parts most above.1)
 
+-- taking out a key that no part has changes nothing
 none_out : (key : ℕ) (parts : List StoredPart) → Lacks key parts → take_out key parts ≡ parts
 none_out key parts lacks = filter_all (λ part. not (part.key == key)) parts lacks
 
@@ -134,6 +145,7 @@ put_moves part (other ∷ others) rising = by (nat_lt other.key part.key) (other
         let none = none_out part.key others (above_lacks part.key other.key others (omega arith) rising.0) in
         subst (λ l. IsPermutation (part ∷ other ∷ l) (part ∷ other ∷ others)) (sym none) (IsPermutation-refl _)
 
+-- the rows of other keys are those of the parts that are left without the key
 pub without-parts : (key : ℕ) (parts : List StoredPart) → key < 2 ^ 64 → AreKeys parts → without (big_bytes 8 key) (map row_of parts) ≡ map row_of (take_out key parts)
 without-parts key [] fits keys = refl
 without-parts key (part ∷ parts) fits keys = rw (same_key part.key key keys.0 fits) (by (part.key == key) (without-parts key parts fits keys.1))
@@ -154,6 +166,7 @@ moved_rows s a b moves h = record {
   };
 }
 
+-- a part's row, beside the rows of other keys, is the parts with this one put in
 pub put_has : (s : State) (part : StoredPart) (content : List StoredPart) → part.key < 2 ^ 64 → IsRising content → AreKeys content
     → HasRows s (row_of part ∷ without (big_bytes 8 part.key) (map row_of content)) → HasParts s (put_in part content)
 put_has s part content fits rising keys h = record {
@@ -162,6 +175,7 @@ put_has s part content fits rising keys h = record {
   keys = keys-put part content fits keys;
 }
 
+-- the rows of other keys are the parts with that key taken out
 pub removed_has : (s : State) (key : ℕ) (content : List StoredPart) → key < 2 ^ 64 → IsRising content → AreKeys content → HasRows s (without (big_bytes 8 key) (map row_of content)) → HasParts s (take_out key content)
 removed_has s key content fits rising keys h = record {
   rows = subst (HasRows s) (without-parts key content fits keys) h;

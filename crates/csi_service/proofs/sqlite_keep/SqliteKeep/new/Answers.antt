@@ -4,6 +4,7 @@ use Rattle.csi_tables.specs.Rows.{IsAtRest}
 use Rattle.csi_service.specs.Tables.{row_of}
 use Rattle.csi_service.proofs.sqlite_keep.SqliteKeep.new.Goals as goal
 
+-- where a test is passed that denies a flag, the flag is off
 off : (r b : Bool) → r ≡ not b → r ≡ true → b ≡ false
 off r true e f = absurd (cc)
 off r false e f = refl

@@ -12,10 +12,12 @@ use Rattle.csi_service.proofs.Tabled.{still_holds}
 use Rattle.csi_service.proofs.Loading.{loaded, loaded_content, none_refused}
 use Rattle.csi_service.proofs.sqlite_keep.SqliteKeepKeep.load.Goals as goal
 
+-- what is so anyway is so of an OK
 done : {A E : Type 0} (P : Type 0) (r : Result A E) → P → OnOk r P
 done P (Ok a) h = h
 done P (Err e) h = tt
 
+-- why reading the rows was refused is why loading is, where no row of a store's parts is bad
 refused : {A : Type 0} (r : Result A KeepFault) (honest : Type 0) (holds : List StoredPart → Type 0) (before after : ℕ) (rows : List Row)
     → IfErr r (λ fault. (fault ≡ NoMemory) ⊎ ((place : ℕ) × (fault ≡ BadRecord place) × IsFirstBad rows place))
     → (honest → (content : List StoredPart) → holds content → (place : ℕ) → ¬ IsFirstBad rows place) → IfErr r (IsLoadFault honest holds before after)
