@@ -88,7 +88,7 @@ row_at [] i row within here = absurd (omega arith)
 row_at (r ∷ rows) zero row within here = ap Some (sym here)
 row_at (r ∷ rows) (suc i) row within here = row_at rows i row (omega arith) here
 
--- where the rows before are parts, a row that is none is the first
+-- where the rows before are parts, a row that is none is the first bad one
 pub first_bad : (rows : List Row) (i : ℕ) (row : Row) (before : List Change) → i < length rows → row ≡ get_or rows i row → AreParts (take i rows) before → IsNoPart row → IsFirstBad rows i
 first_bad rows i row before within here are bad = record { row = row; there = row_at rows i row within here; bad = bad; earlier = (are.0, are.1) }
 

@@ -17,7 +17,7 @@ refused-left before after first next change leads refused = λ honest only other
       | inr new ↦ inr (new ∙ leads)
     ]
 
--- a commit that was refused has the cause that a refusal of its changes tells
+-- the cause of a commit's refusal is that of the content to which it was to lead
 pub refused-cause : (before after : Store) (first next : List StoredPart) (change : List StoredPart → List StoredPart) (fault : KeepFault) → change first ≡ next
     → IsCommitFault after.honest before.holds before.fits change before.faults after.faults fault → IsRefusal before after first next fault
 refused-cause before after first next change Device leads cause = cause
@@ -29,7 +29,7 @@ refused-cause before after first next change Full leads cause = λ honest only f
 pub follows-same : (now : Store) → Follows now now
 follows-same now = record { honest = λ h. h; room = λ content h. h; no_more_room = λ content h. h; faults = omega arith }
 
--- what calls never change, or only raise, is so of one call after another
+-- what a call never changes, or only raises, two calls in turn don't change, or only raise
 pub follows-more : (a b c : Store) → Follows a b → Follows b c → Follows a c
 follows-more a b c first second = record {
   honest = λ h. first.honest (second.honest h);
@@ -42,7 +42,7 @@ follows-more a b c first second = record {
 pub rests-same : (now : Store) (content : List StoredPart) → Rests now now content content
 rests-same now content = λ honest only. only
 
--- a store that has one content and then another has the last after both calls
+-- where one call leads from a first content to a second, and the next to a third, both lead from the first to the third
 pub rests-more : (a b c : Store) (x y z : List StoredPart) → Follows b c → Rests a b x y → Rests b c y z → Rests a c x z
 rests-more a b c x y z follows first second = λ honest only. second honest (first (follows.honest honest) only)
 
@@ -55,7 +55,7 @@ pub risen-more : (a b c : ℕ) → a ≤ b → HasRisen b c → HasRisen a c
 risen-more a b c least (inl less) = inl (omega arith)
 risen-more a b c least (inr top) = inr top
 
--- why a later call was refused is why it was refused since before
+-- the cause of a later call's refusal is its cause since an earlier call
 pub refusal-more : (a b c : Store) (x y next : List StoredPart) (fault : KeepFault) → Follows a b → Follows b c → Rests a b x y → IsRefusal b c y next fault → IsRefusal a c x next fault
 refusal-more a b c x y next Device before after first cause = risen-more a.faults b.faults c.faults before.faults cause
 refusal-more a b c x y next NoMemory before after first cause = tt

@@ -53,7 +53,7 @@ given_or_none frame is = cc
 given_or_fault : (frame : Frame) (fault : FrameFault) → given frame ≡ Err fault → ⊥
 given_or_fault frame fault is = cc
 
--- no more bytes leave a stream as it was
+-- a stream with no bytes more is the stream
 nothing_more_of : (stream bytes : List ℕ) → bytes ≡ [] → stream ≡ stream ++ bytes
 nothing_more_of stream bytes is = sym (append-nil stream) ∙ ap (λ bs. stream ++ bs) (sym is)
 

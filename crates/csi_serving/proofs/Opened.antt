@@ -21,7 +21,7 @@ cause-weaker IsBad before after head NoMemory cause = tt
 cause-weaker IsBad before after head (BadRecord place) cause = λ honest content holds. absurd (cause honest content holds)
 cause-weaker IsBad before after head Full cause = cause
 
--- where there are some parts, they aren't no parts
+-- some parts aren't stored as none
 none-empty : (parts : List Part) → 1 ≤ length parts → all_stored_in parts ≡ [] → ⊥
 none-empty [] some e = omega arith
 none-empty (p ∷ ps) some e = cc

@@ -38,7 +38,7 @@ differ_from : (m n : ℤ) → is_ne (value_cmp (Int m) (Int n)) ≡ true → dif
 unfolding binary
 differ_from m n other = rw other refl
 
--- a row that keeps the columns' types, and that none is NULL, has two columns
+-- a row whose columns have their types, and aren't NULL, has two columns
 pair_from : (r : Row) → are_typed None 0 parts_table.columns (drop 1 r) ≡ true → are_present None 0 parts_table.columns r ≡ true → IsPair (drop 1 r)
 unfolding parts_table
 pair_from [] typed present = absurd (true≢false (sym present))

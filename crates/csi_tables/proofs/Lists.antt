@@ -24,12 +24,12 @@ filter_again {X} p q (x ∷ xs) =
       | false ↦ filter_again p q xs
     ]
 
--- one of the values that a function makes passes where the test passes what one is made of
+-- whether one of the values that a function makes passes a test is asked of what they are made of
 pub any-map : {X Y : Type 0} (p : Y → Bool) (f : X → Y) (xs : List X) → list_any p (map f xs) ≡ list_any (λ x. p (f x)) xs
 any-map p f [] = refl
 any-map p f (x ∷ xs) = ap (λ b. p (f x) || b) (any-map p f xs)
 
--- that neither of two is so is that not one of them is
+-- not the one, and not the other, is neither of the two
 pub not_or : (a b : Bool) → (not a && not b) ≡ not (a || b)
 not_or true b = refl
 not_or false b = refl

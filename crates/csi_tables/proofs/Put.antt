@@ -65,7 +65,7 @@ eq_ints a b = elim (is_eq (value_cmp (Int a) (Int b))) as (λ t. is_true (from_t
 
 -- ---- the rows that are in the way
 
--- a flag "and true, or false" is the flag
+-- a flag, and true, or else false, is the flag
 alone : (b : Bool) → ((b && true) || false) ≡ b
 alone true = refl
 alone false = refl
@@ -184,14 +184,14 @@ module _ (limit : Option ℕ) (params : Row) where
         fresh = subst (λ l. is_taken l (Int id ∷ Blob key ∷ Blob value ∷ []) ≡ false) left made.1;
       }
 
--- a row that is in the way is updated
+-- where a row is in the way, it is updated
 resolved : (limit : Option ℕ) (key value : List ℕ) (id : ℤ) (db : Trees) (x : Row) (found : List Row) (out : Written) (otherwise : Part Written)
     → Meets (task limit (Blob key ∷ Blob value ∷ [])) otherwise (Int id ∷ Blob key ∷ Blob value ∷ []) db put_clause (x ∷ found) (Ok out)
     → Updates (task limit (Blob key ∷ Blob value ∷ [])) (record { lets = []; body = update_query }) (Blob key ∷ Blob value ∷ rowid x ∷ Int id ∷ Blob key ∷ Blob value ∷ []) db (Ok out)
 unfolding parts_table
 resolved limit key value id db x found out otherwise h = h
 
--- a row that is inserted or updates another is put in among the rows of other keys
+-- inserting the row, or updating the one of its key, leaves it beside the rows of other keys
 upserted : (limit : Option ℕ) (key value : List ℕ) (db : Trees) (rows : List KeyedRow) (out : Written) → StoresRows db rows
     → Upserts (task limit (Blob key ∷ Blob value ∷ [])) Abort (Int (next_rowid (db 0)) ∷ Blob key ∷ Blob value ∷ []) db (put_clause ∷ []) (Ok out) → IsPut key value (db 0) (out.trees 0)
 unfolding parts_table

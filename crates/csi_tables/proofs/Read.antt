@@ -35,7 +35,7 @@ use Rattle.csi_tables.proofs.Sorted.{pairwise-permutation, untied_back, rising_f
 abbrev out : Row → Output
 out columns = (column columns 0 ∷ [], column columns 0 ∷ column columns 1 ∷ [])
 
--- what the query has of a row are its columns behind the rowid
+-- what the query makes of a row is made of the columns behind its rowid
 out_is : (r : Row) → output read_query ([] ∷ r ∷ []) ≡ out (drop 1 r)
 out_is [] = refl
 out_is (x ∷ r) = refl
@@ -62,7 +62,7 @@ unchanged : {X : Type 0} (f : X → X) (xs : List X) → AllByRecursion (λ x. f
 unchanged f [] h = refl
 unchanged f (x ∷ xs) h = ap₂ ◌∷◌ h.0 (unchanged f xs h.1)
 
--- what the query answers of rows of any values are these rows by their first column
+-- what the query answers of rows of any values is these rows, by their first column
 any_answers : (db : Trees) (columns found : List Row) → IsSound parts_schema db → AreRows (db 0) columns → IsAnswer read_query (overlay db []) [] found → AreByKey columns found
 any_answers db columns found sound are a =
     let cmp = output_cmp read_query in
@@ -107,7 +107,7 @@ leaves old new columns found h shown =
     let none = (subst IsPlain (sym known) read_plain).0 in
     (subst (ShowsRows old new read_text shown.0 _ found) none shown.2).3
 
--- an error of the store isn't one of a text that SQLite doesn't understand
+-- an error of the store isn't that SQLite doesn't understand a text
 never_input : (cause : StoreError) (error : Error) → error ≡ store_error cause → ¬ IsInputError error
 never_input OutOfMemory error is bad = let b = bad.1 in absurd (cc)
 never_input Io error is bad = let b = bad.1 in absurd (cc)
@@ -116,7 +116,7 @@ never_input Full error is bad = let b = bad.1 in absurd (cc)
 never_input Broken error is bad = let b = bad.1 in absurd (cc)
 never_input Unstorable error is bad = let b = bad.1 in absurd (cc)
 
--- why a query is refused to be read isn't that SQLite doesn't understand the text
+-- a query isn't refused because SQLite doesn't understand its text
 never_read : (limit : Option ℕ) (db : Database) (q : Program) (params : Row) (error : Error) → RefusesQuery limit db q params error → ¬ IsInputError error
 never_read limit db q params error (inl typed) bad = let e = typed.0 in let b = bad.1 in absurd (cc)
 never_read limit db q params error (inr (inl over)) bad = let e = over.0 in let b = bad.1 in absurd (cc)

@@ -66,7 +66,7 @@ one_index row a b p q =
     same_index (column row 4) a b (subst (λ t. IsDefined t a (column row 4)) first p.defined) (subst (λ t. IsDefined t b (column row 4)) second q.defined)
     (same_tree (rowid row) a.tree b.tree p.described.id q.described.id)
 
--- where nothing is listed, the schema is empty
+-- a database that lists no table, index or view has the empty schema
 pub nothing_listed : (schema : Schema) (db : Trees) → IsSound no_schema db → IsSound schema db → schema ≡ no_schema
 nothing_listed schema db none it =
     let objects = db catalog_tree in
@@ -75,7 +75,7 @@ nothing_listed schema db none it =
     let views = beside_none IsViewRow IsViewRow (filter is_view_row objects) schema.views none.lists.listed.views it.lists.listed.views in
     λ i. record { tables = tables i; indexes = indexes i; views = views i }
 
--- where the declared table and its index are listed, the schema is the declared one
+-- a database that lists the declared table and its index has the declared schema
 pub parts_listed : (schema : Schema) (db : Trees) → IsSound parts_schema db → IsSound schema db → schema ≡ parts_schema
 unfolding parts_schema
 parts_listed schema db parts it =

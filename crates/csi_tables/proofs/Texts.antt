@@ -84,7 +84,7 @@ pub make_is : (command_of (understood no_schema make_text) ≡ CreateTable) × (
 unfolding understood everything parts_table
 make_is = (refl, refl, refl)
 
--- each text is plain: it has no RETURNING and asks for no time; so it is below of the others
+-- the text has no RETURNING, and doesn't read the time; and so it is below of the others
 pub make_plain : IsPlain (understood no_schema make_text)
 unfolding understood everything
 make_plain = (refl, refl)
