@@ -25,13 +25,13 @@ use Rattle.csi_node.proofs.Steps.{row_of, all-from_shows, shows-from_all}
 use Rattle.csi_node.proofs.Answering.{GivesAll, gives-again, gives-anew, gives-full}
 use Rattle.csi_node.proofs.Rules.{id_at-parts, found-at, absent-gap, after-set, after-insert, rules-set, rules-insert}
 
--- the row as it is shown, at a place, is what is shown of the row there
+-- the row at a place, of the rows as they are shown, is what is shown of the row there
 pub parts-at : (rows : List NodeRow) (place : ℕ) (d : NodeRow) → get_or (parts rows) place (shown d) ≡ shown (get_or rows place d)
 parts-at [] place d = refl
 parts-at (row ∷ rows) zero d = refl
 parts-at (row ∷ rows) (suc place) d = parts-at rows place d
 
--- what is shown of rows with a row more is what was shown, with that row more
+-- inserting a row inserts what is shown of it among what is shown
 pub parts-insert : (rows : List NodeRow) (place : ℕ) (row : NodeRow) → parts (insert rows place row) ≡ insert (parts rows) place (shown row)
 parts-insert rows place row =
     map-append shown (take place rows) (row ∷ drop place rows)

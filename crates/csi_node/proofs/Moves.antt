@@ -42,7 +42,7 @@ pub data Move (state : NodeState) : Call → Outcome → Type 0 where
   was_unpublished : (id : ℕ) (target : List ℕ) → published_at id target state ≡ None → Move state (calls.NodeUnpublishVolume id target) met
   unpublishes : (id : ℕ) (target : List ℕ) (there : PublishedVolume) → published_at id target state ≡ Some there → Move state (calls.NodeUnpublishVolume id target) (done (Unpublishes id target))
 
--- the statuses of refusals aren't OK, one by one
+-- no status of a refusal is OK: one lemma for each
 invalid : InvalidArgument ≡ Ok → ⊥
 invalid h = cc
 

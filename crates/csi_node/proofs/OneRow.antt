@@ -16,7 +16,7 @@ use Rattle.csi_node.specs.declared.line.Line.{Line}
 use Rattle.csi_node.specs.declared.line.Line.TheVariants.{Refused, Met, Done}
 use Rattle.csi_node.specs.Lines.{WhereDone}
 
--- an id is equal to itself
+-- an id is equal to itself, and below: asking that too asks nothing more
 itself : (id : ℕ) → (id == id) ≡ true
 itself id = eq-eqb id id refl
 

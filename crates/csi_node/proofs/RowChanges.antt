@@ -32,7 +32,7 @@ use Rattle.csi_node.specs.OneRow.{RowShown, alone, staged_by, published_so, publ
 itself : (id : ℕ) → (id == id) ≡ true
 itself id = eq-eqb id id refl
 
--- an id is equal to itself, whatever else is asked
+-- also asking whether an id is itself asks nothing more
 itself_and : (id : ℕ) (b : Bool) → ((id == id) && b) ≡ b
 itself_and id b = rw (itself id) refl
 
@@ -40,7 +40,7 @@ itself_and id b = rw (itself id) refl
 differs : (a b : List ℕ) → same_text a b ≡ false → same_text b a ≡ false
 differs a b h = false_from_ne_true (same_text b a) (λ same. both_ways (same_text a b) h ((same_text-tells a b).1 (sym ((same_text-tells b a).0 same))))
 
--- where neither of two is there, none of the two is
+-- of two that are missing, neither is found
 or_none : {X : Type 0} (o other : Option X) → o ≡ None → other ≡ None → option_or o other ≡ None
 or_none o other a b = option_or-none o other a ∙ b
 

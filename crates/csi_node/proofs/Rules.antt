@@ -92,11 +92,11 @@ found-at rows id place d rising at = row_of-present rows id place d at (none_bef
 pub absent-gap : (rows : List RowShown) (id place : ℕ) → IsGapFor rows id place → row_of id rows ≡ None
 absent-gap rows id place gap = row_of-absent rows id (λ j lt same. grind (arith, gap.before j, gap.after j))
 
--- a row that is searched for under another id is the one that was found
+-- under another id the row is found that was found before
 is_other : (k id : ℕ) (row : RowShown) (o p : Option RowShown) → (k == id) ≡ false → p ≡ cond (k == id) (Some row) o → p ≡ o
 is_other k id row o p h e = e ∙ ap (λ (b : Bool). cond b (Some row) o) h
 
--- a row that is searched for under its own id is the new one
+-- under its own id the new row is found
 is_this : (id : ℕ) (row : RowShown) (o p : Option RowShown) → p ≡ cond (id == id) (Some row) o → p ≡ Some row
 is_this id row o p e = e ∙ ap (λ (b : Bool). cond b (Some row) o) (itself id)
   where

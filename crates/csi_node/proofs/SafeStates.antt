@@ -64,7 +64,7 @@ shared state p q fits among same =
     false_from_ne_true (allows_one_target p.capability.mode)
     (λ one. true≢false (sym (eq-eqb q.volume p.volume same) ∙ none_kept (λ (r : PublishedVolume). r.volume == p.volume) state.published q (fits.alone one) among))
 
--- what is published where it may be keeps what is published right
+-- publishing what may be published keeps what is published right
 publishes_keeps : (state : NodeState) (p : PublishedVolume) → Fits state p → Keeps state (Publishes p)
 publishes_keeps state p fits right = record {
   staged = λ q among. by q (among-either state.published p q among);
@@ -78,7 +78,7 @@ publishes_keeps state p fits right = record {
     by q (inl there) = right.staged q there
     by q (inr e) = subst (λ (x : PublishedVolume). staged_of x.volume state ≡ Some x.capability) (sym e) fits.staged
 
--- a target less keeps what is published right
+-- taking a target out keeps what is published right
 unpublishes_keeps : (state : NodeState) (id : ℕ) (target : List ℕ) → Keeps state (Unpublishes id target)
 unpublishes_keeps state id target right = record {
   staged = λ p among. right.staged p (among-filter (λ (q : PublishedVolume). not (is_published_at id target q)) state.published p among);

@@ -52,11 +52,11 @@ pub record IsFor (node : List ℕ) (call : Call) (key : Key) : Type 0 where
   pub is_volume : volume_of call ≡ Some volume
   pub is_row : row_id node key ≡ Some volume
 
--- a call about a staging is for that thing and its volume
+-- a call about a staging is for that thing, and the row of its volume tells what is kept for both
 staged_for : (node : List ℕ) (call : Call) (id : ℕ) → key_of node call ≡ Some (Staged id node) → volume_of call ≡ Some id → IsFor node call (Staged id node)
 staged_for node call id is_key is_volume = record { is_key = is_key; volume = id; is_volume = is_volume; is_row = rw (here node) refl }
 
--- a call about a target is for that thing and its volume
+-- a call about a target is for that thing, and the row of its volume tells what is kept for both
 published_for : (node : List ℕ) (call : Call) (id : ℕ) (target : List ℕ) → key_of node call ≡ Some (Published id node target) → volume_of call ≡ Some id → IsFor node call (Published id node target)
 published_for node call id target is_key is_volume = record { is_key = is_key; volume = id; is_volume = is_volume; is_row = rw (here node) refl }
 

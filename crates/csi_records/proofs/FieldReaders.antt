@@ -81,7 +81,7 @@ code_reads {A} value_of number code =
 
 -- ---- codes
 
--- an option that is there and whose value is this is this value
+-- an option that is there, and has this value, is this value
 some-inside : {A : Type 0} (found : Option A) (d a : A) → is_some found ≡ true → unwrap_or found d ≡ a → found ≡ Some a
 some-inside (Some x) d a is e = ap (λ y. Some y) e
 some-inside None d a is e = absurd cc
@@ -174,7 +174,7 @@ kind_reads = code_reads kind_from (λ kind. 128 + kind_number kind) (record { ba
 pub record IsCount (most n : ℕ) : Type 0 where
   pub within : n ≤ most
 
--- a byte that is read as a count is at most so much; the test is a flag here
+-- where a count is read, a byte of at most so much stands first; the test is a flag here
 count-takes : (most b : ℕ) (bytes : List ℕ) (t : Bool) (x : ℕ × List ℕ) → leb b most ≡ t → cond t (done b bytes) None ≡ Some x → Took (Spelled (IsCount most) one_byte) (b ∷ bytes) x
 count-takes most b bytes true x is e =
     subst (λ (y : ℕ × List ℕ). Took (Spelled (IsCount most) one_byte) (b ∷ bytes) y) (some_is b bytes x e) (record { front = b ∷ []; parts = refl; says = record { fits = record { within = leb-true _ _ is }; are = refl } })
@@ -189,7 +189,7 @@ counted-open : (t : Bool) (b : ℕ) (bytes : List ℕ) → counted_by t b bytes 
 counted-open true b bytes = refl
 counted-open false b bytes = refl
 
--- a byte that is read as a count is at most so much
+-- where a count is read, a byte of at most so much stands first
 count_in-takes : (most : ℕ) (bytes : List ℕ) (x : ℕ × List ℕ) → count_in most bytes ≡ Some x → Took (Spelled (IsCount most) one_byte) bytes x
 unfolding count_in byte_in
 count_in-takes most [] x e = absurd cc
@@ -206,7 +206,7 @@ count_reads most = record { takes = λ bytes fits x e. count_in-takes most bytes
 
 -- ---- a number of 64 bits
 
--- what is read as a number of 64 bits are the eight bytes that spell it; the test is a flag here
+-- where a number of 64 bits is read, the eight bytes that spell it stand first; the test is a flag here
 word-takes : (bytes : List ℕ) (short : Bool) (x : ℕ × List ℕ) → AreBytes bytes → ltb (length bytes) 8 ≡ short → cond short None (done (big_number 8 bytes) (drop 8 bytes)) ≡ Some x → Took (Spelled IsWord spelling.word) bytes x
 word-takes bytes true x fits is e = absurd cc
 word-takes bytes false x fits is e =
@@ -217,7 +217,7 @@ word-takes bytes false x fits is e =
     subst (λ (y : ℕ × List ℕ). Took (Spelled IsWord spelling.word) bytes y) (some_is n (drop 8 bytes) x e)
     (record { front = take 8 bytes; parts = sym (take-append-drop 8 bytes); says = record { fits = word-fits bytes fits; are = back } })
 
--- what is read as a number of 64 bits are the eight bytes that spell it
+-- where a number of 64 bits is read, the eight bytes that spell it stand first
 word_in-takes : (bytes : List ℕ) → AreBytes bytes → (x : ℕ × List ℕ) → word_in bytes ≡ Some x → Took (Spelled IsWord spelling.word) bytes x
 unfolding word_in
 word_in-takes bytes fits x e = word-takes bytes (ltb (length bytes) 8) x fits refl e
@@ -244,7 +244,7 @@ not_true : (b : Bool) → not b ≡ false → b ≡ true
 not_true true e = refl
 not_true false e = absurd cc
 
--- what is read as a text is its length and its bytes, within the limits; the tests are flags here
+-- where a text is read, its length and its bytes stand first, within the limits; the tests are flags here
 text-takes : (least most n : ℕ) (bytes : List ℕ) (out short utf8 : Bool) (x : List ℕ × List ℕ) → not (leb least n && leb n most) ≡ out → ltb (length bytes) n ≡ short → is_utf8 (take n bytes) ≡ utf8
     → cond out None (cond short None (cond utf8 (done (take n bytes) (drop n bytes)) None)) ≡ Some x → Took (Spelled (IsText least most) spelling.text) (n ∷ bytes) x
 text-takes least most n bytes true short utf8 x is_out is_short is_utf e = absurd cc
@@ -266,7 +266,7 @@ text-takes least most n bytes false false true x is_out is_short is_utf e =
       };
     })
 
--- what is read as a text is its length and its bytes, within the limits
+-- where a text is read, its length and its bytes stand first, within the limits
 text_in-takes : (least most : ℕ) (bytes : List ℕ) (x : List ℕ × List ℕ) → text_in least most bytes ≡ Some x → Took (Spelled (IsText least most) spelling.text) bytes x
 unfolding text_in
 text_in-takes least most [] x e = absurd cc
@@ -298,13 +298,13 @@ pub record IsTag (n : ℕ) (value : Unit {0}) (bytes : List ℕ) : Type 0 where
 abbrev tag_by : Bool → Reader (Unit {0})
 tag_by t = cond t (give tt) nothing
 
--- what is read as a given byte is that byte; the test is a flag here
+-- where a given byte is read, it stands first; the test is a flag here
 tag-takes : (n b : ℕ) (bytes : List ℕ) (t : Bool) (x : Unit {0} × List ℕ) → eqb b n ≡ t → tag_by t bytes ≡ Some x → Took (IsTag n) (b ∷ bytes) x
 tag-takes n b bytes true x is e =
     subst (λ (y : Unit {0} × List ℕ). Took (IsTag n) (b ∷ bytes) y) (some_is tt bytes x e) (record { front = b ∷ []; parts = refl; says = record { one = ap (λ (k : ℕ). k ∷ []) (eqb-true _ _ is) } })
 tag-takes n b bytes false x is e = absurd cc
 
--- what is read as a given byte is that byte
+-- where a given byte is read, it stands first
 tag_in-takes : (n : ℕ) (bytes : List ℕ) (x : Unit {0} × List ℕ) → tag_in n bytes ≡ Some x → Took (IsTag n) bytes x
 unfolding tag_in byte_in
 tag_in-takes n [] x e = absurd cc

@@ -29,7 +29,7 @@ use Rattle.csi_records.proofs.Layouts.{IsOneToOne, head-refused, row-unread, row
 
 -- ---- the controller's
 
--- controller's rows that are spelled the same say the same
+-- a controller's rows that are spelled the same say the same
 same-rows : (rows others : List ControllerRow) → map volume_row rows ≡ map volume_row others → AreSameRows rows others
 same-rows [] [] e = tt
 same-rows [] (b ∷ bs) e = absurd cc

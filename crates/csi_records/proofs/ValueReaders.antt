@@ -95,7 +95,7 @@ SaysMore Fits spell n = After Fits spell (λ first. Made (AreSo Fits n) (flat_ma
 abbrev SaysItems : {A : Type 0} → (A → Type 0) → (A → List ℕ) → ℕ → List A → List ℕ → Type 0
 SaysItems Fits spell n = Spelled (AreSo Fits n) (flat_map spell)
 
--- a value and so many others are one more, and spelled as such
+-- the spellings of a value and of so many others are that of one value more
 more-there : {A : Type 0} (Fits : A → Type 0) (spell : A → List ℕ) (n : ℕ) (value : List A) (bytes : List ℕ) → SaysMore Fits spell n value bytes → SaysItems Fits spell (suc n) value bytes
 more-there {A} Fits spell n value bytes s =
     subst (λ (v : List A). SaysItems Fits spell (suc n) v bytes) (sym s.second.same)
@@ -104,7 +104,7 @@ more-there {A} Fits spell n value bytes s =
       are = s.parts ∙ ap (λ (t : List ℕ). spell s.before ++ t) s.second.are ∙ sym (flat_map-cons spell s.before s.second.before);
     })
 
--- one more value than so many are a first and so many others, spelled one after the other
+-- the spelling of one value more is that of a first one and those of so many others
 more-back : {A : Type 0} (Fits : A → Type 0) (spell : A → List ℕ) (n : ℕ) (value : List A) (bytes : List ℕ) → SaysItems Fits spell (suc n) value bytes → SaysMore Fits spell n value bytes
 more-back Fits spell n [] bytes s = absurd (cc s.fits.counted)
 more-back Fits spell n (first ∷ others) bytes s =
@@ -116,11 +116,11 @@ more-back Fits spell n (first ∷ others) bytes s =
       second = record { before = others; fits = record { counted = omega (arith, s.fits.counted); each = s.fits.each.1 }; same = refl; are = refl };
     }
 
--- no values, without a byte, are spelled as such
+-- no bytes are the spelling of no values
 nil-there : {A : Type 0} (Fits : A → Type 0) (spell : A → List ℕ) (value : List A) (bytes : List ℕ) → Given [] value bytes → SaysItems Fits spell 0 value bytes
 nil-there {A} Fits spell value bytes s = subst (λ (v : List A). SaysItems Fits spell 0 v bytes) (sym s.same) (record { fits = record { counted = refl; each = tt }; are = s.none })
 
--- no values are spelled without a byte
+-- the spelling of no values is no bytes
 nil-back : {A : Type 0} (Fits : A → Type 0) (spell : A → List ℕ) (value : List A) (bytes : List ℕ) → SaysItems Fits spell 0 value bytes → Given [] value bytes
 nil-back Fits spell [] bytes s = record { same = refl; none = s.are }
 nil-back Fits spell (first ∷ others) bytes s = absurd (cc s.fits.counted)

@@ -33,7 +33,7 @@ long n = big_bytes 4 n
 pub record IsLong (n : ℕ) : Type 0 where
   pub fits : n < 2 ^ 32
 
--- what is read as a number of 32 bits are the four bytes that spell it; the test is a flag here
+-- where a number of 32 bits is read, the four bytes that spell it stand first; the test is a flag here
 long-takes : (bytes : List ℕ) (short : Bool) (x : ℕ × List ℕ) → AreBytes bytes → ltb (length bytes) 4 ≡ short → cond short None (done (big_number 4 bytes) (drop 4 bytes)) ≡ Some x → Took (Spelled IsLong long) bytes x
 long-takes bytes true x fits is e = absurd cc
 long-takes bytes false x fits is e =
@@ -45,7 +45,7 @@ long-takes bytes false x fits is e =
     subst (λ (y : ℕ × List ℕ). Took (Spelled IsLong long) bytes y) (some_is n (drop 4 bytes) x e)
     (record { front = take 4 bytes; parts = sym (take-append-drop 4 bytes); says = record { fits = record { fits = small }; are = back } })
 
--- what is read as a number of 32 bits are the four bytes that spell it
+-- where a number of 32 bits is read, the four bytes that spell it stand first
 long_in-takes : (bytes : List ℕ) → AreBytes bytes → (x : ℕ × List ℕ) → long_in bytes ≡ Some x → Took (Spelled IsLong long) bytes x
 unfolding long_in
 long_in-takes bytes fits x e = long-takes bytes (ltb (length bytes) 4) x fits refl e
