@@ -2,7 +2,7 @@
 -- something stands, and it stages only what is attached so.
 use Rattle.std.proofs.Common.{◌≡◌, ◌⊎◌, ℕ, List, [], ◌∷◌, Bool, true, false, cond, refl, sym, ◌∙◌, ap, subst, inl, inr}
 use Rattle.std.specs.Prelude.{Some, None, find, filter, filter_map, ◌==◌, ◌&&◌, IsTrue}
-use Rattle.std.proofs.lemmas.Bool.{and_parts, and_from, eqb-true, eq-eqb, false≢true}
+use Rattle.std.proofs.lemmas.Bool.{and_parts, and_from, eqb-true, eq-eqb, false≢true, false_from_ne_true}
 use Rattle.csi_types.specs.declared.capability.Capability.{Capability}
 use Rattle.csi_types.specs.declared.call.Call.{Call}
 use Rattle.csi_types.specs.declared.call.Call.TheVariants as calls
@@ -144,11 +144,9 @@ leaves-guarded history frames view controller call so guard id node capability s
   where
     -- of the same volume and node
     apart : (i : ℕ) (there : List ℕ) → ((id ≡ i) → (node ≡ there) → ⊥) → ((id == i) && same_text node there) ≡ false
-    apart i there differ = at ((id == i) && same_text node there) refl
-      where
-        at : (b : Bool) → ((id == i) && same_text node there) ≡ b → b ≡ false
-        at false e = refl
-        at true e = let parts = and_parts (id == i) (same_text node there) e in absurd (differ (eqb-true id i parts.0) ((same_text-tells node there).0 parts.1))
+    apart i there differ =
+        false_from_ne_true ((id == i) && same_text node there)
+        (λ e. let parts = and_parts (id == i) (same_text node there) e in differ (eqb-true id i parts.0) ((same_text-tells node there).0 parts.1))
 
     by : (party : Party) (c : Call) → IsGuarded history call.name party c → is_key (Attached id node) (key_at call.name party c) ≡ false
     by Controller (calls.ControllerPublishVolume i there other readonly) guard =

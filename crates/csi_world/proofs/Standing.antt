@@ -2,7 +2,7 @@
 -- that capability.
 use Rattle.std.proofs.Common.{◌≡◌, ◌≢◌, ◌⊎◌, ℕ, List, ◌∷◌, Bool, true, false, cond, refl, sym, ◌∙◌, ap, subst, inl, inr}
 use Rattle.std.specs.Prelude.{Some, find, ◌==◌}
-use Rattle.std.proofs.lemmas.Bool.{and_parts, or_right, eqb-true, false≢true}
+use Rattle.std.proofs.lemmas.Bool.{and_parts, or_right, eqb-true, false≢true, false_from_ne_true}
 use Rattle.std.proofs.lemmas.Option.{none-some}
 use Rattle.csi_types.specs.declared.capability.Capability.{Capability}
 use Rattle.csi_types.specs.declared.call.Call.{Call}
@@ -66,11 +66,8 @@ staged_by name party c reply id node capability of asks = absurd (false≢true o
 standing-acts : (issued : List Issued) (old new : View) (call : Issued) (key : Key) (kind : Kind) (reply : Reply) → IsAmong call issued → is_of key call ≡ true → Acts key (delivery_of call kind reply) old new
     → (id : ℕ) (node : List ℕ) (capability : Capability) → IsStanding issued new id node capability → IsStanding issued old id node capability
 standing-acts issued old new call key kind reply there of acts id node capability (inr may) =
-    inr (record { call = may.call; among = may.among; of_node = may.of_node; stages = may.stages; unspent = before (old.is_spent (Staged id node) may.call.number) refl })
-  where
-    before : (b : Bool) → old.is_spent (Staged id node) may.call.number ≡ b → old.is_spent (Staged id node) may.call.number ≡ false
-    before false e = e
-    before true e = absurd (false≢true (sym may.unspent ∙ acts.stays_spent (Staged id node) may.call.number e))
+    let unspent = false_from_ne_true (old.is_spent (Staged id node) may.call.number) (λ e. false≢true (sym may.unspent ∙ acts.stays_spent (Staged id node) may.call.number e)) in
+    inr (record { call = may.call; among = may.among; of_node = may.of_node; stages = may.stages; unspent = unspent })
 standing-acts issued old new call key kind reply there of acts id node capability (inl held) = by (same_key (Staged id node) key) refl (is_ok_status reply.status) refl
   where
     not_ok : is_ok_status reply.status ≡ false → reply.status ≢ Ok

@@ -1,6 +1,7 @@
 -- Clause by clause.
 use Rattle.std.proofs.Common.{◌≡◌, refl, sym, ◌∙◌}
 use Rattle.std.specs.Prelude.{Some, None}
+use Rattle.csi_lists.proofs.Options.{some_is_not_none}
 use Rattle.csi_orchestrator.specs.declared.thing.Thing.{Thing}
 use Rattle.csi_orchestrator.specs.declared.thing.Known.{Known}
 use Rattle.csi_orchestrator.specs.Readings.{known}
@@ -35,9 +36,6 @@ unsafe marks world StagedUnattached same finds safe = finds.1 safe.staged_where_
 unsafe marks world PublishedUnstaged same finds safe = finds.2 safe.published_where_staged
 unsafe marks world DeletedAttached same finds safe = finds.3 safe.attached_while_live
 unsafe marks world RecordedWrong same finds safe = finds.4 (marked marks world same safe)
-
-some_is_not_none : (violation : Violation) → Some violation ≡ None → ⊥
-some_is_not_none violation e = cc
 
 pub returns : goal.returns
 returns c parts world None agrees finds = (λ e. is_safe (view_of parts).marks world agrees.same_marks finds, λ safe. refl)

@@ -1,18 +1,16 @@
 -- Nothing is staged or published at any node, nothing is held, and nothing is known or so.
-use Rattle.std.proofs.Common.{◌≡◌, false, refl, subst}
+use Rattle.std.proofs.Common.{◌≡◌, false, refl, ap, subst}
+use Rattle.std.proofs.lemmas.Bool.{false≢true}
 use Rattle.csi_node.specs.State.{NodeState}
 use Rattle.csi_orchestrator.specs.declared.thing.Thing.{Thing}
 use Rattle.csi_orchestrator.specs.declared.thing.Thing.TheVariants.{Exists, Attached, Staged, Published}
-use Rattle.csi_orchestrator.specs.declared.thing.Known.TheVariants.{Yes, No}
+use Rattle.csi_orchestrator.specs.Thing.{is_yes}
 use Rattle.csi_types.specs.Config.{Config}
 use Rattle.csi_lists.specs.Members.{IsAmong}
 use Rattle.csi_world.specs.World.{empty_world}
 use Rattle.csi_world.specs.Safe.{holds}
 use Rattle.csi_world.proofs.Reached.{knows-nothing}
 use Rattle.csi_world.proofs.laws.empty_is_safe.Goals as goal
-
-no_is_not_yes : No ≡ Yes → ⊥
-no_is_not_yes h = cc
 
 nothing_holds : (config : Config) (thing : Thing) → holds (empty_world config) thing ≡ false
 nothing_holds config (Exists name) = refl
@@ -27,5 +25,5 @@ returns c config =
       staged_where_attached = λ node staged here there. absurd (let e = knows-nothing config.nodes node here in subst (λ (s : NodeState). IsAmong staged s.staged) e there);
       published_where_staged = λ node published here there. absurd (let e = knows-nothing config.nodes node here in subst (λ (s : NodeState). IsAmong published s.published) e there);
       attached_while_live = λ holding among. absurd among;
-      recorded_right = λ thing. record { yes = λ h. absurd (no_is_not_yes h); no = λ h. nothing_holds config thing };
+      recorded_right = λ thing. record { yes = λ h. absurd (false≢true (ap is_yes h)); no = λ h. nothing_holds config thing };
     }
