@@ -89,11 +89,11 @@ pub record Becomes (old new : WorldShown) (outcome : Outcome) (occurred : Occurr
   pub world : ShowsWorld new occurred.world
   pub came : outcome ≡ occurred.outcome
 
--- the same, of every world that was shown
+-- so it is of every world that was shown before, unless memory was refused
 abbrev pub Does : {E : Type 0} → WorldShown → WorldShown → Result Outcome E → (World → Occurred) → Type 0
 Does old new result occurs = (world : World) → HasOwnNodes old → ShowsWorld old world → IfOk result (λ outcome. Becomes old new outcome (occurs world))
 
--- the same, once it is logged
+-- it is the world after an event, which is logged
 pub record IsLogged (old new : WorldShown) (occurred : Occurred) : Type 0 where
   pub config : new.config ≡ old.config
   pub outcomes : new.outcomes ≡ old.outcomes ++ occurred.outcome ∷ []
