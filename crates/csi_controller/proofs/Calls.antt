@@ -33,7 +33,9 @@ use Rattle.csi_controller.specs.Fenced.{fenced_call, kept_for}
 use Rattle.csi_controller.specs.Shown.{volume_of_row}
 use Rattle.csi_controller.specs.Core.{IsShown, IsSound, IsSoundRow, held_by, IsSameRow, IsAnsweredOk}
 use Rattle.csi_controller.specs.Step.{Answers}
-use Rattle.csi_controller.specs.OneRow.{RowOutcome, RowGives, row_after, row_line}
+use Rattle.csi_controller.specs.OneRow.{RowOutcome}
+use Rattle.csi_controller.specs.Fence.{RowGives, row_after}
+use Rattle.csi_controller.specs.Lines.{row_line}
 use Rattle.csi_controller.specs.Counts.{AreCounted}
 use Rattle.csi_controller.proofs.Lines.{line-told, live-nowhere, held-nowhere}
 use Rattle.csi_controller.proofs.Sound.{sound-after, sound-same, sound-set, rising-one}

@@ -22,7 +22,8 @@ use Rattle.csi_controller.specs.declared.row.NodeHolding.{NodeHolding}
 use Rattle.csi_controller.specs.declared.row.ControllerRow.{ControllerRow}
 use Rattle.csi_controller.specs.Table.{serves}
 use Rattle.csi_controller.specs.Shown.{volume_of_row}
-use Rattle.csi_controller.specs.OneRow.{IsFit, RowChange, RowStays, RowEnds, RowAttaches, RowDetaches, RowOutcome, create_line, again_line, by_fault, delete_line, delete_held, publish_line, held_line, attach_line, unpublish_line, row_line}
+use Rattle.csi_controller.specs.OneRow.{IsFit, RowChange, RowStays, RowEnds, RowAttaches, RowDetaches, RowOutcome}
+use Rattle.csi_controller.specs.Lines.{create_line, again_line, by_fault, delete_line, delete_held, publish_line, held_line, attach_line, unpublish_line, row_line}
 use Rattle.csi_controller.specs.Core.{held_by}
 use Rattle.csi_controller.specs.Counts.{is_node_full}
 use Rattle.csi_controller.proofs.Recounted.{IsMove}

@@ -24,7 +24,8 @@ use Rattle.csi_controller.specs.State.{Volume, ControllerState, is_row_for, volu
 use Rattle.csi_controller.specs.Table.{controller_row, create, create_named, delete, delete_live, publish, publish_held, attach, is_full, unpublish, met, serves, refused}
 use Rattle.csi_controller.specs.Shown.{Shows, volume_of_row, holdings_in}
 use Rattle.csi_controller.specs.Core.{IsSound, IsSoundRow, held_by}
-use Rattle.csi_controller.specs.OneRow.{outcome_of, create_line, again_line, by_fault, delete_line, publish_line, held_line, attach_line, unpublish_line, row_done, row_refused, RowStays, RowDetaches, row_line}
+use Rattle.csi_controller.specs.OneRow.{outcome_of, row_done, row_refused, RowStays, RowDetaches}
+use Rattle.csi_controller.specs.Lines.{create_line, again_line, by_fault, delete_line, publish_line, held_line, attach_line, unpublish_line, row_line}
 use Rattle.csi_controller.specs.Counts.{AreCounted, is_node_full}
 use Rattle.csi_controller.proofs.Holdings.{count-rows}
 use Rattle.csi_controller.proofs.Recounted.{full-told}

@@ -41,7 +41,7 @@ use Rattle.csi_controller.specs.Fenced.{fenced_call, kept_for, carried_out, kept
 use Rattle.csi_controller.specs.Shown.{volume_of_row, holdings_in}
 use Rattle.csi_controller.specs.Core.{IsShown, IsSound, IsSoundRow, IsRising, AreCompatible, held_by, next_shown}
 use Rattle.csi_controller.specs.Step.{Answers}
-use Rattle.csi_controller.specs.OneRow.{argument_fault}
+use Rattle.csi_controller.specs.Lines.{argument_fault}
 use Rattle.csi_controller.proofs.Lines.{length-view}
 use Rattle.csi_controller.proofs.Steps.{nowhere-answers}
 

@@ -18,7 +18,9 @@ use Rattle.csi_controller.specs.Catalog.{rows_of}
 use Rattle.csi_controller.specs.Counts.{AreCounted}
 use Rattle.csi_controller.specs.Step.{Answers}
 use Rattle.csi_controller.specs.Core.{IsShown, IsSound}
-use Rattle.csi_controller.specs.OneRow.{RowOutcome, RowAnswers, IsLeft, row_line}
+use Rattle.csi_controller.specs.OneRow.{RowOutcome}
+use Rattle.csi_controller.specs.Fence.{RowAnswers, IsLeft}
+use Rattle.csi_controller.specs.Lines.{row_line}
 use Rattle.csi_controller.specs.CoreParts.{parts_of, IsKept}
 use Rattle.csi_controller.proofs.Calls.{at-place, same_id, same_name, sound-gives, sound-refused}
 use Rattle.csi_controller.proofs.Fit.{line-good}

@@ -25,7 +25,9 @@ use Rattle.csi_controller.specs.declared.row.ControllerRow.{ControllerRow}
 use Rattle.csi_controller.specs.declared.controller.state.Core.{Core}
 use Rattle.csi_controller.specs.Catalog.{rows_of}
 use Rattle.csi_controller.specs.Core.{Parts}
-use Rattle.csi_controller.specs.OneRow.{RowChange, RowStays, RowEnds, RowAttaches, RowDetaches, items_after, RowAnswers, row_line, moved_by}
+use Rattle.csi_controller.specs.OneRow.{RowChange, RowStays, RowEnds, RowAttaches, RowDetaches, items_after, moved_by}
+use Rattle.csi_controller.specs.Fence.{RowAnswers}
+use Rattle.csi_controller.specs.Lines.{row_line}
 use Rattle.csi_controller.specs.CoreParts.{parts_of}
 use Rattle.csi_controller.specs.Counts.{is_held, count_held, place_of, AreCounted, count_at, is_node_full, count_after, counted_at, recounted}
 

@@ -27,7 +27,8 @@ use Rattle.csi_controller.specs.Fenced.{kept_in, keep, carried_out, judged, fenc
 use Rattle.csi_controller.specs.Shown.{volume_of_row, holdings_in}
 use Rattle.csi_controller.specs.Core.{IsShown, held_by}
 use Rattle.csi_controller.specs.Step.{Answers}
-use Rattle.csi_controller.specs.OneRow.{RowChange, RowStays, RowEnds, RowAttaches, RowDetaches, RowOutcome, outcome_of, change_of, RowGives, row_after, live_after, items_after}
+use Rattle.csi_controller.specs.OneRow.{RowChange, RowStays, RowEnds, RowAttaches, RowDetaches, RowOutcome, outcome_of, change_of, live_after, items_after}
+use Rattle.csi_controller.specs.Fence.{RowGives, row_after}
 use Rattle.csi_controller.proofs.Holdings.{held_after, row_list-after, own_list-after, other_list-after}
 
 -- the volumes after a change of the row of this id, before the reply is kept

@@ -6,6 +6,8 @@ pub mod Rows
 pub mod Laws
 pub mod Core
 pub mod OneRow
+pub mod Lines
+pub mod Fence
 pub mod Making
 pub mod Step
 pub mod Line

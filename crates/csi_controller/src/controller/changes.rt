@@ -2,7 +2,8 @@
 ghost use Rattle.std.specs.Prelude.{◌≡◌, [], ◌∷◌, ◌++◌, not, filter, OnOk, OnErr, IfOk, IsOk};
 ghost use Rattle.csi_types.specs.Same.{same_text};
 ghost use Rattle.csi_controller.specs.Core.{IsSameRow, IsUndoing};
-ghost use Rattle.csi_controller.specs.OneRow.{live_after, items_after, held_so, row_change, moved_by};
+ghost use Rattle.csi_controller.specs.OneRow.{live_after, items_after, held_so, moved_by};
+ghost use Rattle.csi_controller.specs.Lines.{row_change};
 ghost use Rattle.csi_controller.specs.Counts.{moved_told};
 ghost use Rattle.csi_controller.specs.Shown.{volume_of_row};
 

@@ -8,7 +8,8 @@ ghost use Rattle.csi_types.specs.Fence.{verdict_of as verdict_by};
 ghost use Rattle.csi_types.specs.Reply.{has_id_by_rule};
 ghost use Rattle.csi_types.specs.Replies.{ok_reply, stale_reply, reply_frame};
 ghost use Rattle.csi_controller.specs.Core.{IsSoundRow, IsUndoing};
-ghost use Rattle.csi_controller.specs.OneRow.{RowAnswers, IsLeft, row_line};
+ghost use Rattle.csi_controller.specs.Fence.{RowAnswers, IsLeft};
+ghost use Rattle.csi_controller.specs.Lines.{row_line};
 
 use super::answer::{carried, done, frame_of, said, unkept};
 use super::changes::change;

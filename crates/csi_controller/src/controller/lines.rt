@@ -7,7 +7,8 @@ ghost use Rattle.csi_types.specs.Config.{has_node as is_configured};
 ghost use Rattle.csi_types.specs.Reply.{has_id_by_rule};
 ghost use Rattle.csi_controller.specs.Counts.{is_node_full};
 ghost use Rattle.csi_controller.specs.Line.{line_told};
-ghost use Rattle.csi_controller.specs.OneRow.{by_line, delete_line as delete_told, unpublish_line as unpublish_told, publish_line as publish_told, held_so, row_line, row_change};
+ghost use Rattle.csi_controller.specs.Lines.{by_line, delete_line as delete_told, unpublish_line as unpublish_told, publish_line as publish_told, row_line, row_change};
+ghost use Rattle.csi_controller.specs.OneRow.{held_so};
 ghost use Rattle.csi_controller.specs.OneRow.RowChange.{RowEnds, RowAttaches, RowDetaches};
 
 use super::counts::{MAX_NODES, has_node, is_full};

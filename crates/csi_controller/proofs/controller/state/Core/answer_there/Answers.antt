@@ -6,7 +6,7 @@ use Rattle.csi_types.specs.declared.config.NodeSlots.{NodeSlots}
 use Rattle.csi_types.specs.Fence.{verdict_of}
 use Rattle.csi_controller.specs.declared.row.ControllerRow.{ControllerRow}
 use Rattle.csi_controller.specs.Catalog.{rows_of}
-use Rattle.csi_controller.specs.OneRow.{RowAnswers}
+use Rattle.csi_controller.specs.Fence.{RowAnswers}
 use Rattle.csi_controller.specs.Shown.{volume_of_row}
 use Rattle.csi_controller.specs.State.{is_row_for}
 use Rattle.csi_controller.proofs.Calls.{at-place, sound-at, there-answers, let_through, repeat-there, shown-refused, either_way}

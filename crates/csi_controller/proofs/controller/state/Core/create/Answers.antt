@@ -5,7 +5,7 @@ use Rattle.csi_types.specs.declared.call.Call.TheVariants.{CreateVolume}
 use Rattle.csi_controller.specs.Fenced.{fenced_call, kept_for}
 use Rattle.csi_controller.specs.Core.{Parts, IsSound, next_shown}
 use Rattle.csi_controller.specs.Step.{Answers}
-use Rattle.csi_controller.specs.OneRow.{argument_fault}
+use Rattle.csi_controller.specs.Lines.{argument_fault}
 use Rattle.csi_controller.specs.Catalog.{rows_of}
 use Rattle.csi_controller.specs.CoreParts.{parts_of}
 use Rattle.csi_controller.proofs.Calls.{either_way}
