@@ -1,26 +1,27 @@
--- The map of a catalog, kept in the order of its rows: what a look-up finds, and what stays after a change.
-use Rattle.std.proofs.Common.{◌≡◌, ◌<◌, ◌≤◌, ◌+◌, ℕ, zero, suc, Bool, true, false, cond, not, List, [], ◌∷◌, ◌++◌, length, get_or, map, set, refl, sym, ◌∙◌, ap, subst, arith}
-use Rattle.std.specs.Prelude.{Option, Some, None, option_map, find, position, slice_get, nat_lt, Result, Ok}
+-- The rows of a catalog under their names: what a look-up finds, and what stays so after a row changed or came.
+use Rattle.std.proofs.Common.{◌≡◌, ◌<◌, ◌≤◌, ◌+◌, ◌⊎◌, inl, inr, ℕ, zero, suc, Bool, true, false, cond, not, List, [], ◌∷◌, ◌++◌, length, get_or, map, set, refl, sym, ◌∙◌, ap, subst, arith}
+use Rattle.std.specs.Prelude.{Option, Some, None, option_map, find, position, slice_get, nat_lt, nat_eq}
 use Rattle.std.specs.List.{position_or_len}
+use Rattle.std.specs.Cmp.Lexicographic.{pointwise}
 use Rattle.std.specs.Map.{keys_of, values_of, lookup}
-use Rattle.std.proofs.lemmas.List.{length-map, map_push}
-use Rattle.std.proofs.lemmas.Option.{get_or_from_slice_get}
+use Rattle.std.proofs.lemmas.List.{length-map, length-set, length_push, map_push}
+use Rattle.std.proofs.lemmas.Option.{none-some, get_or_from_slice_get}
 use Rattle.csi_lists.proofs.Searches.{find-no_place}
 use Rattle.indexmap.proofs.CallerLemmas.{insert_entry-new, index_map_len-with_value_at}
-use Rattle.indexmap.specs.IndexMap.{IndexMap, values, with_value_at, insert_entry}
+use Rattle.indexmap.specs.IndexMap.{IndexMap, values, get, spare, index_map_len, with_value_at, insert_entry}
 use Rattle.indexmap.specs.Layout.{set_value_at}
+use Rattle.csi_lists.specs.Places.{IsAt}
+use Rattle.csi_lists.proofs.Places.{same-at}
 use Rattle.csi_types.specs.Same.{same_text}
 use Rattle.csi_types.proofs.Equality.{same_text-tells}
 use Rattle.std.proofs.lemmas.Bool.{false≢true}
 use Rattle.csi_types.specs.declared.number.Number.{Number}
-use Rattle.csi_orchestrator.specs.declared.fault.OrchFault.{OrchFault}
 use Rattle.csi_orchestrator.specs.declared.going_on.Outgoing.{Outgoing}
 use Rattle.csi_orchestrator.specs.declared.row.Row.{Row}
 use Rattle.csi_orchestrator.specs.declared.catalog.Catalog.{Catalog}
-use Rattle.csi_orchestrator.specs.Catalog.{rows_of, by_name, IsIndexed}
-use Rattle.csi_orchestrator.specs.CoreMoves.{RowTold}
-use Rattle.csi_orchestrator.specs.Shown.{RowShown, Parts, row_shown}
-use Rattle.csi_orchestrator.proofs.PlacedRows.{KeepsName}
+use Rattle.csi_orchestrator.specs.Catalog.{rows_of, by_name, place_noted, HasRoom, IsIndexed, IsReady, IsNextFor, IsClosedAt, AreUpTo, AreNotedBefore, call_in, IsAfter}
+use Rattle.csi_orchestrator.specs.Shown.{RowShown, Parts, row_shown, without_call}
+use Rattle.csi_orchestrator.proofs.Standing.{at-of_get, at-within, at-set, at-set_same, at-set_other, at-push}
 
 -- ---- searches of a list that is seen through a function
 
@@ -94,9 +95,65 @@ catalog_with catalog place new = record catalog { rows = with_value_at catalog.r
 pub rows-set : (catalog : Catalog) (place : ℕ) (new : Row) → rows_of (catalog_with catalog place new) ≡ set (rows_of catalog) place new
 rows-set catalog place new = values-set catalog.rows.entries place new
 
-pub indexed-set : (catalog : Catalog) (place : ℕ) (row new : Row) → IsIndexed catalog → slice_get (rows_of catalog) place ≡ Some row → new.name ≡ row.name → IsIndexed (catalog_with catalog place new)
-indexed-set catalog place row new indexed at name =
-    record { rows = entries-set catalog.rows.entries (rows_of catalog) place row new indexed.rows at name ∙ ap (map by_name) (sym (rows-set catalog place new)) }
+pub names-set : (catalog : Catalog) (place : ℕ) (row new : Row) → catalog.rows.entries ≡ map by_name (rows_of catalog) → slice_get (rows_of catalog) place ≡ Some row → new.name ≡ row.name
+    → (catalog_with catalog place new).rows.entries ≡ map by_name (rows_of (catalog_with catalog place new))
+names-set catalog place row new names at name = entries-set catalog.rows.entries (rows_of catalog) place row new names at name ∙ ap (map by_name) (sym (rows-set catalog place new))
+
+room-set : (catalog : Catalog) (place : ℕ) (new : Row) → HasRoom catalog → HasRoom (catalog_with catalog place new)
+room-set catalog place new room =
+    let long : length (rows_of (catalog_with catalog place new)) ≡ length (rows_of catalog) = ap length (rows-set catalog place new) ∙ length-set (rows_of catalog) place new in
+    λ some. let least = room (omega (arith, long, some)) in omega (arith, long, least)
+
+-- the row's open call, if it has one, is the one that was open or the next one
+abbrev pub IsOpened : Option Number → Option Outgoing → Option Number → Type 0
+IsOpened old next new = (number : Number) → new ≡ Some number → (old ≡ Some number) ⊎ (call_in next ≡ Some number.call)
+
+-- the next call isn't noted yet
+pub next-unnoted : (catalog : Catalog) (last call : ℕ) → AreUpTo last catalog → call ≡ last + 1 → place_noted catalog call ≡ None
+next-unnoted catalog last call known is = by (place_noted catalog call) refl
+  where
+    by : (o : Option ℕ) → place_noted catalog call ≡ o → o ≡ None
+    by None e = refl
+    by (Some place) e = let least = known call place e in absurd (omega (arith, least, is))
+
+pub ready-set : (catalog : Catalog) (last place : ℕ) (row new : Row) (next : Option Outgoing) → IsIndexed catalog → AreUpTo last catalog → slice_get (rows_of catalog) place ≡ Some row → new.name ≡ row.name
+    → IsOpened row.open_number next new.open_number → IsAfter last next → IsReady (catalog_with catalog place new) place (call_in next)
+ready-set catalog last place row new next indexed known at name opened after =
+    let inside = at-within (rows_of catalog) place row (at-of_get (rows_of catalog) place row at) in
+    record {
+      rows = names-set catalog place row new indexed.rows at name;
+      found = λ other r number there is_open. by other r number is_open (at-set (rows_of catalog) place other new r (subst (λ (rs : List Row). IsAt rs other r) (rows-set catalog place new) there));
+      new = λ call is. next-unnoted catalog last call known (after call is);
+      room = room-set catalog place new indexed.noted.room;
+      free = indexed.free (omega (arith, inside));
+    }
+  where
+    own : (number : Number) → (row.open_number ≡ Some number) ⊎ (call_in next ≡ Some number.call) → (place_noted catalog number.call ≡ Some place) ⊎ ((place ≡ place) × (call_in next ≡ Some number.call))
+    own number (inl was) = inl (indexed.noted.found place row number (at-of_get (rows_of catalog) place row at) was)
+    own number (inr is) = inr (refl, is)
+
+    by : (other : ℕ) (r : Row) (number : Number) → r.open_number ≡ Some number → ((other ≡ place) × (new ≡ r)) ⊎ IsAt (rows_of catalog) other r
+        → (place_noted catalog number.call ≡ Some other) ⊎ ((other ≡ place) × (call_in next ≡ Some number.call))
+    by other r number is_open (inl here) =
+        subst (λ (n : ℕ). (place_noted catalog number.call ≡ Some n) ⊎ ((n ≡ place) × (call_in next ≡ Some number.call))) (sym here.0)
+        (own number (opened number (ap (λ (x : Row). x.open_number) here.1 ∙ is_open)))
+    by other r number is_open (inr there) = inl (indexed.noted.found other r number there is_open)
+
+-- where nothing is to be noted, all is
+pub ready-none : (catalog : Catalog) (place : ℕ) → IsReady catalog place None → IsIndexed catalog
+ready-none catalog place ready =
+    record {
+      rows = ready.rows;
+      noted = record { found = λ other row number at is_open. by other number (ready.found other row number at is_open); room = ready.room };
+      free = λ some. ready.free;
+    }
+  where
+    none_is : (call : ℕ) → ◌≡◌ {A = Option ℕ} None (Some call) → ⊥
+    none_is call h = cc
+
+    by : (other : ℕ) (number : Number) → (place_noted catalog number.call ≡ Some other) ⊎ ((other ≡ place) × (◌≡◌ {A = Option ℕ} None (Some number.call))) → place_noted catalog number.call ≡ Some other
+    by other number (inl noted) = noted
+    by other number (inr own) = absurd (none_is number.call own.1)
 
 -- as many rows stand there
 pub rows-within : (catalog : Catalog) (i : ℕ) → i < length catalog.rows.entries → i < length (rows_of catalog)
@@ -115,33 +172,68 @@ new-entries eq catalog name row indexed same none =
     insert_entry-new eq catalog.rows name row
     (ap (lookup (eq name)) indexed.rows ∙ lookup-map by_name (eq name) named (rows_of catalog) same ∙ ap (option_map (λ (other : Row). other)) (find-no_place named (rows_of catalog) none))
 
+pub put-last : (old made : Catalog) (row : Row) → made.rows ≡ old.rows → IsIndexed made → position (λ (other : Row). same_text other.name row.name) (rows_of old) ≡ None
+    → insert_entry (pointwise nat_eq) made.rows.entries row.name row ≡ made.rows.entries ++ by_name row ∷ []
+put-last old made row same indexed none =
+    new-entries (pointwise nat_eq) made row.name row indexed (λ other. text-turned row.name other.name)
+    (subst (λ (m : IndexMap (List ℕ) Row _). position (λ (other : Row). same_text other.name row.name) (values m) ≡ None) (sym same) none)
+
 pub rows-added : (old new : Catalog) (row : Row) → new.rows.entries ≡ old.rows.entries ++ by_name row ∷ [] → rows_of new ≡ rows_of old ++ row ∷ []
 rows-added old new row rows = ap values_of rows ∙ map_push (λ (e : List ℕ × Row). e.1) old.rows.entries (by_name row)
 
-pub indexed-added : (old new : Catalog) (row : Row) → IsIndexed old → new.rows.entries ≡ old.rows.entries ++ by_name row ∷ [] → IsIndexed new
-indexed-added old new row indexed rows =
-    let all : rows_of new ≡ rows_of old ++ row ∷ [] = rows-added old new row rows in
-    record { rows = rows ∙ ap (λ l. l ++ by_name row ∷ []) indexed.rows ∙ sym (map_push by_name (rows_of old) row) ∙ ap (map by_name) (sym all) }
+pub ready-added : (old made new : Catalog) (row : Row) (next : Option ℕ) → IsIndexed made → made.rows ≡ old.rows → AreNotedBefore old made → length (rows_of old) + 2 ≤ spare made.calls
+    → new.rows.entries ≡ made.rows.entries ++ by_name row ∷ [] → new.calls ≡ made.calls → IsNextFor old row.open_number next → IsReady new (length (rows_of old)) next
+ready-added old made new row next indexed same kept roomy rows calls is =
+    let all : rows_of new ≡ rows_of made ++ row ∷ [] = rows-added made new row rows in
+    let long : length (rows_of new) ≡ length (rows_of made) + 1 = ap length all ∙ length_push (rows_of made) row in
+    let before : length (rows_of made) ≡ length (rows_of old) = ap (λ (m : IndexMap (List ℕ) Row _). length (values m)) same in
+    record {
+      rows = rows ∙ ap (λ l. l ++ by_name row ∷ []) indexed.rows ∙ sym (map_push by_name (rows_of made) row) ∙ ap (map by_name) (sym all);
+      found = λ other r number there is_open. by before other r number is_open (at-push (rows_of made) other row r (subst (λ (rs : List Row). IsAt rs other r) all there));
+      new = λ call next_is. ap (λ (m : IndexMap ℕ ℕ _). get nat_eq m call) calls ∙ unnoted call (is.new call next_is) (place_noted made call) refl;
+      room = subst (λ (m : IndexMap ℕ ℕ _). 0 < length (rows_of new) → length (rows_of new) < index_map_len m + spare m) (sym calls) (λ some. omega (arith, long, before, roomy));
+      free = subst (λ (m : IndexMap ℕ ℕ _). 0 < spare m) (sym calls) (omega (arith, roomy));
+    }
+  where
+    unnoted : (call : ℕ) → place_noted old call ≡ None → (o : Option ℕ) → place_noted made call ≡ o → o ≡ None
+    unnoted call none None e = refl
+    unnoted call none (Some place) e = sym (kept call place e) ∙ none
 
-pub indexed-same : (old new : Catalog) → IsIndexed old → new.rows.entries ≡ old.rows.entries → IsIndexed new
-indexed-same old new indexed rows = record { rows = rows ∙ indexed.rows ∙ ap (λ l. map by_name (values_of l)) (sym rows) }
+    by : length (rows_of made) ≡ length (rows_of old) → (other : ℕ) (r : Row) (number : Number) → r.open_number ≡ Some number → ((other ≡ length (rows_of made)) × (row ≡ r)) ⊎ IsAt (rows_of made) other r
+        → (place_noted new number.call ≡ Some other) ⊎ ((other ≡ length (rows_of old)) × (next ≡ Some number.call))
+    by before other r number is_open (inl here) = inr (here.0 ∙ before, is.is number (ap (λ (x : Row). x.open_number) here.1 ∙ is_open))
+    by before other r number is_open (inr there) = inl (ap (λ (m : IndexMap ℕ ℕ _). get nat_eq m number.call) calls ∙ indexed.noted.found other r number there is_open)
 
-pub some-same : (a b : Row) → Some a ≡ Some b → a ≡ b
-some-same a b h = cc
+-- a row was closed at its place
+pub closed-at : (catalog : Catalog) (place : ℕ) (row : Row) → slice_get (rows_of catalog) place ≡ Some row → IsClosedAt place (rows_of catalog) (rows_of (catalog_with catalog place (without_call row)))
+closed-at catalog place row at =
+    let stands = at-of_get (rows_of catalog) place row at in
+    subst (IsClosedAt place (rows_of catalog)) (sym (rows-set catalog place (without_call row)))
+    (record {
+      long = length-set (rows_of catalog) place (without_call row);
+      there = λ other is. subst (λ (r : Row). IsAt (set (rows_of catalog) place (without_call row)) place (without_call r)) (same-at (rows_of catalog) place row other stands is) (at-set_same (rows_of catalog) place row (without_call row) stands);
+      others = λ other r is differs. at-set_other (rows_of catalog) place other (without_call row) r is differs;
+    })
 
--- and the other way round
-pub entries-within : (catalog : Catalog) (i : ℕ) → i < length (rows_of catalog) → i < length catalog.rows.entries
-entries-within catalog i inside = let long = length-map catalog.rows.entries (λ (e : List ℕ × Row). e.1) in omega (arith, long, inside)
+pub closed-nowhere : (rows : List Row) (place : ℕ) → length rows ≤ place → IsClosedAt place rows rows
+closed-nowhere rows place over =
+    record {
+      long = refl;
+      there = λ row is. let inside = at-within rows place row is in absurd (omega (arith, inside, over));
+      others = λ other row is differs. is;
+    }
 
 -- what is shown once a row was put in the place of another
 pub parts-set : (nodes : List (List ℕ)) (last : Number) (catalog : Catalog) (place : ℕ) (new : Row)
     → (let parts : Parts = record { nodes = nodes; last = last; rows = map row_shown (rows_of (catalog_with catalog place new)) } in parts) ≡ record { nodes = nodes; last = last; rows = map row_shown (set (rows_of catalog) place new) }
 parts-set nodes last catalog place new = ap (λ rows. let parts : Parts = record { nodes = nodes; last = last; rows = map row_shown rows } in parts) (rows-set catalog place new)
 
--- the catalog after a row answered, and after it refused
-pub indexed-told : (catalog : Catalog) (place : ℕ) (row new : Row) (told : Result RowTold OrchFault) (next : Option Outgoing) → IsIndexed catalog → slice_get (rows_of catalog) place ≡ Some row
-    → KeepsName row.name told → told ≡ Ok (record { outgoing = next; row = row_shown new }) → IsIndexed (catalog_with catalog place new)
-indexed-told catalog place row new told next indexed at keeps is = indexed-set catalog place row new indexed at (subst (KeepsName row.name) is keeps)
+-- a place of it is one still
+pub within-set : (catalog : Catalog) (place other : ℕ) (new : Row) → other < length catalog.rows.entries → other < length (catalog_with catalog place new).rows.entries
+within-set catalog place other new inside = let long = index_map_len-with_value_at catalog.rows place new in omega (arith, long, inside)
 
-pub indexed-refused : (catalog : Catalog) (place : ℕ) (row new : Row) → IsIndexed catalog → slice_get (rows_of catalog) place ≡ Some row → row_shown new ≡ row_shown row → IsIndexed (catalog_with catalog place new)
-indexed-refused catalog place row new indexed at same = indexed-set catalog place row new indexed at (ap (λ (r : RowShown). r.name) same)
+-- the catalog after a row refused
+pub indexed-refused : (catalog : Catalog) (last place : ℕ) (row new : Row) → IsIndexed catalog → AreUpTo last catalog → slice_get (rows_of catalog) place ≡ Some row → row_shown new ≡ row_shown row → IsIndexed (catalog_with catalog place new)
+indexed-refused catalog last place row new indexed known at same =
+    ready-none (catalog_with catalog place new) place
+    (ready-set catalog last place row new None indexed known at (ap (λ (r : RowShown). r.name) same) (λ number is_open. inl (sym (ap (λ (r : RowShown). r.open_number) same) ∙ is_open)) (λ call is. absurd (none-some call is)))

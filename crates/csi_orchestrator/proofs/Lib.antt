@@ -39,4 +39,7 @@ pub mod GivenUp
 pub mod HeardRows
 pub mod HeardParts
 pub mod Indexed
-pub mod Closing
+pub mod Standing
+pub mod Noted
+pub mod Opened
+pub mod FoundRows

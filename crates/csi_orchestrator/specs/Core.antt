@@ -1,8 +1,13 @@
 -- The parts of the orchestrator's core.
 use Rattle.std.specs.Prelude.{map}
 use Rattle.csi_orchestrator.specs.declared.inner.Core.{Core}
-use Rattle.csi_orchestrator.specs.Catalog.{rows_of}
+use Rattle.csi_orchestrator.specs.Catalog.{rows_of, IsIndexed, AreUpTo}
 use Rattle.csi_orchestrator.specs.Shown.{Parts, row_shown}
 
 abbrev pub parts_of : Core → Parts
 parts_of core = record { nodes = core.nodes.items; last = core.last; rows = map row_shown (rows_of core.catalog) }
+
+-- the rules of its catalog, in which no call after the last one is noted
+pub record IsFiled (core : Core) : Type 0 where
+  pub indexed : IsIndexed core.catalog
+  pub known : AreUpTo core.last.call core.catalog

@@ -1,9 +1,10 @@
-//! An orchestrator's rows by name. No look-up walks them.
-ghost use Rattle.std.specs.Prelude.{◌≡◌, ◌++◌, ◌∷◌, ◌<◌, [], Some, None, map, set, slice_get, position, option_map, OnOk, OnErr, IfOk, IfErr, IfSome};
+//! An orchestrator's rows by name, and by the numbers of their open calls. No look-up walks them.
+ghost use Rattle.std.specs.Prelude.{◌≡◌, ℕ, ◌+◌, ◌++◌, ◌∷◌, ◌<◌, ◌≤◌, [], Option, Some, None, length, map, false, slice_get, position, option_map, OnOk, OnErr, IfOk, IfErr, IfSome};
 ghost use Rattle.std.specs.Option.{option_copied};
-ghost use Rattle.indexmap.specs.IndexMap.{index_map_len};
+ghost use Rattle.indexmap.specs.IndexMap.{values, spare, index_map_len};
+ghost use Rattle.csi_lists.specs.Places.{IsAt};
 ghost use Rattle.csi_types.specs.Same.{same_text};
-ghost use Rattle.csi_orchestrator.specs.Catalog.{rows_of, IsIndexed};
+ghost use Rattle.csi_orchestrator.specs.Catalog.{rows_of, by_name, place_noted, IsNoted, IsNotedWith, IsIndexed, IsNextFor, IsReady, IsClosedAt, AreUpTo, AreNotedBefore};
 ghost use Rattle.csi_orchestrator.specs.Shown.{row_shown, row_of, without_call};
 
 use crate::fault::OrchFault;
@@ -12,10 +13,12 @@ use csi_types::Name;
 use indexmap::IndexMap;
 use std::alloc::{AllocError, Global};
 
-/// The rows, each under its name, in the order of the first creates.
+/// The rows, each under its name, in the order of the first creates; and where the row of each open call is, by the call's
+/// number in the session. A call that isn't open any more stays noted until room is wanted: what closes it needn't look for it.
 #[derive(Drop)]
 pub(crate) struct Catalog {
     pub rows: IndexMap<Name, Row>,
+    pub calls: IndexMap<u64, usize>,
 }
 
 // The same name again.
@@ -30,9 +33,11 @@ impl Catalog {
     pub fn new(alloc: Global) -> Catalog
         ensures rows { rows_of result ≡ [] }
         ensures indexed { IsIndexed result }
+        ensures known { (last : ℕ) → AreUpTo last result }
     {
         Catalog {
             rows: IndexMap::new(alloc),
+            calls: IndexMap::new(alloc),
         }
     }
 
@@ -63,6 +68,78 @@ impl Catalog {
         }
     }
 
+    /// Where the row of this call is, if the call is open. Another row may be there, or none, if it isn't.
+    pub fn place_of_call(&self, call: u64) -> Option<usize>
+        ensures { result ≡ place_noted self.now call }
+    {
+        match self.calls.get(&call) {
+            Some(place) => Some(*place),
+            None => None,
+        }
+    }
+
+    // Notes the open call of the row at this place, if it has one.
+    fn note_open(&mut self, place: usize)
+        requires within { place < index_map_len self.old.rows }
+        requires spare { 0 < spare self.old.calls }
+        ensures rows { self.new.rows ≡ self.old.rows }
+        ensures noted { (row : Row) → IsAt (rows_of self.old) place row → IsNotedWith place row.open_number self.old self.new }
+    {
+        if let Some(number) = self.rows[place].open_number {
+            self.calls.insert(number.call, place).unwrap();
+        }
+    }
+
+    // Notes the open calls alone. It takes no memory.
+    fn renew(&mut self)
+        requires { IsNoted self.old }
+        ensures rows { self.new.rows ≡ self.old.rows }
+        ensures noted { IsNoted self.new }
+        ensures spare { 0 < length (rows_of self.old) → 0 < spare self.new.calls }
+        ensures kept { AreNotedBefore self.old self.new }
+    {
+        self.calls.clear();
+        for place in 0..self.rows.len() {
+            self.note_open(place);
+        }
+    }
+
+    // Whether no other call can be noted without memory.
+    fn is_full(&self) -> bool
+        ensures { result ≡ false → 0 < spare self.now.calls }
+    {
+        self.calls.capacity() <= self.calls.len()
+    }
+
+    /// Notes a call of the row at this place. It takes no memory.
+    pub fn note(&mut self, call: u64, place: usize)
+        requires ready { IsReady self.old place (Some call) }
+        requires within { place < index_map_len self.old.rows }
+        ensures rows { self.new.rows ≡ self.old.rows }
+        ensures indexed { IsIndexed self.new }
+        ensures known { (last : ℕ) → AreUpTo last self.old → last < call → AreUpTo call self.new }
+    {
+        self.calls.insert(call, place).unwrap();
+        if self.is_full() {
+            self.renew();
+        }
+    }
+
+    // Makes room for the call of one more row. The rows stay as they are.
+    fn make_room(&mut self) -> Result<(), AllocError>
+        requires { IsIndexed self.old }
+        ensures rows { self.new.rows ≡ self.old.rows }
+        ensures indexed { IsIndexed self.new }
+        ensures room { OnOk result (length (rows_of self.old) + 2 ≤ spare self.new.calls) }
+        ensures kept { AreNotedBefore self.old self.new }
+    {
+        let wanted = self.rows.len() + 2;
+        if self.calls.capacity() - self.calls.len() < wanted {
+            self.renew();
+        }
+        self.calls.reserve(wanted)
+    }
+
     /// Adds the row of a name that has none, as the last one. A refusal changes nothing.
     pub fn add(&mut self, row: Row) -> Result<(), OrchFault>
         requires indexed { IsIndexed self.old }
@@ -70,31 +147,48 @@ impl Catalog {
         ensures added { OnOk result (rows_of self.new ≡ rows_of self.old ++ row ∷ []) }
         ensures err { OnErr result (rows_of self.new ≡ rows_of self.old) }
         ensures memory { IfErr result (λ fault. fault ≡ OrchFault.NoMemory) }
-        ensures indexed { IsIndexed self.new }
+        ensures indexed { OnErr result (IsIndexed self.new) }
+        ensures ready { OnOk result ((next : Option ℕ) → IsNextFor self.old row.open_number next → IsReady self.new (length (rows_of self.old)) next) }
+        ensures kept { AreNotedBefore self.old self.new }
     {
+        self.make_room()?;
         let name = copied_name(&row.name)?;
         self.rows.insert(name, row)?;
         Ok(())
     }
 
-    // Gives up the open call of the row at this place.
+    // Gives up the open call of the row at this place, if there is one.
     fn close_at(&mut self, place: usize)
-        requires indexed { IsIndexed self.old }
-        requires within { place < index_map_len self.old.rows }
-        ensures rows { (row : Row) → slice_get (rows_of self.old) place ≡ Some row → rows_of self.new ≡ set (rows_of self.old) place (without_call row) }
-        ensures indexed { IsIndexed self.new }
+        ensures rows { IsClosedAt place (rows_of self.old) (rows_of self.new) }
+        ensures names { self.old.rows.entries ≡ map by_name (rows_of self.old) → self.new.rows.entries ≡ map by_name (rows_of self.new) }
+        ensures calls { self.new.calls ≡ self.old.calls }
     {
-        self.rows[place].open_number = None;
+        if place < self.rows.len() {
+            self.rows[place].open_number = None;
+        }
     }
 
-    /// Gives up every open call.
+    // Gives up the call that was noted in this turn, if it is open.
+    fn close_noted(&mut self, turn: usize)
+        requires { turn < index_map_len self.old.calls }
+        ensures rows { (place : ℕ) → slice_get (values self.old.calls) turn ≡ Some place → IsClosedAt place (rows_of self.old) (rows_of self.new) }
+        ensures names { self.old.rows.entries ≡ map by_name (rows_of self.old) → self.new.rows.entries ≡ map by_name (rows_of self.new) }
+        ensures calls { self.new.calls ≡ self.old.calls }
+    {
+        let place = self.calls[turn];
+        self.close_at(place);
+    }
+
+    /// Gives up every open call. It costs the calls that are noted.
     pub fn close_all(&mut self)
         requires { IsIndexed self.old }
         ensures rows { rows_of self.new ≡ map without_call (rows_of self.old) }
         ensures indexed { IsIndexed self.new }
+        ensures known { (last : ℕ) → AreUpTo last self.new }
     {
-        for place in 0..self.rows.len() {
-            self.close_at(place);
+        for turn in 0..self.calls.len() {
+            self.close_noted(turn);
         }
+        self.calls.clear();
     }
 }

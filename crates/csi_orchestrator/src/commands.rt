@@ -1,8 +1,9 @@
 //! The commands: each is carried out at the row of its name.
-ghost use Rattle.std.specs.Prelude.{◌≡◌, map, position, None, Ok, IfOk, IfErr, IsOk, OnErr};
+ghost use Rattle.std.specs.Prelude.{◌≡◌, ◌<◌, map, position, None, Ok, IfOk, IfErr, IsOk, OnErr};
+ghost use Rattle.indexmap.specs.IndexMap.{index_map_len};
 ghost use Rattle.csi_types.specs.Same.{same_text};
-ghost use Rattle.csi_orchestrator.specs.Catalog.{rows_of, IsIndexed};
-ghost use Rattle.csi_orchestrator.specs.Core.{parts_of};
+ghost use Rattle.csi_orchestrator.specs.Catalog.{rows_of, IsReady, AreUpTo, call_in, IsAfter};
+ghost use Rattle.csi_orchestrator.specs.Core.{parts_of, IsFiled};
 ghost use Rattle.csi_orchestrator.specs.CoreMoves.{frame_in, last_after};
 ghost use Rattle.csi_orchestrator.specs.Moves.{ToCreate, ToUse, ToStop, ToDelete, Sends};
 ghost use Rattle.csi_orchestrator.specs.RowMoves.{IsRefusal, IsToldAs, creates, row_moves};
@@ -17,15 +18,20 @@ use crate::row_commands::{begin, create_again, delete_row, stop_row, use_row};
 use csi_types::{Capability, CapabilityList, Frame, Name, NodeId, Target};
 
 impl Core {
-    /// Counts the call that is sent, and gives its frame.
-    pub fn issue(&mut self, next: Option<Outgoing>) -> Option<Frame>
+    /// Counts the call that is sent for the row at this place, and gives its frame.
+    pub fn issue(&mut self, place: usize, next: Option<Outgoing>) -> Option<Frame>
+        requires ready { IsReady self.old.catalog place (call_in next) }
+        requires known { AreUpTo self.old.last.call self.old.catalog }
+        requires after { IsAfter self.old.last.call next }
+        requires within { place < index_map_len self.old.catalog.rows }
         ensures frame { result ≡ frame_in next }
         ensures parts { parts_of self.new ≡ record { nodes = self.old.nodes.items; last = last_after self.old.last next; rows = map row_shown (rows_of self.old.catalog) } }
-        ensures catalog { self.new.catalog ≡ self.old.catalog }
+        ensures filed { IsFiled self.new }
     {
         match next {
             Some(next) => {
                 self.last = next.number;
+                self.catalog.note(next.number.call, place);
                 Some(next.frame)
             }
             None => None,
@@ -35,18 +41,19 @@ impl Core {
     // The first create of a name.
     fn create_first(&mut self, name: Name, arguments: Arguments) -> Result<Option<Frame>, OrchFault>
         requires new_name { position (λ row. same_text row.name name) (rows_of self.old.catalog) ≡ None }
-        requires indexed { IsIndexed self.old.catalog }
+        requires filed { IsFiled self.old }
         ensures ok { IfOk result (λ sent. creates (parts_of self.old) name arguments None ≡ Ok (record { answer = Sends sent; parts = parts_of self.new })) }
         ensures err { IfErr result (IsRefusal (creates (parts_of self.old) name arguments None)) }
         ensures stays { OnErr result (parts_of self.new ≡ parts_of self.old) }
-        ensures indexed { IsIndexed self.new.catalog }
+        ensures filed { IsFiled self.new }
     {
         if let Some(fault) = first_fault(self.catalog.rows(), self.last) {
             return Err(fault);
         }
         let begun = begin(self.alloc, self.last, name, arguments)?;
+        let place = self.catalog.rows.len();
         self.catalog.add(begun.row)?;
-        Ok(self.issue(begun.next))
+        Ok(self.issue(place, begun.next))
     }
 
     /// Requests creation of a volume of this name.
@@ -57,11 +64,11 @@ impl Core {
         limit: u64,
         capabilities: CapabilityList,
     ) -> Result<Option<Frame>, OrchFault>
-        requires { IsIndexed self.old.catalog }
+        requires { IsFiled self.old }
         ensures ok { IfOk result (λ sent. row_moves (parts_of self.old) (ToCreate name (record { required = required; limit = limit; capabilities = capabilities })) ≡ Ok (record { answer = Sends sent; parts = parts_of self.new })) }
         ensures err { IfErr result (IsRefusal (row_moves (parts_of self.old) (ToCreate name (record { required = required; limit = limit; capabilities = capabilities })))) }
         ensures stays { OnErr result (parts_of self.new ≡ parts_of self.old) }
-        ensures indexed { IsIndexed self.new.catalog }
+        ensures filed { IsFiled self.new }
     {
         let arguments = Arguments {
             required,
@@ -71,7 +78,7 @@ impl Core {
         match self.catalog.place_of(&name) {
             Some(place) => {
                 let next = create_again(&mut self.catalog.rows[place], self.last, arguments)?;
-                Ok(self.issue(next))
+                Ok(self.issue(place, next))
             }
             None => self.create_first(name, arguments),
         }
@@ -86,11 +93,11 @@ impl Core {
         capability: Capability,
         readonly: bool,
     ) -> Result<Option<Frame>, OrchFault>
-        requires { IsIndexed self.old.catalog }
+        requires { IsFiled self.old }
         ensures ok { IfOk result (λ sent. row_moves (parts_of self.old) (ToUse name.now (record { node = node; target = target; capability = capability; readonly = readonly })) ≡ Ok (record { answer = Sends sent; parts = parts_of self.new })) }
         ensures err { IfErr result (IsRefusal (row_moves (parts_of self.old) (ToUse name.now (record { node = node; target = target; capability = capability; readonly = readonly })))) }
         ensures stays { OnErr result (parts_of self.new ≡ parts_of self.old) }
-        ensures indexed { IsIndexed self.new.catalog }
+        ensures filed { IsFiled self.new }
         ensures met { IsToldAs (Sends None) (row_moves (parts_of self.old) (ToUse name.now (record { node = node; target = target; capability = capability; readonly = readonly }))) → IsOk result }
     {
         let usage = Usage {
@@ -103,7 +110,7 @@ impl Core {
             Some(place) => {
                 let row = &mut self.catalog.rows[place];
                 let next = use_row(self.alloc, row, &self.nodes, self.last, usage)?;
-                Ok(self.issue(next))
+                Ok(self.issue(place, next))
             }
             None => Err(OrchFault::NoSuchVolume),
         }
@@ -116,17 +123,17 @@ impl Core {
         node: NodeId,
         target: Target,
     ) -> Result<Option<Frame>, OrchFault>
-        requires { IsIndexed self.old.catalog }
+        requires { IsFiled self.old }
         ensures ok { IfOk result (λ sent. row_moves (parts_of self.old) (ToStop name.now node target) ≡ Ok (record { answer = Sends sent; parts = parts_of self.new })) }
         ensures err { IfErr result (IsRefusal (row_moves (parts_of self.old) (ToStop name.now node target))) }
         ensures stays { OnErr result (parts_of self.new ≡ parts_of self.old) }
-        ensures indexed { IsIndexed self.new.catalog }
+        ensures filed { IsFiled self.new }
     {
         match self.catalog.place_of(name) {
             Some(place) => {
                 let row = &mut self.catalog.rows[place];
                 let next = stop_row(self.alloc, row, &self.nodes, self.last, node, target)?;
-                Ok(self.issue(next))
+                Ok(self.issue(place, next))
             }
             None => Err(OrchFault::NoSuchVolume),
         }
@@ -134,17 +141,17 @@ impl Core {
 
     /// Requests deletion. It takes no memory.
     pub fn delete(&mut self, name: &Name) -> Result<Option<Frame>, OrchFault>
-        requires { IsIndexed self.old.catalog }
+        requires { IsFiled self.old }
         ensures ok { IfOk result (λ sent. row_moves (parts_of self.old) (ToDelete name.now) ≡ Ok (record { answer = Sends sent; parts = parts_of self.new })) }
         ensures err { IfErr result (IsRefusal (row_moves (parts_of self.old) (ToDelete name.now))) }
         ensures stays { OnErr result (parts_of self.new ≡ parts_of self.old) }
-        ensures indexed { IsIndexed self.new.catalog }
+        ensures filed { IsFiled self.new }
         ensures memory { IfErr result (λ fault. fault ≡ OrchFault.NoMemory → ⊥) }
     {
         match self.catalog.place_of(name) {
             Some(place) => {
                 let next = delete_row(self.alloc, &mut self.catalog.rows[place], self.last)?;
-                Ok(self.issue(next))
+                Ok(self.issue(place, next))
             }
             None => Err(OrchFault::NoSuchVolume),
         }

@@ -5,7 +5,7 @@ ghost use Rattle.csi_orchestrator.specs.declared.fault.OrchFault.{OrchFault as F
 ghost use Rattle.csi_orchestrator.specs.Thing.{name_in};
 ghost use Rattle.csi_orchestrator.specs.Shown.{row_shown, place_shown, row_of, place_of, aim_of, mark_in, mark_of, published_in, without_call};
 ghost use Rattle.csi_orchestrator.specs.Catalog.{rows_of, IsIndexed};
-ghost use Rattle.csi_orchestrator.specs.Core.{parts_of};
+ghost use Rattle.csi_orchestrator.specs.Core.{parts_of, IsFiled};
 
 use crate::catalog::Catalog;
 use crate::fault::OrchFault;
@@ -113,12 +113,12 @@ pub(crate) fn known_in(catalog: &Catalog, thing: &Thing) -> Known
 impl Core {
     /// Starts the next session, or changes nothing where there is none.
     pub fn restart(&mut self) -> Result<(), OrchFault>
-        requires { IsIndexed self.old.catalog }
+        requires { IsFiled self.old }
         ensures ok { OnOk result (IsTrue (nat_lt (self.old.last.session + 1) (2 ^ 64))
             × (self.new.last ≡ record { session = self.old.last.session + 1; call = 0 }) × (rows_of self.new.catalog ≡ map without_call (rows_of self.old.catalog)) × (self.new.nodes.items ≡ self.old.nodes.items)) }
         ensures err { IfErr result (λ fault. (fault ≡ Fault.NumbersSpent) × IsTrue (not (nat_lt (self.old.last.session + 1) (2 ^ 64)))) }
         ensures stays { OnErr result (parts_of self.new ≡ parts_of self.old) }
-        ensures indexed { IsIndexed self.new.catalog }
+        ensures filed { IsFiled self.new }
     {
         match self.last.session.checked_add(1) {
             Some(session) => {

@@ -24,15 +24,14 @@ pub struct Orchestrator {
 
 impl Model for Orchestrator {
     ghost use Rattle.csi_orchestrator.specs.Shown.{Parts};
-    ghost use Rattle.csi_orchestrator.specs.Catalog.{IsIndexed};
-    ghost use Rattle.csi_orchestrator.specs.Core.{parts_of};
+    ghost use Rattle.csi_orchestrator.specs.Core.{parts_of, IsFiled};
     ghost use Rattle.csi_orchestrator.specs.Kept.{AreKept};
 
     ghost Value = { Parts };
 
     ghost view = { λ orchestrator. parts_of orchestrator.core };
 
-    ghost invariant = { λ orchestrator. AreKept (parts_of orchestrator.core).rows × IsIndexed orchestrator.core.catalog };
+    ghost invariant = { λ orchestrator. AreKept (parts_of orchestrator.core).rows × IsFiled orchestrator.core };
 }
 
 impl Orchestrator {

@@ -12,7 +12,7 @@ ghost use Rattle.csi_orchestrator.specs.Found.{due_shown, kind_due};
 ghost use Rattle.csi_orchestrator.specs.Hearing.{is_due_as as is_told_as, due_refused as due_then, next_heard as next_told, row_refused, row_heard};
 ghost use Rattle.csi_orchestrator.specs.Kept.{IsKept, AreKept};
 ghost use Rattle.csi_orchestrator.specs.Catalog.{rows_of, IsIndexed};
-ghost use Rattle.csi_orchestrator.specs.Core.{parts_of};
+ghost use Rattle.csi_orchestrator.specs.Core.{parts_of, IsFiled};
 
 use crate::catalog::Catalog;
 use crate::changes::{close, drop_goal, stop_use, succeed};
@@ -70,13 +70,23 @@ fn is_replied(row: &Row, number: Number, party: &Party, kind: Kind) -> bool
 
 // Where the row whose open call has this number, plugin and kind stands.
 fn place_replied(catalog: &Catalog, number: Number, party: &Party, kind: Kind) -> Option<usize>
+    requires { IsIndexed catalog.now }
     ensures place { result ≡ position (λ row. is_issued_as number party.now kind (open_in_row (row_shown row))) (rows_of catalog.now) }
     ensures within { IfSome result (λ place. place < index_map_len catalog.now.rows) }
 {
-    catalog
-        .rows()
-        .iter()
-        .position(|row| is_replied(row, number, party, kind))
+    match catalog.place_of_call(number.call) {
+        Some(place) => match catalog.rows().get(place) {
+            Some(row) => {
+                if is_replied(row, number, party, kind) {
+                    Some(place)
+                } else {
+                    None
+                }
+            }
+            None => None,
+        },
+        None => None,
+    }
 }
 
 // The call that is due for the row once its due call had another status than `Ok`: only a use that didn't come about is stopped.
@@ -148,12 +158,12 @@ impl Core {
         reply: &Reply,
     ) -> Result<Heard, OrchFault>
         requires kept { AreKept (map row_shown (rows_of self.old.catalog)) }
-        requires indexed { IsIndexed self.old.catalog }
+        requires filed { IsFiled self.old }
         ensures ok { IfOk result (λ heard. hears_reply (parts_of self.old) kind reply.now (row_replied (map row_shown (rows_of self.old.catalog)) number party.now kind)
             ≡ Ok (record { answer = Hears heard; parts = parts_of self.new })) }
         ensures err { IfErr result (IsRefusal (hears_reply (parts_of self.old) kind reply.now (row_replied (map row_shown (rows_of self.old.catalog)) number party.now kind))) }
         ensures stays { OnErr result (parts_of self.new ≡ parts_of self.old) }
-        ensures indexed { IsIndexed self.new.catalog }
+        ensures filed { IsFiled self.new }
         ensures ignored { row_replied (map row_shown (rows_of self.old.catalog)) number party.now kind ≡ None → IsOk result }
         ensures quiet { IsToldAs (hears None) (hears_reply (parts_of self.old) kind reply.now (row_replied (map row_shown (rows_of self.old.catalog)) number party.now kind)) → IsOk result }
     {
@@ -161,7 +171,7 @@ impl Core {
             Some(place) => {
                 let next = next_heard(self.last, &self.catalog.rows[place], kind, reply)?;
                 keep_reply(&mut self.catalog.rows[place], kind, reply, &next);
-                Ok(Heard::Taken(self.issue(next)))
+                Ok(Heard::Taken(self.issue(place, next)))
             }
             None => Ok(Heard::Ignored),
         }
@@ -171,11 +181,11 @@ impl Core {
     /// sent; where none is sent it takes no memory. Whatever else comes is ignored, which takes none. A refusal changes nothing.
     pub fn deliver(&mut self, frame: &Frame) -> Result<Heard, OrchFault>
         requires kept { AreKept (map row_shown (rows_of self.old.catalog)) }
-        requires indexed { IsIndexed self.old.catalog }
+        requires filed { IsFiled self.old }
         ensures ok { IfOk result (λ heard. row_moves (parts_of self.old) (Comes frame.now) ≡ Ok (record { answer = Hears heard; parts = parts_of self.new })) }
         ensures err { IfErr result (IsRefusal (row_moves (parts_of self.old) (Comes frame.now))) }
         ensures stays { OnErr result (parts_of self.new ≡ parts_of self.old) }
-        ensures indexed { IsIndexed self.new.catalog }
+        ensures filed { IsFiled self.new }
         ensures ignored { row_moves (parts_of self.old) (Comes frame.now) ≡ Ok (record { answer = Hears IsIgnored; parts = parts_of self.old }) → IsOk result }
         ensures quiet { IsToldAs (hears None) (row_moves (parts_of self.old) (Comes frame.now)) → IsOk result }
     {

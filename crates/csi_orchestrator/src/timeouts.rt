@@ -1,8 +1,7 @@
 //! Timeouts: the open call of a volume is given up, and what is due then is sent.
 ghost use Rattle.std.specs.Prelude.{◌≡◌, Ok, Some, option_map, IfOk, IfErr, OnErr};
 ghost use Rattle.csi_orchestrator.specs.declared.row.Goal.{Goal as GoalShown};
-ghost use Rattle.csi_orchestrator.specs.Catalog.{IsIndexed};
-ghost use Rattle.csi_orchestrator.specs.Core.{parts_of};
+ghost use Rattle.csi_orchestrator.specs.Core.{parts_of, IsFiled};
 ghost use Rattle.csi_orchestrator.specs.Found.{due_shown};
 ghost use Rattle.csi_orchestrator.specs.CoreMoves.{is_given_up as gives_up, goal_then, timed_out, row_times_out};
 ghost use Rattle.csi_orchestrator.specs.Moves.{TimesOut, Sends};
@@ -67,16 +66,16 @@ fn time_out(row: &mut Row, last: Number) -> Result<Option<Outgoing>, OrchFault>
 impl Core {
     /// The open call of this name timed out.
     pub fn timeout(&mut self, name: &Name) -> Result<Option<Frame>, OrchFault>
-        requires { IsIndexed self.old.catalog }
+        requires { IsFiled self.old }
         ensures ok { IfOk result (λ sent. row_moves (parts_of self.old) (TimesOut name.now) ≡ Ok (record { answer = Sends sent; parts = parts_of self.new })) }
         ensures err { IfErr result (IsRefusal (row_moves (parts_of self.old) (TimesOut name.now))) }
         ensures stays { OnErr result (parts_of self.new ≡ parts_of self.old) }
-        ensures indexed { IsIndexed self.new.catalog }
+        ensures filed { IsFiled self.new }
     {
         match self.catalog.place_of(name) {
             Some(place) => {
                 let next = time_out(&mut self.catalog.rows[place], self.last)?;
-                Ok(self.issue(next))
+                Ok(self.issue(place, next))
             }
             None => Err(OrchFault::NoSuchVolume),
         }

@@ -1,24 +1,27 @@
 -- One more at the end, or none.
-use Rattle.std.proofs.Common.{◌∙◌, ◌≡◌, ◌++◌, ◌∷◌, [], ℕ, List, ap}
+use Rattle.std.proofs.Common.{◌++◌, ◌∷◌, [], ℕ, List, ◌∙◌, ap, refl}
 use Rattle.std.specs.Prelude.{nat_eq}
 use Rattle.std.specs.Cmp.Lexicographic.{pointwise}
-use Rattle.indexmap.specs.IndexMap.{insert_entry}
-use Rattle.csi_orchestrator.specs.Catalog.{by_name}
-use Rattle.csi_orchestrator.proofs.Indexed.{text-turned, new-entries, rows-added, indexed-added}
+use Rattle.indexmap.specs.IndexMap.{insert_entry, values}
+use Rattle.csi_orchestrator.specs.declared.row.Row.{Row}
+use Rattle.csi_orchestrator.proofs.Indexed.{put-last, rows-added, ready-added}
 use Rattle.csi_orchestrator.proofs.catalog.Catalog.add.Goals as goal
 
 pub returns-clause-added : goal.returns-clause-added
 returns-clause-added c =
     let old = c.args.self.now in
-    rows-added old (record { rows = c.insert.new.self }) c.args.row
+    let made = c.make_room.new.self in
+    rows-added made (record { rows = c.insert.new.self; calls = made.calls }) c.args.row
     (c.in_ok-insert.ensures.entries
-    ∙ ap (λ (n : List ℕ). insert_entry (pointwise nat_eq) old.rows.entries n c.args.row) c.in_ok-name.ensures
-    ∙ new-entries (pointwise nat_eq) old c.args.row.name c.args.row c.requires.indexed (λ other. text-turned c.args.row.name other.name) c.requires.new_name)
+    ∙ ap (λ (n : List ℕ). insert_entry (pointwise nat_eq) made.rows.entries n c.args.row) c.in_ok-name.ensures
+    ∙ put-last old made c.args.row c.make_room.ensures.rows c.make_room.ensures.indexed c.requires.new_name)
+    ∙ ap (λ (l : List Row). l ++ c.args.row ∷ []) (ap values c.make_room.ensures.rows)
 
-pub returns-clause-indexed : goal.returns-clause-indexed
-returns-clause-indexed c =
+pub returns-clause-ready : goal.returns-clause-ready
+returns-clause-ready c = λ next is.
     let old = c.args.self.now in
-    indexed-added old (record { rows = c.insert.new.self }) c.args.row c.requires.indexed
+    let made = c.make_room.new.self in
+    ready-added old made (record { rows = c.insert.new.self; calls = made.calls }) c.args.row next c.make_room.ensures.indexed c.make_room.ensures.rows c.make_room.ensures.kept c.in_ok-make_room.ensures.room
     (c.in_ok-insert.ensures.entries
-    ∙ ap (λ (n : List ℕ). insert_entry (pointwise nat_eq) old.rows.entries n c.args.row) c.in_ok-name.ensures
-    ∙ new-entries (pointwise nat_eq) old c.args.row.name c.args.row c.requires.indexed (λ other. text-turned c.args.row.name other.name) c.requires.new_name)
+    ∙ ap (λ (n : List ℕ). insert_entry (pointwise nat_eq) made.rows.entries n c.args.row) c.in_ok-name.ensures
+    ∙ put-last old made c.args.row c.make_room.ensures.rows c.make_room.ensures.indexed c.requires.new_name) refl is

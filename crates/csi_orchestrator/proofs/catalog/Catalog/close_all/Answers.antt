@@ -1,12 +1,29 @@
--- One row more is closed.
-use Rattle.csi_orchestrator.proofs.Closing.{closed-within, closed-more, closed-all}
+-- One more call is closed.
+use Rattle.std.proofs.Common.{refl, arith}
+use Rattle.csi_orchestrator.specs.Catalog.{rows_of}
+use Rattle.csi_orchestrator.specs.declared.catalog.Catalog.{Catalog}
+use Rattle.csi_orchestrator.proofs.Noted.{turn-closed, closed-all, emptied-indexed, emptied-free, emptied-room}
 use Rattle.csi_orchestrator.proofs.catalog.Catalog.close_all.Goals as goal
 
-pub close_at-requires-clause-within : goal.close_at-requires-clause-within
-close_at-requires-clause-within c = closed-within c.args.self.now c.loop-place.self c.loop-place.place c.len-place-end.result c.loop-place.invariant.0 c.len-place-end.ensures.len c.loop-place-test.true
-
-pub loop-place-preserved : goal.loop-place-preserved
-loop-place-preserved c = (closed-more c.args.self.now c.loop-place.self c.close_at.new.self c.loop-place.place c.len-place-end.result c.loop-place.invariant.0 c.len-place-end.ensures.len c.loop-place-test.true c.close_at.ensures.rows, c.close_at.ensures.indexed)
+pub loop-turn-preserved : goal.loop-turn-preserved
+loop-turn-preserved c =
+    let long = c.len-turn-end.ensures.len in
+    let below = c.loop-turn-test.true in
+    turn-closed c.args.self.now c.loop-turn.self c.close_noted.new.self c.loop-turn.turn c.loop-turn.invariant (omega (arith, long, below)) c.close_noted.ensures.rows c.close_noted.ensures.calls c.close_noted.ensures.names
 
 pub returns-clause-rows : goal.returns-clause-rows
-returns-clause-rows c = closed-all c.args.self.now c.loop-place.self c.loop-place.place c.len-place-end.result c.loop-place.invariant.0 c.len-place-end.ensures.len c.loop-place-test.false
+returns-clause-rows c =
+    let long = c.len-turn-end.ensures.len in
+    let over = c.loop-turn-test.false in
+    closed-all c.args.self.now c.loop-turn.self c.loop-turn.turn c.requires.noted c.loop-turn.invariant (omega (arith, long, over))
+
+pub returns-clause-indexed : goal.returns-clause-indexed
+returns-clause-indexed c =
+    let then : Catalog = record { rows = c.loop-turn.self.rows; calls = c.clear.new.self } in
+    let long = c.len-turn-end.ensures.len in
+    let over = c.loop-turn-test.false in
+    emptied-indexed (rows_of c.args.self.now) c.loop-turn.self then
+    (closed-all c.args.self.now c.loop-turn.self c.loop-turn.turn c.requires.noted c.loop-turn.invariant (omega (arith, long, over)))
+    c.loop-turn.invariant.names refl c.clear.ensures.empty
+    (emptied-room c.args.self.now c.loop-turn.self then c.loop-turn.turn c.requires.noted c.loop-turn.invariant refl c.clear.ensures.capacity)
+    (emptied-free c.args.self.now c.loop-turn.self then c.loop-turn.turn c.requires.noted c.loop-turn.invariant refl c.clear.ensures.capacity)

@@ -1,7 +1,6 @@
--- The rows before this place are closed, and the others are as they were.
-use Rattle.csi_orchestrator.specs.Catalog.{rows_of, IsIndexed}
-use Rattle.csi_orchestrator.proofs.Closing.{ClosedTo}
+-- The calls before this turn are closed.
+use Rattle.csi_orchestrator.proofs.Noted.{ClosedBefore}
 use Rattle.csi_orchestrator.proofs.catalog.Catalog.close_all.Given as goal
 
-abbrev pub invariant-loop-place : goal.invariant-loop-place
-invariant-loop-place l = ClosedTo (rows_of l.fn.self) l.place (rows_of l.self) × IsIndexed l.self
+abbrev pub invariant-loop-turn : goal.invariant-loop-turn
+invariant-loop-turn l = ClosedBefore l.fn.self l.turn l.self

@@ -1,16 +1,18 @@
 -- The same row, without its open call.
-use Rattle.std.proofs.Common.{◌≡◌, sym, ◌∙◌, ap, refl, set}
-use Rattle.std.specs.Prelude.{Some}
-use Rattle.csi_orchestrator.specs.declared.row.Row.{Row}
+use Rattle.std.proofs.Common.{refl, arith}
 use Rattle.csi_orchestrator.specs.Catalog.{rows_of}
 use Rattle.csi_orchestrator.specs.Shown.{without_call}
-use Rattle.csi_orchestrator.proofs.Indexed.{rows-set, indexed-set, some-same}
+use Rattle.csi_orchestrator.proofs.Indexed.{names-set, rows-below, closed-at, closed-nowhere}
 use Rattle.csi_orchestrator.proofs.catalog.Catalog.close_at.Goals as goal
 
-pub returns-clause-rows : goal.returns-clause-rows
-returns-clause-rows c = λ row at.
-    let own : c.index_mut.result.now ≡ row = some-same c.index_mut.result.now row (sym c.index_mut.ensures.value ∙ at) in
-    rows-set c.args.self.now c.args.place (without_call c.index_mut.result.now) ∙ ap (λ (r : Row). set (rows_of c.args.self.now) c.args.place (without_call r)) own
+pub returns-then-place-len-clause-rows : goal.returns-then-place-len-clause-rows
+returns-then-place-len-clause-rows c = closed-at c.args.self.now c.args.place c.index_mut.result.now c.index_mut.ensures.value
 
-pub returns-clause-indexed : goal.returns-clause-indexed
-returns-clause-indexed c = indexed-set c.args.self.now c.args.place c.index_mut.result.now (without_call c.index_mut.result.now) c.requires.indexed c.index_mut.ensures.value refl
+pub returns-then-place-len-clause-names : goal.returns-then-place-len-clause-names
+returns-then-place-len-clause-names c = λ names. names-set c.args.self.now c.args.place c.index_mut.result.now (without_call c.index_mut.result.now) names c.index_mut.ensures.value refl
+
+pub returns-else-place-len-clause-rows : goal.returns-else-place-len-clause-rows
+returns-else-place-len-clause-rows c =
+    let long = c.len.ensures.len in
+    let over = c.if-place-len.false in
+    closed-nowhere (rows_of c.args.self.now) c.args.place (rows-below c.args.self.now c.args.place (omega (arith, long, over)))

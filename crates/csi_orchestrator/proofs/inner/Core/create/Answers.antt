@@ -1,7 +1,7 @@
 -- At the row of the name, or with a new one.
 use Rattle.std.proofs.Common.{◌≡◌, sym, subst, ◌∙◌}
 use Rattle.std.specs.Prelude.{Option, IfOk, IfErr}
-use Rattle.csi_orchestrator.specs.Catalog.{rows_of, IsIndexed}
+use Rattle.csi_orchestrator.specs.Catalog.{rows_of}
 use Rattle.csi_orchestrator.specs.Core.{parts_of}
 use Rattle.csi_orchestrator.specs.CoreMoves.{row_creates, last_after}
 use Rattle.csi_orchestrator.specs.Found.{with_last}
@@ -10,7 +10,8 @@ use Rattle.csi_orchestrator.specs.RowMoves.{told, creates, IsRefusal}
 use Rattle.csi_orchestrator.specs.Shown.{RowShown, row_shown}
 use Rattle.csi_orchestrator.proofs.RowsGoOn.{passed-on, holds-at_err}
 use Rattle.csi_orchestrator.proofs.CalledRows.{shown-nowhere, called-refused, called-told, create-called, rows-stay}
-use Rattle.csi_orchestrator.proofs.Indexed.{read-at, parts-set, indexed-told, indexed-refused}
+use Rattle.csi_orchestrator.proofs.Indexed.{read-at, parts-set, within-set, indexed-refused}
+use Rattle.csi_orchestrator.proofs.Opened.{ready-told, creates-goes}
 use Rattle.csi_orchestrator.proofs.PlacedRows.{creates-keeps}
 use Rattle.csi_orchestrator.proofs.inner.Core.create.Goals as goal
 
@@ -47,12 +48,27 @@ returns-in-None-clause-err c =
     subst (λ (row : Option RowShown). IfErr c.create_first.result (IsRefusal (creates (parts_of c.args.self.now) c.args.name (record { required = c.args.required; limit = c.args.limit; capabilities = c.args.capabilities }) row)))
     (sym (shown-nowhere (rows_of c.args.self.now.catalog) c.args.name (sym c.in-None.ensures.place))) c.create_first.ensures.err
 
-pub returns-in_err-next-in-Some-clause-indexed : goal.returns-in_err-next-in-Some-clause-indexed
-returns-in_err-next-in-Some-clause-indexed c = indexed-refused c.args.self.now.catalog c.in-Some.place c.index_mut.result.now c.create_again.new.row c.requires c.index_mut.ensures.value c.in_err-next-in-Some.ensures.stays
+pub returns-in_err-next-in-Some-clause-filed : goal.returns-in_err-next-in-Some-clause-filed
+returns-in_err-next-in-Some-clause-filed c =
+    let filed = c.requires in
+    record {
+      indexed = indexed-refused c.args.self.now.catalog c.args.self.now.last.call c.in-Some.place c.index_mut.result.now c.create_again.new.row filed.indexed filed.known c.index_mut.ensures.value c.in_err-next-in-Some.ensures.stays;
+      known = filed.known;
+    }
 
-pub returns-in_ok-next-in-Some-clause-indexed : goal.returns-in_ok-next-in-Some-clause-indexed
-returns-in_ok-next-in-Some-clause-indexed c =
+pub issue-requires-clause-ready : goal.issue-requires-clause-ready
+issue-requires-clause-ready c =
     let core = c.args.self.now in
-    subst IsIndexed (sym c.issue.ensures.catalog)
-    (indexed-told core.catalog c.in-Some.place c.index_mut.result.now c.create_again.new.row _ c.in_ok-next-in-Some.next c.requires c.index_mut.ensures.value
-    (creates-keeps (with_last core.last) (record { required = c.args.required; limit = c.args.limit; capabilities = c.args.capabilities }) (row_shown c.index_mut.result.now)) c.in_ok-next-in-Some.ensures.ok)
+    let filed = c.requires in
+    (ready-told core.catalog core.last c.in-Some.place c.index_mut.result.now c.create_again.new.row _ c.in_ok-next-in-Some.next filed.indexed filed.known c.index_mut.ensures.value
+    (creates-keeps (with_last core.last) (record { required = c.args.required; limit = c.args.limit; capabilities = c.args.capabilities }) (row_shown c.index_mut.result.now)) (creates-goes (with_last core.last) (record { required = c.args.required; limit = c.args.limit; capabilities = c.args.capabilities }) (row_shown c.index_mut.result.now)) c.in_ok-next-in-Some.ensures.ok).0
+
+pub issue-requires-clause-after : goal.issue-requires-clause-after
+issue-requires-clause-after c =
+    let core = c.args.self.now in
+    let filed = c.requires in
+    (ready-told core.catalog core.last c.in-Some.place c.index_mut.result.now c.create_again.new.row _ c.in_ok-next-in-Some.next filed.indexed filed.known c.index_mut.ensures.value
+    (creates-keeps (with_last core.last) (record { required = c.args.required; limit = c.args.limit; capabilities = c.args.capabilities }) (row_shown c.index_mut.result.now)) (creates-goes (with_last core.last) (record { required = c.args.required; limit = c.args.limit; capabilities = c.args.capabilities }) (row_shown c.index_mut.result.now)) c.in_ok-next-in-Some.ensures.ok).1
+
+pub issue-requires-clause-within : goal.issue-requires-clause-within
+issue-requires-clause-within c = within-set c.args.self.now.catalog c.in-Some.place c.in-Some.place c.create_again.new.row c.in-Some.ensures.within

@@ -1,9 +1,9 @@
 -- The new row comes last.
-use Rattle.std.proofs.Common.{◌≡◌, ℕ, List, map, sym, ◌∙◌, ap, subst}
+use Rattle.std.proofs.Common.{◌≡◌, ℕ, List, length, map, sym, ◌∙◌, ap, subst}
 use Rattle.std.specs.Prelude.{Option, None, Ok, position}
 use Rattle.csi_types.specs.declared.number.Number.{Number}
 use Rattle.csi_types.specs.Same.{same_text}
-use Rattle.csi_orchestrator.specs.Catalog.{rows_of}
+use Rattle.csi_orchestrator.specs.Catalog.{rows_of, IsReady, call_in}
 use Rattle.csi_orchestrator.specs.Core.{parts_of}
 use Rattle.csi_orchestrator.specs.CoreMoves.{row_goes_on, last_after}
 use Rattle.csi_orchestrator.specs.declared.going_on.Outgoing.{Outgoing}
@@ -15,6 +15,8 @@ use Rattle.csi_orchestrator.specs.Found.{with_rows}
 use Rattle.csi_orchestrator.specs.RowMoves.{first_fault}
 use Rattle.csi_orchestrator.specs.Shown.{Parts, row_shown}
 use Rattle.csi_orchestrator.proofs.CalledRows.{first-told}
+use Rattle.std.proofs.lemmas.List.{length-map}
+use Rattle.csi_orchestrator.proofs.Opened.{next-created}
 use Rattle.csi_orchestrator.proofs.inner.Core.create_first.Goals as goal
 
 pub returns-clause-ok : goal.returns-clause-ok
@@ -33,3 +35,19 @@ pub add-requires-clause-new_name : goal.add-requires-clause-new_name
 add-requires-clause-new_name c =
     subst (λ (n : List ℕ). position (λ (other : Row). same_text other.name n) (rows_of c.args.self.now.catalog) ≡ None)
     (sym (own-name c.args.name c.args.arguments c.args.self.now.last c.in_ok-begun.begun.next c.in_ok-begun.begun.row c.in_ok-begun.ensures.ok)) c.requires.new_name
+
+pub issue-requires-clause-ready : goal.issue-requires-clause-ready
+issue-requires-clause-ready c =
+    let core = c.args.self.now in
+    let next = c.in_ok-begun.begun.next in
+    let long : length (rows_of core.catalog) ≡ c.len-place.result = length-map core.catalog.rows.entries (λ (e : List ℕ × Row). e.1) ∙ sym c.len-place.ensures.len in
+    subst (λ (n : ℕ). IsReady c.add.new.self n (call_in next)) long
+    (c.in_ok-add.ensures.ready (call_in next) (next-created core.catalog core.last c.args.name c.args.arguments c.in_ok-begun.begun.row next c.requires.filed.known c.in_ok-begun.ensures.ok).0)
+
+pub issue-requires-clause-after : goal.issue-requires-clause-after
+issue-requires-clause-after c =
+    let core = c.args.self.now in
+    (next-created core.catalog core.last c.args.name c.args.arguments c.in_ok-begun.begun.row c.in_ok-begun.begun.next c.requires.filed.known c.in_ok-begun.ensures.ok).1
+
+pub issue-requires-clause-known : goal.issue-requires-clause-known
+issue-requires-clause-known c = λ call place noted. c.requires.filed.known call place (c.add.ensures.kept call place noted)

@@ -1,8 +1,8 @@
 -- The row that the reply is to is found, and written where it stands.
-use Rattle.std.proofs.Common.{◌≡◌, Some, get_or, refl, sym, ◌∙◌, ap, subst}
+use Rattle.std.proofs.Common.{◌≡◌, Some, get_or, refl, sym, ◌∙◌, ap}
 use Rattle.std.specs.Prelude.{position}
 use Rattle.std.proofs.lemmas.Result.{err_from_is_err_and}
-use Rattle.csi_orchestrator.specs.Catalog.{rows_of, IsIndexed}
+use Rattle.csi_orchestrator.specs.Catalog.{rows_of}
 use Rattle.csi_orchestrator.specs.Core.{parts_of}
 use Rattle.csi_orchestrator.specs.declared.row.Row.{Row}
 use Rattle.csi_orchestrator.specs.CoreMoves.{last_after}
@@ -10,7 +10,8 @@ use Rattle.csi_orchestrator.specs.Moves.{hears}
 use Rattle.csi_orchestrator.specs.Shown.{RowShown, Parts, row_shown, open_in_row}
 use Rattle.csi_orchestrator.specs.RowMoves.{told, is_issued_as, hears_reply}
 use Rattle.csi_orchestrator.proofs.HeardParts.{kept-there, kind-there, heard-there, quiet-there, refused-there, found-differs, unfound, same-heard}
-use Rattle.csi_orchestrator.proofs.Indexed.{read-at, parts-set, indexed-set}
+use Rattle.csi_orchestrator.proofs.Indexed.{read-at, parts-set, within-set}
+use Rattle.csi_orchestrator.proofs.Opened.{after-heard, ready-heard}
 use Rattle.csi_orchestrator.proofs.inner.Core.hear.Goals as goal
 
 pub next_heard-requires-clause-kept : goal.next_heard-requires-clause-kept
@@ -50,8 +51,16 @@ returns-in_err-next-in-Some-clause-quiet c = λ told.
     let ok = c.in_err-next-in-Some.ensures.quiet quiet in
     cc
 
-pub returns-in_ok-next-in-Some-clause-indexed : goal.returns-in_ok-next-in-Some-clause-indexed
-returns-in_ok-next-in-Some-clause-indexed c =
-    subst IsIndexed (sym c.issue.ensures.catalog)
-    (indexed-set c.args.self.now.catalog c.in-Some.place c.index_mut.result.now c.keep_reply.new.row c.requires.indexed c.index_mut.ensures.value
-    (ap (λ (r : RowShown). r.name) c.keep_reply.ensures ∙ same-heard c.args.kind c.args.reply.now (row_shown c.index_mut.result.now) c.in_ok-next-in-Some.next))
+pub issue-requires-clause-ready : goal.issue-requires-clause-ready
+issue-requires-clause-ready c =
+    let core = c.args.self.now in
+    let filed = c.requires.filed in
+    ready-heard core.catalog core.last c.in-Some.place c.index_mut.result.now c.keep_reply.new.row c.args.kind c.args.reply.now c.in_ok-next-in-Some.next filed.indexed filed.known c.index_mut.ensures.value
+    (ap (λ (r : RowShown). r.name) c.keep_reply.ensures ∙ same-heard c.args.kind c.args.reply.now (row_shown c.index_mut.result.now) c.in_ok-next-in-Some.next) c.keep_reply.ensures
+    (after-heard core.last c.args.kind c.args.reply.now (row_shown c.index.result.now) c.in_ok-next-in-Some.next c.in_ok-next-in-Some.ensures.ok)
+
+pub issue-requires-clause-after : goal.issue-requires-clause-after
+issue-requires-clause-after c = after-heard c.args.self.now.last c.args.kind c.args.reply.now (row_shown c.index.result.now) c.in_ok-next-in-Some.next c.in_ok-next-in-Some.ensures.ok
+
+pub issue-requires-clause-within : goal.issue-requires-clause-within
+issue-requires-clause-within c = within-set c.args.self.now.catalog c.in-Some.place c.in-Some.place c.keep_reply.new.row c.in-Some.ensures.within

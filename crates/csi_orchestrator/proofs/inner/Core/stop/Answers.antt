@@ -1,7 +1,7 @@
 -- At the row of the name.
-use Rattle.std.proofs.Common.{refl, sym, subst, ◌∙◌}
+use Rattle.std.proofs.Common.{refl, sym, ◌∙◌}
 use Rattle.csi_orchestrator.specs.declared.fault.OrchFault.TheVariants.{NoSuchVolume}
-use Rattle.csi_orchestrator.specs.Catalog.{rows_of, IsIndexed}
+use Rattle.csi_orchestrator.specs.Catalog.{rows_of}
 use Rattle.csi_orchestrator.specs.Core.{parts_of}
 use Rattle.csi_orchestrator.specs.CoreMoves.{row_stops, last_after}
 use Rattle.csi_orchestrator.specs.Found.{without_rows}
@@ -9,7 +9,8 @@ use Rattle.csi_orchestrator.specs.RowMoves.{stops}
 use Rattle.csi_orchestrator.specs.Shown.{row_shown}
 use Rattle.csi_orchestrator.proofs.RowsGoOn.{passed-on, holds-at_err}
 use Rattle.csi_orchestrator.proofs.CalledRows.{refused-nowhere, called-refused, called-told, stop-called, rows-stay}
-use Rattle.csi_orchestrator.proofs.Indexed.{read-at, parts-set, indexed-told, indexed-refused}
+use Rattle.csi_orchestrator.proofs.Indexed.{read-at, parts-set, within-set, indexed-refused}
+use Rattle.csi_orchestrator.proofs.Opened.{ready-told, stops-goes}
 use Rattle.csi_orchestrator.proofs.PlacedRows.{stops-keeps}
 use Rattle.csi_orchestrator.proofs.inner.Core.stop.Goals as goal
 
@@ -39,12 +40,27 @@ returns-in_ok-next-in-Some-clause-ok c =
 pub returns-in-None-clause-err : goal.returns-in-None-clause-err
 returns-in-None-clause-err c = refused-nowhere (stops (parts_of c.args.self.now) c.args.node c.args.target) (rows_of c.args.self.now.catalog) c.args.name.now NoSuchVolume (sym c.in-None.ensures.place) refl
 
-pub returns-in_err-next-in-Some-clause-indexed : goal.returns-in_err-next-in-Some-clause-indexed
-returns-in_err-next-in-Some-clause-indexed c = indexed-refused c.args.self.now.catalog c.in-Some.place c.index_mut-row.result.now c.stop_row.new.row c.requires c.index_mut-row.ensures.value c.in_err-next-in-Some.ensures.stays
+pub returns-in_err-next-in-Some-clause-filed : goal.returns-in_err-next-in-Some-clause-filed
+returns-in_err-next-in-Some-clause-filed c =
+    let filed = c.requires in
+    record {
+      indexed = indexed-refused c.args.self.now.catalog c.args.self.now.last.call c.in-Some.place c.index_mut-row.result.now c.stop_row.new.row filed.indexed filed.known c.index_mut-row.ensures.value c.in_err-next-in-Some.ensures.stays;
+      known = filed.known;
+    }
 
-pub returns-in_ok-next-in-Some-clause-indexed : goal.returns-in_ok-next-in-Some-clause-indexed
-returns-in_ok-next-in-Some-clause-indexed c =
+pub issue-requires-clause-ready : goal.issue-requires-clause-ready
+issue-requires-clause-ready c =
     let core = c.args.self.now in
-    subst IsIndexed (sym c.issue.ensures.catalog)
-    (indexed-told core.catalog c.in-Some.place c.index_mut-row.result.now c.stop_row.new.row _ c.in_ok-next-in-Some.next c.requires c.index_mut-row.ensures.value
-    (stops-keeps (without_rows c.deref.result.now core.last) c.args.node c.args.target (row_shown c.index_mut-row.result.now)) c.in_ok-next-in-Some.ensures.ok)
+    let filed = c.requires in
+    (ready-told core.catalog core.last c.in-Some.place c.index_mut-row.result.now c.stop_row.new.row _ c.in_ok-next-in-Some.next filed.indexed filed.known c.index_mut-row.ensures.value
+    (stops-keeps (without_rows c.deref.result.now core.last) c.args.node c.args.target (row_shown c.index_mut-row.result.now)) (stops-goes (without_rows c.deref.result.now core.last) c.args.node c.args.target (row_shown c.index_mut-row.result.now)) c.in_ok-next-in-Some.ensures.ok).0
+
+pub issue-requires-clause-after : goal.issue-requires-clause-after
+issue-requires-clause-after c =
+    let core = c.args.self.now in
+    let filed = c.requires in
+    (ready-told core.catalog core.last c.in-Some.place c.index_mut-row.result.now c.stop_row.new.row _ c.in_ok-next-in-Some.next filed.indexed filed.known c.index_mut-row.ensures.value
+    (stops-keeps (without_rows c.deref.result.now core.last) c.args.node c.args.target (row_shown c.index_mut-row.result.now)) (stops-goes (without_rows c.deref.result.now core.last) c.args.node c.args.target (row_shown c.index_mut-row.result.now)) c.in_ok-next-in-Some.ensures.ok).1
+
+pub issue-requires-clause-within : goal.issue-requires-clause-within
+issue-requires-clause-within c = within-set c.args.self.now.catalog c.in-Some.place c.in-Some.place c.stop_row.new.row c.in-Some.ensures.within

@@ -1,14 +1,15 @@
 -- At the row of the name.
-use Rattle.std.proofs.Common.{refl, sym, subst, ◌∙◌}
+use Rattle.std.proofs.Common.{refl, sym, ◌∙◌}
 use Rattle.csi_orchestrator.specs.declared.fault.OrchFault.TheVariants.{NoSuchVolume}
-use Rattle.csi_orchestrator.specs.Catalog.{rows_of, IsIndexed}
+use Rattle.csi_orchestrator.specs.Catalog.{rows_of}
 use Rattle.csi_orchestrator.specs.Core.{parts_of}
 use Rattle.csi_orchestrator.specs.CoreMoves.{row_times_out, last_after}
 use Rattle.csi_orchestrator.specs.RowMoves.{times_out}
 use Rattle.csi_orchestrator.specs.Shown.{row_shown}
 use Rattle.csi_orchestrator.proofs.RowsGoOn.{passed-on, holds-at_err}
 use Rattle.csi_orchestrator.proofs.CalledRows.{refused-nowhere, called-refused, called-told, timeout-called, rows-stay}
-use Rattle.csi_orchestrator.proofs.Indexed.{read-at, parts-set, indexed-told, indexed-refused}
+use Rattle.csi_orchestrator.proofs.Indexed.{read-at, parts-set, within-set, indexed-refused}
+use Rattle.csi_orchestrator.proofs.Opened.{ready-told, times-out-goes}
 use Rattle.csi_orchestrator.proofs.PlacedRows.{times-out-keeps}
 use Rattle.csi_orchestrator.proofs.inner.Core.timeout.Goals as goal
 
@@ -38,12 +39,27 @@ returns-in_ok-next-in-Some-clause-ok c =
 pub returns-in-None-clause-err : goal.returns-in-None-clause-err
 returns-in-None-clause-err c = refused-nowhere (times_out (parts_of c.args.self.now)) (rows_of c.args.self.now.catalog) c.args.name.now NoSuchVolume (sym c.in-None.ensures.place) refl
 
-pub returns-in_err-next-in-Some-clause-indexed : goal.returns-in_err-next-in-Some-clause-indexed
-returns-in_err-next-in-Some-clause-indexed c = indexed-refused c.args.self.now.catalog c.in-Some.place c.index_mut.result.now c.time_out.new.row c.requires c.index_mut.ensures.value c.in_err-next-in-Some.ensures.stays
+pub returns-in_err-next-in-Some-clause-filed : goal.returns-in_err-next-in-Some-clause-filed
+returns-in_err-next-in-Some-clause-filed c =
+    let filed = c.requires in
+    record {
+      indexed = indexed-refused c.args.self.now.catalog c.args.self.now.last.call c.in-Some.place c.index_mut.result.now c.time_out.new.row filed.indexed filed.known c.index_mut.ensures.value c.in_err-next-in-Some.ensures.stays;
+      known = filed.known;
+    }
 
-pub returns-in_ok-next-in-Some-clause-indexed : goal.returns-in_ok-next-in-Some-clause-indexed
-returns-in_ok-next-in-Some-clause-indexed c =
+pub issue-requires-clause-ready : goal.issue-requires-clause-ready
+issue-requires-clause-ready c =
     let core = c.args.self.now in
-    subst IsIndexed (sym c.issue.ensures.catalog)
-    (indexed-told core.catalog c.in-Some.place c.index_mut.result.now c.time_out.new.row _ c.in_ok-next-in-Some.next c.requires c.index_mut.ensures.value
-    (times-out-keeps core.last (row_shown c.index_mut.result.now)) c.in_ok-next-in-Some.ensures.ok)
+    let filed = c.requires in
+    (ready-told core.catalog core.last c.in-Some.place c.index_mut.result.now c.time_out.new.row _ c.in_ok-next-in-Some.next filed.indexed filed.known c.index_mut.ensures.value
+    (times-out-keeps core.last (row_shown c.index_mut.result.now)) (times-out-goes core.last (row_shown c.index_mut.result.now)) c.in_ok-next-in-Some.ensures.ok).0
+
+pub issue-requires-clause-after : goal.issue-requires-clause-after
+issue-requires-clause-after c =
+    let core = c.args.self.now in
+    let filed = c.requires in
+    (ready-told core.catalog core.last c.in-Some.place c.index_mut.result.now c.time_out.new.row _ c.in_ok-next-in-Some.next filed.indexed filed.known c.index_mut.ensures.value
+    (times-out-keeps core.last (row_shown c.index_mut.result.now)) (times-out-goes core.last (row_shown c.index_mut.result.now)) c.in_ok-next-in-Some.ensures.ok).1
+
+pub issue-requires-clause-within : goal.issue-requires-clause-within
+issue-requires-clause-within c = within-set c.args.self.now.catalog c.in-Some.place c.in-Some.place c.time_out.new.row c.in-Some.ensures.within

@@ -1,7 +1,7 @@
 -- At the row of the name.
 use Rattle.std.proofs.Common.{None, refl, subst, sym, ◌∙◌}
 use Rattle.csi_orchestrator.specs.declared.fault.OrchFault.TheVariants.{NoSuchVolume}
-use Rattle.csi_orchestrator.specs.Catalog.{rows_of, IsIndexed}
+use Rattle.csi_orchestrator.specs.Catalog.{rows_of}
 use Rattle.csi_orchestrator.specs.Core.{parts_of}
 use Rattle.csi_orchestrator.specs.CoreMoves.{row_uses, last_after}
 use Rattle.csi_orchestrator.specs.Found.{without_rows}
@@ -11,7 +11,8 @@ use Rattle.csi_orchestrator.specs.Shown.{row_shown}
 use Rattle.csi_orchestrator.proofs.RowsGoOn.{passed-on, holds-at_err}
 use Rattle.csi_orchestrator.proofs.CalledRows.{shown-nowhere, refused-nowhere, called-refused, called-told, use-called, rows-stay}
 use Rattle.csi_orchestrator.proofs.MetUses.{met-there}
-use Rattle.csi_orchestrator.proofs.Indexed.{read-at, parts-set, indexed-told, indexed-refused}
+use Rattle.csi_orchestrator.proofs.Indexed.{read-at, parts-set, within-set, indexed-refused}
+use Rattle.csi_orchestrator.proofs.Opened.{ready-told, uses-goes}
 use Rattle.csi_orchestrator.proofs.PlacedRows.{uses-keeps}
 use Rattle.csi_orchestrator.proofs.inner.Core.use_at.Goals as goal
 
@@ -52,12 +53,27 @@ pub returns-in-None-clause-met : goal.returns-in-None-clause-met
 returns-in-None-clause-met c = λ told.
     absurd (subst (λ o. IsToldAs (Sends None) (uses (parts_of c.args.self.now) (record { node = c.args.node; target = c.args.target; capability = c.args.capability; readonly = c.args.readonly }) o)) (shown-nowhere (rows_of c.args.self.now.catalog) c.args.name.now (sym c.in-None.ensures.place)) told)
 
-pub returns-in_err-next-in-Some-clause-indexed : goal.returns-in_err-next-in-Some-clause-indexed
-returns-in_err-next-in-Some-clause-indexed c = indexed-refused c.args.self.now.catalog c.in-Some.place c.index_mut-row.result.now c.use_row.new.row c.requires c.index_mut-row.ensures.value c.in_err-next-in-Some.ensures.stays
+pub returns-in_err-next-in-Some-clause-filed : goal.returns-in_err-next-in-Some-clause-filed
+returns-in_err-next-in-Some-clause-filed c =
+    let filed = c.requires in
+    record {
+      indexed = indexed-refused c.args.self.now.catalog c.args.self.now.last.call c.in-Some.place c.index_mut-row.result.now c.use_row.new.row filed.indexed filed.known c.index_mut-row.ensures.value c.in_err-next-in-Some.ensures.stays;
+      known = filed.known;
+    }
 
-pub returns-in_ok-next-in-Some-clause-indexed : goal.returns-in_ok-next-in-Some-clause-indexed
-returns-in_ok-next-in-Some-clause-indexed c =
+pub issue-requires-clause-ready : goal.issue-requires-clause-ready
+issue-requires-clause-ready c =
     let core = c.args.self.now in
-    subst IsIndexed (sym c.issue.ensures.catalog)
-    (indexed-told core.catalog c.in-Some.place c.index_mut-row.result.now c.use_row.new.row _ c.in_ok-next-in-Some.next c.requires c.index_mut-row.ensures.value
-    (uses-keeps (without_rows c.deref.result.now core.last) (record { node = c.args.node; target = c.args.target; capability = c.args.capability; readonly = c.args.readonly }) (row_shown c.index_mut-row.result.now)) c.in_ok-next-in-Some.ensures.ok)
+    let filed = c.requires in
+    (ready-told core.catalog core.last c.in-Some.place c.index_mut-row.result.now c.use_row.new.row _ c.in_ok-next-in-Some.next filed.indexed filed.known c.index_mut-row.ensures.value
+    (uses-keeps (without_rows c.deref.result.now core.last) (record { node = c.args.node; target = c.args.target; capability = c.args.capability; readonly = c.args.readonly }) (row_shown c.index_mut-row.result.now)) (uses-goes (without_rows c.deref.result.now core.last) (record { node = c.args.node; target = c.args.target; capability = c.args.capability; readonly = c.args.readonly }) (row_shown c.index_mut-row.result.now)) c.in_ok-next-in-Some.ensures.ok).0
+
+pub issue-requires-clause-after : goal.issue-requires-clause-after
+issue-requires-clause-after c =
+    let core = c.args.self.now in
+    let filed = c.requires in
+    (ready-told core.catalog core.last c.in-Some.place c.index_mut-row.result.now c.use_row.new.row _ c.in_ok-next-in-Some.next filed.indexed filed.known c.index_mut-row.ensures.value
+    (uses-keeps (without_rows c.deref.result.now core.last) (record { node = c.args.node; target = c.args.target; capability = c.args.capability; readonly = c.args.readonly }) (row_shown c.index_mut-row.result.now)) (uses-goes (without_rows c.deref.result.now core.last) (record { node = c.args.node; target = c.args.target; capability = c.args.capability; readonly = c.args.readonly }) (row_shown c.index_mut-row.result.now)) c.in_ok-next-in-Some.ensures.ok).1
+
+pub issue-requires-clause-within : goal.issue-requires-clause-within
+issue-requires-clause-within c = within-set c.args.self.now.catalog c.in-Some.place c.in-Some.place c.use_row.new.row c.in-Some.ensures.within

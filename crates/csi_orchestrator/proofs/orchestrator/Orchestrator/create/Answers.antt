@@ -7,7 +7,7 @@ use Rattle.csi_orchestrator.proofs.Promised.{ok-promised, err-promised, kept-pro
 use Rattle.csi_orchestrator.proofs.orchestrator.Orchestrator.create.Goals as goal
 
 pub invariant_of-self : goal.invariant_of-self
-invariant_of-self c = ((kept-promised c.create.result Sends (parts_of c.self.inside.core) (parts_of c.create.new.self) (ToCreate c.args.name (record { required = c.args.required; limit = c.args.limit; capabilities = c.args.capabilities })) c.self.invariant.0 c.create.ensures.ok c.create.ensures.stays).0, c.create.ensures.indexed)
+invariant_of-self c = ((kept-promised c.create.result Sends (parts_of c.self.inside.core) (parts_of c.create.new.self) (ToCreate c.args.name (record { required = c.args.required; limit = c.args.limit; capabilities = c.args.capabilities })) c.self.invariant.0 c.create.ensures.ok c.create.ensures.stays).0, c.create.ensures.filed)
 
 pub returns-clause-ok : goal.returns-clause-ok
 returns-clause-ok c = ok-promised c.create.result Sends (parts_of c.self.inside.core) c.args.self.now (parts_of c.create.new.self) (ToCreate c.args.name (record { required = c.args.required; limit = c.args.limit; capabilities = c.args.capabilities })) c.self.view_is c.self.invariant.0 c.create.ensures.ok

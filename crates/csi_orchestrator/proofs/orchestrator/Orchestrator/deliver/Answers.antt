@@ -9,7 +9,7 @@ use Rattle.csi_orchestrator.proofs.Promised.{ok-promised, err-promised, kept-pro
 use Rattle.csi_orchestrator.proofs.orchestrator.Orchestrator.deliver.Goals as goal
 
 pub invariant_of-self : goal.invariant_of-self
-invariant_of-self c = ((kept-promised c.deliver.result Hears (parts_of c.self.inside.core) (parts_of c.deliver.new.self) (Comes c.args.frame.now) c.self.invariant.0 c.deliver.ensures.ok c.deliver.ensures.stays).0, c.deliver.ensures.indexed)
+invariant_of-self c = ((kept-promised c.deliver.result Hears (parts_of c.self.inside.core) (parts_of c.deliver.new.self) (Comes c.args.frame.now) c.self.invariant.0 c.deliver.ensures.ok c.deliver.ensures.stays).0, c.deliver.ensures.filed)
 
 pub returns-clause-ok : goal.returns-clause-ok
 returns-clause-ok c = ok-promised c.deliver.result Hears (parts_of c.self.inside.core) c.args.self.now (parts_of c.deliver.new.self) (Comes c.args.frame.now) c.self.view_is c.self.invariant.0 c.deliver.ensures.ok

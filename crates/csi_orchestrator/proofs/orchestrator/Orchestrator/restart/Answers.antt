@@ -8,7 +8,7 @@ use Rattle.csi_orchestrator.proofs.Restarting.{restart-told, restart-refused, on
 use Rattle.csi_orchestrator.proofs.orchestrator.Orchestrator.restart.Goals as goal
 
 pub invariant_of-self : goal.invariant_of-self
-invariant_of-self c = ((kept-promised c.restart.result (λ done. Restarted) (parts_of c.self.inside.core) (parts_of c.restart.new.self) (Restarts) c.self.invariant.0 (restart-told c.restart.result c.self.inside.core c.restart.new.self c.restart.ensures.ok) c.restart.ensures.stays).0, c.restart.ensures.indexed)
+invariant_of-self c = ((kept-promised c.restart.result (λ done. Restarted) (parts_of c.self.inside.core) (parts_of c.restart.new.self) (Restarts) c.self.invariant.0 (restart-told c.restart.result c.self.inside.core c.restart.new.self c.restart.ensures.ok) c.restart.ensures.stays).0, c.restart.ensures.filed)
 
 pub returns-clause-ok : goal.returns-clause-ok
 returns-clause-ok c = ok-promised c.restart.result (λ done. Restarted) (parts_of c.self.inside.core) c.args.self.now (parts_of c.restart.new.self) (Restarts) c.self.view_is c.self.invariant.0 (restart-told c.restart.result c.self.inside.core c.restart.new.self c.restart.ensures.ok)

@@ -7,7 +7,7 @@ use Rattle.csi_orchestrator.proofs.Promised.{ok-promised, err-promised, kept-pro
 use Rattle.csi_orchestrator.proofs.orchestrator.Orchestrator.stop.Goals as goal
 
 pub invariant_of-self : goal.invariant_of-self
-invariant_of-self c = ((kept-promised c.stop.result Sends (parts_of c.self.inside.core) (parts_of c.stop.new.self) (ToStop c.args.name.now c.args.node c.args.target) c.self.invariant.0 c.stop.ensures.ok c.stop.ensures.stays).0, c.stop.ensures.indexed)
+invariant_of-self c = ((kept-promised c.stop.result Sends (parts_of c.self.inside.core) (parts_of c.stop.new.self) (ToStop c.args.name.now c.args.node c.args.target) c.self.invariant.0 c.stop.ensures.ok c.stop.ensures.stays).0, c.stop.ensures.filed)
 
 pub returns-clause-ok : goal.returns-clause-ok
 returns-clause-ok c = ok-promised c.stop.result Sends (parts_of c.self.inside.core) c.args.self.now (parts_of c.stop.new.self) (ToStop c.args.name.now c.args.node c.args.target) c.self.view_is c.self.invariant.0 c.stop.ensures.ok

@@ -7,7 +7,7 @@ use Rattle.csi_orchestrator.proofs.Promised.{ok-promised, err-promised, kept-pro
 use Rattle.csi_orchestrator.proofs.orchestrator.Orchestrator.timeout.Goals as goal
 
 pub invariant_of-self : goal.invariant_of-self
-invariant_of-self c = ((kept-promised c.timeout.result Sends (parts_of c.self.inside.core) (parts_of c.timeout.new.self) (TimesOut c.args.name.now) c.self.invariant.0 c.timeout.ensures.ok c.timeout.ensures.stays).0, c.timeout.ensures.indexed)
+invariant_of-self c = ((kept-promised c.timeout.result Sends (parts_of c.self.inside.core) (parts_of c.timeout.new.self) (TimesOut c.args.name.now) c.self.invariant.0 c.timeout.ensures.ok c.timeout.ensures.stays).0, c.timeout.ensures.filed)
 
 pub returns-clause-ok : goal.returns-clause-ok
 returns-clause-ok c = ok-promised c.timeout.result Sends (parts_of c.self.inside.core) c.args.self.now (parts_of c.timeout.new.self) (TimesOut c.args.name.now) c.self.view_is c.self.invariant.0 c.timeout.ensures.ok

@@ -7,7 +7,7 @@ use Rattle.csi_orchestrator.proofs.Promised.{ok-promised, err-promised, kept-pro
 use Rattle.csi_orchestrator.proofs.orchestrator.Orchestrator.use_at.Goals as goal
 
 pub invariant_of-self : goal.invariant_of-self
-invariant_of-self c = ((kept-promised c.use_at.result Sends (parts_of c.self.inside.core) (parts_of c.use_at.new.self) (ToUse c.args.name.now (record { node = c.args.node; target = c.args.target; capability = c.args.capability; readonly = c.args.readonly })) c.self.invariant.0 c.use_at.ensures.ok c.use_at.ensures.stays).0, c.use_at.ensures.indexed)
+invariant_of-self c = ((kept-promised c.use_at.result Sends (parts_of c.self.inside.core) (parts_of c.use_at.new.self) (ToUse c.args.name.now (record { node = c.args.node; target = c.args.target; capability = c.args.capability; readonly = c.args.readonly })) c.self.invariant.0 c.use_at.ensures.ok c.use_at.ensures.stays).0, c.use_at.ensures.filed)
 
 pub returns-clause-ok : goal.returns-clause-ok
 returns-clause-ok c = ok-promised c.use_at.result Sends (parts_of c.self.inside.core) c.args.self.now (parts_of c.use_at.new.self) (ToUse c.args.name.now (record { node = c.args.node; target = c.args.target; capability = c.args.capability; readonly = c.args.readonly })) c.self.view_is c.self.invariant.0 c.use_at.ensures.ok
