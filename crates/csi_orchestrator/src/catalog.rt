@@ -14,7 +14,8 @@ use indexmap::IndexMap;
 use std::alloc::{AllocError, Global};
 
 /// The rows, each under its name, in the order of the first creates; and where the row of each open call is, by the call's
-/// number in the session. A call that isn't open any more stays noted until room is wanted: what closes it needn't look for it.
+/// number in the session. A call that isn't open any more stays noted until room is wanted: what closes it needn't look for it,
+/// and the room that a row brought for its calls stays. A restart forgets all.
 #[derive(Drop)]
 pub(crate) struct Catalog {
     pub rows: IndexMap<Name, Row>,
@@ -125,7 +126,8 @@ impl Catalog {
         }
     }
 
-    // Makes room for the call of one more row. The rows stay as they are.
+    // Makes room for the call of one more row, and for half as many more calls as there are rows, so that notes are renewed seldom:
+    // once for that many calls that are sent. The rows stay as they are.
     fn make_room(&mut self) -> Result<(), AllocError>
         requires { IsIndexed self.old }
         ensures rows { self.new.rows ≡ self.old.rows }
@@ -133,7 +135,8 @@ impl Catalog {
         ensures room { OnOk result (length (rows_of self.old) + 2 ≤ spare self.new.calls) }
         ensures kept { AreNotedBefore self.old self.new }
     {
-        let wanted = self.rows.len() + 2;
+        let rows = self.rows.len();
+        let wanted = rows + rows / 2 + 2;
         if self.calls.capacity() - self.calls.len() < wanted {
             self.renew();
         }
