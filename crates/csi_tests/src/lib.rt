@@ -15,8 +15,6 @@ mod orchestrator;
 #[cfg(test)]
 mod plugins;
 #[cfg(test)]
-mod replay;
-#[cfg(test)]
 mod replies;
 #[cfg(test)]
 mod service;

@@ -14,7 +14,6 @@ use crate::orchestrator::Fact;
 use csi_orchestrator::Known;
 use csi_types::{Kind, Mode, Status};
 use csi_world::Outcome;
-pub(crate) use playing::{is_safe, world_after};
 
 const ONE: Mode = Mode::SingleNodeWriter;
 

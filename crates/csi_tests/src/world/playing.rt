@@ -11,11 +11,7 @@ use csi_world::{Event, Outcome, World, audit, simulate};
 use std::alloc::Global;
 use std::process::Abort;
 
-pub(crate) fn world_after(
-    rt: &(impl Abort + AllocGlobal),
-    config: &Config,
-    events: &[Event],
-) -> World {
+fn world_after(rt: &(impl Abort + AllocGlobal), config: &Config, events: &[Event]) -> World {
     match simulate(rt.alloc(), config, events) {
         Ok(world) => world,
         Err(_) => simulate(rt.alloc(), config, events).expect(rt, "a world"),
@@ -23,7 +19,7 @@ pub(crate) fn world_after(
 }
 
 // The audit finds nothing.
-pub(crate) fn is_safe(rt: &(impl Abort + AllocGlobal), world: &World) -> bool {
+fn is_safe(rt: &(impl Abort + AllocGlobal), world: &World) -> bool {
     match audit(rt.alloc(), world) {
         Ok(found) => found.is_none(),
         Err(_) => matches!(audit(rt.alloc(), world), Ok(None)),
