@@ -39,6 +39,42 @@ const LATE_PUBLISH: &str =
 const LATE_PUBLISH_REPORT: &str =
     "{\"attached\":[{\"id\":1,\"mode\":1,\"node\":\"n2\",\"readonly\":false}],\"events\":[\"sent 1\",\"answered 2\",\"taken\",\"sent 3\",\"sent 4\",\"answered 5\",\"taken, sent 6\",\"answered 7\",\"taken, sent 8\",\"answered 9\",\"taken\",\"sent 10\",\"answered 11\",\"taken, sent 12\",\"answered 13\",\"taken, sent 14\",\"answered 15\",\"taken\",\"sent 16\",\"answered 17\",\"taken, sent 18\",\"answered 19\",\"taken, sent 20\",\"answered 21\",\"taken\",\"answered 22\",\"ignored\"],\"frames\":22,\"known\":[{\"known\":\"yes\",\"name\":\"v\",\"thing\":\"exists\"},{\"known\":\"yes\",\"name\":\"v\",\"node\":\"n2\",\"thing\":\"attached\"},{\"known\":\"yes\",\"name\":\"v\",\"node\":\"n2\",\"thing\":\"staged\"},{\"known\":\"yes\",\"name\":\"v\",\"node\":\"n2\",\"target\":\"/a\",\"thing\":\"published\"}],\"published\":[{\"id\":1,\"node\":\"n2\",\"readonly\":false,\"target\":\"/a\"}],\"safe\":true,\"session\":1,\"staged\":[{\"id\":1,\"mode\":1,\"node\":\"n2\"}],\"volumes\":[{\"capacity\":10,\"id\":1,\"name\":\"v\"}]}\n";
 
+const LATE_DETACH: &str =
+    "{\"config\":{\"greatest\":1000,\"nodes\":[{\"id\":\"n1\",\"slots\":4},{\"id\":\"n2\",\"slots\":4}]},
+ \"events\":[
+  {\"create\":{\"capabilities\":[{\"access\":\"block\",\"mode\":1}],\"limit\":0,\"name\":\"v\",\"required\":10}},
+  {\"deliver\":1},
+  {\"deliver\":2},
+  {\"use\":{\"capability\":{\"access\":\"block\",\"mode\":1},\"name\":\"v\",\"node\":\"n1\",\"readonly\":false,\"target\":\"/a\"}},
+  {\"deliver\":3},
+  {\"deliver\":4},
+  {\"deliver\":5},
+  {\"deliver\":6},
+  {\"deliver\":7},
+  {\"deliver\":8},
+  {\"stop\":{\"name\":\"v\",\"node\":\"n1\",\"target\":\"/a\"}},
+  {\"deliver\":9},
+  {\"deliver\":10},
+  {\"deliver\":11},
+  {\"deliver\":12},
+  {\"timeout\":\"v\"},
+  {\"deliver\":14},
+  {\"deliver\":15},
+  {\"use\":{\"capability\":{\"access\":\"block\",\"mode\":1},\"name\":\"v\",\"node\":\"n1\",\"readonly\":false,\"target\":\"/a\"}},
+  {\"deliver\":16},
+  {\"deliver\":17},
+  {\"deliver\":18},
+  {\"deliver\":19},
+  {\"deliver\":20},
+  {\"deliver\":21},
+  {\"deliver\":13},
+  {\"deliver\":22}
+]}
+";
+
+const LATE_DETACH_REPORT: &str =
+    "{\"attached\":[{\"id\":1,\"mode\":1,\"node\":\"n1\",\"readonly\":false}],\"events\":[\"sent 1\",\"answered 2\",\"taken\",\"sent 3\",\"answered 4\",\"taken, sent 5\",\"answered 6\",\"taken, sent 7\",\"answered 8\",\"taken\",\"sent 9\",\"answered 10\",\"taken, sent 11\",\"answered 12\",\"taken, sent 13\",\"sent 14\",\"answered 15\",\"taken\",\"sent 16\",\"answered 17\",\"taken, sent 18\",\"answered 19\",\"taken, sent 20\",\"answered 21\",\"taken\",\"answered 22\",\"ignored\"],\"frames\":22,\"known\":[{\"known\":\"yes\",\"name\":\"v\",\"thing\":\"exists\"},{\"known\":\"yes\",\"name\":\"v\",\"node\":\"n1\",\"thing\":\"attached\"},{\"known\":\"yes\",\"name\":\"v\",\"node\":\"n1\",\"thing\":\"staged\"},{\"known\":\"yes\",\"name\":\"v\",\"node\":\"n1\",\"target\":\"/a\",\"thing\":\"published\"}],\"published\":[{\"id\":1,\"node\":\"n1\",\"readonly\":false,\"target\":\"/a\"}],\"safe\":true,\"session\":1,\"staged\":[{\"id\":1,\"mode\":1,\"node\":\"n1\"}],\"volumes\":[{\"capacity\":10,\"id\":1,\"name\":\"v\"}]}\n";
+
 const RESTART: &str = "{\"config\":{\"greatest\":1000,\"nodes\":[{\"id\":\"n1\",\"slots\":4}]},
  \"events\":[
   {\"create\":{\"capabilities\":[{\"access\":\"block\",\"mode\":1}],\"limit\":0,\"name\":\"v\",\"required\":10}},
@@ -142,6 +178,14 @@ fn late_publish_has_its_report(rt: HostRuntime) {
     run_all(
         &rt,
         &[Case::Runs(LATE_PUBLISH, LATE_PUBLISH_REPORT, Ending::Done)],
+    );
+}
+
+#[test]
+fn late_detach_has_its_report(rt: HostRuntime) {
+    run_all(
+        &rt,
+        &[Case::Runs(LATE_DETACH, LATE_DETACH_REPORT, Ending::Done)],
     );
 }
 
