@@ -1,5 +1,5 @@
-//! The tests of the crates below, which see of them what any user sees. There is nothing else here: a crate that has
-//! no test of its own is proved once less.
+//! The tests of values, frames, plugins, orchestrator and world, which see of them what any user sees. There is nothing else
+//! here: a crate that has no test of its own is proved once less.
 #![tactic(auto)]
 
 #[cfg(test)]
@@ -13,16 +13,10 @@ mod node;
 #[cfg(test)]
 mod orchestrator;
 #[cfg(test)]
-mod plugins;
-#[cfg(test)]
 mod replies;
-#[cfg(test)]
-mod service;
 #[cfg(test)]
 mod types;
 #[cfg(test)]
 mod values;
-#[cfg(test)]
-mod words;
 #[cfg(test)]
 mod world;

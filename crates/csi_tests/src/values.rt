@@ -79,14 +79,6 @@ pub(crate) fn room<T: Drop>(rt: &(impl Abort + AllocGlobal), count: usize) -> Ve
     }
 }
 
-/// A copy of these bytes.
-pub(crate) fn copied(rt: &(impl Abort + AllocGlobal), bytes: &[u8]) -> Vec<u8> {
-    match Vec::from_slice(rt.alloc(), bytes) {
-        Ok(copy) => copy,
-        Err(_) => Vec::from_slice(rt.alloc(), bytes).expect(rt, "memory"),
-    }
-}
-
 /// Raw devices in these modes, at most 8.
 pub(crate) fn blocks(rt: &(impl Abort + AllocGlobal), modes: &[Mode]) -> CapabilityList {
     let mut list = room(rt, modes.len());

@@ -3,11 +3,11 @@
 //! and the same call is then answered in full.
 use super::records::HELD;
 use super::*;
-use crate::values::number;
-use csi_controller::{ControllerRecord, ControllerRow, CoreFault};
-use csi_types::Holding;
+use crate::values::{detail, number, room};
+use csi_controller::{ControllerRecord, ControllerRow, CoreFault, RecordFault};
+use csi_types::{Holding, Reply};
 
-const NODES: [(&str, u64); 1] = [("n1", 4)];
+const NODES: &[(&str, u64)] = &[("n1", 4)];
 
 // The controller's record, asked for once more where memory was refused.
 fn record_of(rt: &(impl Abort + AllocGlobal), controller: &Controller) -> ControllerRecord {
@@ -51,30 +51,34 @@ fn answers_in_the_end(rt: &(impl Abort + AllocGlobal), controller: &mut Controll
 
 // A new controller with node `n1` that answered these calls so in the end.
 fn controller_after(rt: &(impl Abort + AllocGlobal), steps: &[Step]) -> Controller {
-    let mut controller = new_controller(rt, &NODES);
+    let mut controller = new_controller(rt, NODES);
     for step in steps {
         answers_in_the_end(rt, &mut controller, *step);
     }
     controller
 }
 
+const AT_N1: Told = (Status::FailedPrecondition, None, "n1");
+
+const STALE: Told = (Status::Aborted, None, "stale");
+
+const TAKEN: Told = (Status::AlreadyExists, None, "name");
+
 // Calls that are carried out, refusals with a detail, a kept reply, and a stale call.
+const CALLS: &[Step] = &[
+    (1, MAKE, FIRST),
+    (2, Ask::Publish(1, "n1", B1, false), DONE),
+    (3, Ask::Delete, AT_N1),
+    (3, Ask::Delete, AT_N1),
+    (1, Ask::Delete, STALE),
+    (4, Ask::Create("v", 11, 0, &[B1]), TAKEN),
+    (5, Ask::Unpublish("n1"), DONE),
+    (6, Ask::Delete, DONE),
+];
+
 #[test]
 fn calls_in_want_of_memory(rt: HostRuntime) {
-    let held = (Status::FailedPrecondition, None, "n1");
-    let stale = (Status::Aborted, None, "stale");
-    let taken = (Status::AlreadyExists, None, "name");
-    let steps = [
-        (1, MAKE, FIRST),
-        (2, Ask::Publish(1, "n1", B1, false), DONE),
-        (3, Ask::Delete, held),
-        (3, Ask::Delete, held),
-        (1, Ask::Delete, stale),
-        (4, Ask::Create("v", 11, 0, &[B1]), taken),
-        (5, Ask::Unpublish("n1"), DONE),
-        (6, Ask::Delete, DONE),
-    ];
-    controller_after(&rt, &steps);
+    controller_after(&rt, CALLS);
 }
 
 // Whether the row is that of volume 1, held at `n1`.
@@ -97,17 +101,53 @@ fn is_held_record(record: &ControllerRecord) -> bool {
 
 #[test]
 fn record_in_want_of_memory(rt: HostRuntime) {
-    let controller = controller_after(&rt, &HELD);
+    let controller = controller_after(&rt, HELD);
     let record = record_of(&rt, &controller);
     assert!(rt; is_held_record(&record));
+}
+
+// The rows of a controller that made `v` by call 1.
+fn rows_of_one(rt: &(impl Abort + AllocGlobal)) -> Vec<ControllerRow> {
+    let reply = Reply {
+        status: Status::Ok,
+        id: Some(volume_id(rt, 1)),
+        detail: detail(rt, ""),
+    };
+    let mut rows = room(rt, 1);
+    rows.push(ControllerRow {
+        id: volume_id(rt, 1),
+        live: true,
+        name: name(rt, "v"),
+        capacity: 10,
+        capabilities: blocks(rt, &[B1]),
+        holdings: Vec::new(rt.alloc()),
+        last: number(1),
+        kind: Kind::CreateVolume,
+        reply,
+    })
+    .expect(rt, "room");
+    rows
+}
+
+const MADE: &[Step] = &[(1, MAKE, FIRST)];
+
+#[test]
+fn a_controller_record_is_made_in_want_of_memory(rt: HostRuntime) {
+    let made = match ControllerRecord::try_new(rt.alloc(), 2, rows_of_one(&rt)) {
+        Err(RecordFault::NoMemory) => ControllerRecord::try_new(rt.alloc(), 2, rows_of_one(&rt)),
+        first => first,
+    };
+    let record = made.expect(&rt, "a record");
+    let kept = record_of(&rt, &controller_after(&rt, MADE));
+    assert!(rt; is_same_record(&record, &kept));
 }
 
 // A record's copy takes memory, and its controller none.
 #[test]
 fn from_record_in_want_of_memory(rt: HostRuntime) {
-    let controller = controller_after(&rt, &HELD);
+    let controller = controller_after(&rt, HELD);
     let record = record_of(&rt, &controller);
-    let again = Controller::from_record(rt.alloc(), config(&rt, &NODES), record);
+    let again = Controller::from_record(rt.alloc(), config(&rt, NODES), record);
     let kept = record_of(&rt, &again.expect(&rt, "it takes no memory"));
     assert!(rt; is_held_record(&kept));
 }
@@ -127,7 +167,7 @@ pub(super) fn is_held_list(all: &[Holding]) -> bool {
 
 #[test]
 fn attachments_in_want_of_memory(rt: HostRuntime) {
-    let controller = controller_after(&rt, &HELD);
+    let controller = controller_after(&rt, HELD);
     let all = match controller.attachments() {
         Ok(all) => all,
         Err(CoreFault::NoMemory) => controller.attachments().expect(&rt, "memory"),
@@ -137,7 +177,7 @@ fn attachments_in_want_of_memory(rt: HostRuntime) {
 
 #[test]
 fn row_in_want_of_memory(rt: HostRuntime) {
-    let controller = controller_after(&rt, &HELD);
+    let controller = controller_after(&rt, HELD);
     let id = volume_id(&rt, 1);
     let row = match controller.row(id) {
         Ok(row) => row,

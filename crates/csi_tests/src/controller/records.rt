@@ -5,7 +5,7 @@ use csi_controller::ControllerRecord;
 use csi_types::Name;
 
 // Volume 1 made, and held at `n1`.
-pub(super) const HELD: [Step; 2] = [
+pub(super) const HELD: &[Step] = &[
     (1, MAKE, FIRST),
     (2, Ask::Publish(1, "n1", B1, false), DONE),
 ];
@@ -34,21 +34,23 @@ fn is_held_nowhere(rt: &(impl Abort + AllocGlobal), controller: &Controller) {
     assert!(rt; row.expect(rt, "a row").holdings.is_empty());
 }
 
+const UNKNOWN: Told = (Status::NotFound, None, "node");
+
+const AFTER: &[Step] = &[
+    (3, Ask::Publish(1, "n1", B1, false), UNKNOWN),
+    (4, Ask::Unpublish("n1"), DONE),
+];
+
 // A record with volume 1 held at `n1`, opened with no nodes.
 #[test]
 fn a_record_may_hold_more_than_its_configuration(rt: HostRuntime) {
-    let first = new_answers(&rt, &[("n1", 4)], &HELD);
+    let first = new_answers(&rt, &[("n1", 4)], HELD);
     let attached = first.attachments().expect(&rt, "memory");
     assert!(rt; is_held_list(attached.as_slice()));
     let record = first.record().expect(&rt, "memory");
     assert!(rt; record.next_id() == 2 && record.rows().len() == 1);
     let mut second = opened(&rt, record);
-    let unknown = (Status::NotFound, None, "node");
-    let steps = [
-        (3, Ask::Publish(1, "n1", B1, false), unknown),
-        (4, Ask::Unpublish("n1"), DONE),
-    ];
-    answers(&rt, &mut second, &steps);
+    answers(&rt, &mut second, AFTER);
     is_held_nowhere(&rt, &second);
     let name = name(&rt, "v");
     assert!(rt; has_volume_1(&second, &name));

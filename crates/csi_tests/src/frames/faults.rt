@@ -36,30 +36,29 @@ fn padded(
 }
 
 // Each line: a frame, where a byte of it is changed, to what, and the number and the place of the first fault.
+const CHANGES: &[(&[u8], usize, u8, u8, usize)] = &[
+    // the version, the kind, the party, the id, and the length
+    (&DELETE, 4, 2, 3, 4),
+    (&DELETE, 5, 9, 4, 5),
+    (&DELETE, 22, 1, 5, 22),
+    (&DELETE, 30, 0, 11, 23),
+    (&DELETE, 3, 0x1a, 13, 23),
+    // a mode, an access type, a count, a name that isn't UTF-8, and an empty one
+    (&CREATE, 43, 6, 7, 43),
+    (&CREATE, 42, 2, 8, 42),
+    (&CREATE, 41, 9, 12, 41),
+    (&CREATE, 24, 0xff, 6, 23),
+    (&CREATE, 23, 0, 6, 23),
+    // the controller for a node, and a flag
+    (&PUBLISH, 22, 0, 5, 22),
+    (&PUBLISH, 39, 2, 9, 39),
+];
+
 #[test]
 fn a_byte_that_is_not_allowed(rt: HostRuntime) {
-    let delete = DELETE.as_slice();
-    let create = CREATE.as_slice();
-    let publish = PUBLISH.as_slice();
-    for (frame, at, byte, fault, place) in [
-        // the version, the kind, the party, the id, and the length
-        (delete, 4, 2, 3, 4),
-        (delete, 5, 9, 4, 5),
-        (delete, 22, 1, 5, 22),
-        (delete, 30, 0, 11, 23),
-        (delete, 3, 0x1a, 13, 23),
-        // a mode, an access type, a count, a name that isn't UTF-8, and an empty one
-        (create, 43, 6, 7, 43),
-        (create, 42, 2, 8, 42),
-        (create, 41, 9, 12, 41),
-        (create, 24, 0xff, 6, 23),
-        (create, 23, 0, 6, 23),
-        // the controller for a node, and a flag
-        (publish, 22, 0, 5, 22),
-        (publish, 39, 2, 9, 39),
-    ] {
-        let bytes = changed(&rt, frame, at, byte);
-        let is_found = has_fault(rt.alloc(), bytes.as_slice(), fault, place);
+    for (frame, at, byte, fault, place) in CHANGES {
+        let bytes = changed(&rt, frame, *at, *byte);
+        let is_found = has_fault(rt.alloc(), bytes.as_slice(), *fault, *place);
         assert!(rt; is_found, "{byte} at {at}");
     }
 }

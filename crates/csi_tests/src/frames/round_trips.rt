@@ -9,20 +9,22 @@ use csi_types::{Call, CapabilityList, Frame, Kind, Mode, Number, Party, Reply, S
 use std::alloc::Global;
 use std::process::Abort;
 
+const VECTORS: &[&[u8]] = &[
+    &DELETE,
+    &DELETE_REPLY,
+    &CREATE,
+    &CREATE_REPLY,
+    &REFUSAL,
+    &ATTACH,
+    &PUBLISH,
+];
+
 #[test]
 fn each_vector_is_read_and_written_again(rt: HostRuntime) {
-    for bytes in [
-        DELETE.as_slice(),
-        DELETE_REPLY.as_slice(),
-        CREATE.as_slice(),
-        CREATE_REPLY.as_slice(),
-        REFUSAL.as_slice(),
-        ATTACH.as_slice(),
-        PUBLISH.as_slice(),
-    ] {
+    for bytes in VECTORS {
         let frame = read(&rt, bytes);
         let out = written(&rt, &frame);
-        assert!(rt; out.as_slice() == bytes);
+        assert!(rt; out.as_slice() == *bytes);
     }
 }
 

@@ -3,7 +3,9 @@
 //! same call is then answered in full.
 use super::readers::{STEPS, is_record, is_row_of_nine, lists_published, lists_staged};
 use super::*;
-use csi_node::{CoreFault, NodeRecord};
+use crate::values::{detail, number, room};
+use csi_node::{CoreFault, NodeRecord, NodeRow, NodeTarget};
+use csi_types::Reply;
 
 // The node's record, asked for once more where memory was refused.
 fn record_of(rt: &impl Abort, node: &Node) -> NodeRecord {
@@ -51,37 +53,81 @@ fn node_after(rt: &(impl Abort + AllocGlobal), steps: &[Step]) -> Node {
     node
 }
 
+const PUBLISH: Ask = Ask::Publish(1, "/a", MANY, true);
+
+const REFUSED: Status = Status::FailedPrecondition;
+
 // A volume's first call, also one that is refused, calls that are carried out, refusals, a kept reply, and a stale
 // call.
+const CALLS: &[Step] = &[
+    (1, Ask::Stage(2, MANY), Status::Ok, ""),
+    (1, PUBLISH, REFUSED, "not staged"),
+    (2, PUBLISH, REFUSED, "not staged"),
+    (3, Ask::Stage(1, MANY), Status::Ok, ""),
+    (4, PUBLISH, Status::Ok, ""),
+    (4, PUBLISH, Status::Ok, ""),
+    (5, Ask::Unstage(1), REFUSED, "/a"),
+    (2, Ask::Stage(1, MANY), Status::Aborted, "stale"),
+    (6, Ask::Unpublish(1, "/a"), Status::Ok, ""),
+    (1, Ask::Unstage(3), Status::Ok, ""),
+];
+
 #[test]
 fn calls_answer_or_stay(rt: HostRuntime) {
-    let publish = Ask::Publish(1, "/a", MANY, true);
-    let refused = Status::FailedPrecondition;
-    let steps = [
-        (1, Ask::Stage(2, MANY), Status::Ok, ""),
-        (1, publish, refused, "not staged"),
-        (2, publish, refused, "not staged"),
-        (3, Ask::Stage(1, MANY), Status::Ok, ""),
-        (4, publish, Status::Ok, ""),
-        (4, publish, Status::Ok, ""),
-        (5, Ask::Unstage(1), refused, "/a"),
-        (2, Ask::Stage(1, MANY), Status::Aborted, "stale"),
-        (6, Ask::Unpublish(1, "/a"), Status::Ok, ""),
-        (1, Ask::Unstage(3), Status::Ok, ""),
-    ];
-    node_after(&rt, &steps);
+    node_after(&rt, CALLS);
+}
+
+// The rows of a node that staged volume 1 by call 1 and published it at `/a` by call 2.
+fn rows_of_one(rt: &(impl Abort + AllocGlobal)) -> Vec<NodeRow> {
+    let mut targets = room(rt, 1);
+    targets
+        .push(NodeTarget {
+            target: target(rt, "/a"),
+            readonly: false,
+        })
+        .expect(rt, "room");
+    let reply = Reply {
+        status: Status::Ok,
+        id: None,
+        detail: detail(rt, ""),
+    };
+    let mut rows = room(rt, 1);
+    rows.push(NodeRow {
+        id: volume_id(rt, 1),
+        staged: Some(block(ONE)),
+        targets,
+        last: number(2),
+        kind: Kind::NodePublishVolume,
+        reply,
+    })
+    .expect(rt, "room");
+    rows
+}
+
+const PUBLISHED: &[Step] = &[
+    (1, Ask::Stage(1, ONE), Status::Ok, ""),
+    (2, Ask::Publish(1, "/a", ONE, false), Status::Ok, ""),
+];
+
+// It takes no memory.
+#[test]
+fn a_node_record_is_made_in_want_of_memory(rt: HostRuntime) {
+    let made = NodeRecord::try_new(node_id(&rt, "n1"), rows_of_one(&rt));
+    let record = made.expect(&rt, "a record");
+    let kept = record_of(&rt, &node_after(&rt, PUBLISHED));
+    assert!(rt; is_same_record(&record, &kept));
 }
 
 #[test]
 fn record_answers_in_the_end(rt: HostRuntime) {
-    let node = node_after(&rt, &STEPS);
+    let node = node_after(&rt, STEPS);
     let record = record_of(&rt, &node);
     assert!(rt; is_record(&record));
 }
 
 #[test]
 fn row_answers_in_the_end(rt: HostRuntime) {
-    let node = node_after(&rt, &STEPS);
+    let node = node_after(&rt, STEPS);
     let row = match node.row(volume_id(&rt, 9)) {
         Ok(row) => row,
         Err(CoreFault::NoMemory) => node.row(volume_id(&rt, 9)).expect(&rt, "memory"),
@@ -92,7 +138,7 @@ fn row_answers_in_the_end(rt: HostRuntime) {
 
 #[test]
 fn staged_answers_in_the_end(rt: HostRuntime) {
-    let node = node_after(&rt, &STEPS);
+    let node = node_after(&rt, STEPS);
     let list = match node.staged() {
         Ok(list) => list,
         Err(CoreFault::NoMemory) => node.staged().expect(&rt, "memory"),
@@ -102,7 +148,7 @@ fn staged_answers_in_the_end(rt: HostRuntime) {
 
 #[test]
 fn published_answers_in_the_end(rt: HostRuntime) {
-    let node = node_after(&rt, &STEPS);
+    let node = node_after(&rt, STEPS);
     let list = match node.published() {
         Ok(list) => list,
         Err(CoreFault::NoMemory) => node.published().expect(&rt, "memory"),

@@ -5,7 +5,7 @@ use csi_node::{NodeRecord, NodeRow, NodeTarget, Published, Staged};
 use csi_types::Access;
 
 // Volume 9 at two targets, volume 3 at one, and volume 5 nowhere.
-pub(super) const STEPS: [Step; 6] = [
+pub(super) const STEPS: &[Step] = &[
     (1, Ask::Stage(9, MANY), Status::Ok, ""),
     (2, Ask::Stage(3, ONE), Status::Ok, ""),
     (3, Ask::Publish(9, "/b", MANY, false), Status::Ok, ""),
@@ -112,7 +112,7 @@ pub(super) fn is_record(record: &NodeRecord) -> bool {
 
 #[test]
 fn lists_by_rising_id(rt: HostRuntime) {
-    let node = new_answers(&rt, &STEPS);
+    let node = new_answers(&rt, STEPS);
     let staged = node.staged().expect(&rt, "memory");
     assert!(rt; lists_staged(staged.as_slice()));
     let published = node.published().expect(&rt, "memory");
@@ -121,7 +121,7 @@ fn lists_by_rising_id(rt: HostRuntime) {
 
 #[test]
 fn gives_a_row(rt: HostRuntime) {
-    let node = new_answers(&rt, &STEPS);
+    let node = new_answers(&rt, STEPS);
     let row = node.row(volume_id(&rt, 9)).expect(&rt, "memory");
     let row = row.expect(&rt, "a row");
     assert!(rt; is_row_of_nine(&row));
@@ -130,16 +130,17 @@ fn gives_a_row(rt: HostRuntime) {
 }
 
 // The record gives the node again, with its last numbers and its kept replies.
+const AFTER: &[Step] = &[
+    (5, Ask::Publish(3, "/d", ONE, false), Status::Ok, ""),
+    (1, Ask::Stage(9, MANY), Status::Aborted, "stale"),
+];
+
 #[test]
 fn record_gives_the_node_again(rt: HostRuntime) {
-    let record = new_answers(&rt, &STEPS).record().expect(&rt, "memory");
+    let record = new_answers(&rt, STEPS).record().expect(&rt, "memory");
     assert!(rt; is_record(&record));
     let mut node = Node::from_record(rt.alloc(), record).expect(&rt, "memory");
     let published = node.published().expect(&rt, "memory");
     assert!(rt; lists_published(published.as_slice()));
-    let steps = [
-        (5, Ask::Publish(3, "/d", ONE, false), Status::Ok, ""),
-        (1, Ask::Stage(9, MANY), Status::Aborted, "stale"),
-    ];
-    answers_all(&rt, &mut node, &steps);
+    answers_all(&rt, &mut node, AFTER);
 }

@@ -14,69 +14,73 @@ fn has_no_row(rt: &impl Abort, node: &Node, id: u64) {
 }
 
 // One target in a mode for one node, two in a mode for several.
+const BY_MODE: &[Step] = &[
+    (1, Ask::Stage(1, ONE), Status::Ok, ""),
+    (2, Ask::Publish(1, "/a", ONE, false), Status::Ok, ""),
+    (2, Ask::Publish(1, "/a", ONE, false), Status::Ok, ""),
+    (3, Ask::Publish(1, "/a", ONE, false), Status::Ok, ""),
+    (
+        4,
+        Ask::Publish(1, "/a", ONE, true),
+        Status::AlreadyExists,
+        "published otherwise",
+    ),
+    (
+        5,
+        Ask::Publish(1, "/b", ONE, false),
+        Status::FailedPrecondition,
+        "/a",
+    ),
+    (
+        6,
+        Ask::Publish(1, "b", ONE, false),
+        Status::InvalidArgument,
+        "target",
+    ),
+    (7, Ask::Unstage(1), Status::FailedPrecondition, "/a"),
+    (8, Ask::Stage(2, MANY), Status::Ok, ""),
+    (9, Ask::Publish(2, "/a", MANY, false), Status::Ok, ""),
+    (10, Ask::Publish(2, "/b", MANY, false), Status::Ok, ""),
+    (11, Ask::Unpublish(1, "/a"), Status::Ok, ""),
+    (12, Ask::Unstage(1), Status::Ok, ""),
+];
+
 #[test]
 fn publishes_by_the_mode(rt: HostRuntime) {
-    let steps = [
-        (1, Ask::Stage(1, ONE), Status::Ok, ""),
-        (2, Ask::Publish(1, "/a", ONE, false), Status::Ok, ""),
-        (2, Ask::Publish(1, "/a", ONE, false), Status::Ok, ""),
-        (3, Ask::Publish(1, "/a", ONE, false), Status::Ok, ""),
-        (
-            4,
-            Ask::Publish(1, "/a", ONE, true),
-            Status::AlreadyExists,
-            "published otherwise",
-        ),
-        (
-            5,
-            Ask::Publish(1, "/b", ONE, false),
-            Status::FailedPrecondition,
-            "/a",
-        ),
-        (
-            6,
-            Ask::Publish(1, "b", ONE, false),
-            Status::InvalidArgument,
-            "target",
-        ),
-        (7, Ask::Unstage(1), Status::FailedPrecondition, "/a"),
-        (8, Ask::Stage(2, MANY), Status::Ok, ""),
-        (9, Ask::Publish(2, "/a", MANY, false), Status::Ok, ""),
-        (10, Ask::Publish(2, "/b", MANY, false), Status::Ok, ""),
-        (11, Ask::Unpublish(1, "/a"), Status::Ok, ""),
-        (12, Ask::Unstage(1), Status::Ok, ""),
-    ];
-    new_answers(&rt, &steps);
+    new_answers(&rt, BY_MODE);
 }
 
 // An undoing call opens a row, and the call that it undid is stale.
+const LATE: &[Step] = &[
+    (6, Ask::Unstage(1), Status::Ok, ""),
+    (3, Ask::Stage(1, ONE), Status::Aborted, "stale"),
+];
+
 #[test]
 fn late_stage_is_stale(rt: HostRuntime) {
-    let steps = [
-        (6, Ask::Unstage(1), Status::Ok, ""),
-        (3, Ask::Stage(1, ONE), Status::Aborted, "stale"),
-    ];
-    let node = new_answers(&rt, &steps);
+    let node = new_answers(&rt, LATE);
     let staged = node.staged().expect(&rt, "memory");
     assert!(rt; staged.is_empty());
 }
 
+const REFUSED: Status = Status::FailedPrecondition;
+
 // A refusal opens a row and is kept, whatever comes under its number again.
+const KEPT: &[Step] = &[
+    (1, Ask::Publish(7, "/a", ONE, false), REFUSED, "not staged"),
+    (1, Ask::Publish(7, "/b", ONE, false), REFUSED, "not staged"),
+];
+
 #[test]
 fn refusal_is_kept(rt: HostRuntime) {
-    let refused = Status::FailedPrecondition;
-    let steps = [
-        (1, Ask::Publish(7, "/a", ONE, false), refused, "not staged"),
-        (1, Ask::Publish(7, "/b", ONE, false), refused, "not staged"),
-    ];
-    let mut node = new_answers(&rt, &steps);
+    let mut node = new_answers(&rt, KEPT);
     let reply = reply_to(&rt, &mut node, 1, Ask::Stage(7, ONE));
-    let told = (refused, None, "not staged");
+    let told = (REFUSED, None, "not staged");
     assert!(rt; is_reply(&reply, Some("n1"), 1, Kind::NodePublishVolume, told));
 }
 
 // The calls that publish volume 1 at sixteen targets.
-const SIXTEEN: [(u64, &str); 16] = [
+const SIXTEEN: &[(u64, &str)] = &[
     (2, "/a"),
     (3, "/b"),
     (4, "/c"),
@@ -105,7 +109,7 @@ fn seventeenth_target_is_refused(rt: HostRuntime) {
     let mut node = new_answers(&rt, &[(1, Ask::Stage(1, MANY), Status::Ok, "")]);
     for (call, text) in SIXTEEN {
         let ask = Ask::Publish(1, text, MANY, false);
-        answers(&rt, &mut node, (call, ask, Status::Ok, ""));
+        answers(&rt, &mut node, (*call, ask, Status::Ok, ""));
     }
     let ask = Ask::Publish(1, "/q", MANY, false);
     let full = (18, ask, Status::ResourceExhausted, "targets");
@@ -131,17 +135,18 @@ fn reply_to_the_node(rt: HostRuntime) {
 }
 
 // 4,096 rows, and no more: the refusal isn't kept, and a volume that has a row is answered.
+const FULL: &[Step] = &[
+    (2, Ask::Unstage(5000), Status::ResourceExhausted, "rows"),
+    (2, Ask::Stage(5000, ONE), Status::ResourceExhausted, "rows"),
+    (2, Ask::Stage(4096, ONE), Status::Ok, ""),
+];
+
 #[test]
 fn full_node_refuses(rt: HostRuntime) {
     let mut node = new_node(&rt);
     for id in 1..4097u64 {
         answers(&rt, &mut node, (1, Ask::Unstage(id), Status::Ok, ""));
     }
-    let steps = [
-        (2, Ask::Unstage(5000), Status::ResourceExhausted, "rows"),
-        (2, Ask::Stage(5000, ONE), Status::ResourceExhausted, "rows"),
-        (2, Ask::Stage(4096, ONE), Status::Ok, ""),
-    ];
-    answers_all(&rt, &mut node, &steps);
+    answers_all(&rt, &mut node, FULL);
     has_no_row(&rt, &node, 5000);
 }

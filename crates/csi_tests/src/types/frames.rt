@@ -39,21 +39,24 @@ fn is_reply(
     Frame::reply(number(1), party(rt, is_node), kind, reply).is_some()
 }
 
+// Whether a reply goes together: whether a node's, of which kind, with which status, and whether with an id.
+const REPLIES: &[(bool, Kind, Status, bool, bool)] = &[
+    (false, CREATE, Status::Ok, true, true),
+    (false, CREATE, Status::Ok, false, false),
+    (false, CREATE, Status::NotFound, true, false),
+    (false, CREATE, Status::NotFound, false, true),
+    (false, DELETE, Status::Ok, true, false),
+    (false, DELETE, Status::Ok, false, true),
+    (true, DELETE, Status::Ok, false, false),
+];
+
 #[test]
 fn frames_go_together(rt: HostRuntime) {
     assert!(rt; VolumeId::try_new(0).is_none());
     assert!(rt; !is_call(&rt, false));
     assert!(rt; is_call(&rt, true));
-    for (is_node, kind, status, has_id, goes) in [
-        (false, CREATE, Status::Ok, true, true),
-        (false, CREATE, Status::Ok, false, false),
-        (false, CREATE, Status::NotFound, true, false),
-        (false, CREATE, Status::NotFound, false, true),
-        (false, DELETE, Status::Ok, true, false),
-        (false, DELETE, Status::Ok, false, true),
-        (true, DELETE, Status::Ok, false, false),
-    ] {
-        let found = is_reply(&rt, is_node, kind, status, has_id);
-        assert_eq!(rt; found, goes, "{is_node} {kind:?} {status:?} {has_id}");
+    for (is_node, kind, status, has_id, goes) in REPLIES {
+        let found = is_reply(&rt, *is_node, *kind, *status, *has_id);
+        assert!(rt; found == *goes, "{is_node} {kind:?} {status:?} {has_id}");
     }
 }

@@ -1,6 +1,5 @@
 //! A script of six frames for a controller, what it is replied, what it leaves in a store, and how it is served.
-use super::is_part;
-use crate::values::{config, room};
+use super::{config, is_part, room};
 use csi_service::{
     ControllerService, Core, Counted, Keep, KeepFault, Part, ServeFault, ServeFaultKind, Served,
     serve,
@@ -182,14 +181,17 @@ pub(super) fn served<C: Core, K: Keep>(
     (end_of(&ended), writer.into_inner())
 }
 
+const TWO_NODES: &str =
+    "{\"greatest\":1000,\"nodes\":[{\"id\":\"n1\",\"slots\":4},{\"id\":\"n2\",\"slots\":4}]}";
+
 /// Serves these frames by the controller of this store, with what was replied.
 pub(super) fn played<K: Keep>(
     rt: &(impl Abort + AllocGlobal),
     keep: &mut K,
     frames: &[u8],
 ) -> (End, Vec<u8>) {
-    let nodes = config(rt, &[("n1", 4), ("n2", 4)]);
-    match ControllerService::open(rt.alloc(), nodes, keep) {
+    let config = config(rt, TWO_NODES);
+    match ControllerService::open(rt.alloc(), config, keep) {
         Ok(service) => served(rt, service, keep, frames),
         Err(_) => (End::Opening, Vec::new(rt.alloc())),
     }

@@ -7,14 +7,15 @@ mod plugins;
 mod stops;
 mod stores;
 
-use crate::values::{config, copied, node_id};
 use csi_controller::{Controller, ControllerRecord};
 use csi_frames::decode;
 use csi_node::NodeRecord;
+use csi_schedules::read_config;
 use csi_service::{
     ControllerService, Keep, KeepFault, MemoryKeep, NodeService, Part, SqliteKeep, read_record,
     write_record,
 };
+use csi_types::{Config, NodeId};
 use sqlite::Connection;
 use std::alloc::Global;
 use std::process::Abort;
@@ -44,10 +45,36 @@ const NODE_RECORD: &[u8] = &[
     0, 0, 0, 0, 0, 0, 0, 0, 0,
 ];
 
+// The configuration that this says. It is refused for want of memory alone, and then read the second time.
+fn config(rt: &(impl Abort + AllocGlobal), text: &str) -> Config {
+    match read_config(rt.alloc(), text) {
+        Ok(config) => config,
+        Err(_) => read_config(rt.alloc(), text).expect(rt, "a configuration"),
+    }
+}
+
+// One without nodes.
+const NO_NODES: &str = "{\"greatest\":1000,\"nodes\":[]}";
+
+// Room for so many bytes. Where memory is refused it is made the second time.
+fn room(rt: &(impl Abort + AllocGlobal), count: usize) -> Vec<u8> {
+    match Vec::with_capacity(rt.alloc(), count) {
+        Ok(bytes) => bytes,
+        Err(_) => Vec::with_capacity(rt.alloc(), count).expect(rt, "memory"),
+    }
+}
+
+// A copy of these bytes.
+fn copied(rt: &(impl Abort + AllocGlobal), bytes: &[u8]) -> Vec<u8> {
+    let mut copy = room(rt, bytes.len());
+    copy.extend_from_slice(bytes).expect(rt, "room");
+    copy
+}
+
 // What a controller that made `v` has recorded.
 fn recorded(rt: &(impl Abort + AllocGlobal)) -> ControllerRecord {
     let (frame, _) = decode(rt.alloc(), CREATE).expect(rt, "a frame");
-    let mut controller = Controller::new(rt.alloc(), config(rt, &[]));
+    let mut controller = Controller::new(rt.alloc(), config(rt, NO_NODES));
     let _reply = controller.step(&frame).expect(rt, "memory");
     controller.record().expect(rt, "memory")
 }
@@ -187,16 +214,20 @@ fn controller<K: Keep>(
     rt: &(impl Abort + AllocGlobal),
     keep: &mut K,
 ) -> Result<ControllerService, KeepFault> {
-    ControllerService::open(rt.alloc(), config(rt, &[]), keep)
+    ControllerService::open(rt.alloc(), config(rt, NO_NODES), keep)
 }
 
-// The node `n1` of this store.
+// The node of this id of this store. Where memory is refused for the id it is made the second time.
 fn node<K: Keep>(
     rt: &(impl Abort + AllocGlobal),
     keep: &mut K,
-    id: &str,
+    text: &str,
 ) -> Result<NodeService, KeepFault> {
-    NodeService::open(rt.alloc(), node_id(rt, id), keep)
+    let id = match NodeId::try_new(rt.alloc(), text) {
+        Ok(id) => id,
+        Err(_) => NodeId::try_new(rt.alloc(), text).expect(rt, "a node id"),
+    };
+    NodeService::open(rt.alloc(), id, keep)
 }
 
 #[test]

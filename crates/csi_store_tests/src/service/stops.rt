@@ -1,7 +1,7 @@
 //! A controller over SQLite in files that stop to answer: what is found when the store is opened again, and what serving
 //! the same script once more comes to.
+use super::copied;
 use super::playing::{End, FRAMES, SCRIPT, is_after, is_end, is_replied, may_have, played};
-use crate::values::copied;
 use csi_service::{Keep, MemoryKeep, SqliteKeep};
 use sqlite::{Connection, FileStore, Files, Options};
 use sqlite_disk::{Crash, Disk, Fuse, Memory};

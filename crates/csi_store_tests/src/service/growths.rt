@@ -8,16 +8,15 @@ use super::playing::{
 use super::{
     CONTROLLER_HEAD, CREATE, NODE_HEAD, NODE_RECORD, RECORD, controller, is_part, node, part,
 };
-use crate::values::{block, blocks, detail, name, node_id, number, room, target, volume_id};
-use csi_controller::{ControllerRecord, ControllerRow, RecordFault};
+use csi_controller::ControllerRecord;
 use csi_frames::decode;
-use csi_node::{NodeRecord, NodeRow, NodeTarget};
+use csi_node::NodeRecord;
 use csi_schedules::{ScheduleFault, read_config};
 use csi_service::{
     ControllerService, Core, Keep, KeepFault, MemoryKeep, NodeService, Part, Record, read_record,
     write_record,
 };
-use csi_types::{Config, Frame, Kind, Mode, NoMemory, Reply, Status};
+use csi_types::{Config, Frame, NoMemory};
 use std::alloc::Global;
 use std::process::Abort;
 
@@ -37,82 +36,12 @@ fn record_of<T: Record>(rt: &(impl Abort + AllocGlobal), bytes: &[u8]) -> T {
     }
 }
 
-// The reply to a call that succeeded.
-fn done(rt: &(impl Abort + AllocGlobal), id: Option<u64>) -> Reply {
-    Reply {
-        status: Status::Ok,
-        id: match id {
-            Some(id) => Some(volume_id(rt, id)),
-            None => None,
-        },
-        detail: detail(rt, ""),
-    }
-}
-
 #[test]
 fn records_in_want_of_memory(rt: HostRuntime) {
     let of_controller: ControllerRecord = record_of(&rt, RECORD);
     assert!(&rt; written(&rt, &of_controller).as_slice() == RECORD);
     let of_node: NodeRecord = record_of(&rt, NODE_RECORD);
     assert!(&rt; written(&rt, &of_node).as_slice() == NODE_RECORD);
-}
-
-// The rows of a controller that made `v`.
-fn volumes(rt: &(impl Abort + AllocGlobal)) -> Vec<ControllerRow> {
-    let mut rows = room(rt, 1);
-    rows.push(ControllerRow {
-        id: volume_id(rt, 1),
-        live: true,
-        name: name(rt, "v"),
-        capacity: 10,
-        capabilities: blocks(rt, &[Mode::SingleNodeWriter]),
-        holdings: Vec::new(rt.alloc()),
-        last: number(1),
-        kind: Kind::CreateVolume,
-        reply: done(rt, Some(1)),
-    })
-    .expect(rt, "room");
-    rows
-}
-
-#[test]
-fn a_controller_record_is_made_in_want_of_memory(rt: HostRuntime) {
-    let made = match ControllerRecord::try_new(rt.alloc(), 2, volumes(&rt)) {
-        Err(RecordFault::NoMemory) => ControllerRecord::try_new(rt.alloc(), 2, volumes(&rt)),
-        first => first,
-    };
-    let record = made.expect(&rt, "a record");
-    assert!(&rt; written(&rt, &record).as_slice() == RECORD);
-}
-
-// The rows of a node that staged volume 1 and published it at `/a`.
-fn staged(rt: &(impl Abort + AllocGlobal)) -> Vec<NodeRow> {
-    let mut targets = room(rt, 1);
-    targets
-        .push(NodeTarget {
-            target: target(rt, "/a"),
-            readonly: false,
-        })
-        .expect(rt, "room");
-    let mut rows = room(rt, 1);
-    rows.push(NodeRow {
-        id: volume_id(rt, 1),
-        staged: Some(block(Mode::SingleNodeWriter)),
-        targets,
-        last: number(2),
-        kind: Kind::NodePublishVolume,
-        reply: done(rt, None),
-    })
-    .expect(rt, "room");
-    rows
-}
-
-// It takes no memory.
-#[test]
-fn a_node_record_is_made_in_want_of_memory(rt: HostRuntime) {
-    let made = NodeRecord::try_new(node_id(&rt, "n1"), staged(&rt));
-    let record = made.expect(&rt, "a record");
-    assert!(&rt; written(&rt, &record).as_slice() == NODE_RECORD);
 }
 
 // The frame that these bytes begin with.
