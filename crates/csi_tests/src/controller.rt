@@ -1,6 +1,9 @@
 //! The controller plugin. What it is to answer comes from the table of the lifecycle, written out.
+mod calls;
+mod compared;
 mod full;
 mod growths;
+mod plain;
 mod records;
 mod worked;
 
@@ -23,15 +26,15 @@ const DONE: Told = (Status::Ok, None, "");
 // What is answered where volume 1 was made or found.
 const FIRST: Told = (Status::Ok, Some(1), "");
 
-// A call, as a test writes it. The volume is 1 but where it is told, and is used as a raw device.
+// A call, as a test writes it. A volume is used as a raw device.
 #[derive(Clone, Copy)]
 enum Ask {
     // Name, least and greatest capacity, and the modes.
     Create(&'static str, u64, u64, &'static [Mode]),
-    Delete,
+    Delete(u64),
     // Volume, node, mode, and whether it is for reading alone.
     Publish(u64, &'static str, Mode, bool),
-    Unpublish(&'static str),
+    Unpublish(u64, &'static str),
 }
 
 // A call under this number of session 1, and what it is answered.
@@ -43,9 +46,9 @@ const MAKE: Ask = Ask::Create("v", 10, 0, &[B1]);
 fn kind_of(ask: Ask) -> Kind {
     match ask {
         Ask::Create(..) => Kind::CreateVolume,
-        Ask::Delete => Kind::DeleteVolume,
+        Ask::Delete(_) => Kind::DeleteVolume,
         Ask::Publish(..) => Kind::ControllerPublishVolume,
-        Ask::Unpublish(_) => Kind::ControllerUnpublishVolume,
+        Ask::Unpublish(..) => Kind::ControllerUnpublishVolume,
     }
 }
 
@@ -72,8 +75,8 @@ fn create(
 fn call_of(rt: &(impl Abort + AllocGlobal), ask: Ask) -> Call {
     match ask {
         Ask::Create(text, required, limit, modes) => create(rt, text, required, limit, modes),
-        Ask::Delete => Call::DeleteVolume {
-            id: volume_id(rt, 1),
+        Ask::Delete(volume) => Call::DeleteVolume {
+            id: volume_id(rt, volume),
         },
         Ask::Publish(volume, node, mode, readonly) => Call::ControllerPublishVolume {
             id: volume_id(rt, volume),
@@ -81,8 +84,8 @@ fn call_of(rt: &(impl Abort + AllocGlobal), ask: Ask) -> Call {
             capability: block(mode),
             readonly,
         },
-        Ask::Unpublish(node) => Call::ControllerUnpublishVolume {
-            id: volume_id(rt, 1),
+        Ask::Unpublish(volume, node) => Call::ControllerUnpublishVolume {
+            id: volume_id(rt, volume),
             node: node_id(rt, node),
         },
     }

@@ -1,6 +1,6 @@
 //! What a plugin's answer is to be.
 use crate::values::number;
-use csi_types::{Body, Frame, Kind, Party, Reply, Status, VolumeId};
+use csi_types::{Body, Frame, Kind, Number, Party, Reply, Status, VolumeId};
 
 /// What a reply says: its status, the number of its id, and its detail.
 pub(crate) type Told = (Status, Option<u64>, &'static str);
@@ -13,8 +13,8 @@ fn is_id(found: Option<VolumeId>, id: Option<u64>) -> bool {
     }
 }
 
-// Whether the reply says this.
-fn tells(reply: &Reply, told: Told) -> bool {
+/// Whether the reply says this.
+pub(crate) fn tells(reply: &Reply, told: Told) -> bool {
     let (status, id, detail) = told;
     reply.status == status && is_id(reply.id, id) && reply.detail.as_str() == detail
 }
@@ -28,8 +28,23 @@ fn is_party(found: &Party, node: Option<&str>) -> bool {
     }
 }
 
-/// Whether the frame is the reply of the node of this id, or of the controller, to the call of session 1 with this
-/// number and of this kind, and says this.
+/// Whether the frame is the reply of the node of this id, or of the controller, under this number and of this kind, and
+/// says this.
+pub(crate) fn is_reply_to(
+    frame: &Frame,
+    node: Option<&str>,
+    number: Number,
+    kind: Kind,
+    told: Told,
+) -> bool {
+    let is_answer = frame.number() == number && is_party(frame.party(), node);
+    match frame.body() {
+        Body::Reply(of, reply) => is_answer && *of == kind && tells(reply, told),
+        Body::Call(_) => false,
+    }
+}
+
+/// Whether it is the reply to the call of session 1 with this number, of this kind, and says this.
 pub(crate) fn is_reply(
     frame: &Frame,
     node: Option<&str>,
@@ -37,9 +52,5 @@ pub(crate) fn is_reply(
     kind: Kind,
     told: Told,
 ) -> bool {
-    let is_answer = frame.number() == number(call) && is_party(frame.party(), node);
-    match frame.body() {
-        Body::Reply(of, reply) => is_answer && *of == kind && tells(reply, told),
-        Body::Call(_) => false,
-    }
+    is_reply_to(frame, node, number(call), kind, told)
 }

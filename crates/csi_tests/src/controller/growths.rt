@@ -68,12 +68,12 @@ const TAKEN: Told = (Status::AlreadyExists, None, "name");
 const CALLS: &[Step] = &[
     (1, MAKE, FIRST),
     (2, Ask::Publish(1, "n1", B1, false), DONE),
-    (3, Ask::Delete, AT_N1),
-    (3, Ask::Delete, AT_N1),
-    (1, Ask::Delete, STALE),
+    (3, Ask::Delete(1), AT_N1),
+    (3, Ask::Delete(1), AT_N1),
+    (1, Ask::Delete(1), STALE),
     (4, Ask::Create("v", 11, 0, &[B1]), TAKEN),
-    (5, Ask::Unpublish("n1"), DONE),
-    (6, Ask::Delete, DONE),
+    (5, Ask::Unpublish(1, "n1"), DONE),
+    (6, Ask::Delete(1), DONE),
 ];
 
 #[test]

@@ -38,7 +38,7 @@ const UNKNOWN: Told = (Status::NotFound, None, "node");
 
 const AFTER: &[Step] = &[
     (3, Ask::Publish(1, "n1", B1, false), UNKNOWN),
-    (4, Ask::Unpublish("n1"), DONE),
+    (4, Ask::Unpublish(1, "n1"), DONE),
 ];
 
 // A record with volume 1 held at `n1`, opened with no nodes.

@@ -57,7 +57,7 @@ const NAMES: &[Step] = &[
     (1, MAKE, FIRST),
     (2, Ask::Create("v", 5, 20, &[B1]), FIRST),
     (3, Ask::Create("v", 11, 0, &[B1]), TAKEN),
-    (4, Ask::Delete, DONE),
+    (4, Ask::Delete(1), DONE),
     (5, MAKE, TAKEN),
 ];
 
