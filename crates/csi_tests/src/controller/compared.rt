@@ -76,7 +76,7 @@ fn are_rows(found: &[ControllerRow], rows: &[PlainRow]) -> bool {
 
 // Whether the controller's record has these rows, in this order, and the next id.
 fn has_record(rt: &(impl Abort + AllocGlobal), controller: &Controller, rows: &[PlainRow]) -> bool {
-    let record = controller.record(rt.alloc()).expect(rt, "memory");
+    let record = controller.record().expect(rt, "memory");
     record.next_id() == next_id(rows) && are_rows(record.rows(), rows)
 }
 
