@@ -1,4 +1,4 @@
--- One more row of those whose holdings are attached.
+-- The attachments of rows, when one more row is appended.
 use Rattle.std.proofs.Common.{◌≡◌, ◌<◌, ◌+◌, ℕ, Bool, true, false, cond, List, [], ◌∷◌, ◌++◌, map, take, get_or, length, refl, sym, ◌∙◌, ap, append_assoc, arith}
 use Rattle.std.specs.Prelude.{Some, find, filter, ◌==◌}
 use Rattle.std.proofs.lemmas.List.{take_more}

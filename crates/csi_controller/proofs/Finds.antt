@@ -1,4 +1,4 @@
--- A test of texts, turned.
+-- The test whether two texts are the same is symmetric.
 use Rattle.std.proofs.Common.{◌≡◌, List, ℕ, Bool, true, false, refl, sym, ◌∙◌}
 use Rattle.std.proofs.lemmas.Bool.{true≢false}
 use Rattle.csi_types.proofs.Equality.{same_text-tells}

@@ -1,4 +1,4 @@
--- What the row of a call's volume gives behind the fence, and what it and the counts of the nodes are then. Private functions say so.
+-- What the row of a call's volume gives behind the fence, and what it and the counts of the nodes are then. Only private functions cite it.
 use Rattle.std.specs.Prelude.{◌≡◌, ℕ, List}
 use Rattle.csi_types.specs.declared.number.Number.{Number}
 use Rattle.csi_types.specs.declared.call.Kind.{Kind}

@@ -1,4 +1,4 @@
--- The controller's table, for the row of a call's volume. Private functions say so.
+-- The controller's table, for the row of a call's volume. Only private functions cite it.
 use Rattle.std.specs.Prelude.{ℕ, List, [], ◌∷◌, find, length, Bool, not, ◌||◌, nat_le, Option, Some, None, if◌then◌else◌, codes}
 use Rattle.std.specs.List.{list_any}
 use Rattle.csi_types.specs.declared.capability.Capability.{Capability}

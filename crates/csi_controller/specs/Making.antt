@@ -1,4 +1,4 @@
--- A volume that is made: what a new name is answered, and what a core is then. Private functions say so.
+-- A volume that is made: what a new name is answered, and what a core is then. Only private functions cite it.
 use Rattle.std.specs.Prelude.{◌≡◌, ℕ, ◌<◌, ◌^◌, List, [], ◌∷◌, ◌++◌, true, ◌||◌, nat_le, nat_lt, if◌then◌else◌, codes, ◌+◌, ◌%◌}
 use Rattle.csi_types.specs.declared.capability.Capability.{Capability}
 use Rattle.csi_types.specs.declared.number.Number.{Number}

@@ -1,4 +1,4 @@
--- What a call changes in the row of its volume. Private functions say so.
+-- What a call changes in the row of its volume. Only private functions cite it.
 use Rattle.std.specs.Prelude.{◌≡◌, ℕ, ◌<◌, List, [], ◌∷◌, ◌++◌, filter, find, length, Bool, true, false, not, Option, Some, None, IsTrue}
 use Rattle.csi_types.specs.declared.reply.Reply.{Reply}
 use Rattle.csi_types.specs.declared.status.Status.{Status}

@@ -42,7 +42,7 @@ pub record ControllerRowsLaw : Type 0 where
   pub rows : (state : ControllerState) (first second : Parts) → AreOf first state → AreOf second state → AreSameRows first.rows second.rows
   -- a reply changes nothing
   pub reply : (config : Config) (state : ControllerState) (frame : Frame) (kind : Kind) (reply : Reply) → frame.body ≡ bodies.Reply kind reply → after_frame config state frame ≡ state
-  -- a call that has no row then changed nothing, and so did one whose row has the last number that it had
+  -- if the call has no row after the frame, or its row's last number is as before the frame, the state is as before
   pub nowhere : (old : Parts) (state : ControllerState) (frame : Frame) (call : Call) → AreOf old state → frame.body ≡ bodies.Call call
       → row_for call (after_frame old.config state frame) ≡ None → after_frame old.config state frame ≡ state
   pub spent : (old : Parts) (state : ControllerState) (frame : Frame) (call : Call) → AreOf old state → frame.body ≡ bodies.Call call

@@ -1,4 +1,4 @@
--- What a core gives for a call. Private functions say so.
+-- What a core gives for a call. Only private functions cite it.
 use Rattle.std.specs.Prelude.{◌≡◌, Some}
 use Rattle.csi_types.specs.Frame.{Frame}
 use Rattle.csi_controller.specs.Fenced.{Fenced}

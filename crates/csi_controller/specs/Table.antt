@@ -56,7 +56,7 @@ create_new config state name required limit capabilities =
     else if nat_le 4096 (length state.volumes) || nat_le (2 ^ 64) state.next_id then refused ResourceExhausted (codes "volumes")
     else record { reply = ok_reply_with state.next_id; change = Makes name (wanted required limit) capabilities }
 
--- a range that can be met, and at least one capability
+-- good arguments: by the volume of the name, if there is one
 abbrev pub create_named : Config → ControllerState → List ℕ → ℕ → ℕ → List Capability → Option Volume → Outcome
 create_named config state name required limit capabilities (Some volume) =
     if not volume.is_live then refused AlreadyExists (codes "name")

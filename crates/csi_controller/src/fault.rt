@@ -5,7 +5,7 @@ use csi_types::NoMemory;
 use std::alloc::{AllocError, AllocFailed};
 use thiserror::Error;
 
-/// Why a call of a controller was refused. A refused call has left the controller as it was (this profile's own).
+/// Why a call of a controller failed. It has left the controller as it was (this profile's own).
 #[derive(Clone, Copy, Debug, PartialEq, Eq, Error)]
 pub enum CoreFault {
     /// An allocation was refused.

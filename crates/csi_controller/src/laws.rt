@@ -67,7 +67,7 @@ pub fn sound_law(controller: &Controller)
 }
 
 /// A law, and nothing that runs: what a controller shows tells its next id and its rows; and a frame changes at most the row that its
-/// call has then, so that a call whose row has the last number that it had changed nothing, nor did one that has no row then.
+/// call has then, so that where the call has no row after the frame, or its row's last number is as before the frame, the state is as before.
 /// This profile's own.
 pub fn rows_law()
     ensures { ControllerRowsLaw }

@@ -51,7 +51,7 @@ impl ControllerRecord {
     /// below the next id; its capacity is 0 or above 2^63 - 1; it has no capability; its name stands in an earlier row; it was
     /// deleted and has holdings, or has more than 64; two of its holdings name one node or can't be held together, or one is in
     /// a capability that the row lacks; its kept reply isn't one of a controller; or 4,096 rows stand before it. It is refused
-    /// with `NoMemory` where an allocation was, and takes some for ids and names. Copies of a record's rows are a record's.
+    /// with `NoMemory` where an allocation was: it takes memory for the maps of ids and names. Copies of a record's rows are a record's.
     pub fn try_new(
         alloc: Global,
         next_id: u64,

@@ -13,7 +13,7 @@ pub struct NodeHolding {
     pub readonly: bool,
 }
 
-/// A volume that the controller made, where it is held, and the last call that was answered for it with
+/// A volume that the controller made, where it is held, and the latest call that was let through for it with
 /// the reply that was given.
 #[derive(Debug, PartialEq, Eq, Drop)]
 pub struct ControllerRow {

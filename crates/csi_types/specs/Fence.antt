@@ -1,6 +1,6 @@
 -- The fence in front of both plugins' tables: which calls a plugin carries out, by their numbers. This
 -- profile's own: CSI's spec.md, "Concurrency", asks that a plugin bear calls that come twice, late or at once.
--- A change of what a plugin remembers touches these definitions alone.
+-- A change of what a plugin remembers touches these definitions, and `State` and `Fenced` of each plugin.
 use Rattle.std.specs.Prelude.{◌≡◌, Bool, false, not, Option, Some, None, if◌then◌else◌, IsTrue}
 use Rattle.csi_types.specs.declared.number.Number.{Number}
 use Rattle.csi_types.specs.declared.call.Kind.{Kind}
@@ -10,7 +10,7 @@ use Rattle.csi_types.specs.declared.fence.Verdict.TheVariants.{Stale, Repeated, 
 use Rattle.csi_types.specs.Number.{is_before, IsBefore}
 use Rattle.csi_types.specs.Same.{same_number}
 
--- what a plugin keeps of the last call that it answered for a volume: its number and the reply
+-- what a plugin keeps of the latest call that it let through for a volume: its number and the reply
 pub record Kept : Type 0 where
   pub number : Number
   pub kind : Kind

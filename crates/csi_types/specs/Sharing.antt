@@ -1,5 +1,5 @@
 -- What the access modes allow: CSI's spec.md, "CreateVolume" (`AccessMode`), and "NodePublishVolume" on
--- several targets. A change of the modes touches these definitions and `Mode` alone.
+-- several targets. Of the definitions, a change of the modes touches these and `Mode`.
 use Rattle.std.specs.Prelude.{Bool, true, false, not, ◌&&◌, ◌||◌}
 use Rattle.csi_types.specs.declared.mode.Mode.{Mode}
 use Rattle.csi_types.specs.declared.mode.Mode.TheVariants.{SingleNodeWriter, SingleNodeReaderOnly, MultiNodeReaderOnly, MultiNodeSingleWriter, MultiNodeMultiWriter}

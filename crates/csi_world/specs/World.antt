@@ -14,7 +14,7 @@ pub record NodeAt : Type 0 where
   pub state : NodeState
 
 -- the frames in the order in which they were sent, replies too; no frame is ever taken out, so a frame that is
--- lost is one that nobody answers
+-- lost is one that is never delivered
 pub record World : Type 0 where
   pub frames : List Frame
   pub controller : ControllerState

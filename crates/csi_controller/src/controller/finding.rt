@@ -12,7 +12,7 @@ ghost use Rattle.csi_controller.specs.State.{is_row_for};
 use super::state::Core;
 use csi_types::{Call, Number, VolumeId};
 
-/// Whether it is a call of the controller.
+/// Whether it is a call for the controller.
 pub fn is_own(call: &Call) -> bool
     ensures { result ≡ is_party_of (kind_of call.now) Controller }
 {

@@ -96,8 +96,8 @@ fn unpublish_line(row: &ControllerRow, node: &NodeId) -> Option<Line<'static>>
     Some(met(None))
 }
 
-/// What the table answers to a call of this row's volume, by the nodes and how many volumes are held at each. They are
-/// asked for the last lines of ControllerPublishVolume alone.
+/// What the table answers to a call of this row's volume, by the nodes and how many volumes are held at each, of which
+/// ControllerPublishVolume alone asks.
 pub fn line<'a>(
     row: &'a ControllerRow,
     nodes: &[NodeSlots],
