@@ -40,10 +40,12 @@ same_text-flip a b = by (same_text a b) (same_text b a) refl refl
     by true false e f = sym ((same_text-tells b a).1 (sym ((same_text-tells a b).0 e))) ∙ f
     by false true e f = sym e ∙ (same_text-tells a b).1 (sym ((same_text-tells b a).0 f))
 
+-- where two tests pass together, the left one does
 left-true : (a b : Bool) → (a && b) ≡ true → a ≡ true
 left-true true b e = refl
 left-true false b e = e
 
+-- things that are the same are of the same name
 same_thing-name : (thing other : Thing) → same_thing thing other ≡ true → same_text (name_in thing) (name_in other) ≡ true
 same_thing-name (Exists name) (Exists other) e = e
 same_thing-name (Attached name node) (Attached other there) e = left-true _ _ e
@@ -51,6 +53,7 @@ same_thing-name (Staged name node) (Staged other there) e = left-true _ _ e
 same_thing-name (Published name node target) (Published other there aim) e = left-true _ _ (left-true _ _ e)
 same_thing-name thing other e = absurd (false≢true e)
 
+-- the thing that a call of a name does or undoes is of that name
 is_thing-name : (thing : Thing) (name : List ℕ) (party : Party) (call : Call) → is_thing thing (thing_at name party call) ≡ true → same_text (name_in thing) name ≡ true
 is_thing-name thing name party (calls.CreateVolume create required limit capabilities) e = same_thing-name thing (Exists name) e
 is_thing-name thing name party (calls.DeleteVolume id) e = same_thing-name thing (Exists name) e
@@ -76,6 +79,7 @@ id-quiet : (item : Item) (items : List Item) (issued : Issued) (call : Call) →
 id-quiet item items issued (calls.CreateVolume name required limit capabilities) quiet = rw quiet refl
 id-quiet item items issued call quiet = refl
 
+-- an item that brings none of these calls an id leaves the ids that they brought
 ids-quiet : (item : Item) (items : List Item) (sent : List Issued) → ((issued : Issued) → IsAmong issued sent → id_in issued.number item ≡ None)
     → filter_map (λ (issued : Issued). id_by (item ∷ items) issued issued.call) sent ≡ filter_map (λ (issued : Issued). id_by items issued issued.call) sent
 ids-quiet item items [] quiet = refl
@@ -189,6 +193,7 @@ sent-follows view history issued form agrees next detaches =
     count true k n e = grind (arith, nat_tests, e)
     count false k n e = e
 
+-- a number is the same as itself, and so is a text
 number-same : (number : Number) → same_number number number ≡ true
 number-same number = (same_number-tells number number).1 refl
 
@@ -303,10 +308,12 @@ pub and-false : (b : Bool) → (b && false) ≡ false
 and-false true = refl
 and-false false = refl
 
+-- the newest of a list that may have one more in front is that one, or else the list's own
 newest-cons : {X : Type 0} (o : Option X) (xs : List X) → newest (cons_option o xs) ≡ option_or o (newest xs)
 newest-cons None xs = refl
 newest-cons (Some x) xs = refl
 
+-- numbers are compared alike from both sides
 same_number-flip : (a b : Number) → same_number a b ≡ same_number b a
 same_number-flip a b = by (same_number a b) (same_number b a) refl refl
   where
@@ -322,6 +329,7 @@ record IsLatest (name : List ℕ) (items : List Item) (call : Issued) : Type 0 w
   first : filter (λ (i : Issued). same_text i.name name) (issued_in items) ≡ call ∷ others
   numbers : (other : Issued) → IsAmong other others → same_number call.number other.number ≡ false
 
+-- in a well-formed history the open call of a name is its latest one, and no earlier call has its number
 open-latest : (began : Number) (name : List ℕ) (items : List Item) (call : Issued) → AreWellFormed began items → open_in name items ≡ Some call → IsLatest name items call
 open-latest began name [] call form e = absurd (none-some call e)
 open-latest began name (Started session ∷ older) call form e = absurd (none-some call e)

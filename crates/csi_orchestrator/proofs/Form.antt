@@ -37,6 +37,7 @@ IsNamed : List ℕ → Option Due → Type 0
 IsNamed name None = Unit {0}
 IsNamed name (Some due) = IsOfName name due.call
 
+-- what this says: nothing of no call, and of a call that it is of the name
 no_call : (name : List ℕ) → IsNamed name None
 unfolding IsNamed
 no_call name = tt
@@ -49,6 +50,7 @@ its_name : (name : List ℕ) (due : Due) → IsNamed name (Some due) → IsOfNam
 unfolding IsNamed
 its_name name due h = h
 
+-- the call that is due to leave a node, for a use, for a stop and for a delete
 named_leave : (history : History) (name node : List ℕ) (id : ℕ) (targets : List (List ℕ)) → IsNamed name (due_leave history name node id targets)
 named_leave history name node id (target ∷ targets) = no_call name
 named_leave history name node id [] =
@@ -71,6 +73,7 @@ named_delete : (history : History) (name : List ℕ) (id : Option ℕ) → IsNam
 named_delete history name None = no_call name
 named_delete history name (Some id) = either (IsNamed name) _ _ _ (no_call name) (a_call name _ tt)
 
+-- the call that is due for any goal
 named_for : (history : History) (name : List ℕ) (goal : Option Goal) → IsNamed name (due_for history name goal)
 named_for history name None = no_call name
 named_for history name (Some (Create arguments)) = either (IsNamed name) _ _ _ (no_call name) (a_call name _ refl)
@@ -83,6 +86,7 @@ pub IsNextIfSome : Number → Option Number → Type 0
 IsNextIfSome last None = Unit {0}
 IsNextIfSome last (Some number) = IsNext last number
 
+-- what this says: nothing where no number is left, and of a number that it is the next one
 none_left : (last : Number) → IsNextIfSome last None
 unfolding IsNextIfSome
 none_left last = tt
@@ -95,6 +99,7 @@ pub the_next : (last number : Number) → IsNextIfSome last (Some number) → Is
 unfolding IsNextIfSome
 the_next last number h = h
 
+-- a call of a session is before the next one
 is_before_next : (session call : ℕ) → IsBefore (record { session = session; call = call }) (record { session = session; call = call + 1 })
 is_before_next session call =
     let same : nat_lt session session ≡ false = le-ltb session session (omega arith) in
@@ -102,6 +107,7 @@ is_before_next session call =
     let less : nat_lt call (call + 1) ≡ true = lt-ltb call (call + 1) (omega arith) in
     simp (same, equal, less)
 
+-- the number that is given next is the next one, if one is left
 pub is_next : (last : Number) → IsNextIfSome last (next_number last)
 is_next last =
     either (IsNextIfSome last) _ _ _ (one_left last _ (record { later = is_before_next last.session last.call; same_session = refl })) (none_left last)
@@ -110,6 +116,7 @@ is_next last =
 pub Keeps : History → Result moves.Moved OrchFault → Type 0
 Keeps history result = IsWellFormed (moves.moved_to history result)
 
+-- what this says, both ways
 keeping : (history : History) (result : Result moves.Moved OrchFault) → IsWellFormed (moves.moved_to history result) → Keeps history result
 unfolding Keeps
 keeping history result h = h
@@ -126,6 +133,7 @@ sent-keeps history name answer items None number old new named next = keeping hi
 sent-keeps history name answer items (Some due) None old new named next = keeping history _ old
 sent-keeps history name answer items (Some due) (Some number) old new named next = keeping history _ ((the_next _ number next, its_name name due named), new)
 
+-- after items that keep the form and the last number, the due call is sent or the goal is dropped
 goes_on-keeps : (history : History) (name : List ℕ) (answer : Option Frame → moves.Answer) (items : List Item)
     → IsWellFormed history → IsWellFormed (with_items history items) → last_number (with_items history items) ≡ last_number history
     → Keeps history (moves.go_on history name answer items)
@@ -134,6 +142,7 @@ goes_on-keeps history name answer items old new same =
     (named_for (with_items history items) name (goal_of (with_items history items) name))
     (subst (λ last. IsNextIfSome last (next_number (last_number history))) (sym same) (is_next (last_number history)))
 
+-- a command in general, a use and a delete
 command-keeps : (history : History) (name : List ℕ) (goal : Goal) (fault : Option OrchFault) → IsWellFormed history
     → Keeps history (moves.command history name goal fault)
 command-keeps history name goal (Some fault) form = keeping history _ form
@@ -155,6 +164,7 @@ closing-keeps : (history : History) (name : List ℕ) (last : Option Issued) →
 closing-keeps history name None is form = (form, refl)
 closing-keeps history name (Some issued) is form = ((record { name = name; issued = issued; is_open = is; has_number = refl }, form), refl)
 
+-- a timeout
 timeout-keeps : (history : History) (name : List ℕ) (fault : Option OrchFault) → IsWellFormed history → Keeps history (moves.timeout history name fault)
 timeout-keeps history name (Some fault) form = keeping history _ form
 timeout-keeps history name None form =
@@ -183,6 +193,7 @@ taken-keeps history reply issued is_open form =
 not_none : {X : Type 0} (x : X) → None ≡ Some x → ⊥
 not_none x h = cc
 
+-- numbers that are compared as the same are equal
 same_number-then : (a b : Number) → same_number a b ≡ true → a ≡ b
 same_number-then a b h =
     let parts = and_parts (a.session == b.session) (a.call == b.call) h in
@@ -190,12 +201,14 @@ same_number-then a b h =
     let call = eqb-true a.call b.call parts.1 in
     λ i. record { session = session i; call = call i }
 
+-- where a name's open call has this number, the number is open
 number_open : (history : History) (number : Number) (name : List ℕ) (last : Option Issued) → open_call history name ≡ last
     → moves.is_number_open number last ≡ true → IsOpen history.items number
 number_open history number name None is h = absurd (false≢true h)
 number_open history number name (Some issued) is h =
     record { name = name; issued = issued; is_open = is; has_number = same_number-then issued.number number h }
 
+-- a reply, whether it is to an open call or not
 replied-keeps : (history : History) (number : Number) (party : Party) (kind : Kind) (reply : Reply) (found : Option Issued)
     → moves.call_replied history number party kind ≡ found → IsWellFormed history → Keeps history (moves.heard history reply found)
 replied-keeps history number party kind reply None is form = keeping history _ form
@@ -207,11 +220,13 @@ replied-keeps history number party kind reply (Some issued) is form =
     let is_number : issued.number ≡ number = same_number-then issued.number number first.0 in
     taken-keeps history reply issued (subst (λ n. IsOpen history.items n) (sym is_number) (number_open history number issued.name (open_call history issued.name) refl last.1)) form
 
+-- a frame that comes
 delivered-keeps : (history : History) (number : Number) (party : Party) (body : Body) → IsWellFormed history → Keeps history (moves.deliver history number party body)
 delivered-keeps history number party (bodies.Call call) form = keeping history _ form
 delivered-keeps history number party (bodies.Reply kind reply) form =
     replied-keeps history number party kind reply (moves.call_replied history number party kind) refl form
 
+-- a restart
 restart-keeps : (history : History) → IsWellFormed history → Keeps history (moves.restart (last_number history))
 restart-keeps history form =
     let last = last_number history in
@@ -219,6 +234,7 @@ restart-keeps history form =
     let risen : last.session < last.session + 1 = omega arith in
     either (Keeps history) _ (Ok started) (Err NumbersSpent) (keeping history (Ok started) (risen, form)) (keeping history (Err NumbersSpent) form)
 
+-- whatever comes
 pub moves-keep : (nodes : List (List ℕ)) (history : History) (input : moves.Input) → IsWellFormed history → Keeps history (moves.moves nodes history input)
 moves-keep nodes history (moves.ToCreate name arguments) form = command-keeps history name (Create arguments) (create_fault history name) form
 moves-keep nodes history (moves.ToUse name usage) form = use-keeps history name usage (use_fault nodes history name usage) form

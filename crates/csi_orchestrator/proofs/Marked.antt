@@ -46,6 +46,7 @@ there-too row node other place found e = (place, ap (place_of row) (sym ((same_t
 own-node : (name own other node : List ℕ) → name ≡ own → (same_text name own && same_text other node) ≡ same_text node other
 own-node name own other node is = ap (λ b. b && same_text other node) ((same_text-tells name own).1 is) ∙ same_text-flip other node
 
+-- the row with these entries
 with-places : RowShown → List PlaceShown → RowShown
 with-places row places = record row { places = places }
 
@@ -64,14 +65,17 @@ there : (row : RowShown) (node target other : List ℕ) (mark : Known) (aspect :
 unfolding with-places
 there row node target other mark aspect = find-change (λ (p : PlaceShown). p.node) node (place_marked mark aspect target) row.places other (node-stays mark aspect target)
 
+-- at each node the volume is held as it was, whatever is marked
 held-there : (row : RowShown) (node target : List ℕ) (mark : Known) (aspect : Aspect) (other : List ℕ) → held_in (with-places row (marked_at mark aspect node target row.places)) other ≡ held_in row other
 held-there row node target mark aspect other =
     ap (option_map held_at) (there row node target other mark aspect)
     ∙ unread (option_map held_at) (place_marked mark aspect target) (same_text node other) (place_of row other) (λ p. ap Some (held-stays mark aspect target p))
 
+-- the target with this mark
 aim-change : Known → Aim → Aim
 aim-change mark aim = record aim { published = mark }
 
+-- once a target that has an entry is marked, it has the mark, and the other targets of the node are as they were
 aim-mark : (place : PlaceShown) (target other : List ℕ) (mark : Known) (aim : Aim) → aim_of place target ≡ Some aim
     → published_in other (place_marked mark Publication target place) ≡ cond (same_text target other) mark (published_in other place)
 unfolding aim-change
@@ -103,6 +107,7 @@ mark-left : (row : RowShown) (node target other : List ℕ) (mark : Known) (aspe
 mark-left row node target other mark aspect read left =
     ap (mark_in read) (there row node target other mark aspect) ∙ unread (mark_in read) (place_marked mark aspect target) (same_text node other) (place_of row other) left
 
+-- a reading that is the mark in each marked entry: it is the mark at this node, and elsewhere as it was
 mark-set : (row : RowShown) (node target : List ℕ) (mark : Known) (aspect : Aspect) (place : PlaceShown) (name other : List ℕ) (read : PlaceShown → Known) → place_of row node ≡ Some place → name ≡ row.name
     → ((place : PlaceShown) → read (place_marked mark aspect target place) ≡ mark)
     → mark_in read (place_of (with-places row (marked_at mark aspect node target row.places)) other) ≡ cond (same_text name row.name && same_text other node) mark (mark_in read (place_of row other))
@@ -111,6 +116,7 @@ mark-set row node target mark aspect place name other read found is sets =
     ∙ reset (mark_in read) (place_marked mark aspect target) mark (same_text node other) (place_of row other) sets (there-too row node other place found)
     ∙ sym (ap (λ b. cond b mark (mark_in read (place_of row other))) (own-node name row.name other node is))
 
+-- of the things of the row's name, the one that is marked has the mark, and the others are as they were
 things-marked : (row : RowShown) (node target : List ℕ) (mark : Known) (aspect : Aspect) (place : PlaceShown) → place_of row node ≡ Some place → HasSpot aspect place target
     → (thing : Thing) → name_in thing ≡ row.name
     → mark_of thing (with-places row (marked_at mark aspect node target row.places)) ≡ cond (same_thing thing (thing_by aspect row.name node target)) mark (mark_of thing row)
@@ -153,6 +159,7 @@ pub record IsMarked (row after : RowShown) (due : Due) (mark : Known) : Type 0 w
   pub marks : (thing : Thing) → name_in thing ≡ row.name → mark_of thing after ≡ cond (is_thing thing (thing_at row.name due.party due.call)) mark (mark_of thing row)
   pub held : (node : List ℕ) → held_in after node ≡ held_in row node
 
+-- the same, where the mark is the volume's own
 exists-mark : (row : RowShown) (mark : Known) (thing : Thing) → name_in thing ≡ row.name → mark_of thing (let r : RowShown = record row { exists = mark } in r) ≡ cond (same_thing thing (Exists row.name)) mark (mark_of thing row)
 exists-mark row mark (Exists name) is = sym (ap (λ b. cond b mark row.exists) ((same_text-tells name row.name).1 is))
 exists-mark row mark (Attached name other) is = refl
@@ -164,6 +171,7 @@ has-place : (read : PlaceShown → Known) (o : Option PlaceShown) → is_no (mar
 has-place read None e = absurd (false≢true (sym e))
 has-place read (Some place) e = (place, refl)
 
+-- and one of the target
 has-aim : (o : Option Aim) → is_no (mark_in (λ (a : Aim). a.published) o) ≡ false → (aim : Aim) × (o ≡ Some aim)
 has-aim None e = absurd (false≢true (sym e))
 has-aim (Some aim) e = (aim, refl)
@@ -180,11 +188,13 @@ pub data Spot (row : RowShown) (goal : Goal) : Aspect → Option Thing → Type 
       → ((change : List ℕ → List ℕ → List PlaceShown → List PlaceShown) (places : List PlaceShown) → at_goal change (Some goal) places ≡ change node target places)
       → place_of row node ≡ Some place → HasSpot aspect place target → Spot row goal aspect (Some (thing_by aspect row.name node target))
 
+-- the goal for which a call is due, and where the call is at work
 pub record IsAtWork (row : RowShown) (due : Due) : Type 0 where
   pub goal : Goal
   pub is : row.goal ≡ Some goal
   pub spot : Spot row goal (aspect_of (kind_of due.call)) (thing_at row.name due.party due.call)
 
+-- each call that is due for a row is at work at what the row's goal names
 pub at-work : (row : RowShown) (due : Due) → GoalHasEntry row row.goal → IsDueFor row due → IsAtWork row due
 at-work row _ entry (ToMake goal e) = record { goal = Create; is = goal; spot = AtVolume (λ r. refl) }
 at-work row _ entry (ToRemove id goal own e) = record { goal = Delete; is = goal; spot = AtVolume (λ r. refl) }
@@ -212,6 +222,7 @@ at-work row _ entry (ToDetach node target id goal own p o s a) =
 marked-by : Known → Aspect → RowShown → RowShown
 marked-by mark aspect row = record row { exists = exists_marked mark aspect row.exists; places = places_marked mark aspect row.goal row.places }
 
+-- a mark for a goal with a node is set among the row's entries, and nowhere else
 at-node : (row : RowShown) (goal : Goal) (node target : List ℕ) (mark : Known) (aspect : Aspect) (place : PlaceShown) → row.goal ≡ Some goal
     → ((change : List ℕ → List ℕ → List PlaceShown → List PlaceShown) (places : List PlaceShown) → at_goal change (Some goal) places ≡ change node target places) → HasSpot aspect place target
     → marked-by mark aspect row ≡ with-places row (marked_at mark aspect node target row.places)
@@ -219,6 +230,7 @@ unfolding marked-by with-places
 at-node row goal node target mark Existence place is at spot = absurd spot
 at-node row goal node target mark aspect place is at spot = ap (with-places row) (ap (λ g. at_goal (marked_at mark aspect) g row.places) is ∙ at (marked_at mark aspect) row.places)
 
+-- of the things of the row's name, the one at which a call is at work gets the mark, and no other one
 spot-marks : (row : RowShown) (goal : Goal) (mark : Known) (aspect : Aspect) (own : Option Thing) → Spot row goal aspect own → row.goal ≡ Some goal
     → (thing : Thing) → name_in thing ≡ row.name → mark_of thing (marked-by mark aspect row) ≡ cond (is_thing thing own) mark (mark_of thing row)
 unfolding marked-by
@@ -226,12 +238,14 @@ spot-marks row goal mark _ _ (AtVolume same) e thing is = exists-mark row mark t
 spot-marks row goal mark _ _ (AtNode node target aspect place same at found spot) e thing is =
     ap (mark_of thing) (at-node row goal node target mark aspect place e at spot) ∙ things-marked row node target mark aspect place found spot thing is
 
+-- at each node the volume is held as it was
 spot-held : (row : RowShown) (goal : Goal) (mark : Known) (aspect : Aspect) (own : Option Thing) → Spot row goal aspect own → row.goal ≡ Some goal → (node : List ℕ) → held_in (marked-by mark aspect row) node ≡ held_in row node
 unfolding marked-by
 spot-held row goal mark _ _ (AtVolume same) e other = refl
 spot-held row goal mark _ _ (AtNode node target aspect place same at found spot) e other =
     ap (λ r. held_in r other) (at-node row goal node target mark aspect place e at spot) ∙ held-there row node target mark aspect other
 
+-- a row in which a mark is set for its due call is marked so
 pub is-marked : (row : RowShown) (due : Due) (mark : Known) → GoalHasEntry row row.goal → IsDueFor row due → IsMarked row (marked mark (kind_of due.call) row) due mark
 unfolding marked-by
 is-marked row due mark entry case =
@@ -268,9 +282,11 @@ others-same place target mark =
         let is : same_text a.target target ≡ true = (same_text-tells a.target target).1 own in
         ap (λ b. not b && not (is_no mark)) is ∙ sym (ap (λ b. not b && not (is_no a.published)) is)
 
+-- the same marks, but for the target and the others
 published-of : Marks → Known → Bool → Marks
 published-of marks mark others = record marks { published = mark; others = others }
 
+-- a mark that is set in the entry is set in what is known by the entry
 marks-changed : (exists mark : Known) (aspect : Aspect) (target : List ℕ) (place : PlaceShown) → HasSpot aspect place target
     → marks-by exists target (Some (place_marked mark aspect target place)) ≡ marks_marked mark aspect (marks-by exists target (Some place))
 unfolding marks-by published-of
@@ -282,6 +298,7 @@ marks-changed exists mark Publication target place spot =
     (aim-mark place target target mark spot.0 spot.1 ∙ ap (λ b. cond b mark (published_in target place)) (text-same target))
     ∙ ap (published-of (marks-by exists target (Some place)) mark) (others-same place target mark)
 
+-- and in what is known of what the row's goal names
 spot-known : (row : RowShown) (goal : Goal) (mark : Known) (aspect : Aspect) (own : Option Thing) → Spot row goal aspect own → row.goal ≡ Some goal
     → marks_for (marked-by mark aspect row) goal ≡ marks_marked mark aspect (marks_for row goal)
 unfolding marked-by marks-by with-places

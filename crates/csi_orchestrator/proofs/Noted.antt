@@ -25,6 +25,7 @@ pub held-ok : {T E P : Type 0} (r : Result T E) → IsOk r → OnOk r P → P
 held-ok (Ok x) ok p = p
 held-ok (Err e) ok p = absurd (false≢true ok)
 
+-- once a value was put under a key that had none, there is one more
 pub grown : {V E : Type 0} (r : Result (Option V) E) (a b : ℕ) (o : Option V) → IsOk r → IfOk r (λ old. old ≡ o) → IfOk r (λ old. a ≡ b + cond (is_some old) 0 1) → o ≡ None → a ≡ b + 1
 grown (Ok x) a b o ok is long none = long ∙ ap (λ y. b + cond (is_some y) 0 1) (is ∙ none)
 grown (Err e) a b o ok is long none = absurd (false≢true ok)
@@ -48,6 +49,7 @@ pub record Renewed (old : Catalog) (k : ℕ) (now : Catalog) : Type 0 where
   pub count : index_map_len now.calls ≤ k
   pub room : index_map_len old.calls + spare old.calls ≤ index_map_len now.calls + spare now.calls
 
+-- where no call is noted, and there is no less room, those of no row are
 pub renewed-none : (old now : Catalog) → now.rows ≡ old.rows → now.calls.entries ≡ [] → index_map_len now.calls ≡ 0 → index_map_len old.calls + spare old.calls ≤ spare now.calls → Renewed old 0 now
 renewed-none old now rows empty none room =
     record {
@@ -58,6 +60,7 @@ renewed-none old now rows empty none room =
       room = omega (arith, none, room);
     }
 
+-- while the call of a row is left, there is room for one more
 pub renewed-free : (old now : Catalog) (k : ℕ) → IsNoted old → Renewed old k now → k < length (rows_of old) → 0 < spare now.calls
 renewed-free old now k noted renewed inside =
     let least = noted.room (omega (arith, inside)) in
@@ -77,6 +80,7 @@ unnoted old now k row number noted renewed at is_open = by (place_noted now numb
         let below = before.0 in
         absurd (omega (arith, same, below))
 
+-- once the call of the next row is noted, if it has one, those of one more row are
 pub renewed-more : (old now then : Catalog) (k : ℕ) (row : Row) → IsNoted old → Renewed old k now → IsAt (rows_of old) k row → then.rows ≡ now.rows → IsNotedWith k row.open_number now then → Renewed old (k + 1) then
 renewed-more old now then k row noted renewed at rows more = by row.open_number refl more
   where
@@ -155,6 +159,7 @@ renewed-noted old now k noted renewed over =
       room = λ some. let long = ap length same in let least = noted.room (omega (arith, long, some)) in let room = renewed.room in omega (arith, long, least, room);
     }
 
+-- at each turn there is room for one more, if there are rows
 pub renewed-roomy : (old now : Catalog) (k : ℕ) → IsNoted old → Renewed old k now → k ≤ length (rows_of old) → 0 < length (rows_of old) → 0 < spare now.calls
 renewed-roomy old now k noted renewed within some =
     let least = noted.room some in
@@ -164,6 +169,7 @@ renewed-roomy old now k noted renewed within some =
 
 -- ---- one more call
 
+-- once the one call that wasn't noted is, each open call is noted
 pub noted-more : (old now : Catalog) (place call : ℕ) → IsReady old place (Some call) → now.rows ≡ old.rows → Updates nat_eq old.calls now.calls call (Some place) → spare old.calls ≤ spare now.calls + 1
     → index_map_len now.calls ≡ index_map_len old.calls + 1 → IsNoted now
 noted-more old now place call ready rows updates used long =
@@ -180,6 +186,7 @@ noted-more old now place call ready rows updates used long =
     by other number (inr own) (inl p) = p.1 ∙ ap Some (sym own.0)
     by other number (inr own) (inr p) = absurd (p.0 (some-is call number.call own.1))
 
+-- once a later call is noted, no call after that one is
 pub up-to-more : (old now : Catalog) (place call last : ℕ) → Updates nat_eq old.calls now.calls call (Some place) → AreUpTo last old → last < call → AreUpTo call now
 up-to-more old now place call last updates known later = λ other there is. by other there is (noted-cases old.calls now.calls call place other updates)
   where
@@ -197,6 +204,7 @@ pub record ClosedBefore (old : Catalog) (turn : ℕ) (now : Catalog) : Type 0 wh
   pub calls : now.calls ≡ old.calls
   pub names : now.rows.entries ≡ map by_name (rows_of now)
 
+-- before the first turn nothing is closed
 pub closed-none : (catalog : Catalog) → IsIndexed catalog → ClosedBefore catalog 0 catalog
 closed-none catalog indexed =
     record {
@@ -206,6 +214,7 @@ closed-none catalog indexed =
       names = indexed.rows;
     }
 
+-- a turn closes the row at its place
 pub closed-more : (old now then : Catalog) (turn place : ℕ) → ClosedBefore old turn now → slice_get (values now.calls) turn ≡ Some place → IsClosedAt place (rows_of now) (rows_of then) → then.calls ≡ now.calls
     → (now.rows.entries ≡ map by_name (rows_of now) → then.rows.entries ≡ map by_name (rows_of then)) → ClosedBefore old (turn + 1) then
 closed-more old now then turn place closed noted changed calls names =
@@ -247,6 +256,7 @@ looked-up (e ∷ es) call place is none = by (nat_eq call e.0) is (λ rest. look
     by true own further = none 0 (omega arith) own
     by false rest further = further rest
 
+-- after as many turns as calls were noted, every row is without an open call
 pub closed-all : (old now : Catalog) (turn : ℕ) → IsNoted old → ClosedBefore old turn now → index_map_len old.calls ≤ turn → rows_of now ≡ map without_call (rows_of old)
 closed-all old now turn noted closed over = all-mapped without_call (rows_of old) (rows_of now) closed.long (λ place row at. by place row at (closed.each place row at))
   where
@@ -285,6 +295,7 @@ emptied-indexed rows now then closed names same empty room free =
 pub open-there : (rows : List Row) (place : ℕ) (read row : Row) → slice_get rows place ≡ Some read → IsAt rows place row → read.open_number ≡ row.open_number
 open-there rows place read row at is = ap (λ (r : Row). r.open_number) (some-is read row (sym at ∙ get-of_at rows place row is))
 
+-- a turn that notes the call of the row at its place, if it has one
 pub renewed-step : (old now then : Catalog) (k last : ℕ) → IsNoted old → Renewed old k now → last ≡ length old.rows.entries → k < last → then.rows ≡ now.rows
     → ((row : Row) → IsAt (rows_of now) k row → IsNotedWith k row.open_number now then) → Renewed old (k + 1) then
 renewed-step old now then k last noted renewed is below rows more = by (slice_get_cases (rows_of old) k).1 (rows-within old k (omega (arith, is, below)))
@@ -306,6 +317,7 @@ emptied-free old now then turn noted closed same room some =
     let least = noted.room (omega (arith, long, some)) in
     omega (arith, least, before)
 
+-- more calls can be noted then than there are rows
 pub emptied-room : (old now then : Catalog) (turn : ℕ) → IsNoted old → ClosedBefore old turn now → then.rows ≡ now.rows → index_map_len now.calls + spare now.calls ≤ spare then.calls → HasRoom then
 emptied-room old now then turn noted closed same room = λ some.
     let long : length (rows_of then) ≡ length (rows_of old) = ap (λ (m : IndexMap (List ℕ) Row _). length (values m)) same ∙ closed.long in

@@ -51,14 +51,17 @@ mark-wanted : (goal : Goal) (row : RowShown) (thing : Thing) → mark_of thing (
 mark-wanted goal row (Exists name) = refl
 mark-wanted goal row thing = refl
 
+-- its goal is the one that is wanted now
 goal-wanted : (goal : Goal) (row : RowShown) → goal_in (wanted goal row) ≡ Some (goal_shown row goal)
 goal-wanted Create row = refl
 goal-wanted goal row = refl
 
+-- its arguments are still those that are told
 arguments-wanted : (goal : Goal) (row : RowShown) (o : Option Arguments) → Some row.arguments ≡ o → Some row.arguments ≡ option_or (arguments_in_goal (Some (goal_shown row goal))) o
 arguments-wanted Create row o e = refl
 arguments-wanted goal row o e = e
 
+-- it tells what is shown once its goal was noted
 pub reads-wanted : (goal : Goal) (row : RowShown) (view : View) (name : List ℕ) → Reads row view name → view.open_calls name ≡ None
     → Reads (wanted goal row) (after_noted name (Some (goal_shown row goal)) view) name
 reads-wanted goal row view name reads quiet =
@@ -74,10 +77,12 @@ reads-wanted goal row view name reads quiet =
       counts = sym (own name 0 (view.counts name));
     }
 
+-- a creation that is wanted again leaves the marks
 mark-anew : (arguments : Arguments) (row : RowShown) (thing : Thing) → mark_of thing (wanted_anew arguments row) ≡ mark_of thing row
 mark-anew arguments row (Exists name) = refl
 mark-anew arguments row thing = refl
 
+-- a row of which the creation is wanted again tells what is shown once that was noted
 pub reads-anew : (arguments : Arguments) (row : RowShown) (view : View) (name : List ℕ) → Reads row view name → view.open_calls name ≡ None
     → Reads (wanted_anew arguments row) (after_noted name (Some (history.Create arguments)) view) name
 reads-anew arguments row view name reads quiet =
@@ -98,6 +103,7 @@ mark-new : (name : List ℕ) (arguments : Arguments) (thing : Thing) → mark_of
 mark-new name arguments (Exists other) = refl
 mark-new name arguments thing = refl
 
+-- the new row tells what is shown once its creation was noted
 pub reads-new : (arguments : Arguments) (parts : Parts) (name : List ℕ) → row_of parts.rows name ≡ None
     → Reads (new_row name arguments) (after_noted name (Some (history.Create arguments)) (view_of parts)) name
 reads-new arguments parts name none =
@@ -118,6 +124,7 @@ mark-closed : (row : RowShown) (thing : Thing) → mark_of thing (closed row) �
 mark-closed row (Exists name) = refl
 mark-closed row thing = refl
 
+-- it tells what is shown once its call was given up
 pub reads-closed : (row : RowShown) (issued : Issued) (view : View) (name : List ℕ) → issued.name ≡ name → Reads row view name → Reads (closed row) (after_closed issued view) name
 reads-closed row issued view name is reads =
     record {
@@ -152,6 +159,7 @@ kept-if : {X : Type 0} → (X → Bool) → Option X → Option X
 kept-if q None = None
 kept-if q (Some x) = cond (q x) (Some x) None
 
+-- after the entry of a text there is no other one of that text, whichever are taken out
 none-after : {X : Type 0} (key : X → List ℕ) (q : X → Bool) (text : List ℕ) (x : X) (xs : List X) → same_text (key x) text ≡ true → AllByRecursion (λ y. same_text (key x) (key y) ≡ false) xs
     → find (λ y. same_text (key y) text) (filter q xs) ≡ None
 none-after key q text x [] e apart = refl
@@ -168,6 +176,7 @@ none-after key q text x (y ∷ ys) e apart = step (q y) (none-after key q text x
     step true rest = ap (λ b. cond b (Some y) (find (λ y. same_text (key y) text) (filter q ys))) differs ∙ rest
     step false rest = rest
 
+-- a search finds the entry that it found before, unless that one was taken out
 find-kept : {X : Type 0} (key : X → List ℕ) (q : X → Bool) (text : List ℕ) (xs : List X) → EachTwo (λ a b. same_text (key a) (key b) ≡ false) xs
     → find (λ y. same_text (key y) text) (filter q xs) ≡ kept-if q (find (λ y. same_text (key y) text) xs)
 unfolding kept-if
@@ -192,6 +201,7 @@ kept-mark (Some aim) = by (is_no aim.published) refl
     by true e = sym (no_is_no aim.published e)
     by false e = refl
 
+-- what is known of a target is as it was once the targets that aren't published are left out
 aims-kept : (place : PlaceShown) (target : List ℕ) → AreTargetsApart place → published_in target (with_kept_aims place) ≡ published_in target place
 aims-kept place target apart = ap (mark_in (λ (a : Aim). a.published)) (find-kept (λ (a : Aim). a.target) is_aim_kept target place.aims apart) ∙ kept-mark (aim_of place target)
 
@@ -206,10 +216,12 @@ left-out place e = by (is_no place.attached) refl (is_no place.staged) refl (has
     by true a false s h f e = absurd (false≢true (sym e))
     by false a s t h f e = absurd (false≢true (sym e))
 
+-- where a node has no target, none is published there
 no-aims : (aims : List Aim) (target : List ℕ) → has_aims aims ≡ false → mark_in (λ (a : Aim). a.published) (find (λ (a : Aim). same_text a.target target) aims) ≡ No
 no-aims [] target e = refl
 no-aims (aim ∷ aims) target e = absurd (false≢true (sym e))
 
+-- the entry of a node in a dropped row: it lost the targets that are left out, and is there if it is kept
 tidied-place : (row : RowShown) (node : List ℕ) → ArePlacesApart row.places → place_of (dropped row) node ≡ kept-if is_place_kept (option_map with_kept_aims (place_of row node))
 tidied-place row node apart =
     find-kept (λ (p : PlaceShown). p.node) is_place_kept node (map with_kept_aims row.places) (alike row.places apart)
@@ -236,6 +248,7 @@ tidy-read read (Some place) same none = by (is_place_kept (with_kept_aims place)
     by true e = same place refl
     by false e = sym (none place e) ∙ same place refl
 
+-- a dropped row knows of each thing what it knew
 mark-dropped : (row : RowShown) (thing : Thing) → ArePlacesApart row.places → AllByRecursion AreTargetsApart row.places → mark_of thing (dropped row) ≡ mark_of thing row
 mark-dropped row (Exists name) apart aims = refl
 mark-dropped row (Attached name node) apart aims =
@@ -250,6 +263,7 @@ mark-dropped row (Published name node target) apart aims =
     (λ place e. aims-kept place target (each_of AreTargetsApart row.places place aims (among-find (λ (p : PlaceShown). same_text p.node node) row.places place e)))
     (λ place e. no-aims (with_kept_aims place).aims target (left-out (with_kept_aims place) e).2)
 
+-- in a dropped row the volume is held as it was, where it may be attached
 held-dropped : (row : RowShown) (node : List ℕ) → ArePlacesApart row.places → mark_in (λ (p : PlaceShown). p.attached) (place_of (dropped row) node) ≢ No → held_in (dropped row) node ≡ held_in row node
 unfolding kept-if
 held-dropped row node apart maybe = ap (option_map held_at) (tidied-place row node apart) ∙ by (place_of row node) (λ e. maybe (ap (mark_in (λ (p : PlaceShown). p.attached)) (tidied-place row node apart) ∙ e))
@@ -299,6 +313,7 @@ entry-read : (read : PlaceShown → Known) (usage : Usage) (o : Option PlaceShow
 entry-read read usage None new kept = new
 entry-read read usage (Some place) new kept = kept place
 
+-- a reading that is No in a new entry, and that a use leaves in one that is there, is as it was at each node
 mark-entry : (read : PlaceShown → Known) (usage : Usage) (row : RowShown) (node : List ℕ) → read (entry_for usage None) ≡ No → ((place : PlaceShown) → read (entry_for usage (Some place)) ≡ read place)
     → mark_in read (place_of (with_entry usage row) node) ≡ mark_in read (place_of row node)
 mark-entry read usage row node new kept = ap (mark_in read) (entry-there usage row node) ∙ by (same_text usage.node node) refl
@@ -307,6 +322,7 @@ mark-entry read usage row node new kept = ap (mark_in read) (entry-there usage r
     by true e = entry-read read usage (place_of row usage.node) new kept ∙ ap (λ n. mark_in read (place_of row n)) ((same_text-tells usage.node node).0 e)
     by false e = refl
 
+-- in an entry that is there a use leaves whether the volume is attached, and whether it is staged
 entry-attached : (usage : Usage) (place : PlaceShown) → (entry_for usage (Some place)).attached ≡ place.attached
 entry-attached usage place = by (is_no place.attached)
   where
@@ -329,6 +345,7 @@ new-mark target other = by (same_text target other)
     by true = refl
     by false = refl
 
+-- a target that was put in, if it wasn't there, leaves what is known of each target
 aim-entry : (target other : List ℕ) (aims : List Aim) → mark_in (λ (a : Aim). a.published) (find (λ (a : Aim). same_text a.target other) (with_aim target aims)) ≡ mark_in (λ (a : Aim). a.published) (find (λ (a : Aim). same_text a.target other) aims)
 aim-entry target other aims = by (is_some (find (λ (a : Aim). same_text a.target target) aims))
   where
@@ -340,6 +357,7 @@ aim-entry target other aims = by (is_some (find (λ (a : Aim). same_text a.targe
     by true = refl
     by false = ap (mark_in (λ (a : Aim). a.published)) (find-append (λ (a : Aim). same_text a.target other) aims (new_aim target)) ∙ last (find (λ (a : Aim). same_text a.target other) aims)
 
+-- a row with an entry for a use knows of each thing what it knew
 pub mark-with-entry : (usage : Usage) (row : RowShown) (thing : Thing) → mark_of thing (with_entry usage row) ≡ mark_of thing row
 mark-with-entry usage row (Exists name) = refl
 mark-with-entry usage row (Attached name node) = mark-entry (λ (p : PlaceShown). p.attached) usage row node refl (entry-attached usage)
@@ -364,6 +382,7 @@ held-entry usage row node maybe = ap (option_map held_at) (entry-there usage row
         kept (place_of row usage.node) (λ h. maybe (ap (λ n. mark_in (λ (p : PlaceShown). p.attached) (place_of row n)) (sym is) ∙ h)) ∙ ap (λ n. option_map held_at (place_of row n)) is
     by false e = refl
 
+-- a row without a goal tells what is shown of it, with an entry for a use too
 pub reads-with-entry : (usage : Usage) (row : RowShown) (view : View) (name : List ℕ) → row.goal ≡ None → Reads row view name → Reads (with_entry usage row) view name
 reads-with-entry usage row view name goal reads =
     record {

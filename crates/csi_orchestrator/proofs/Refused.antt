@@ -42,6 +42,7 @@ pub record IsRowOf (row : RowShown) (history : History) (name : List ℕ) : Type
   pub holdings : (node : List ℕ) → is_no (known history (Attached name node)) ≡ false → held history name node ≡ held_in row node
   pub kept : IsKept row
 
+-- the row that is found for a name tells what the history tells of it
 pub is-row-of : (parts : Parts) (history : History) (name : List ℕ) (row : RowShown) → AreKept parts.rows → AgreesWith parts history → row_of parts.rows name ≡ Some row → IsRowOf row history name
 is-row-of parts history name row are agrees e =
     record {
@@ -278,6 +279,7 @@ create-first parts history name are agrees e =
     let no_goal : goal_of history name ≡ None = sym (agrees.same_goals name) ∙ ap (option_and_then goal_in) e in
     rw (no_id, no_goal, spent-alike parts history agrees, unknown parts history name agrees e, names-alike parts history are agrees) refl
 
+-- a create of a name that has a row is refused as the row tells
 pub create-again : (parts : Parts) (history : History) (name : List ℕ) (row : RowShown) → AreKept parts.rows → AgreesWith parts history → row_of parts.rows name ≡ Some row → create_fault history name ≡ again_fault parts row
 create-again parts history name row are agrees e =
     let own = is-row-of parts history name row are agrees e in
@@ -287,6 +289,7 @@ create-again parts history name row are agrees e =
 pub use-unknown : (parts : Parts) (history : History) (name : List ℕ) (usage : Usage) → AreKept parts.rows → AgreesWith parts history → row_of parts.rows name ≡ None → use_fault parts.nodes history name usage ≡ Some faults.NoSuchVolume
 use-unknown parts history name usage are agrees e = rw (unknown parts history name agrees e) refl
 
+-- a use of a name that has a row is refused as the row tells
 pub use-refused : (parts : Parts) (history : History) (name : List ℕ) (usage : Usage) (row : RowShown) → AreKept parts.rows → AgreesWith parts history → row_of parts.rows name ≡ Some row
     → use_fault parts.nodes history name usage ≡ use_refusal parts.nodes usage row
 use-refused parts history name usage row are agrees e =
@@ -302,12 +305,14 @@ use-refused parts history name usage row are agrees e =
       taken-alike row history name usage own,
     ) refl
 
+-- one that isn't met yet is refused for want of numbers or of room as the row tells
 pub room-refused : (parts : Parts) (history : History) (name : List ℕ) (usage : Usage) (row : RowShown) → AreKept parts.rows → AgreesWith parts history → row_of parts.rows name ≡ Some row
     → use_room_fault history name usage ≡ room_refusal parts usage row
 room-refused parts history name usage row are agrees e =
     let own = is-row-of parts history name row are agrees e in
     rw (spent-alike parts history agrees, others-alike row history name usage own) refl
 
+-- the call that is due for a use is read from the row
 pub use-due : (parts : Parts) (history : History) (name : List ℕ) (usage : Usage) (row : RowShown) → AreKept parts.rows → AgreesWith parts history → row_of parts.rows name ≡ Some row
     → option_and_then (due_use history name usage) (id_of history name) ≡ due_for_use usage row
 use-due parts history name usage row are agrees e = ap (option_and_then (due_use history name usage)) own.own_id ∙ by row.id
@@ -323,6 +328,7 @@ use-due parts history name usage row are agrees e = ap (option_and_then (due_use
 pub stop-unknown : (parts : Parts) (history : History) (name node target : List ℕ) → AreKept parts.rows → AgreesWith parts history → row_of parts.rows name ≡ None → stop_fault parts.nodes history name node target ≡ Some faults.NoSuchVolume
 stop-unknown parts history name node target are agrees e = rw (unknown parts history name agrees e) refl
 
+-- a stop of a name that has a row is refused as the row tells
 pub stop-refused : (parts : Parts) (history : History) (name node target : List ℕ) (row : RowShown) → AreKept parts.rows → AgreesWith parts history → row_of parts.rows name ≡ Some row
     → stop_fault parts.nodes history name node target ≡ stop_refusal parts node target row
 stop-refused parts history name node target row are agrees e =
@@ -333,11 +339,13 @@ stop-refused parts history name node target row are agrees e =
 pub delete-unknown : (parts : Parts) (history : History) (name : List ℕ) → AreKept parts.rows → AgreesWith parts history → row_of parts.rows name ≡ None → delete_fault history name ≡ Some faults.NoSuchVolume
 delete-unknown parts history name are agrees e = rw (unknown parts history name agrees e) refl
 
+-- a delete of a name that has a row is refused as the row tells
 pub delete-refused : (parts : Parts) (history : History) (name : List ℕ) (row : RowShown) → AreKept parts.rows → AgreesWith parts history → row_of parts.rows name ≡ Some row → delete_fault history name ≡ delete_refusal row
 delete-refused parts history name row are agrees e =
     let own = is-row-of parts history name row are agrees e in
     rw (own.there, own.own_id, attached-alike row history name own) refl
 
+-- one that isn't met yet is refused for another goal or for want of numbers as the row tells
 pub busy-refused : (parts : Parts) (history : History) (name : List ℕ) (row : RowShown) → AreKept parts.rows → AgreesWith parts history → row_of parts.rows name ≡ Some row → delete_busy_fault history name ≡ busy_refusal parts row
 busy-refused parts history name row are agrees e =
     let own = is-row-of parts history name row are agrees e in
@@ -347,6 +355,7 @@ busy-refused parts history name row are agrees e =
 pub timeout-unknown : (parts : Parts) (history : History) (name : List ℕ) → AreKept parts.rows → AgreesWith parts history → row_of parts.rows name ≡ None → timeout_fault history name ≡ Some faults.NoSuchVolume
 timeout-unknown parts history name are agrees e = rw (unknown parts history name agrees e) refl
 
+-- a timeout of a name that has a row is refused where nothing is wanted of the row, and only there
 pub timeout-refused : (parts : Parts) (history : History) (name : List ℕ) (row : RowShown) → AreKept parts.rows → AgreesWith parts history → row_of parts.rows name ≡ Some row
     → timeout_fault history name ≡ cond (is_none row.goal) (Some faults.Idle) None
 timeout-refused parts history name row are agrees e =

@@ -47,15 +47,18 @@ TakesReplies history input (Sent issued ∷ older) = TakesReplies history input 
 TakesReplies history input (Closed number ∷ older) = TakesReplies history input older
 TakesReplies history input (Noted name goal ∷ older) = TakesReplies history input older
 
+-- at most three items, their replies are to open calls and came, and the answer has the frame of the call that is sent
 record IsShort (history : History) (input : Input) (moved : Moved) : Type 0 where
   replies : TakesReplies history input moved.items
   few : length moved.items ≤ 3
   frames : map frame_of (issued_in moved.items) ≡ frames_in moved.answer
 
+-- the same of a result: a refusal does nothing
 AreShort : History → Input → Result Moved OrchFault → Type 0
 AreShort history input (Ok moved) = IsShort history input moved
 AreShort history input (Err fault) = Unit {0}
 
+-- how it is shown of what is done, and of a refusal
 a-short : (history : History) (input : Input) (moved : Moved) → IsShort history input moved → AreShort history input (Ok moved)
 unfolding AreShort
 a-short history input moved short = short
@@ -70,6 +73,7 @@ record IsBegun (history : History) (input : Input) (items : List Item) : Type 0 
   few : length items ≤ 2
   silent : issued_in items ≡ []
 
+-- items that begin so, and then the due call or a goal dropped
 go-short : (history : History) (input : Input) (name : List ℕ) (answer : Option Frame → Answer) (items : List Item) → ((o : Option Frame) → frames_in (answer o) ≡ frame_in o) → IsBegun history input items
     → AreShort history input (go_on history name answer items)
 go-short history input name answer items says begun = by (due_call (with_items history items) name) (next_number (last_number history))
@@ -87,12 +91,14 @@ go-short history input name answer items says begun = by (due_call (with_items h
           frames = ap (λ rest. frame_of (let i : Issued = record { name = name; number = number; party = due.party; call = due.call } in i) ∷ map frame_of rest) begun.silent ∙ sym (says (Some _));
         })
 
+-- both kinds of answers have the frame that is sent, and no other
 sends-says : (o : Option Frame) → frames_in (Sends o) ≡ frame_in o
 sends-says o = refl
 
 hears-says : (o : Option Frame) → frames_in (hears o) ≡ frame_in o
 hears-says o = refl
 
+-- what is so of both results is so of the one that a test takes
 either-short : (history : History) (input : Input) (b : Bool) (x y : Result Moved OrchFault) → AreShort history input x → AreShort history input y → AreShort history input (cond b x y)
 either-short history input true x y f g = f
 either-short history input false x y f g = g
@@ -112,9 +118,11 @@ one-of-three = omega arith
 two-of-three : 2 ≤ 3
 two-of-three = omega arith
 
+-- a goal that is noted begins so
 noted-begun : (history : History) (input : Input) (name : List ℕ) (goal : Option Goal) → IsBegun history input (Noted name goal ∷ [])
 noted-begun history input name goal = record { replies = tt; few = one-item; silent = refl }
 
+-- a command in general, one that is met already, a use and a delete
 command-short : (history : History) (input : Input) (name : List ℕ) (goal : Goal) (fault : Option OrchFault) → AreShort history input (command history name goal fault)
 command-short history input name goal (Some fault) = no-short history input fault
 command-short history input name goal None = go-short history input name Sends _ sends-says (noted-begun history input name (Some goal))
@@ -130,6 +138,7 @@ delete-short : (history : History) (input : Input) (name : List ℕ) (fault : Op
 delete-short history input name (Some fault) = no-short history input fault
 delete-short history input name None = either-short history input _ (Ok met) _ (met-short history input) (command-short history input name Delete (delete_busy_fault history name))
 
+-- a call that is given up begins so, and a goal that is noted after it too
 closing-begun : (history : History) (input : Input) (o : Option Issued) → IsBegun history input (closing o)
 closing-begun history input None = record { replies = tt; few = omega arith; silent = refl }
 closing-begun history input (Some issued) = record { replies = tt; few = one-item; silent = refl }
@@ -138,6 +147,7 @@ stopping-begun : (history : History) (input : Input) (name : List ℕ) (goal : O
 stopping-begun history input name goal None = record { replies = tt; few = one-item; silent = refl }
 stopping-begun history input name goal (Some issued) = record { replies = tt; few = two-items; silent = refl }
 
+-- a timeout
 timeout-short : (history : History) (input : Input) (name : List ℕ) (fault : Option OrchFault) → AreShort history input (timeout history name fault)
 timeout-short history input name (Some fault) = no-short history input fault
 timeout-short history input name None =
@@ -163,6 +173,7 @@ taken-short history input reply issued is =
     refused (calls.NodePublishVolume id target capability readonly) = stop
     refused call = wait
 
+-- a frame that is ignored
 ignored-short : (history : History) (input : Input) → AreShort history input (Ok (let m : Moved = record { answer = Hears Ignored; items = [] } in m))
 ignored-short history input = a-short history input _ (record { replies = tt; few = no-items; frames = refl })
 
@@ -175,10 +186,12 @@ own-open history issued number form is now only = by (open_call history issued.n
     by None e f = absurd (false≢true f)
     by (Some other) e f = ap Some (only other e ((same_number-tells other.number number).0 f))
 
+-- a frame with a call's number, party and kind that has a reply is the frame of that reply
 frame-is : (frame : Frame) (issued : Issued) (kind : Kind) (reply : Reply) → frame.number ≡ issued.number → frame.party ≡ issued.party → kind ≡ kind_of issued.call → frame.body ≡ bodies.Reply kind reply
     → frame ≡ reply_frame issued.number issued.party (kind_of issued.call) reply
 frame-is frame issued kind reply number party same body = λ i. record { number = number i; party = party i; body = (body ∙ ap (λ k. bodies.Reply k reply) same) i }
 
+-- a reply, whether it is to an open call or not
 replied-short : (history : History) (frame : Frame) (kind : Kind) (reply : Reply) → IsWellFormed history → frame.body ≡ bodies.Reply kind reply → (found : Option Issued)
     → call_replied history frame.number frame.party kind ≡ found → AreShort history (Comes frame) (heard history reply found)
 replied-short history frame kind reply form body None e = ignored-short history (Comes frame)
@@ -212,14 +225,17 @@ replied-short history frame kind reply form body (Some issued) e =
     is_number : issued.number ≡ frame.number
     is_number = (same_number-tells issued.number frame.number).0 second.0
 
+-- a frame that comes
 delivered-short : (history : History) (frame : Frame) → IsWellFormed history → (body : Body) → frame.body ≡ body → AreShort history (Comes frame) (deliver history frame.number frame.party body)
 delivered-short history frame form (bodies.Call call) e = ignored-short history (Comes frame)
 delivered-short history frame form (bodies.Reply kind reply) e = replied-short history frame kind reply form e (call_replied history frame.number frame.party kind) refl
 
+-- a restart
 restart-short : (history : History) → AreShort history Restarts (restart (last_number history))
 restart-short history =
     either-short history Restarts (nat_lt ((last_number history).session + 1) (2 ^ 64)) _ (Err NumbersSpent) (a-short history Restarts _ (record { replies = tt; few = one-of-three; frames = refl })) (no-short history Restarts NumbersSpent)
 
+-- whatever comes
 moves-short : (nodes : List (List ℕ)) (history : History) (input : Input) → IsWellFormed history → AreShort history input (moves nodes history input)
 moves-short nodes history (ToCreate name arguments) form = command-short history (ToCreate name arguments) name (Create arguments) (create_fault history name)
 moves-short nodes history (ToUse name usage) form = use-short history (ToUse name usage) name usage (use_fault nodes history name usage)
@@ -246,9 +262,11 @@ record IsShownBy (nodes : List (List ℕ)) (history : History) : Type 0 where
   agrees : AgreesWith parts history
   form : IsWellFormed history
 
+-- the parts of an orchestrator that did nothing
 new-parts : List (List ℕ) → Number → Parts
 new-parts nodes last = record { nodes = nodes; last = last; rows = [] }
 
+-- where rows agree with a history, there are rows that agree with it after an input
 goes-on : (nodes : List (List ℕ)) (history : History) (input : Input) (shown : IsShownBy nodes history) → (told : Result Told OrchFault) → row_moves shown.parts input ≡ told
     → (moved : Result Moved OrchFault) → moves shown.parts.nodes history input ≡ moved → Tells history told moved → IsWellFormed (moved_to history moved) → IsShownBy nodes (moved_to history moved)
 goes-on nodes history input shown (Ok told) e (Ok moved) f tells form =
@@ -258,6 +276,7 @@ goes-on nodes history input shown (Ok told) e (Err fault) f tells form = absurd 
 goes-on nodes history input shown (Err fault) e (Ok moved) f tells form = absurd tells.0
 goes-on nodes history input shown (Err fault) e (Err other) f tells form = shown
 
+-- each history to which an orchestrator comes has such rows
 shown-by : (nodes : List (List ℕ)) (history : History) → IsReached nodes history → IsShownBy nodes history
 unfolding new-parts
 shown-by nodes _ (Begins last) =
@@ -275,11 +294,13 @@ shown-by nodes _ (GoesOn history input reached) =
     (goes-on nodes history input shown (row_moves shown.parts input) refl (moves shown.parts.nodes history input) refl (all-tell shown.parts history input shown.form shown.rows shown.agrees)
     (kept history (moves shown.parts.nodes history input) (moves-keep shown.parts.nodes history input shown.form)))
 
+-- a result that keeps the form and the guards, and is short, is stepwise
 together : (history : History) (input : Input) (moved : Result Moved OrchFault) → IsWellFormed (moved_to history moved) → Guards history moved → AreShort history input moved → AreStepwise history input moved
 unfolding AreShort
 together history input (Ok moved) form guarded short = record { may = may-do history input moved.items form guarded short.replies; few = short.few; frames = short.frames }
 together history input (Err fault) form guarded short = tt
 
+-- each thing that an orchestrator does may be done
 pub moves-law : MovesLaw
 moves-law nodes history input reached =
     let shown = shown-by nodes history reached in

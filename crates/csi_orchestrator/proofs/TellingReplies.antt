@@ -56,6 +56,7 @@ forward-goal row _ (ToStage usage id goal own a s) forward = (usage, goal)
 forward-goal row _ (ToPublish usage id goal own a s p) forward = (usage, goal)
 forward-goal row _ other forward = absurd (false≢true forward)
 
+-- where a forward call is due for a row, its goal is a use
 forward-due : (row : RowShown) → is_forward_due (due_in row) ≡ true → (usage : Usage) × (row.goal ≡ Some (Use usage))
 forward-due row forward = by (due_in row) refl forward
   where
@@ -77,6 +78,7 @@ record HasCall (row : RowShown) (issued : Issued) : Type 0 where
   is_due : due_in row ≡ Some due
   is : issued ≡ issued-by row.name number due
 
+-- the open call of a row is its due call under a number
 has-call : (row : RowShown) (issued : Issued) → open_in_row row ≡ Some issued → HasCall row issued
 has-call row issued e = by row.open_number (due_in row) refl e
   where
@@ -131,6 +133,7 @@ given-up parts history name row form agrees e (Some issued) f =
     its : issued.name ≡ name
     its = ap (λ (i : Issued). i.name) (has-call row issued (sym (ap (option_and_then open_in_row) e) ∙ agrees.same_open_calls name ∙ f)).is ∙ own
 
+-- giving up a call sends nothing, so there is nothing that must be allowed
 unguarded-closing : (history : History) (o : Option Issued) → Guards history (Ok (let m : Moved = record { answer = Restarted; items = closing o } in m))
 unguarded-closing history None = tt
 unguarded-closing history (Some issued) = tt
@@ -209,6 +212,7 @@ timeout-tells parts history name row form kept agrees e (Some goal) g =
         now : stopped (goal_of history name) ≡ Some (goal_shown (closed row) (stopped_goal goal))
         now = ap stopped goal-is ∙ stopped-use row goal wish.0 (some-goal goal (Use wish.0) (sym g ∙ wish.1))
 
+-- the same, whether the name has a row or not
 timeouts-tell : (parts : Parts) (history : History) (name : List ℕ) → IsWellFormed history → AreKept parts.rows → AgreesWith parts history → (o : Option RowShown) → row_of parts.rows name ≡ o
     → Tells history (times_out parts o) (timeout history name (timeout_fault history name))
 timeouts-tell parts history name form kept agrees None e =
@@ -222,6 +226,7 @@ and-left : (a b : Bool) → a ≡ false → (a && b) ≡ false
 and-left true b e = absurd (false≢true (sym e))
 and-left false b e = refl
 
+-- the row whose call is closed tells what is shown after it
 reads-refused : (row : RowShown) (issued : Issued) (status : Status) (id : Option ℕ) (view : View) (name : List ℕ) → issued.name ≡ name → is_ok_status status ≡ false → Reads row view name
     → Reads (closed row) (after_accepted issued status id view) name
 reads-refused row issued status id view name is bad reads =
@@ -250,36 +255,45 @@ record IsHeardBy (parts : Parts) (history : History) (row : RowShown) (number : 
   is_due : due_in row ≡ Some due
   is_open : open_call history row.name ≡ Some (issued-by row.name number due)
 
+-- the item of a reply that was taken
 taken : Number → Reply → Item
 taken number reply = Accepted number reply.status reply.id
 
+-- what is shown after the reply
 heard-view : Parts → RowShown → Number → Due → Reply → View
 heard-view parts row number due reply = after_accepted (issued-by row.name number due) reply.status reply.id (view_of parts)
 
+-- it agrees with the history after the reply
 heard-agrees : (parts : Parts) (history : History) (row : RowShown) (number : Number) (due : Due) (reply : Reply) → IsHeardBy parts history row number due
     → Agrees (heard-view parts row number due reply) (with_items history (taken number reply ∷ []))
 unfolding heard-view taken
 heard-agrees parts history row number due reply by = accepted-follows (view_of parts) history (issued-by row.name number due) reply.status reply.id by.form by.agrees by.is_open
 
+-- that history is well-formed
 heard-form : (parts : Parts) (history : History) (row : RowShown) (number : Number) (due : Due) (reply : Reply) → IsHeardBy parts history row number due → IsWellFormed (with_items history (taken number reply ∷ []))
 unfolding taken
 heard-form parts history row number due reply by = (record { name = row.name; issued = issued-by row.name number due; is_open = by.is_open; has_number = refl }, by.form)
 
+-- of the other names it shows what was shown before
 heard-others : (parts : Parts) (row : RowShown) (number : Number) (due : Due) (reply : Reply) (other : List ℕ) → same_text row.name other ≡ false → SameAt (heard-view parts row number due reply) (view_of parts) other
 unfolding heard-view
 heard-others parts row number due reply other differs = same-accepted (issued-by row.name number due) reply.status reply.id (view_of parts) other differs
 
+-- no call of the row's name is open then
 heard-quiet : (parts : Parts) (row : RowShown) (number : Number) (due : Due) (reply : Reply) → (heard-view parts row number due reply).open_calls row.name ≡ None
 unfolding heard-view
 heard-quiet parts row number due reply = ap (λ b. cond b None ((view_of parts).open_calls row.name)) (text-same row.name)
 
+-- the last number is as it was
 heard-last : (parts : Parts) (row : RowShown) (number : Number) (due : Due) (reply : Reply) → parts.last ≡ (heard-view parts row number due reply).last
 unfolding heard-view
 heard-last parts row number due reply = refl
 
+-- the row that the reply is to is kept
 own-kept : (parts : Parts) (history : History) (row : RowShown) (number : Number) (due : Due) → IsHeardBy parts history row number due → IsKept row
 own-kept parts history row number due by = found-kept (λ (r : RowShown). same_text r.name row.name) parts.rows row (by.kept) by.found
 
+-- after a status other than OK the row whose call is closed tells what is shown
 heard-reads : (parts : Parts) (history : History) (row : RowShown) (number : Number) (due : Due) (reply : Reply) → IsHeardBy parts history row number due → is_ok_status reply.status ≡ false
     → Reads (closed row) (heard-view parts row number due reply) row.name
 unfolding heard-view
@@ -381,6 +395,7 @@ stops-tell-after parts history row number due reply by bad forward =
     goal-is : goal_of history row.name ≡ Some (wishes.Use usage)
     goal-is = sym ((by.agrees).same_goals row.name) ∙ ap (option_and_then goal_in) by.found ∙ ap (option_map (goal_shown row)) wish.1
 
+-- a status other than OK, call by call
 refusal-tells : (parts : Parts) (history : History) (row : RowShown) (number : Number) (party : Party) (call : Call) (reply : Reply) → IsHeardBy parts history row number (record { party = party; call = call }) → is_ok_status reply.status ≡ false
     → Tells history (hears_refusal parts row (kind_of call)) (heard_refusal history (issued-by row.name number (record { party = party; call = call })) (taken number reply) call)
 refusal-tells parts history row number party (calls.CreateVolume name required limit capabilities) reply by bad = drops-tell parts history row number _ reply by bad
@@ -399,6 +414,7 @@ heard-tells parts history row number due reply by fits =
     (λ fine. success-tells parts history row number due reply by fine fits)
     (λ bad. refusal-tells parts history row number due.party due.call reply by bad)
 
+-- a reply, whether it is to the open call of a row or not
 replies-tell : (parts : Parts) (history : History) (number : Number) (party : Party) (kind : Kind) (reply : Reply) → IsWellFormed history → AreKept parts.rows → AgreesWith parts history
     → (o : Option RowShown) → row_replied parts.rows number party kind ≡ o → Tells history (hears_reply parts kind reply o) (heard history reply (call_replied history number party kind))
 replies-tell parts history number party kind reply form kept agrees None e =
@@ -421,6 +437,7 @@ replies-tell parts history number party kind reply form kept agrees (Some row) e
       is_open = sym (agrees.same_open_calls row.name) ∙ ap (option_and_then open_in_row) there.0 ∙ there.1.1 ∙ ap Some call.is;
     }) (subst (FitsGoal row.goal) (sym is_kind) fits)))
 
+-- a frame that comes, of which a call is ignored
 deliveries-tell : (parts : Parts) (history : History) (number : Number) (party : Party) (body : Body) → IsWellFormed history → AreKept parts.rows → AgreesWith parts history
     → Tells history (receives parts number party body) (deliver history number party body)
 deliveries-tell parts history number party (bodies.Call call) form kept agrees = ((refl, agrees), tt)
@@ -450,8 +467,10 @@ all-tell parts history (TimesOut name) form kept agrees = timeouts-tell parts hi
 all-tell parts history (Comes frame) form kept agrees = deliveries-tell parts history frame.number frame.party frame.body form kept agrees
 all-tell parts history Restarts form kept agrees = restarts-tell parts history agrees
 
+-- whatever comes, the rows tell what the history tells
 pub rows-tell : RowsTell
 rows-tell parts history input form kept agrees = (all-tell parts history input form kept agrees).0
 
+-- whatever comes, each call that is sent may be sent
 pub moves-are-guarded : MovesAreGuarded
 moves-are-guarded parts history input moved form kept agrees e = subst (Guards history) e (all-tell parts history input form kept agrees).1

@@ -30,6 +30,7 @@ yes-not-no h = cc
 maybe-not-no : Maybe ≡ No → ⊥
 maybe-not-no h = cc
 
+-- what is noted of a thing is the thing with its mark, which isn't No
 among-noted : (thing : Thing) (mark : Known) (entry : Thing × Known) → IsAmong entry (noted thing mark) → (entry ≡ (thing, mark)) × (mark ≡ No → ⊥)
 among-noted thing Yes entry (inl is) = (is, yes-not-no)
 among-noted thing Yes entry (inr none) = absurd none
@@ -37,22 +38,27 @@ among-noted thing No entry among = absurd among
 among-noted thing Maybe entry (inl is) = (is, maybe-not-no)
 among-noted thing Maybe entry (inr none) = absurd none
 
+-- a thing whose mark isn't No is noted with it
 is-noted : (thing : Thing) (mark : Known) → (mark ≡ No → ⊥) → IsAmong (thing, mark) (noted thing mark)
 is-noted thing Yes f = inl refl
 is-noted thing No f = absurd (f refl)
 is-noted thing Maybe f = inl refl
 
+-- the same of an equal thing and an equal mark
 noted-so : (there here : Thing) (kept mark : Known) → there ≡ here → kept ≡ mark → (mark ≡ No → ⊥) → IsAmong (here, mark) (noted there kept)
 noted-so there here kept mark same e f = subst (λ (entry : Thing × Known). IsAmong entry (noted there kept)) (λ i. (same i, e i)) (is-noted there kept (λ h. f (sym e ∙ h)))
 
 -- ---- what is noted is known so
 
+-- the rows know the thing of the entry so, and not as No
 abbrev IsTold : List RowShown → Thing × Known → Type 0
 IsTold rows entry = (known_by_rows rows entry.0 ≡ entry.1) × (entry.1 ≡ No → ⊥)
 
+-- what is noted of one thing
 noted-told : (rows : List RowShown) (thing : Thing) (mark : Known) (entry : Thing × Known) → known_by_rows rows thing ≡ mark → IsAmong entry (noted thing mark) → IsTold rows entry
 noted-told rows thing mark entry e among = let is = among-noted thing mark entry among in subst (IsTold rows) (sym is.0) (e, is.1)
 
+-- what is noted of a target, of a node's entry and of a row
 aim-told : (rows : List RowShown) (row : RowShown) (place : PlaceShown) (aim : Aim) (entry : Thing × Known) → row_of rows row.name ≡ Some row → place_of row place.node ≡ Some place
     → aim_of place aim.target ≡ Some aim → IsAmong entry (noted_of_aim row.name place.node aim) → IsTold rows entry
 aim-told rows row place aim entry in_rows in_row in_place among =
@@ -94,6 +100,7 @@ row-told rows row entry in_rows kept among = either (among-joined (noted (Exists
         place-told rows row found.0 entry in_rows (own-entry (λ (p : PlaceShown). p.node) row.places found.0 kept.places found.1)
         (each_of AreTargetsApart row.places found.0 kept.aims found.1) found.2
 
+-- what kept rows note, they know so, and not as No
 pub noted-is-known : (rows : List RowShown) (entry : Thing × Known) → AreKept rows → IsAmong entry (noted_in rows) → IsTold rows entry
 noted-is-known rows entry kept among =
     let found = among-flat noted_of_row rows entry among in
@@ -101,6 +108,7 @@ noted-is-known rows entry kept among =
 
 -- ---- what is known is noted
 
+-- what a node's entry knows of a target, other than No, is noted among its targets
 aims-note : (name node : List ℕ) (place : PlaceShown) (other there target : List ℕ) (mark : Known) → name ≡ other → node ≡ there → published_in target place ≡ mark → (mark ≡ No → ⊥)
     → IsAmong (Published other there target, mark) (flat_map (noted_of_aim name node) place.aims)
 aims-note name node place other there target mark same_name same_node e f = by (aim_of place target) refl e
@@ -112,6 +120,7 @@ aims-note name node place other there target mark same_name same_node e f = by (
         in-flat (noted_of_aim name node) place.aims aim (Published other there target, mark) (among-find (λ (a : Aim). same_text a.target target) place.aims aim found)
         (noted-so (Published name node aim.target) (Published other there target) aim.published mark (λ i. Published (same_name i) (same_node i) (same_target i)) h f)
 
+-- what is read from a node's entry, other than No, is noted of the row if it is noted of that entry
 places-note : (row : RowShown) (node : List ℕ) (which : PlaceShown → Known) (thing : Thing) (mark : Known) → mark_in which (place_of row node) ≡ mark → (mark ≡ No → ⊥)
     → ((place : PlaceShown) → place.node ≡ node → which place ≡ mark → IsAmong (thing, mark) (noted_of_place row.name place)) → IsAmong (thing, mark) (flat_map (noted_of_place row.name) row.places)
 places-note row node which thing mark e f here = by (place_of row node) refl e
@@ -122,6 +131,7 @@ places-note row node which thing mark e f here = by (place_of row node) refl e
         let same_node = (same_text-tells place.node node).0 (find-passes (λ (p : PlaceShown). same_text p.node node) row.places place found) in
         in-flat (noted_of_place row.name) row.places place (thing, mark) (among-find (λ (p : PlaceShown). same_text p.node node) row.places place found) (here place same_node h)
 
+-- what a row knows of a thing of its name, other than No, is noted of it
 row-notes : (row : RowShown) (thing : Thing) (mark : Known) → row.name ≡ name_in thing → mark_of thing row ≡ mark → (mark ≡ No → ⊥) → IsAmong (thing, mark) (noted_of_row row)
 row-notes row (Exists name) mark same e f =
     among-append (noted (Exists row.name) row.exists) (flat_map (noted_of_place row.name) row.places) (Exists name, mark) (noted-so (Exists row.name) (Exists name) row.exists mark (ap Exists same) e f)
@@ -143,6 +153,7 @@ row-notes row (Published name node target) mark same e f =
     among-right (noted (Attached row.name place.node) place.attached ++ noted (Staged row.name place.node) place.staged) (flat_map (noted_of_aim row.name place.node) place.aims) (Published name node target, mark)
     (aims-note row.name place.node place name node target mark same same_node h f)))
 
+-- what rows know of a thing, other than No, they note
 pub known-is-noted : (rows : List RowShown) (thing : Thing) (mark : Known) → known_by_rows rows thing ≡ mark → (mark ≡ No → ⊥) → IsAmong (thing, mark) (noted_in rows)
 known-is-noted rows thing mark e f = by (row_of rows (name_in thing)) refl e
   where
@@ -154,17 +165,21 @@ known-is-noted rows thing mark e f = by (row_of rows (name_in thing)) refl e
 
 -- ---- each thing is noted once
 
+-- the entries are of two things
 abbrev pub AreTwoThings : Thing × Known → Thing × Known → Type 0
 AreTwoThings a b = a.0 ≡ b.0 → ⊥
 
+-- what is noted of a thing is of that thing
 thing-noted : (thing : Thing) (mark : Known) (entry : Thing × Known) → IsAmong entry (noted thing mark) → entry.0 ≡ thing
 thing-noted thing mark entry among = ap (λ (e : Thing × Known). e.0) (among-noted thing mark entry among).0
 
+-- one thing is noted once
 one-noted : (thing : Thing) (mark : Known) → EachTwo AreTwoThings (noted thing mark)
 one-noted thing Yes = (tt, tt)
 one-noted thing No = tt
 one-noted thing Maybe = (tt, tt)
 
+-- texts that a test tells apart aren't equal
 texts-differ : (a b : List ℕ) → same_text a b ≡ false → a ≡ b → ⊥
 texts-differ a b differ e = false≢true (sym differ ∙ (same_text-tells a b).1 e)
 
@@ -177,11 +192,13 @@ none-some a h = cc
 attached-not-staged : (name node other there : List ℕ) → Attached name node ≡ Staged other there → ⊥
 attached-not-staged name node other there h = cc
 
+-- what is noted of a node's targets is a publication at that node
 aims-named : (name node : List ℕ) (aims : List Aim) (entry : Thing × Known) → IsAmong entry (flat_map (noted_of_aim name node) aims) → (target : List ℕ) × (entry.0 ≡ Published name node target)
 aims-named name node aims entry among =
     let found = among-flat (noted_of_aim name node) aims entry among in
     (found.0.target, thing-noted (Published name node found.0.target) found.0.published entry found.2)
 
+-- what else is noted of a node is that the volume is attached or staged there
 first-named : (name node : List ℕ) (attached staged : Known) (entry : Thing × Known) → IsAmong entry (noted (Attached name node) attached ++ noted (Staged name node) staged)
     → (entry.0 ≡ Attached name node) ⊎ (entry.0 ≡ Staged name node)
 first-named name node attached staged entry among = either (among-joined (noted (Attached name node) attached) (noted (Staged name node) staged) entry among)
@@ -190,6 +207,7 @@ first-named name node attached staged entry among = either (among-joined (noted 
     either (inl here) = inl (thing-noted (Attached name node) attached entry here)
     either (inr here) = inr (thing-noted (Staged name node) staged entry here)
 
+-- what is noted of a node's entry is of the name and of that node
 place-named : (name : List ℕ) (place : PlaceShown) (entry : Thing × Known) → IsAmong entry (noted_of_place name place) → (name_in entry.0 ≡ name) × (node_in entry.0 ≡ Some place.node)
 place-named name place entry among =
     last (among-joined (noted (Attached name place.node) place.attached ++ noted (Staged name place.node) place.staged) (flat_map (noted_of_aim name place.node) place.aims) entry among)
@@ -203,6 +221,7 @@ place-named name place entry among =
     last (inl here) = first (first-named name place.node place.attached place.staged entry here)
     last (inr here) = let is = aims-named name place.node place.aims entry here in (ap name_in is.1, ap node_in is.1)
 
+-- what is noted of a row is of its name
 row-named : (row : RowShown) (entry : Thing × Known) → IsAmong entry (noted_of_row row) → name_in entry.0 ≡ row.name
 row-named row entry among = either (among-joined (noted (Exists row.name) row.exists) (flat_map (noted_of_place row.name) row.places) entry among)
   where
@@ -212,6 +231,7 @@ row-named row entry among = either (among-joined (noted (Exists row.name) row.ex
         let found = among-flat (noted_of_place row.name) row.places entry there in
         (place-named row.name found.0 entry found.2).0
 
+-- the targets of a node, its entry, and a row note each thing once
 aims-apart : (name node : List ℕ) (aims : List Aim) → EachTwo (λ (a b : Aim). same_text a.target b.target ≡ false) aims → EachTwo AreTwoThings (flat_map (noted_of_aim name node) aims)
 aims-apart name node aims apart =
     two-flat AreTwoThings (noted_of_aim name node) aims
@@ -252,6 +272,7 @@ row-apart row kept =
     let found = among-flat (noted_of_place row.name) row.places y there in
     none-some found.0.node (sym (ap node_in (thing-noted (Exists row.name) row.exists x here)) ∙ ap node_in same ∙ (place-named row.name found.0 y found.2).1))
 
+-- kept rows note each thing once
 pub noted-once : (rows : List RowShown) → AreKept rows → EachTwo AreTwoThings (noted_in rows)
 noted-once rows kept =
     two-flat AreTwoThings noted_of_row rows (all_of (λ (r : RowShown). EachTwo AreTwoThings (noted_of_row r)) rows (λ r among. row-apart r (each_of IsKept rows r kept.each among)))
