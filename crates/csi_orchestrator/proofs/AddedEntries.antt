@@ -12,9 +12,11 @@ use Rattle.csi_orchestrator.specs.Shown.{PlaceShown, place_shown}
 use Rattle.csi_orchestrator.specs.RowChanges.{held_as, entry_for}
 use Rattle.csi_orchestrator.proofs.ChangedEntries.{find-place, find-none_placed, put-place, put-none_placed}
 
+-- the entry of a use's node
 abbrev entry_of : Usage → List Place → Option PlaceShown
 entry_of usage places = find (λ (place : PlaceShown). same_text place.node usage.node) (map place_shown places)
 
+-- the entries as they are shown, with the entry for a use put in
 abbrev pub Added : Usage → List Place → List Place → Type 0
 Added usage old new = map place_shown new ≡ put_by (λ (place : PlaceShown). place.node) (entry_for usage (entry_of usage old)) (map place_shown old)
 
@@ -26,6 +28,7 @@ held_as-node usage place = by (is_no place.attached)
     by true = refl
     by false = refl
 
+-- it stands in the place of the node's entry, and last where there is none
 pub added-there : (usage : Usage) (places : List Place) (i : ℕ) (place made : Place) → position (λ (p : Place). same_text p.node usage.node) places ≡ Some i → place ≡ get_or places i place
     → place_shown made ≡ entry_for usage (Some (place_shown place)) → Added usage places (set places i made)
 added-there usage places i place made at there is =

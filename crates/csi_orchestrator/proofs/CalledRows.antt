@@ -23,12 +23,15 @@ use Rattle.csi_orchestrator.proofs.PlacedRows.{placed, placed-on, creates-placed
 shown-there : (rows : List Row) (name : List ℕ) (i : ℕ) (r : Row) → position (λ (row : Row). same_text row.name name) rows ≡ Some i → r ≡ get_or rows i r → row_of (map row_shown rows) name ≡ Some (row_shown r)
 shown-there rows name i r at there = find-place row_shown (λ (row : RowShown). same_text row.name name) rows i r at there
 
+-- it has that name
 name-there : (rows : List Row) (name : List ℕ) (i : ℕ) (r : Row) → position (λ (row : Row). same_text row.name name) rows ≡ Some i → r ≡ get_or rows i r → r.name ≡ name
 name-there rows name i r at there = found-name (map row_shown rows) name (row_shown r) (shown-there rows name i r at there)
 
+-- where none of the kept rows has the name, none of those that are shown has it
 pub shown-nowhere : (rows : List Row) (name : List ℕ) → position (λ (row : Row). same_text row.name name) rows ≡ None → row_of (map row_shown rows) name ≡ None
 shown-nowhere rows name none = find-none_placed row_shown (λ (row : RowShown). same_text row.name name) rows none
 
+-- and what refuses a name without a row refuses this one
 pub refused-nowhere : (answer : Option RowShown → Result Told OrchFault) (rows : List Row) (name : List ℕ) (fault : OrchFault) → position (λ (row : Row). same_text row.name name) rows ≡ None
     → answer None ≡ Err fault → IsRefusal (answer (row_of (map row_shown rows) name)) fault
 refused-nowhere answer rows name fault none is =
@@ -41,12 +44,14 @@ pub record Called (answer : Option RowShown → Result Told OrchFault) (nodes : 
   pub answers : row_of (map row_shown rows) name ≡ Some (row_shown r) → answer (Some (row_shown r)) ≡ placed (record { nodes = nodes; last = last; rows = map row_shown rows }) told_of_row
   pub keeps : KeepsName r.name told_of_row
 
+-- the answer is what becomes of the row that stands there, among the parts
 called-as : (answer : Option RowShown → Result Told OrchFault) (nodes : List (List ℕ)) (last : Number) (rows : List Row) (name : List ℕ) (i : ℕ) (r : Row) (told_of_row : Result RowTold OrchFault)
     → Called answer nodes last rows name i r told_of_row → answer (row_of (map row_shown rows) name) ≡ placed (record { nodes = nodes; last = last; rows = map row_shown rows }) told_of_row
 called-as answer nodes last rows name i r told_of_row called =
     let found = shown-there rows name i r called.at called.there in
     ap answer found ∙ called.answers found
 
+-- where the row is refused, the command is
 pub called-refused : (answer : Option RowShown → Result Told OrchFault) (nodes : List (List ℕ)) (last : Number) (rows : List Row) (name : List ℕ) (i : ℕ) (r : Row) (told_of_row : Result RowTold OrchFault)
     → Called answer nodes last rows name i r told_of_row → (fault : OrchFault) → IsRefusal told_of_row fault → IsRefusal (answer (row_of (map row_shown rows) name)) fault
 called-refused answer nodes last rows name i r told_of_row called fault refused =
@@ -56,6 +61,7 @@ called-refused answer nodes last rows name i r told_of_row called fault refused 
     by (Ok told) is = is
     by (Err other) is = is
 
+-- where the row went on, the command answers with what is sent for it, and shows it in its place
 pub called-told : (answer : Option RowShown → Result Told OrchFault) (nodes : List (List ℕ)) (last : Number) (rows : List Row) (name : List ℕ) (i : ℕ) (r s : Row) (told_of_row : Result RowTold OrchFault) (next : Option Outgoing) (sends : Option Frame) (after : Parts)
     → Called answer nodes last rows name i r told_of_row → told_of_row ≡ Ok (record { outgoing = next; row = row_shown s }) → sends ≡ frame_in next
     → after ≡ record { nodes = nodes; last = last_after last next; rows = map row_shown (set rows i s) } → answer (row_of (map row_shown rows) name) ≡ Ok (record { answer = Sends sends; parts = after })

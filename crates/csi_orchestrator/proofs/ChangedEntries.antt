@@ -56,6 +56,7 @@ put-place view key entry text rs i r s own at is =
     let found = position-Some (λ x. same_text (key (view x)) (key entry)) rs i r by_key in
     put-there view key entry rs i r s found.0 found.1 found.2 is
 
+-- where none is found a change does nothing, and what is put in goes last
 change-none_found : {X : Type 0} (key : X → List ℕ) (text : List ℕ) (change : X → X) (xs : List X) → find (λ x. same_text (key x) text) xs ≡ None → xs ≡ change_by key text change xs
 change-none_found key text change [] none = refl
 change-none_found key text change (x ∷ xs) none = by (same_text (key x) text) (change-none_found key text change xs) none
@@ -74,6 +75,7 @@ put-none_found key entry (x ∷ xs) none = by (same_text (key x) (key entry)) (p
     by true rest h = absurd (some_is_not_none x h)
     by false rest h = ap (λ ys. x ∷ ys) (rest h)
 
+-- the same where `position` gives none
 pub find-none_placed : {R X : Type 0} (view : R → X) (p : X → Bool) (rs : List R) → position (λ x. p (view x)) rs ≡ None → find p (map view rs) ≡ None
 find-none_placed view p rs none = find-of_map p view rs ∙ ap (option_map view) (find-no_place (λ x. p (view x)) rs none)
 

@@ -43,6 +43,7 @@ others-counted target (Some place) = any-counted (λ (aim : Aim). not (same_text
 abbrev pub AreOnce : List (List ℕ) → Type 0
 AreOnce texts = EachTwo (λ (a b : List ℕ). same_text a b ≡ false) texts
 
+-- of a list's texts, each taken once, all are among the list
 pub distinct-among : (texts : List (List ℕ)) (text : List ℕ) → IsAmong text (distinct texts) → IsAmong text texts
 distinct-among [] text among = absurd among
 distinct-among (first ∷ others) text among = by (list_any (same_text first) others) among (distinct-among others text)
@@ -52,6 +53,7 @@ distinct-among (first ∷ others) text among = by (list_any (same_text first) ot
     by false (inl is) rest = inl is
     by false (inr there) rest = inr (rest there)
 
+-- and each is there once
 pub distinct-once : (texts : List (List ℕ)) → AreOnce (distinct texts)
 distinct-once [] = tt
 distinct-once (first ∷ others) = by (list_any (same_text first) others) refl (distinct-once others)

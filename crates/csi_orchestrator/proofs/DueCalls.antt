@@ -169,6 +169,7 @@ stop-told row history node target id tells =
     by true q (t ∷ ts) e false f = absurd (clash t ts (sym e ∙ targets-then row history node target tells q f))
     by true q (t ∷ ts) e true f = refl
 
+-- any goal, and none
 goal-told : (row : RowShown) (history : History) → Tells row history → (goal : Option KeptGoal) → due_for history row.name (option_map (goal_shown row) goal) ≡ due_by row goal
 goal-told row history tells None = refl
 goal-told row history tells (Some kept.Create) = rw (sym (tells.marks (Exists row.name) refl)) refl

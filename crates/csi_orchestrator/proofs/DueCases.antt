@@ -63,6 +63,7 @@ none-some due e = cc
 is-some : (P : Due → Type 0) (a b : Due) → Some a ≡ Some b → P a → P b
 is-some P a b e p = let same : a ≡ b = cc in subst P same p
 
+-- goal by goal
 by-create : (row : RowShown) (due : Due) → row.goal ≡ Some Create → (b : Bool) → is_yes row.exists ≡ b
     → cond b None (Some (making row)) ≡ Some due → IsDueFor row due
 by-create row due goal true e is = absurd (none-some due is)
@@ -108,6 +109,7 @@ by-stop row due node target goal (Some id) own is =
     by true p false e true f false g is = is-some (IsDueFor row) _ due is (ToDetach node target id goal own p e f g)
     by true p false e true f true g is = absurd (none-some due is)
 
+-- each call that is due for a row is so in one of the eight ways
 pub due-cases : (row : RowShown) (due : Due) → due_in row ≡ Some due → IsDueFor row due
 due-cases row due is = by row.goal refl is
   where

@@ -43,9 +43,11 @@ own-number number party kind name (Some own) (Some due) e =
     let last = and_parts (same_number own number && same_party due.party party) (same_kind (kind_of due.call) kind) e in
     ap Some ((same_number-tells own number).0 (and_parts (same_number own number) (same_party due.party party) last.0).0)
 
+-- the reply is to the row's open call
 abbrev Replied : Number → Party → Kind → Row → Bool
 Replied number party kind row = is_issued_as number party kind (open_in_row (row_shown row))
 
+-- the place of a row that a reply is to is noted for the reply's number
 noted-at : (catalog : Catalog) (number : Number) (party : Party) (kind : Kind) → IsIndexed catalog → (j : ℕ) (row : Row) → IsAt (rows_of catalog) j row → Replied number party kind row ≡ true → place_noted catalog number.call ≡ Some j
 noted-at catalog number party kind indexed j row at passes =
     indexed.noted.found j row number at (own-number number party kind row.name row.open_number (due_in (row_shown row)) passes)

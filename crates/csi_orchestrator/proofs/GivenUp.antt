@@ -20,6 +20,7 @@ due-then row (Stop node target) true own = refl
 due-then row Delete true own = refl
 due-then row goal false own = ap (due_by row) own
 
+-- where what is to be sent is refused, the timeout is
 pub timeout-refused : (last : Number) (row : RowShown) (goal : Goal) (gives_up : Bool) (due : Option Due) (fault : OrchFault) → row.goal ≡ Some goal → gives_up ≡ is_given_up (due_by row (Some goal)) row
     → due ≡ due_by row (Some (goal_then gives_up goal)) → IsRefusal (outgoing_by due (next_number last)) fault → IsRefusal (row_times_out last row) fault
 timeout-refused last row goal gives_up due fault own is then refused =

@@ -79,15 +79,18 @@ detaching-something row _ name node number other of undoes = absurd (false≢tru
 shown : Parts → RowShown → Parts
 shown parts row = record { nodes = parts.nodes; last = parts.last; rows = put row parts.rows }
 
+-- what is shown with it agrees with the history after the items
 in-place : (parts : Parts) (history : History) (name : List ℕ) (row : RowShown) (view : View) (items : List Item) → IsReady parts history name row view items → AgreesWith (shown parts row) (with_items history items)
 unfolding shown
 in-place parts history name row view items ready = put-agrees parts parts.last name row view (with_items history items) ready.reads ready.others ready.same_last ready.agrees
 
+-- it is found under its name
 found-there : (parts : Parts) (row : RowShown) (name : List ℕ) → row.name ≡ name → row_of (shown parts row).rows name ≡ Some row
 unfolding shown
 found-there parts row name own =
     find-put (λ (r : RowShown). r.name) row parts.rows name ∙ ap (λ b. cond b (Some row) (row_of parts.rows name)) ((same_text-tells row.name name).1 own)
 
+-- its due call is the one that is due by that history
 due-there : (parts : Parts) (history : History) (name : List ℕ) (row : RowShown) (view : View) (items : List Item) → IsReady parts history name row view items → due_call (with_items history items) name ≡ due_in row
 unfolding shown
 due-there parts history name row view items ready =
@@ -132,6 +135,7 @@ then-sent parts history name row view items due number ready e n =
         no-is-not (mark_in (λ place. place.attached) (place_of row node)) (detaching-something row due name node number case of undoes)
         ((ready.reads).marks (Attached name node) refl ∙ (ready.agrees).same_marks (Attached name node) ∙ is)
 
+-- none was due, and the goal was dropped
 then-dropped : (parts : Parts) (history : History) (name : List ℕ) (row : RowShown) (view : View) (items : List Item) → IsReady parts history name row view items
     → AgreesWith (with_row (dropped row) parts) (with_items history (Noted name None ∷ items))
 then-dropped parts history name row view items ready =
@@ -140,6 +144,7 @@ then-dropped parts history name row view items ready =
     (λ other differs. same-then (after_noted name None view) view (view_of parts) other (same-noted name None view other differs) (ready.others other differs)) ready.same_last
     (noted-follows view (with_items history items) name None ready.agrees)
 
+-- a row that is ready goes on as its history does
 pub goes-on-tells : (parts : Parts) (history : History) (name : List ℕ) (row : RowShown) (view : View) (items : List Item) → IsReady parts history name row view items → (answer : Option Frame → Answer)
     → Tells history (goes_on parts answer row) (go_on history name answer items)
 goes-on-tells parts history name row view items ready answer =

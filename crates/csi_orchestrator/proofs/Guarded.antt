@@ -29,6 +29,7 @@ use Rattle.csi_orchestrator.specs.Kept.{ArePlacesApart, IsUsable, MayBeWanted}
 use Rattle.csi_orchestrator.proofs.DueCases.{IsDueFor, due-cases, ToMake, ToRemove, ToAttach, ToStage, ToPublish, ToUnpublish, ToUnstage, ToDetach}
 use Rattle.csi_orchestrator.proofs.DueCalls.{no_is_no}
 
+-- what the tests tell of a mark
 yes_is_yes : (k : Known) → is_yes k ≡ true → k ≡ Yes
 yes_is_yes Yes e = refl
 yes_is_yes No e = absurd (false≢true e)
@@ -69,6 +70,7 @@ pub record ToldBy (row : RowShown) (history : History) : Type 0 where
   pub own_id : row.id ≡ id_of history row.name
   pub holdings : (node : List ℕ) → known history (Attached row.name node) ≢ No → held_in row node ≡ held history row.name node
 
+-- a row that is found under its name is so
 pub told-by : (parts : Parts) (history : History) (row : RowShown) → AgreesWith parts history → row_of parts.rows row.name ≡ Some row → ToldBy row history
 told-by parts history row agrees there =
     record {

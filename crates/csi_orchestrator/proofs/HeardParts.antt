@@ -42,6 +42,7 @@ use Rattle.csi_orchestrator.proofs.DueCases.{IsDueFor, due-cases, ToMake, ToRemo
 abbrev pub parts_after : Parts → RowShown → Option Outgoing → Parts
 parts_after parts row next = record { nodes = parts.nodes; last = last_after parts.last next; rows = put row parts.rows }
 
+-- what is told after a reply, by what is sent next, unless that is refused
 abbrev pub heard_by : Parts → (Option Outgoing → RowShown) → Result (Option Outgoing) OrchFault → Result Told OrchFault
 heard_by parts row (Err fault) = Err fault
 heard_by parts row (Ok next) = told (parts_after parts (row next) next) (hears (frame_in next))
@@ -53,6 +54,7 @@ issued-kind number party kind name (Some own) None e = absurd (false≢true e)
 issued-kind number party kind name (Some own) (Some due) e =
     ap Some ((same_kind-tells (kind_of due.call) kind).0 (and_parts (same_number own number && same_party due.party party) (same_kind (kind_of due.call) kind) e).1)
 
+-- the same of the row as it is shown
 pub replied-kind : (row : RowShown) (number : Number) (party : Party) (kind : Kind) → is_issued_as number party kind (open_in_row row) ≡ true → kind_due (due_in row) ≡ Some kind
 replied-kind row number party kind e = issued-kind number party kind row.name row.open_number (due_in row) e
 
@@ -83,12 +85,14 @@ goes-on-heard parts row (Some due) (Some number) = refl
 Refused : Parts → RowShown → Kind → Option Goal → Type 0
 Refused parts row kind goal = hears_refusal parts row kind ≡ heard_by parts (λ next. row_refused next row goal) (outgoing_by (due_refused row goal) (next_number parts.last))
 
+-- a use that was refused is stopped
 stops-heard : (parts : Parts) (row : RowShown) (usage : Usage) → row.goal ≡ Some (Use usage)
     → stops_after parts row row.goal ≡ heard_by parts (λ next. row_refused next row row.goal) (outgoing_by (due_refused row row.goal) (next_number parts.last))
 stops-heard parts row usage goal =
     subst (λ g. stops_after parts row g ≡ heard_by parts (λ next. row_refused next row g) (outgoing_by (due_refused row g) (next_number parts.last))) (sym goal)
     (goes-on-heard parts (wanted (Stop usage.node usage.target) row) (due_in (wanted (Stop usage.node usage.target) row)) (next_number parts.last))
 
+-- each call that may be due, and the same by the kind of the due call
 refused-heard : (parts : Parts) (row : RowShown) (due : Due) → IsDueFor row due → Refused parts row (kind_of due.call) row.goal
 unfolding Refused
 refused-heard parts row _ (ToMake goal e) = subst (Refused parts row kinds.CreateVolume) (sym goal) refl
@@ -119,6 +123,7 @@ reply-heard parts row kind reply is = by (is_ok_status reply.status)
     by true = goes-on-heard parts (succeeded kind reply.id row) (due_in (succeeded kind reply.id row)) (next_number parts.last)
     by false = refused-by-kind parts row kind (due_in row) refl is
 
+-- where what is to be sent is refused, the reply is
 pub refusal-heard : (parts : Parts) (row : Option Outgoing → RowShown) (next : Result (Option Outgoing) OrchFault) (fault : OrchFault) → IsRefusal next fault → IsRefusal (heard_by parts row next) fault
 refusal-heard parts row (Ok next) fault is = is
 refusal-heard parts row (Err other) fault is = is
@@ -127,6 +132,7 @@ refusal-heard parts row (Err other) fault is = is
 Asked : Number → Party → Kind → Row → Bool
 Asked number party kind row = is_issued_as number party kind (open_in_row (row_shown row))
 
+-- it is kept
 pub kept-there : (rows : List Row) (i : ℕ) (row : Row) (number : Number) (party : Party) (kind : Kind) → AreKept (map row_shown rows)
     → position (λ (row : Row). is_issued_as number party kind (open_in_row (row_shown row))) rows ≡ Some i → row ≡ get_or rows i row → IsKept (row_shown row)
 unfolding Asked
@@ -134,6 +140,7 @@ kept-there rows i row number party kind kept at there =
     let found = position-Some (Asked number party kind) rows i row at in
     subst (λ (r : Row). IsKept (row_shown r)) (sym there) (each-shown IsKept row_shown rows i row found.0 kept.each)
 
+-- its due call has the kind of the reply
 pub kind-there : (rows : List Row) (i : ℕ) (row : Row) (number : Number) (party : Party) (kind : Kind)
     → position (λ (row : Row). is_issued_as number party kind (open_in_row (row_shown row))) rows ≡ Some i → row ≡ get_or rows i row → kind_due (due_in (row_shown row)) ≡ Some kind
 unfolding Asked
@@ -170,10 +177,12 @@ found-there : (rows : List Row) (i : ℕ) (row : Row) (number : Number) (party :
     → position (λ (row : Row). is_issued_as number party kind (open_in_row (row_shown row))) rows ≡ Some i → row ≡ get_or rows i row → row_replied (map row_shown rows) number party kind ≡ Some (row_shown row)
 found-there rows i row number party kind at there = find-place row_shown (λ (r : RowShown). is_issued_as number party kind (open_in_row r)) rows i row at there
 
+-- where the search gives no place, none of them is the one
 pub unfound : (rows : List Row) (number : Number) (party : Party) (kind : Kind)
     → position (λ (row : Row). is_issued_as number party kind (open_in_row (row_shown row))) rows ≡ None → row_replied (map row_shown rows) number party kind ≡ None
 unfound rows number party kind none = find-none_placed row_shown (λ (r : RowShown). is_issued_as number party kind (open_in_row r)) rows none
 
+-- where it gives a place, one of them is
 pub found-differs : (rows : List Row) (i : ℕ) (row : Row) (number : Number) (party : Party) (kind : Kind)
     → position (λ (row : Row). is_issued_as number party kind (open_in_row (row_shown row))) rows ≡ Some i → row ≡ get_or rows i row → row_replied (map row_shown rows) number party kind ≡ None → ⊥
 found-differs rows i row number party kind at there none = let found = found-there rows i row number party kind at there in let same : Some (row_shown row) ≡ None = sym found ∙ none in cc
@@ -212,11 +221,13 @@ answer-in : Result Told OrchFault → Option Answer
 answer-in (Ok told) = Some told.answer
 answer-in (Err fault) = None
 
+-- where a row hears a reply, the reply isn't ignored
 answer-taken : (parts : Parts) (row : Option Outgoing → RowShown) (next : Result (Option Outgoing) OrchFault) (ignored : Parts) → heard_by parts row next ≡ told ignored (Hears Ignored) → ⊥
 unfolding answer-in
 answer-taken parts row (Ok next) ignored e = let same : Some (hears (frame_in next)) ≡ Some (Hears Ignored) = ap answer-in e in cc
 answer-taken parts row (Err fault) ignored e = let same : None ≡ Some (Hears Ignored) = ap answer-in e in cc
 
+-- where a reply is told to be ignored, it is to no row's open call
 pub ignored-none : (parts ignored : Parts) (number : Number) (party : Party) (kind : Kind) (reply : Reply) → hears_reply parts kind reply (row_replied parts.rows number party kind) ≡ told ignored (Hears Ignored)
     → row_replied parts.rows number party kind ≡ None
 ignored-none parts ignored number party kind reply e = by (row_replied parts.rows number party kind) refl e
@@ -236,6 +247,7 @@ taken-quiet parts row (Ok (Some outgoing)) told = absurd (clash outgoing.frame t
     clash frame e = cc
 taken-quiet parts row (Err fault) told = absurd told
 
+-- the same of the row that stands at a place
 pub quiet-there : (parts : Parts) (rows : List Row) (i : ℕ) (row : Row) (number : Number) (party : Party) (kind : Kind) (reply : Reply)
     → position (λ (row : Row). is_issued_as number party kind (open_in_row (row_shown row))) rows ≡ Some i → row ≡ get_or rows i row
     → IsToldAs (hears None) (hears_reply parts kind reply (row_replied (map row_shown rows) number party kind)) → next_heard kind reply (next_number parts.last) (row_shown row) ≡ Ok None

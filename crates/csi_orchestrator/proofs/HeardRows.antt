@@ -16,10 +16,12 @@ use Rattle.csi_orchestrator.proofs.DueCases.{due-cases}
 use Rattle.csi_orchestrator.proofs.GoingOn.{has-entry}
 use Rattle.csi_orchestrator.proofs.Marked.{marks-then}
 
+-- the id and the open call tell nothing of what a goal names
 marks-answered : (goal : Goal) (kind : Kind) (id : Option ℕ) (row : RowShown) → marks_for (answered kind id row) goal ≡ marks_for row goal
 marks-answered Create kind id row = refl
 marks-answered goal kind id row = refl
 
+-- the call that is due once the due call succeeded, by what was known before; and the same by that call's kind
 due-heard : (row : RowShown) (id : Option ℕ) (goal : Goal) (due : Due) → IsKept row → due_in row ≡ Some due → row.goal ≡ Some goal
     → due_in (succeeded (kind_of due.call) id row) ≡ due_heard (kind_of due.call) id row (Some goal)
 due-heard row id goal due kept e wanted =

@@ -31,6 +31,7 @@ IsTaken : Result Told OrchFault → Type 0
 IsTaken (Ok told) = (frame : Option Frame) × (told.answer ≡ hears frame)
 IsTaken (Err fault) = Unit {0}
 
+-- whatever becomes of the row that a reply is to, the reply is taken
 goes-on-taken : (parts : Parts) (row : RowShown) → IsTaken (goes_on parts hears row)
 unfolding IsTaken
 goes-on-taken parts row = by (due_in row) (next_number parts.last)
@@ -75,6 +76,7 @@ not-both (Ok told) taken ignored = clash taken.0 (sym ignored ∙ taken.1)
     clash frame e = cc
 not-both (Err fault) taken ignored = ignored
 
+-- where a reply is ignored the parts are as they were, and so they are where any frame is
 ignored-stays : (parts : Parts) (kind : Kind) (reply : Reply) (o : Option RowShown) → IsIgnored (hears_reply parts kind reply o) → hears_reply parts kind reply o ≡ told parts (Hears Ignored)
 ignored-stays parts kind reply None ignored = refl
 ignored-stays parts kind reply (Some row) ignored = absurd (not-both (hears_reply parts kind reply (Some row)) (reply-taken parts row kind reply) ignored)
@@ -83,6 +85,7 @@ body-stays : (parts : Parts) (number : Number) (party : Party) (body : Body) →
 body-stays parts number party (bodies.Call call) ignored = refl
 body-stays parts number party (bodies.Reply kind reply) ignored = ignored-stays parts kind reply (row_replied parts.rows number party kind) ignored
 
+-- what is ignored by the history is ignored by the rows
 told-ignored : (history : History) (result : Result Told OrchFault) (moved : Result Moved OrchFault) → Tells history result moved → IsHeardAs Ignored moved → IsIgnored result
 unfolding IsIgnored
 told-ignored history (Ok told) (Ok moved) tells heard = tells.0.0 ∙ heard
@@ -90,6 +93,7 @@ told-ignored history (Ok told) (Err fault) tells heard = absurd heard
 told-ignored history (Err fault) (Ok moved) tells heard = absurd tells.0
 told-ignored history (Err fault) (Err other) tells heard = absurd heard
 
+-- a frame that is ignored leaves the rows as they were
 pub ignored-promised : (old now : Parts) (frame : Frame) → old ≡ now → AreKept old.rows → (history : History) → IsWellFormed history → AgreesWith now history → IsHeardAs Ignored (moves now.nodes history (Comes frame))
     → row_moves old (Comes frame) ≡ told old (Hears Ignored)
 ignored-promised old now frame is kept history form agrees heard =

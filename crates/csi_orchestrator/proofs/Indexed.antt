@@ -25,6 +25,7 @@ use Rattle.csi_orchestrator.proofs.Standing.{at-of_get, at-within, at-set, at-se
 
 -- ---- searches of a list that is seen through a function
 
+-- a value has the place there that it has in the list, by the same test
 position_or_len-map : {X Y : Type 0} (f : X → Y) (p : Y → Bool) (q : X → Bool) (xs : List X) → ((x : X) → p (f x) ≡ q x) → position_or_len p (map f xs) ≡ position_or_len q xs
 position_or_len-map f p q [] same = refl
 position_or_len-map f p q (x ∷ xs) same =
@@ -38,6 +39,7 @@ position-map f p q xs same =
     let long = length-map xs f in
     λ i. cond (nat_lt (at i) (long i)) (Some (at i)) None
 
+-- the keys of entries that a function gives are the first parts of what it gives
 keys-map : {X K V : Type 0} (f : X → K × V) (xs : List X) → keys_of (map f xs) ≡ map (λ x. (f x).0) xs
 keys-map f [] = refl
 keys-map f (x ∷ xs) = ap (λ ks. (f x).0 ∷ ks) (keys-map f xs)
@@ -46,6 +48,7 @@ keys-map f (x ∷ xs) = ap (λ ks. (f x).0 ∷ ks) (keys-map f xs)
 pub position-keys : {X K V : Type 0} (f : X → K × V) (p : K → Bool) (q : X → Bool) (es : List (K × V)) (xs : List X) → es ≡ map f xs → ((x : X) → p (f x).0 ≡ q x) → position p (keys_of es) ≡ position q xs
 position-keys f p q es xs is same = ap (λ l. position p (keys_of l)) is ∙ ap (position p) (keys-map f xs) ∙ position-map (λ x. (f x).0) p q xs same
 
+-- a look-up gives what the function makes of the first one that passes the test
 lookup-map : {X K V : Type 0} (f : X → K × V) (p : K → Bool) (q : X → Bool) (xs : List X) → ((x : X) → p (f x).0 ≡ q x) → lookup p (map f xs) ≡ option_map (λ x. (f x).1) (find q xs)
 lookup-map f p q [] same = refl
 lookup-map f p q (x ∷ xs) same =
@@ -72,11 +75,13 @@ read-at rows place row at = sym (get_or_from_slice_get rows place row row at)
 
 -- ---- another row in the place of one
 
+-- the values are the ones that were there, with the new one at its place
 values-set : {K V : Type 0} (es : List (K × V)) (i : ℕ) (w : V) → values_of (set_value_at es i w) ≡ set (values_of es) i w
 values-set [] i w = refl
 values-set (e ∷ es) zero w = refl
 values-set (e ∷ es) (suc i) w = ap (λ vs. e.1 ∷ vs) (values-set es i w)
 
+-- a row of the same name stands under that name
 entries-set : (es : List (List ℕ × Row)) (rows : List Row) (i : ℕ) (row new : Row) → es ≡ map by_name rows → slice_get rows i ≡ Some row → new.name ≡ row.name → set_value_at es i new ≡ map by_name (set rows i new)
 entries-set es rows i row new is at same = ap (λ l. set_value_at l i new) is ∙ by rows i at
   where
@@ -92,13 +97,16 @@ entries-set es rows i row new is at same = ap (λ l. set_value_at l i new) is �
 abbrev pub catalog_with : Catalog → ℕ → Row → Catalog
 catalog_with catalog place new = record catalog { rows = with_value_at catalog.rows place new }
 
+-- its rows are the ones that were there, with this one at the place
 pub rows-set : (catalog : Catalog) (place : ℕ) (new : Row) → rows_of (catalog_with catalog place new) ≡ set (rows_of catalog) place new
 rows-set catalog place new = values-set catalog.rows.entries place new
 
+-- each row stands under its own name still
 pub names-set : (catalog : Catalog) (place : ℕ) (row new : Row) → catalog.rows.entries ≡ map by_name (rows_of catalog) → slice_get (rows_of catalog) place ≡ Some row → new.name ≡ row.name
     → (catalog_with catalog place new).rows.entries ≡ map by_name (rows_of (catalog_with catalog place new))
 names-set catalog place row new names at name = entries-set catalog.rows.entries (rows_of catalog) place row new names at name ∙ ap (map by_name) (sym (rows-set catalog place new))
 
+-- there is room still
 room-set : (catalog : Catalog) (place : ℕ) (new : Row) → HasRoom catalog → HasRoom (catalog_with catalog place new)
 room-set catalog place new room =
     let long : length (rows_of (catalog_with catalog place new)) ≡ length (rows_of catalog) = ap length (rows-set catalog place new) ∙ length-set (rows_of catalog) place new in
@@ -116,6 +124,7 @@ next-unnoted catalog last call known is = by (place_noted catalog call) refl
     by None e = refl
     by (Some place) e = let least = known call place e in absurd (omega (arith, least, is))
 
+-- once a row went on, only the call that is sent for it isn't noted yet
 pub ready-set : (catalog : Catalog) (last place : ℕ) (row new : Row) (next : Option Outgoing) → IsIndexed catalog → AreUpTo last catalog → slice_get (rows_of catalog) place ≡ Some row → new.name ≡ row.name
     → IsOpened row.open_number next new.open_number → IsAfter last next → IsReady (catalog_with catalog place new) place (call_in next)
 ready-set catalog last place row new next indexed known at name opened after =
@@ -172,15 +181,18 @@ new-entries eq catalog name row indexed same none =
     insert_entry-new eq catalog.rows name row
     (ap (lookup (eq name)) indexed.rows ∙ lookup-map by_name (eq name) named (rows_of catalog) same ∙ ap (option_map (λ (other : Row). other)) (find-no_place named (rows_of catalog) none))
 
+-- the same in a catalog with the same rows
 pub put-last : (old made : Catalog) (row : Row) → made.rows ≡ old.rows → IsIndexed made → position (λ (other : Row). same_text other.name row.name) (rows_of old) ≡ None
     → insert_entry (pointwise nat_eq) made.rows.entries row.name row ≡ made.rows.entries ++ by_name row ∷ []
 put-last old made row same indexed none =
     new-entries (pointwise nat_eq) made row.name row indexed (λ other. text-turned row.name other.name)
     (subst (λ (m : IndexMap (List ℕ) Row _). position (λ (other : Row). same_text other.name row.name) (values m) ≡ None) (sym same) none)
 
+-- the rows then are those that were there, and the new one last
 pub rows-added : (old new : Catalog) (row : Row) → new.rows.entries ≡ old.rows.entries ++ by_name row ∷ [] → rows_of new ≡ rows_of old ++ row ∷ []
 rows-added old new row rows = ap values_of rows ∙ map_push (λ (e : List ℕ × Row). e.1) old.rows.entries (by_name row)
 
+-- once a row was added, only its own call isn't noted yet
 pub ready-added : (old made new : Catalog) (row : Row) (next : Option ℕ) → IsIndexed made → made.rows ≡ old.rows → AreNotedBefore old made → length (rows_of old) + 2 ≤ spare made.calls
     → new.rows.entries ≡ made.rows.entries ++ by_name row ∷ [] → new.calls ≡ made.calls → IsNextFor old row.open_number next → IsReady new (length (rows_of old)) next
 ready-added old made new row next indexed same kept roomy rows calls is =
@@ -215,6 +227,7 @@ closed-at catalog place row at =
       others = λ other r is differs. at-set_other (rows_of catalog) place other (without_call row) r is differs;
     })
 
+-- where no row stands nothing is closed
 pub closed-nowhere : (rows : List Row) (place : ℕ) → length rows ≤ place → IsClosedAt place rows rows
 closed-nowhere rows place over =
     record {

@@ -43,6 +43,7 @@ abbrev pub KeptAfter : Parts → Result Told OrchFault → Type 0
 KeptAfter parts (Ok told) = AreKept told.parts.rows × (told.parts.nodes ≡ parts.nodes)
 KeptAfter parts (Err fault) = Unit {0}
 
+-- kept rows stay so where a kept row is put in
 put-kept : (row : RowShown) (rows : List RowShown) → AreKept rows → IsKept row → AreKept (put row rows)
 put-kept row rows kept own =
     record { names = apart-put (λ (r : RowShown). r.name) row rows kept.names; each = each-put IsKept (λ (r : RowShown). r.name) row rows own kept.each }
@@ -61,6 +62,7 @@ goes-on-kept parts answer row kept distinct may = by (due_in row) refl (next_num
     by (Some due) e None = tt
     by (Some due) e (Some number) = (put-kept _ parts.rows kept (kept-sent number row due e distinct (may due e)), refl)
 
+-- what is kept where nothing refuses is kept unless it is refused
 unless-refused : (parts : Parts) (o : Option OrchFault) (result : Result Told OrchFault) → (o ≡ None → KeptAfter parts result) → KeptAfter parts (unless_refused o result)
 unless-refused parts None result f = f refl
 unless-refused parts (Some fault) result f = tt
@@ -129,6 +131,7 @@ all-detached (place ∷ places) e = let both = or_parts (not (is_no place.attach
     detached No f = refl
     detached Maybe f = absurd (false≢true (sym f))
 
+-- the rows stay kept, whether the name has a row or not
 deletes-kept : (parts : Parts) (name : List ℕ) → AreKept parts.rows → (o : Option RowShown) → row_of parts.rows name ≡ o → KeptAfter parts (deletes parts o)
 deletes-kept parts name kept None e = tt
 deletes-kept parts name kept (Some row) e =
@@ -148,6 +151,7 @@ times-out-kept parts row kept own (Some goal) e =
     (λ spent. goes-on-kept parts Sends (wanted (stopped_goal goal) row) kept (kept-distinct row own) (λ due f. wanted-stopped row goal (subst (MayBeWanted row) e own.goal)))
     (λ more. goes-on-kept parts Sends (closed row) kept (kept-distinct row own) (λ due f. (kept-closed row own).goal))
 
+-- the same, whether the name has a row or not
 timeouts-kept : (parts : Parts) (name : List ℕ) → AreKept parts.rows → (o : Option RowShown) → row_of parts.rows name ≡ o → KeptAfter parts (times_out parts o)
 timeouts-kept parts name kept None e = tt
 timeouts-kept parts name kept (Some row) e = times-out-kept parts row kept (found-kept (λ (r : RowShown). same_text r.name name) parts.rows row kept e) row.goal refl
@@ -167,6 +171,7 @@ stops-after-kept parts row kept own None e = (put-kept (closed row) parts.rows k
 stops-after-kept parts row kept own (Some goal) e =
     goes-on-kept parts hears (wanted (stopped_goal goal) row) kept (kept-distinct row own) (λ due f. wanted-stopped row goal (subst (MayBeWanted row) e own.goal))
 
+-- a status other than OK, by the call's kind
 refusal-kept : (parts : Parts) (row : RowShown) (kind : Kind) → AreKept parts.rows → IsKept row → KeptAfter parts (hears_refusal parts row kind)
 refusal-kept parts row kinds.CreateVolume kept own = (put-kept (dropped row) parts.rows kept (kept-dropped row (kept-distinct row own)), refl)
 refusal-kept parts row kinds.ControllerPublishVolume kept own = stops-after-kept parts row kept own row.goal refl
@@ -187,6 +192,7 @@ reply-kept parts number party kind reply kept (Some row) e =
     (λ due f. wanted-succeeded kind reply.id row row.goal due refl fits own.goal f))
     (λ refused. refusal-kept parts row kind kept own)
 
+-- a frame that comes
 receives-kept : (parts : Parts) (number : Number) (party : Party) (body : Body) → AreKept parts.rows → KeptAfter parts (receives parts number party body)
 receives-kept parts number party (bodies.Call call) kept = (kept, refl)
 receives-kept parts number party (bodies.Reply kind reply) kept = reply-kept parts number party kind reply kept (row_replied parts.rows number party kind) refl
@@ -204,6 +210,7 @@ restart-kept parts kept =
     ))
     (λ spent. tt)
 
+-- whatever comes
 moves-kept : (parts : Parts) (input : Input) → AreKept parts.rows → KeptAfter parts (row_moves parts input)
 moves-kept parts (ToCreate name arguments) kept = creates-kept parts name arguments kept (row_of parts.rows name) refl
 moves-kept parts (ToUse name usage) kept = uses-kept parts name usage kept (row_of parts.rows name) refl
@@ -213,5 +220,6 @@ moves-kept parts (TimesOut name) kept = timeouts-kept parts name kept (row_of pa
 moves-kept parts (Comes frame) kept = receives-kept parts frame.number frame.party frame.body kept
 moves-kept parts Restarts kept = restart-kept parts kept
 
+-- whatever comes, the rows stay kept, and the nodes are as they were
 pub rows-stay-kept : RowsStayKept
 rows-stay-kept parts input told kept e = subst (KeptAfter parts) e (moves-kept parts input kept)

@@ -71,6 +71,7 @@ any-put q key entry (x ∷ xs) fails = by (same_text (key x) (key entry)) refl (
     by true e rest = ap (λ b. b || list_any q xs) (fails entry refl ∙ sym (fails x ((same_text-tells (key x) (key entry)).0 e)))
     by false e rest = ap (λ b. q x || b) rest
 
+-- a function that leaves the keys leaves each text its one entry
 pub apart-map : {X : Type 0} (key : X → List ℕ) (f : X → X) (xs : List X) → ((x : X) → key (f x) ≡ key x) → AreApart key xs → AreApart key (map f xs)
 apart-map key f [] same apart = tt
 apart-map key f (x ∷ xs) same apart = (

@@ -35,6 +35,7 @@ pub record AreDistinct (places : List PlaceShown) : Type 0 where
   pub nodes : ArePlacesApart places
   pub targets : AllByRecursion AreTargetsApart places
 
+-- so it is in a kept row
 pub kept-distinct : (row : RowShown) → IsKept row → AreDistinct row.places
 kept-distinct row kept = record { nodes = kept.places; targets = kept.aims }
 
@@ -46,6 +47,7 @@ pub record IsMild (target : List ℕ) (change : PlaceShown → PlaceShown) : Typ
   pub still_apart : (place : PlaceShown) → AreTargetsApart place → AreTargetsApart (change place)
   pub still_aimed : (place : PlaceShown) (aim : Aim) → aim_of place target ≡ Some aim → (other : Aim) × (aim_of (change place) target ≡ Some other)
 
+-- a mark that is set in an entry is such a change
 pub mild-marked : (mark : Known) (aspect : Aspect) (target : List ℕ) → IsMild target (place_marked mark aspect target)
 mild-marked mark Publication target =
     record {
@@ -65,6 +67,7 @@ mild-marked mark Publication target =
 mild-marked mark aspect target =
     record { same_node = λ place. refl; same_capability = λ place. refl; same_flag = λ place. refl; still_apart = λ place apart. apart; still_aimed = λ place aim e. (aim, e) }
 
+-- such a change of a node's entry leaves each node and target its one entry
 distinct-change : (node target : List ℕ) (change : PlaceShown → PlaceShown) (places : List PlaceShown) → IsMild target change → AreDistinct places → AreDistinct (change_by (λ (place : PlaceShown). place.node) node change places)
 distinct-change node target change places mild distinct =
     record {
@@ -72,12 +75,14 @@ distinct-change node target change places mild distinct =
       targets = each-change AreTargetsApart (λ (place : PlaceShown). place.node) node change places mild.still_apart distinct.targets;
     }
 
+-- a change at the node and the target of a goal does, if it does at every node and target
 distinct-at : (change : List ℕ → List ℕ → List PlaceShown → List PlaceShown) → ((node target : List ℕ) (places : List PlaceShown) → AreDistinct places → AreDistinct (change node target places))
     → (goal : Option Goal) (places : List PlaceShown) → AreDistinct places → AreDistinct (at_goal change goal places)
 distinct-at change keeps (Some (Use usage)) places distinct = keeps usage.node usage.target places distinct
 distinct-at change keeps (Some (Stop node target)) places distinct = keeps node target places distinct
 distinct-at change keeps goal places distinct = distinct
 
+-- so does each mark that is set for a goal: at its entry, among the entries, and in the row
 at-goal-distinct : (mark : Known) (aspect : Aspect) (goal : Option Goal) (places : List PlaceShown) → AreDistinct places → AreDistinct (at_goal (marked_at mark aspect) goal places)
 at-goal-distinct mark aspect = distinct-at (marked_at mark aspect) (λ node target places. distinct-change node target (place_marked mark aspect target) places (mild-marked mark aspect target))
 
@@ -149,6 +154,7 @@ abbrev pub IsAtNode : Aspect → Type 0
 IsAtNode Existence = ⊥
 IsAtNode aspect = Unit {0}
 
+-- a call that is due for this goal is of such a kind
 abbrev pub FitsGoal : Option Goal → Kind → Type 0
 FitsGoal None kind = ⊥
 FitsGoal (Some Create) kind = kind ≡ kinds.CreateVolume
@@ -156,6 +162,7 @@ FitsGoal (Some (Use usage)) kind = IsAtNode (aspect_of kind)
 FitsGoal (Some (Stop node target)) kind = Unit {0}
 FitsGoal (Some Delete) kind = kind ≡ kinds.DeleteVolume
 
+-- the kind of a row's due call fits its goal
 fits : (row : RowShown) (due : Due) → IsDueFor row due → FitsGoal row.goal (kind_of due.call)
 fits row _ (ToMake goal e) = subst (λ g. FitsGoal g kinds.CreateVolume) (sym goal) refl
 fits row _ (ToRemove id goal own e) = subst (λ g. FitsGoal g kinds.DeleteVolume) (sym goal) refl
@@ -176,6 +183,7 @@ usable-marked mark Existence row usage e fits usable = absurd fits
 usable-marked mark aspect row usage e fits usable =
     subst (λ g. IsUsable (record row { places = at_goal (marked_at mark aspect) g row.places }) usage) (sym e) (usable-change row usage (place_marked mark aspect usage.target) (mild-marked mark aspect usage.target) usable)
 
+-- what is wanted may be wanted still, once a mark is set by a call that fits it
 wanted-marked : (mark : Known) (kind : Kind) (row : RowShown) (goal : Option Goal) → row.goal ≡ goal → FitsGoal goal kind → MayBeWanted row goal → MayBeWanted (marked mark kind row) goal
 wanted-marked mark kind row None e fits may = tt
 wanted-marked mark kind row (Some Create) e fits may = may

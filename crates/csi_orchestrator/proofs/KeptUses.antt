@@ -43,6 +43,7 @@ with-aim-apart target place apart = by (aim_of place target) refl
         two-append (λ (a b : Aim). same_text a.target b.target ≡ false) place.aims (new_aim target) apart
         (λ aim among. none_passes (λ (a : Aim). same_text a.target target) place.aims aim e among)
 
+-- the target's entry is found among them
 with-aim-found : (target : List ℕ) (aims : List Aim) → (aim : Aim) × (find (λ (a : Aim). same_text a.target target) (with_aim target aims) ≡ Some aim)
 with-aim-found target aims = by (find (λ (a : Aim). same_text a.target target) aims) refl
   where
@@ -66,6 +67,7 @@ pub record IsHeldFor (usage : Usage) (place held : PlaceShown) : Type 0 where
   pub as_capable : held.capability ≡ usage.capability
   pub as_flagged : held.readonly ≡ usage.readonly
 
+-- a place that isn't held otherwise is so, once it is held for the use
 held-for : (usage : Usage) (place : PlaceShown) → is_place_otherwise usage (Some place) ≡ false → IsHeldFor usage place (held_as usage place)
 held-for usage place fits = by (is_no place.attached) fits
   where
@@ -105,6 +107,7 @@ entry-serves usage row apart fits = by (place_of row usage.node) refl fits
           at_target = found.1;
         }
 
+-- with an entry for a use too, each node and each target there has one entry
 pub distinct-entry : (usage : Usage) (row : RowShown) → AreDistinct row.places → is_place_otherwise usage (place_of row usage.node) ≡ false → AreDistinct (with_entry usage row).places
 distinct-entry usage row distinct fits =
     record {

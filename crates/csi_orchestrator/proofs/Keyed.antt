@@ -13,6 +13,7 @@ none-either : {X : Type 0} (b : Bool) (change : X → X) → None ≡ cond b (op
 none-either true change = refl
 none-either false change = refl
 
+-- a search after a change, with one more entry in front
 change-step : {X : Type 0} (key : X → List ℕ) (text other : List ℕ) (change : X → X) (x : X) (xs later : List X) (found : Option X) → ((x : X) → key (change x) ≡ key x)
     → find (λ x. same_text (key x) other) xs ≡ found → find (λ x. same_text (key x) other) later ≡ cond (same_text text other) (option_map change found) found
     → (b : Bool) → same_text (key x) text ≡ b → (c : Bool) → same_text text other ≡ c
@@ -29,6 +30,7 @@ change-step key text other change x xs later found keeps is rest false e true f 
 change-step key text other change x xs later found keeps is rest false e false f =
     ap (λ o. cond (same_text (key x) other) (Some x) o) (rest ∙ ap (λ c. cond c (option_map change found) found) f)
 
+-- a search after a change finds the changed entry, if it is of that text, and else what it found before
 pub find-change : {X : Type 0} (key : X → List ℕ) (text : List ℕ) (change : X → X) (xs : List X) (other : List ℕ) → ((x : X) → key (change x) ≡ key x)
     → find (λ x. same_text (key x) other) (change_by key text change xs)
     ≡ cond (same_text text other) (option_map change (find (λ x. same_text (key x) other) xs)) (find (λ x. same_text (key x) other) xs)
@@ -36,6 +38,7 @@ find-change key text change [] other keeps = none-either (same_text text other) 
 find-change key text change (x ∷ xs) other keeps =
     change-step key text other change x xs (change_by key text change xs) (find (λ x. same_text (key x) other) xs) keeps refl (find-change key text change xs other keeps) (same_text (key x) text) refl (same_text text other) refl
 
+-- a search after an entry was put in, with one more in front
 put-step : {X : Type 0} (key : X → List ℕ) (entry : X) (other : List ℕ) (x : X) (xs later : List X) (found : Option X)
     → find (λ x. same_text (key x) other) xs ≡ found → find (λ x. same_text (key x) other) later ≡ cond (same_text (key entry) other) (Some entry) found
     → (b : Bool) → same_text (key x) (key entry) ≡ b → (c : Bool) → same_text (key entry) other ≡ c
@@ -49,6 +52,7 @@ put-step key entry other x xs later found is rest false e true f =
     ap (λ b. cond b (Some x) (find (λ x. same_text (key x) other) later)) own ∙ rest ∙ ap (λ c. cond c (Some entry) found) f
 put-step key entry other x xs later found is rest false e false f = ap (λ o. cond (same_text (key x) other) (Some x) o) (rest ∙ ap (λ c. cond c (Some entry) found) f)
 
+-- a search after an entry was put in finds that one, if it is of that text, and else what it found before
 pub find-put : {X : Type 0} (key : X → List ℕ) (entry : X) (xs : List X) (other : List ℕ)
     → find (λ x. same_text (key x) other) (put_by key entry xs) ≡ cond (same_text (key entry) other) (Some entry) (find (λ x. same_text (key x) other) xs)
 find-put key entry [] other = refl

@@ -26,6 +26,7 @@ due-sends parts row due (Some number) told = clash (call_frame number due.party 
     clash : (frame : Frame) → Sends (Some frame) ≡ Sends None → ⊥
     clash frame e = cc
 
+-- where nothing is sent for a use that isn't refused, no call is due for it
 none-due : (parts : Parts) (usage : Usage) (row : RowShown) (due : Option Due) → due_for_use usage row ≡ due → (room : Option OrchFault)
     → IsToldAs (Sends None) (cond (is_none due) (told parts (Sends None)) (unless_refused room (goes_on parts Sends (wanted (Use usage) (with_entry usage row))))) → due ≡ None
 none-due parts usage row None is room told = refl
@@ -34,6 +35,7 @@ none-due parts usage row (Some due) is None told =
     let then = wanted (Use usage) (with_entry usage row) in
     absurd (due-sends parts then due (next_number parts.last) (subst (λ d. IsToldAs (Sends None) (sends_as parts Sends then d (next_number parts.last))) (due-wanted (Use usage) row ∙ is) told))
 
+-- where nothing is sent for a use, it isn't refused, and no call is due for it
 use-met : (parts : Parts) (usage : Usage) (row : RowShown) → IsToldAs (Sends None) (uses parts usage (Some row)) → (use_refusal parts.nodes usage row ≡ None) × (due_for_use usage row ≡ None)
 use-met parts usage row = by (use_refusal parts.nodes usage row)
   where
@@ -41,6 +43,7 @@ use-met parts usage row = by (use_refusal parts.nodes usage row)
     by None told = (refl, none-due parts usage row (due_for_use usage row) refl (room_refusal parts usage row) told)
     by (Some fault) told = absurd told
 
+-- the same of the row that stands at a place
 pub met-there : (nodes read : List (List ℕ)) (last : Number) (rows : List Row) (name : List ℕ) (usage : Usage) (i : ℕ) (r : Row) → position (λ (row : Row). same_text row.name name) rows ≡ Some i → r ≡ get_or rows i r → read ≡ nodes
     → IsToldAs (Sends None) (uses (record { nodes = nodes; last = last; rows = map row_shown rows }) usage (row_of (map row_shown rows) name))
     → (use_refusal read usage (row_shown r) ≡ None) × (due_for_use usage (row_shown r) ≡ None)

@@ -10,6 +10,7 @@ use Rattle.csi_orchestrator.specs.Listing.{known_by_rows, noted_in}
 use Rattle.csi_orchestrator.specs.Shown.{RowShown}
 use Rattle.csi_orchestrator.proofs.ThingsNoted.{noted-is-known}
 
+-- where lists that are joined have nothing, neither has
 pub no-left : {X : Type 0} (xs ys : List X) → xs ++ ys ≡ [] → xs ≡ []
 no-left [] ys e = refl
 no-left (x ∷ xs) ys e = cc
@@ -30,6 +31,7 @@ no-flat_shown f view [] i d e inside = absurd (omega arith)
 no-flat_shown f view (w ∷ ws) zero d e inside = no-left (f (view w)) (flat_map f (map view ws)) e
 no-flat_shown f view (w ∷ ws) (suc i) d e inside = no-flat_shown f view ws i d (no-right (f (view w)) (flat_map f (map view ws)) e) (omega arith)
 
+-- a list that has nothing among it is empty
 none-among : {X : Type 0} (xs : List X) → ((x : X) → IsAmong x xs → ⊥) → xs ≡ []
 none-among [] none = refl
 none-among (x ∷ xs) none = absurd (none x (inl refl))

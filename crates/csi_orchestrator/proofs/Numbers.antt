@@ -15,6 +15,7 @@ use Rattle.csi_orchestrator.specs.History.{Item, Started, Sent, Accepted, Closed
 use Rattle.csi_orchestrator.specs.Readings.{issued_in, has_success, id_in, open_in, unless, last_in}
 use Rattle.csi_orchestrator.specs.WellFormed.{AreWellFormed}
 
+-- the order of numbers is one as a test and as a relation, it passes on, and no number is before itself
 is_before-then : (a b : Number) → IsBefore a b → is_before a b ≡ true
 is_before-then a b h = rw h refl
 
@@ -39,6 +40,7 @@ other-number a b h = by (same_number a b) refl
 AtMost : Number → Number → Type 0
 AtMost a b = (a ≡ b) ⊎ IsBefore a b
 
+-- it goes on with a number that is before another one, and holds of a number itself and of one that is before it
 most-before : (a b c : Number) → AtMost a b → IsBefore b c → IsBefore a c
 unfolding AtMost
 most-before a b c (inl e) h = subst (λ n. IsBefore n c) (sym e) h
@@ -52,6 +54,7 @@ below-most : (a b : Number) → IsBefore a b → AtMost a b
 unfolding AtMost
 below-most a b h = inr h
 
+-- the number of each call that was sent is the last one, or before it
 sent-most : (began : Number) (items : List Item) (call : Issued) → AreWellFormed began items → IsAmong call (issued_in items) → AtMost call.number (last_in began items)
 sent-most began [] call form among = absurd among
 sent-most began (Started session ∷ older) call form among =

@@ -45,6 +45,7 @@ numbered last number is = by (nat_lt (last.call + 1) (2 ^ 64)) is
     by true e = sym (ap (λ (n : Number). n.call) (some-is _ number e))
     by false e = absurd (none-some number e)
 
+-- a call that is sent comes right after the last one
 pub after-sent : (last : Number) (due : Option Due) (next : Option Outgoing) → outgoing_by due (next_number last) ≡ Ok next → IsAfter last.call next
 after-sent last due next is = by due (next_number last) refl is
   where
@@ -59,10 +60,12 @@ gone-opened : (old : Option Number) (next : Option Outgoing) (row : RowShown) �
 gone-opened old None row = λ number e. absurd (none-some number e)
 gone-opened old (Some next) row = λ number e. inr (ap (option_map (λ (n : Number). n.call)) e)
 
+-- the row's open call was open or is sent, and what is sent comes right after the last call
 abbrev pub GoesOn : Number → Option Number → Result RowTold OrchFault → Type 0
 GoesOn last old (Ok told) = IsOpened old told.outgoing (told.row).open_number × IsAfter last.call told.outgoing
 GoesOn last old (Err fault) = Unit {0}
 
+-- a row that goes on
 pub on-goes : (last : Number) (old : Option Number) (row : RowShown) → GoesOn last old (row_goes_on last row)
 on-goes last old row = by (outgoing_by (due_in row) (next_number last)) refl
   where
@@ -70,6 +73,7 @@ on-goes last old row = by (outgoing_by (due_in row) (next_number last)) refl
     by (Err fault) e = tt
     by (Ok next) e = (gone-opened old next row, after-sent last (due_in row) next e)
 
+-- unless it is refused, either of two, and one that is met already
 unless-goes : (last : Number) (old : Option Number) (fault : Option OrchFault) (told : Result RowTold OrchFault) → GoesOn last old told → GoesOn last old (row_unless fault told)
 unless-goes last old None told goes = goes
 unless-goes last old (Some fault) told goes = tt
@@ -81,6 +85,7 @@ either-goes last old false r s goes other = other
 met-goes : (last : Number) (row : RowShown) → GoesOn last row.open_number (row_met row)
 met-goes last row = (λ number e. inl e, none-after last.call)
 
+-- each command, and a timeout
 pub creates-goes : (parts : Parts) (arguments : Arguments) (row : RowShown) → GoesOn parts.last row.open_number (row_creates parts arguments row)
 creates-goes parts arguments row = unless-goes parts.last row.open_number (again_fault parts row) (row_goes_on parts.last (wanted_anew arguments row)) (on-goes parts.last row.open_number (wanted_anew arguments row))
 
@@ -122,15 +127,18 @@ heard-opened kind reply row next =
 
 -- ---- the catalog then
 
+-- once a row went on, only the call that is sent for it isn't noted yet
 pub ready-told : (catalog : Catalog) (last : Number) (place : ℕ) (row new : Row) (told : Result RowTold OrchFault) (next : Option Outgoing) → IsIndexed catalog → AreUpTo last.call catalog → slice_get (rows_of catalog) place ≡ Some row
     → KeepsName row.name told → GoesOn last row.open_number told → told ≡ Ok (record { outgoing = next; row = row_shown new }) → IsReady (catalog_with catalog place new) place (call_in next) × IsAfter last.call next
 ready-told catalog last place row new told next indexed known at keeps goes is =
     let on = subst (GoesOn last row.open_number) is goes in
     (ready-set catalog last.call place row new next indexed known at (subst (KeepsName row.name) is keeps) on.0 on.1, on.1)
 
+-- a call that is sent after a reply comes right after the last one
 pub after-heard : (last : Number) (kind : Kind) (reply : Reply) (row : RowShown) (next : Option Outgoing) → next_heard kind reply (next_number last) row ≡ Ok next → IsAfter last.call next
 after-heard last kind reply row next is = after-sent last _ next is
 
+-- once a row heard a reply, only the call that is sent for it isn't noted yet
 pub ready-heard : (catalog : Catalog) (last : Number) (place : ℕ) (row new : Row) (kind : Kind) (reply : Reply) (next : Option Outgoing) → IsIndexed catalog → AreUpTo last.call catalog → slice_get (rows_of catalog) place ≡ Some row
     → new.name ≡ row.name → row_shown new ≡ row_heard kind reply (row_shown row) next → IsAfter last.call next → IsReady (catalog_with catalog place new) place (call_in next)
 ready-heard catalog last place row new kind reply next indexed known at name is after =

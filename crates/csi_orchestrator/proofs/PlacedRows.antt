@@ -24,10 +24,12 @@ use Rattle.csi_orchestrator.specs.CoreMoves.{RowTold, outgoing_by, row_after, ro
 abbrev pub parts_after : Parts → RowTold → Parts
 parts_after parts told = record { nodes = parts.nodes; last = last_after parts.last told.outgoing; rows = put told.row parts.rows }
 
+-- the parts and the answer by what becomes of a row, unless it is refused
 abbrev pub placed : Parts → Result RowTold OrchFault → Result Told OrchFault
 placed parts (Err fault) = Err fault
 placed parts (Ok told) = Ok (record { answer = Sends (frame_in told.outgoing); parts = parts_after parts told })
 
+-- unless it is refused, either of two, and a row that goes on
 placed-unless : (parts : Parts) (fault : Option OrchFault) (told : Result Told OrchFault) (row_told : Result RowTold OrchFault) → told ≡ placed parts row_told → unless_refused fault told ≡ placed parts (row_unless fault row_told)
 placed-unless parts None told row_told is = is
 placed-unless parts (Some fault) told row_told is = refl
@@ -54,9 +56,11 @@ put-same (x ∷ rows) row found = by (same_text x.name row.name) (put-same rows 
     by true rest is = cc
     by false rest is = ap (λ rows. x ∷ rows) (rest is)
 
+-- the row that is found for a name has that name
 pub found-name : (rows : List RowShown) (name : List ℕ) (row : RowShown) → row_of rows name ≡ Some row → row.name ≡ name
 found-name rows name row found = (same_text-tells row.name name).0 (find-passes (λ (r : RowShown). same_text r.name name) rows row found)
 
+-- what is met already leaves the row
 placed-met : (parts : Parts) (name : List ℕ) (row : RowShown) → row_of parts.rows name ≡ Some row → told parts (Sends None) ≡ placed parts (row_met row)
 placed-met parts name row found =
     let own = subst (λ n. row_of parts.rows n ≡ Some row) (sym (found-name parts.rows name row found)) found in
@@ -97,6 +101,7 @@ abbrev pub KeepsName : List ℕ → Result RowTold OrchFault → Type 0
 KeepsName name (Ok told) = (told.row).name ≡ name
 KeepsName name (Err fault) = Unit {0}
 
+-- a row that goes on, unless it is refused, and either of two
 pub on-keeps : (last : Number) (row : RowShown) → KeepsName row.name (row_goes_on last row)
 on-keeps last row = by (outgoing_by (due_in row) (next_number last))
   where
@@ -113,6 +118,7 @@ either-keeps : (name : List ℕ) (b : Bool) (r s : Result RowTold OrchFault) →
 either-keeps name true r s keeps other = keeps
 either-keeps name false r s keeps other = other
 
+-- each command, and a timeout
 pub creates-keeps : (parts : Parts) (arguments : Arguments) (row : RowShown) → KeepsName row.name (row_creates parts arguments row)
 creates-keeps parts arguments row = unless-keeps row.name (again_fault parts row) (row_goes_on parts.last (wanted_anew arguments row)) (on-keeps parts.last (wanted_anew arguments row))
 

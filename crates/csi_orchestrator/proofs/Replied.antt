@@ -36,6 +36,7 @@ record Passes (number : Number) (party : Party) (kind : Kind) (o : Option Issued
   has_party : issued.party ≡ party
   has_kind : kind_of issued.call ≡ kind
 
+-- what passes the test is an open call
 that-passes : (number : Number) (party : Party) (kind : Kind) (o : Option Issued) → is_issued_as number party kind o ≡ true → Passes number party kind o
 unfolding is-call
 that-passes number party kind None e = absurd (false≢true e)
@@ -51,6 +52,7 @@ that-passes number party kind (Some issued) e =
       has_kind = (same_kind-tells (kind_of issued.call) kind).0 last.1;
     }
 
+-- such a call has this number
 its-number : (number : Number) (party : Party) (kind : Kind) (issued : Issued) → is-call number party kind issued ≡ true → issued.number ≡ number
 unfolding is-call
 its-number number party kind issued e =
@@ -67,6 +69,7 @@ row-passes : (parts : Parts) (number : Number) (party : Party) (kind : Kind) (ro
 row-passes parts number party kind row e =
     that-passes number party kind (open_in_row row) (find-passes (λ (r : RowShown). is_issued_as number party kind (open_in_row r)) parts.rows row e)
 
+-- it is also the row that is found for its name
 pub row-replied-own : (parts : Parts) (number : Number) (party : Party) (kind : Kind) (row : RowShown) → AreKept parts.rows → row_replied parts.rows number party kind ≡ Some row → row_of parts.rows row.name ≡ Some row
 row-replied-own parts number party kind row kept e =
     own-entry (λ (r : RowShown). r.name) parts.rows row kept.names (among-find (λ (r : RowShown). is_issued_as number party kind (open_in_row r)) parts.rows row e)

@@ -21,6 +21,7 @@ use Rattle.csi_orchestrator.specs.Core.{parts_of}
 use Rattle.csi_orchestrator.specs.RowMoves.{Told, told, row_moves, IsRefusal}
 use Rattle.csi_orchestrator.proofs.Entries.{shown-closed}
 
+-- where every open call is given up, a name has the row that it had, closed
 closed-row : (rows : List RowShown) (name : List ℕ) → row_of (map closed rows) name ≡ option_map closed (row_of rows name)
 closed-row rows name = find-map (λ (row : RowShown). same_text row.name name) closed rows (λ row. refl)
 
@@ -42,6 +43,7 @@ read-closed_option : {X : Type 0} (read : RowShown → Option X) (o : Option Row
 read-closed_option read None same = refl
 read-closed_option read (Some row) same = same row
 
+-- its marks, whether it is there, and its tries are read as before, and no call is open
 marks-closed : (thing : Thing) (o : Option RowShown) → mark_in (mark_of thing) (option_map closed o) ≡ mark_in (mark_of thing) o
 marks-closed thing None = refl
 marks-closed thing (Some row) = closed-mark thing row
@@ -73,6 +75,7 @@ session-agrees parts history session agrees =
       same_counts = λ name. ap tries_in (closed-row parts.rows name) ∙ tries-closed (row_of parts.rows name) ∙ agrees.same_counts name;
     }
 
+-- parts of the same nodes, last number and rows are the same
 same-parts : (a b : Parts) → a.nodes ≡ b.nodes → a.last ≡ b.last → a.rows ≡ b.rows → a ≡ b
 same-parts a b nodes last rows = λ i. record { nodes = nodes i; last = last i; rows = rows i }
 
@@ -81,11 +84,13 @@ abbrev pub IsRestarted : Core → Core → Type 0
 IsRestarted old new =
     IsTrue (nat_lt (old.last.session + 1) (2 ^ 64)) × (new.last ≡ record { session = old.last.session + 1; call = 0 }) × (rows_of new.catalog ≡ map without_call (rows_of old.catalog)) × (new.nodes.items ≡ old.nodes.items)
 
+-- such a change is the restart that the rows tell
 restarted : (old new : Core) → IsRestarted old new → row_moves (parts_of old) Restarts ≡ Ok (let t : Told = record { answer = Restarted; parts = parts_of new } in t)
 restarted old new facts =
     let is : parts_of new ≡ in_session (old.last.session + 1) (parts_of old) = same-parts (parts_of new) (in_session (old.last.session + 1) (parts_of old)) facts.3 facts.1 (ap (map row_shown) facts.2 ∙ shown-closed (rows_of old.catalog)) in
     ap (λ b. cond b (told (in_session (old.last.session + 1) (parts_of old)) Restarted) (Err faults.NumbersSpent)) facts.0 ∙ ap (λ (p : Parts). told p Restarted) (sym is)
 
+-- where no session is left the rows refuse it
 spent : (old : Core) (fault : OrchFault) → fault ≡ faults.NumbersSpent → IsTrue (not (nat_lt (old.last.session + 1) (2 ^ 64))) → IsRefusal (row_moves (parts_of old) Restarts) fault
 spent old fault is none = subst (λ (r : Result Told OrchFault). IsRefusal r fault) (sym (by (nat_lt (old.last.session + 1) (2 ^ 64)) none)) is
   where

@@ -43,6 +43,7 @@ pub record SameAt (view other : View) (name : List ℕ) : Type 0 where
   pub open_calls : view.open_calls name ≡ other.open_calls name
   pub counts : view.counts name ≡ other.counts name
 
+-- so it is of a view and itself, and it goes on from one view to the next
 pub same-self : (view : View) (name : List ℕ) → SameAt view view name
 same-self view name =
     record { rows = refl; marks = λ thing is. refl; ids = refl; goals = refl; arguments = refl; holdings = λ node. refl; open_calls = refl; counts = refl }
@@ -86,6 +87,7 @@ and-right : (a b : Bool) → b ≡ false → (a && b) ≡ false
 and-right true b e = e
 and-right false b e = refl
 
+-- a reply, a call that is given up and a goal that is noted
 pub same-accepted : (issued : Issued) (status : Status) (id : Option ℕ) (view : View) (other : List ℕ) → same_text issued.name other ≡ false → SameAt (after_accepted issued status id view) view other
 same-accepted issued status id view other differs =
     record {

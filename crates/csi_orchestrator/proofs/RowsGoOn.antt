@@ -41,9 +41,11 @@ new-aim-free target other = by (same_text target other)
     by true = refl
     by false = refl
 
+-- another target than this one, which may be published
 abbrev is_other : List ℕ → Aim → Bool
 is_other target aim = not (same_text aim.target target) && not (is_no aim.published)
 
+-- whether there is such a one is as it was among the targets, in the node's entry and in the row
 others-with-aim : (target : List ℕ) (aims : List Aim) → list_any (is_other target) (with_aim target aims) ≡ list_any (is_other target) aims
 others-with-aim target aims = by (is_some (find (λ (a : Aim). same_text a.target target) aims))
   where
@@ -65,6 +67,7 @@ others-with-entry usage row =
     ap (others_in usage.target) (entry-there usage row usage.node ∙ ap (λ b. cond b (Some (entry_for usage (place_of row usage.node))) (place_of row usage.node)) (text-same usage.node))
     ∙ others-entry usage (place_of row usage.node)
 
+-- and so is all that is known of what the use names
 marks-with-entry : (usage : Usage) (row : RowShown) → marks_at (with_entry usage row) usage.node usage.target ≡ marks_at row usage.node usage.target
 marks-with-entry usage row =
     let attached = mark-with-entry usage row (Attached [] usage.node) in
@@ -83,6 +86,7 @@ pub goes-on : (last : Number) (row : RowShown) (due : Option Due) (next : Option
     → row_goes_on last row ≡ Ok (record { outgoing = next; row = gone_on next row })
 goes-on last row due next is made = ap (row_after row) (ap (λ d. outgoing_by d (next_number last)) is ∙ made)
 
+-- where what is to be sent is refused, the row is
 refused-after : (row : RowShown) (r : Result (Option Outgoing) OrchFault) (fault : OrchFault) → IsRefusal r fault → IsRefusal (row_after row r) fault
 refused-after row (Ok next) fault is = is
 refused-after row (Err other) fault is = is

@@ -59,10 +59,12 @@ due-again row due case goal is = by due case
     by _ (ToUnstage node target id own has p o s) = of _ (Stop node target) own (rw (has, p, o) refl)
     by _ (ToDetach node target id own has p o s a) = of _ (Stop node target) own (rw (has, p, o, s) refl)
 
+-- the number of an open call tells nothing of what a goal names
 marks-opened : (goal : Goal) (number : Number) (row : RowShown) → marks_for (opened number row) goal ≡ marks_for row goal
 marks-opened Create number row = refl
 marks-opened goal number row = refl
 
+-- once the due call was sent, the same call is due still
 pub due-stays : (row : RowShown) (due : Due) (number : Number) → GoalHasEntry row row.goal → IsDueFor row due → due_in (sent number (kind_of due.call) row) ≡ Some due
 due-stays row due number entry case =
     let work = at-work row due entry case in
@@ -79,6 +81,7 @@ quiet-held : (row after : RowShown) (view : View) (name node : List ℕ) → Rea
     → held_in row node ≡ view.holdings name node
 quiet-held row after view name node reads same maybe = reads.holdings node (λ e. maybe (same ∙ e))
 
+-- at the node of a use with its entries the volume is held as the use asks
 held-entry : (row : RowShown) (usage : Usage) (node : List ℕ) → HasEntry row usage → same_text usage.node node ≡ true → held_in row node ≡ Some (let h : Held = record { capability = usage.capability; readonly = usage.readonly } in h)
 held-entry row usage node entry e =
     ap (held_in row) (sym ((same_text-tells usage.node node).0 e)) ∙ ap (option_map held_at) entry.at_node ∙ ap Some (both entry.place.capability usage.capability entry.place.readonly usage.readonly entry.same_capability entry.same_flag)
@@ -86,6 +89,7 @@ held-entry row usage node entry e =
     both : (c d : Capability) (r s : Bool) → c ≡ d → r ≡ s → (let h : Held = record { capability = c; readonly = r } in h) ≡ (let h : Held = record { capability = d; readonly = s } in h)
     both c d r s e f = λ i. record { capability = e i; readonly = f i }
 
+-- where the volume may be attached once the call was sent, it is held as the call asks, or else as it is shown
 pub held-right : (row : RowShown) (due : Due) (view : View) (name node : List ℕ) → GoalHasEntry row row.goal → IsDueFor row due → Reads row view name
     → mark_of (Attached name node) (marked Maybe (kind_of due.call) row) ≢ No → held_in row node ≡ option_or (held_by node due.call) (view.holdings name node)
 held-right row _ view name node entry (ToMake goal e) reads maybe = reads.holdings node maybe
@@ -145,6 +149,7 @@ goals-same a b arguments goal = ap (option_map (goal_shown a)) goal ∙ by b.goa
 abbrev pub issued-by : List ℕ → Number → Due → Issued
 issued-by name number due = record { name = name; number = number; party = due.party; call = due.call }
 
+-- the row then tells what is shown once the call was sent
 pub reads-sent : (row : RowShown) (view : View) (name : List ℕ) (due : Due) (number : Number) → Reads row view name → GoalHasEntry row row.goal → IsDueFor row due
     → Reads (sent number (kind_of due.call) row) (after_sent (issued-by name number due) view) name
 reads-sent row view name due number reads entry case =
@@ -166,6 +171,7 @@ reads-sent row view name due number reads entry case =
     m : IsMarked row (marked Maybe (kind_of due.call) row) due Maybe
     m = is-marked row due Maybe entry case
 
+-- what a success tells, and the id that it brings, by the call and by its kind
 told-is : (call : Call) → told call ≡ told_of (kind_of call)
 told-is (calls.CreateVolume name required limit capabilities) = refl
 told-is call = refl

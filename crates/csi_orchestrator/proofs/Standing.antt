@@ -7,6 +7,7 @@ use Rattle.csi_lists.specs.Places.{IsAt}
 some-is : {X : Type 0} (a b : X) → Some a ≡ Some b → a ≡ b
 some-is a b h = cc
 
+-- what stands at a place is what is read there, and the place is within the list
 pub at-of_get : {X : Type 0} (xs : List X) (i : ℕ) (x : X) → slice_get xs i ≡ Some x → IsAt xs i x
 at-of_get [] i x h = none-some x h
 at-of_get (y ∷ ys) zero x h = some-is y x h

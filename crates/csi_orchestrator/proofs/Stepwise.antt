@@ -73,7 +73,7 @@ record IsBegun (history : History) (input : Input) (items : List Item) : Type 0 
   few : length items ≤ 2
   silent : issued_in items ≡ []
 
--- items that begin so, and then the due call or a goal dropped
+-- what begins so may go on with the due call, or with the goal dropped
 go-short : (history : History) (input : Input) (name : List ℕ) (answer : Option Frame → Answer) (items : List Item) → ((o : Option Frame) → frames_in (answer o) ≡ frame_in o) → IsBegun history input items
     → AreShort history input (go_on history name answer items)
 go-short history input name answer items says begun = by (due_call (with_items history items) name) (next_number (last_number history))

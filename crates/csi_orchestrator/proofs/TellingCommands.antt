@@ -34,10 +34,12 @@ use Rattle.csi_orchestrator.proofs.NotedRow.{no-call, reads-wanted, reads-anew, 
 use Rattle.csi_orchestrator.proofs.Refused.{create-first, create-again, use-unknown, use-refused, room-refused, use-due, stop-unknown, stop-refused, delete-unknown, delete-refused, busy-refused}
 use Rattle.csi_orchestrator.proofs.RowViews.{Reads, same-noted, row-reads}
 
+-- in kept rows each target of a node has one entry
 pub kept-aims : (rows : List RowShown) → AllByRecursion IsKept rows → AreAimsApart rows
 kept-aims [] all = tt
 kept-aims (row ∷ rows) all = ((all.0).aims, kept-aims rows all.1)
 
+-- the row that is found for a name has that name
 pub own-name : (parts : Parts) (name : List ℕ) (row : RowShown) → row_of parts.rows name ≡ Some row → row.name ≡ name
 own-name parts name row e = (same_text-tells row.name name).0 (find-passes (λ (r : RowShown). same_text r.name name) parts.rows row e)
 
@@ -71,9 +73,11 @@ noted-ready parts history name goal row form kept agrees quiet reads distinct ma
       guarded = tt;
     }
 
+-- the row that is found for a name is kept
 own-kept : (parts : Parts) (name : List ℕ) (row : RowShown) → AreKept parts.rows → row_of parts.rows name ≡ Some row → IsKept row
 own-kept parts name row kept e = found-kept (λ (r : RowShown). same_text r.name name) parts.rows row kept e
 
+-- a name whose row has no goal has no open call
 idle-quiet : (parts : Parts) (name : List ℕ) (row : RowShown) → row_of parts.rows name ≡ Some row → row.goal ≡ None → (view_of parts).open_calls name ≡ None
 idle-quiet parts name row e idle = ap (option_and_then open_in_row) e ∙ no-call row idle
 
@@ -104,6 +108,7 @@ record IsFree (nodes : List (List ℕ)) (usage : Usage) (row : RowShown) : Type 
   one_writer : has_elsewhere (is_second_writer usage) usage.node row ≡ false
   alike : is_place_otherwise usage (place_of row usage.node) ≡ false
 
+-- so it is of each use that a row doesn't refuse
 use-free : (nodes : List (List ℕ)) (usage : Usage) (row : RowShown) → use_refusal nodes usage row ≡ None → IsFree nodes usage row
 use-free nodes usage row free =
     let made = first-held (not (is_yes row.exists)) faults.NotCreated _ free in
@@ -137,6 +142,7 @@ use-when-tells parts history name usage row form kept agrees e None none =
     (distinct-entry usage row (kept-distinct row own) free.alike)
     (λ due f. usable-entry usage row own.aims free.made free.one_node free.one_writer free.alike)) Sends))))
 
+-- the same, whether the name has a row or not
 pub uses-tell : (parts : Parts) (history : History) (name : List ℕ) (usage : Usage) → IsWellFormed history → AreKept parts.rows → AgreesWith parts history → (o : Option RowShown) → row_of parts.rows name ≡ o
     → Tells history (uses parts usage o) (use_when history name usage (use_fault parts.nodes history name usage))
 uses-tell parts history name usage form kept agrees None e =
@@ -178,6 +184,7 @@ delete-when-tells parts history name row form kept agrees e None free =
     (noted-ready parts history name (Some wishes.Delete) (wanted Delete row) form kept agrees quiet (reads-wanted Delete row (view_of parts) name (row-reads parts name row (own-name parts name row e) e) quiet)
     (kept-distinct row (own-kept parts name row kept e)) (λ due f. all-detached row.places unused.0)) Sends))))
 
+-- the same, whether the name has a row or not
 pub deletes-tell : (parts : Parts) (history : History) (name : List ℕ) → IsWellFormed history → AreKept parts.rows → AgreesWith parts history → (o : Option RowShown) → row_of parts.rows name ≡ o
     → Tells history (deletes parts o) (delete_when history name (delete_fault history name))
 deletes-tell parts history name form kept agrees None e =

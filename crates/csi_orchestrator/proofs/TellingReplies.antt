@@ -103,6 +103,7 @@ record IsGivenUp (parts : Parts) (history : History) (name : List ℕ) (row : Ro
   same_last : parts.last ≡ view.last
   quiet : view.open_calls name ≡ None
 
+-- so it is of the row of a name, whether it has an open call or not
 given-up : (parts : Parts) (history : History) (name : List ℕ) (row : RowShown) → IsWellFormed history → AgreesWith parts history → row_of parts.rows name ≡ Some row → (o : Option Issued) → open_call history name ≡ o
     → IsGivenUp parts history name row
 given-up parts history name row form agrees e None f =

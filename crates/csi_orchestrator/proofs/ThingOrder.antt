@@ -26,6 +26,7 @@ texts_of (Attached name node) = name ∷ node ∷ []
 texts_of (Staged name node) = name ∷ node ∷ [] ∷ []
 texts_of (Published name node target) = name ∷ node ∷ [] ∷ target ∷ []
 
+-- the order of these texts
 abbrev by_texts : Thing → Thing → Ordering
 by_texts a b = slice_cmp (slice_cmp nat_cmp) (texts_of a) (texts_of b)
 
@@ -34,6 +35,7 @@ then-equal Less = refl
 then-equal Equal = refl
 then-equal Greater = refl
 
+-- the order of things is that one
 pub order-by_texts : (a b : Thing) → thing_order a b ≡ by_texts a b
 order-by_texts (Published name node target) (Published other there aim) =
     ap (λ r. ordering_then (text_order name other) (ordering_then (text_order node there) r)) (sym (then-equal (text_order target aim)))
@@ -42,11 +44,13 @@ order-by_texts (Attached name node) (Exists other) = refl
 order-by_texts (Staged name node) (Exists other) = refl
 order-by_texts a b = refl
 
+-- and is total
 pub order-total : IsTotalOrder thing_order
 order-total = subst IsTotalOrder (λ i a b. sym (order-by_texts a b) i) (on_total texts_of (lists_total (lists_total nat_cmp_total)))
 
 -- ---- what comes in one place is one thing
 
+-- equal texts, and equal lists of texts, are those that come in one place
 text-ties : (a b : List ℕ) → pointwise nat_eq a b ≡ eq_by_cmp (slice_cmp nat_cmp) a b
 text-ties = lists_ties nat_cmp unsigned_ties
 
@@ -56,6 +60,7 @@ texts-ties = lists_ties (slice_cmp nat_cmp) text-ties
 texts-same : (a b : List (List ℕ)) → slice_cmp (slice_cmp nat_cmp) a b ≡ Equal → a ≡ b
 texts-same a b e = (pointwise_decides bytes_decides a b).0 (texts-ties a b ∙ ap is_eq e)
 
+-- things that have the same texts are the same
 same-by-texts : (a b : Thing) → texts_of a ≡ texts_of b → a ≡ b
 same-by-texts (Exists name) (Exists other) e = cc
 same-by-texts (Attached name node) (Attached other there) e = cc
@@ -63,22 +68,27 @@ same-by-texts (Staged name node) (Staged other there) e = cc
 same-by-texts (Published name node target) (Published other there aim) e = cc
 same-by-texts a b e = cc
 
+-- things that come in one place are the same
 pub order-same : (a b : Thing) → thing_order a b ≡ Equal → a ≡ b
 order-same a b e = same-by-texts a b (texts-same (texts_of a) (texts_of b) (sym (order-by_texts a b) ∙ e))
 
 -- ---- things that differ, once they are sorted, rise
 
+-- the two things come in one place
 abbrev has_one_place : Thing × Known → Thing × Known → Bool
 has_one_place a b = is_eq (thing_order a.0 b.0)
 
+-- an order that is turned around has the same ties
 reverse-level : (r : Ordering) → is_eq (ordering_reverse r) ≡ is_eq r
 reverse-level Less = refl
 reverse-level Equal = refl
 reverse-level Greater = refl
 
+-- they do so from both sides
 place-flips : (a b : Thing × Known) → has_one_place a b ≡ has_one_place b a
 place-flips a b = ap is_eq (order-total.antisymm a.0 b.0) ∙ reverse-level (thing_order b.0 a.0)
 
+-- two things don't
 places-differ : (a b : Thing × Known) → AreTwoThings a b → has_one_place a b ≡ false
 places-differ a b differ = by (thing_order a.0 b.0) refl
   where
@@ -87,16 +97,19 @@ places-differ a b differ = by (thing_order a.0 b.0) refl
     by Equal e = absurd (differ (order-same a.0 b.0 e))
     by Greater e = refl
 
+-- things of which no two come in one place are distinct
 distinct-things : (things : List (Thing × Known)) → EachTwo (λ a b. has_one_place a b ≡ false) things → IsDistinct has_one_place things
 unfolding IsDistinct
 distinct-things [] two = tt
 distinct-things (x ∷ xs) two = (two.0, distinct-things xs two.1)
 
+-- what doesn't fall and isn't level rises
 rises : (r : Ordering) → is_lt (ordering_reverse r) ≡ false → is_eq r ≡ false → r ≡ Less
 rises Less e f = refl
 rises Equal e f = absurd (false≢true (sym f))
 rises Greater e f = absurd (false≢true (sym e))
 
+-- once entries of different things are sorted, each thing is there once and in order
 pub sorted-in-order : (from things : List (Thing × Known)) → EachTwo AreTwoThings from → IsPermutation from things → IsSortedBy (λ a b. is_lt (thing_order a.0 b.0)) things → IsInOrder things
 sorted-in-order from things once moved sorted =
     let apart = IsDistinct-IsPermutation has_one_place place-flips from things moved
