@@ -159,7 +159,7 @@ pub record IsMarked (row after : RowShown) (due : Due) (mark : Known) : Type 0 w
   pub marks : (thing : Thing) → name_in thing ≡ row.name → mark_of thing after ≡ cond (is_thing thing (thing_at row.name due.party due.call)) mark (mark_of thing row)
   pub held : (node : List ℕ) → held_in after node ≡ held_in row node
 
--- the same, where the mark is the volume's own
+-- where the volume's own mark is set, no other thing of its name is marked
 exists-mark : (row : RowShown) (mark : Known) (thing : Thing) → name_in thing ≡ row.name → mark_of thing (let r : RowShown = record row { exists = mark } in r) ≡ cond (same_thing thing (Exists row.name)) mark (mark_of thing row)
 exists-mark row mark (Exists name) is = sym (ap (λ b. cond b mark row.exists) ((same_text-tells name row.name).1 is))
 exists-mark row mark (Attached name other) is = refl

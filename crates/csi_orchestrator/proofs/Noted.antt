@@ -60,7 +60,7 @@ renewed-none old now rows empty none room =
       room = omega (arith, none, room);
     }
 
--- while the call of a row is left, there is room for one more
+-- while a row is left, there is room for one more call
 pub renewed-free : (old now : Catalog) (k : ℕ) → IsNoted old → Renewed old k now → k < length (rows_of old) → 0 < spare now.calls
 renewed-free old now k noted renewed inside =
     let least = noted.room (omega (arith, inside)) in
@@ -159,7 +159,7 @@ renewed-noted old now k noted renewed over =
       room = λ some. let long = ap length same in let least = noted.room (omega (arith, long, some)) in let room = renewed.room in omega (arith, long, least, room);
     }
 
--- at each turn there is room for one more, if there are rows
+-- however many rows' calls are noted, there is room for one more, if there are rows
 pub renewed-roomy : (old now : Catalog) (k : ℕ) → IsNoted old → Renewed old k now → k ≤ length (rows_of old) → 0 < length (rows_of old) → 0 < spare now.calls
 renewed-roomy old now k noted renewed within some =
     let least = noted.room some in

@@ -24,7 +24,7 @@ pub is-done : (old : Parts) (history : History) (input : Input) (told : Told) �
 is-done old history input told kept form agrees e =
     done history told (moves old.nodes history input) (subst (λ r. Tells history r (moves old.nodes history input)) e (all-tell old history input form kept agrees))
 
--- and what is refused is refused there too
+-- where they do, what the rows refuse is refused
 refused : (history : History) (told : Result Told OrchFault) (moved : Result Moved OrchFault) (fault : OrchFault) → Tells history told moved → IsRefusal told fault → IsRefusal moved fault
 refused history (Ok told) (Ok moved) fault tells is = is
 refused history (Ok told) (Err other) fault tells is = absurd tells.0
@@ -60,7 +60,7 @@ pub kept-promised : {R : Type 0} (result : Result R OrchFault) (says : R → Ans
 kept-promised (Ok r) says old new input kept told stays = stays-kept old new input (says r) kept told
 kept-promised (Err fault) says old new input kept told stays = (subst (λ (p : Parts). AreKept p.rows) (sym stays) kept, ap (λ (p : Parts). p.nodes) stays)
 
--- and what is answered there is told
+-- where they do, what the history answers the rows answer
 told-so : (history : History) (answer : Answer) (result : Result Told OrchFault) (moved : Result Moved OrchFault) → Tells history result moved → IsAnsweredAs answer moved → IsToldAs answer result
 told-so history answer (Ok told) (Ok moved) tells is = tells.0.0 ∙ is
 told-so history answer (Ok told) (Err fault) tells is = absurd is

@@ -45,7 +45,7 @@ new-aim-free target other = by (same_text target other)
 abbrev is_other : List ℕ → Aim → Bool
 is_other target aim = not (same_text aim.target target) && not (is_no aim.published)
 
--- whether there is such a one is as it was among the targets, in the node's entry and in the row
+-- an entry for a use leaves whether there is such a one: among the targets, in the node's entry and in the row
 others-with-aim : (target : List ℕ) (aims : List Aim) → list_any (is_other target) (with_aim target aims) ≡ list_any (is_other target) aims
 others-with-aim target aims = by (is_some (find (λ (a : Aim). same_text a.target target) aims))
   where

@@ -47,7 +47,7 @@ TakesReplies history input (Sent issued ∷ older) = TakesReplies history input 
 TakesReplies history input (Closed number ∷ older) = TakesReplies history input older
 TakesReplies history input (Noted name goal ∷ older) = TakesReplies history input older
 
--- at most three items, their replies are to open calls and came, and the answer has the frame of the call that is sent
+-- at most three items, whose replies came and are to open calls, and an answer with the frame of the call that is sent, if one is
 record IsShort (history : History) (input : Input) (moved : Moved) : Type 0 where
   replies : TakesReplies history input moved.items
   few : length moved.items ≤ 3

@@ -44,7 +44,7 @@ order-by_texts (Attached name node) (Exists other) = refl
 order-by_texts (Staged name node) (Exists other) = refl
 order-by_texts a b = refl
 
--- and is total
+-- it is a total order
 pub order-total : IsTotalOrder thing_order
 order-total = subst IsTotalOrder (λ i a b. sym (order-by_texts a b) i) (on_total texts_of (lists_total (lists_total nat_cmp_total)))
 
@@ -84,11 +84,11 @@ reverse-level Less = refl
 reverse-level Equal = refl
 reverse-level Greater = refl
 
--- they do so from both sides
+-- whether two things come in one place is the same from both sides
 place-flips : (a b : Thing × Known) → has_one_place a b ≡ has_one_place b a
 place-flips a b = ap is_eq (order-total.antisymm a.0 b.0) ∙ reverse-level (thing_order b.0 a.0)
 
--- two things don't
+-- different things don't come in one place
 places-differ : (a b : Thing × Known) → AreTwoThings a b → has_one_place a b ≡ false
 places-differ a b differ = by (thing_order a.0 b.0) refl
   where
