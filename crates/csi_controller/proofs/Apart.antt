@@ -12,12 +12,14 @@ not_zero : (b : Bool) → not b ≡ true → b ≡ false
 not_zero true h = cc
 not_zero false h = refl
 
+-- texts that the test tells apart differ
 other_node : (a b : List ℕ) → same_text a b ≡ false → a ≢ b
 other_node a b differ e = clash (sym ((same_text-tells a b).1 e) ∙ differ)
   where
     clash : true ≡ false → ⊥
     clash h = cc
 
+-- the test that tells two texts apart does so the other way round
 pub turned : (a b : List ℕ) → same_text a b ≡ false → same_text b a ≡ false
 turned a b differ = by (same_text b a) refl
   where
@@ -28,6 +30,7 @@ turned a b differ = by (same_text b a) refl
     by false h = refl
     by true h = absurd (clash (sym ((same_text-tells a b).1 (sym ((same_text-tells b a).0 h))) ∙ differ))
 
+-- where the test of two holdings passes, and one of them is in a mode of a single writer, they don't both write
 one_writer-from : (wa wb sa sb : Bool) → not (wb && wa && (sb || sa)) ≡ true → IsTrue sa ⊎ IsTrue sb → IsTrue wa → IsTrue wb → ⊥
 one_writer-from true true true true h s a b = cc
 one_writer-from true true true false h s a b = cc

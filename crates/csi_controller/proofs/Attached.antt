@@ -22,10 +22,12 @@ append-none : {X : Type 0} (xs : List X) → xs ++ [] ≡ xs
 append-none [] = refl
 append-none (x ∷ xs) = ap (λ ys. x ∷ ys) (append-none xs)
 
+-- the holdings of rows with one more are theirs, and then that row's
 attached-append : (rows : List ControllerRow) (row : ControllerRow) → attached (rows ++ row ∷ []) ≡ attached rows ++ holdings_in_row row
 attached-append [] row = append-none (holdings_in_row row)
 attached-append (r ∷ rs) row = ap (λ all. holdings_in_row r ++ all) (attached-append rs row) ∙ sym (append_assoc (holdings_in_row r) (attached rs) (holdings_in_row row))
 
+-- the holdings of the rows before a place, and then those of the row there, are those of the rows up to it
 pub one_more_row : (rows : List ControllerRow) (place : ℕ) (row : ControllerRow) → place < length rows → row ≡ get_or rows place row → attached (take place rows) ++ holdings_in_row row ≡ attached (take (place + 1) rows)
 one_more_row rows place row inside is =
     sym (ap attached (take_more rows place row inside ∙ ap (λ (x : ControllerRow). take place rows ++ x ∷ []) (sym is)) ∙ attached-append (take place rows) row)
@@ -59,6 +61,7 @@ attached-of (r ∷ rs) id one =
     by true e rest = ap (λ xs. holdings_in_row r ++ xs) (rest ∙ ap holdings_in ((one id).0 e)) ∙ append-none (holdings_in_row r)
     by false e rest = rest
 
+-- the rows' holdings have each volume's, in order, of the state that the rows show
 pub attached-shown : (parts : Parts) (state : ControllerState) → IsSound parts.next_id parts.rows → IsShown parts state → HasHoldingsOf state (attached parts.rows)
 attached-shown parts state sound shown = λ id. attached-of parts.rows id (rising-one parts.rows sound.rising) ∙ shown.shows.holdings id
 
@@ -67,6 +70,7 @@ own_volumes : (id : ℕ) (items : List NodeHolding) → AllByRecursion (λ (h : 
 own_volumes id [] = tt
 own_volumes id (held ∷ later) = (refl, own_volumes id later)
 
+-- where the ids of all rows are above a number, so are those of the volumes that they hold
 above_all : (id : ℕ) (rows : List ControllerRow) → AllByRecursion (λ (later : ControllerRow). id < later.id) rows → AllByRecursion (λ (h : Holding). id < h.volume) (attached rows)
 above_all id [] above = tt
 above_all id (row ∷ rows) above =
@@ -74,11 +78,13 @@ above_all id (row ∷ rows) above =
     (each-weaker (λ (h : Holding). h.volume ≡ row.id) (λ (h : Holding). id < h.volume) (holdings_in_row row) (λ h e. (let lower = above.0 in omega arith)) (own_volumes row.id row.holdings.items))
     (above_all id rows above.1)
 
+-- of the holdings of one row each stands before the later ones
 of_one_volume : (id : ℕ) (items : List NodeHolding) → EachTwo IsHeldBefore (map (held_by id) items)
 of_one_volume id [] = tt
 of_one_volume id (held ∷ later) =
     (each-weaker (λ (h : Holding). h.volume ≡ id) (IsHeldBefore (held_by id held)) (map (held_by id) later) (λ h e. omega arith) (own_volumes id later), of_one_volume id later)
 
+-- so it is with the holdings of rows by rising id
 pub attached-rising : (rows : List ControllerRow) → IsRising rows → EachTwo IsHeldBefore (attached rows)
 attached-rising [] rising = tt
 attached-rising (row ∷ rows) rising =

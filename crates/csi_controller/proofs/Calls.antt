@@ -46,9 +46,11 @@ use Rattle.csi_controller.proofs.Steps.{row-answers, shown-same, nowhere-answers
 pub at-place : (p : ControllerRow → Bool) (rows : List ControllerRow) (place : ℕ) (row : ControllerRow) → Some place ≡ position p rows → row ≡ get_or rows place row → FirstAt p rows place row
 at-place p rows place row at is = FirstAt-position p rows place row (sym at) is
 
+-- the row at the place that a search gives keeps the rules
 pub sound-at : (p : ControllerRow → Bool) (n : ℕ) (rows : List ControllerRow) (place : ℕ) (row : ControllerRow) → IsSound n rows → Some place ≡ position p rows → row ≡ get_or rows place row → IsSoundRow n row
 sound-at p n rows place row sound at is = each-at (IsSoundRow n) rows place row sound.each (FirstAt-is_at p rows place row (at-place p rows place row at is))
 
+-- whatever a row answers, its id and its name stay
 pub same_id : (number : Number) (kind : Kind) (outcome : RowOutcome) (row : ControllerRow) (verdict : Verdict) → (row_after number kind outcome row verdict).volume.id ≡ row.id
 same_id number kind outcome row Stale = refl
 same_id number kind outcome row Repeated = refl
@@ -75,6 +77,7 @@ sound-refused p n rows place row new sound at is same =
     (ap (λ (v : Volume). v.id) same.volume) (ap (λ (v : Volume). v.name) same.volume)
     (sound-same n row new (sound-at p n rows place row sound at is) same.volume same.items)
 
+-- after a refusal the rows show the state that they showed
 pub shown-refused : (p : ControllerRow → Bool) (config : Config) (n : ℕ) (rows : List ControllerRow) (state : ControllerState) (place : ℕ) (row new : ControllerRow) → IsSound n rows
     → Some place ≡ position p rows → row ≡ get_or rows place row → IsSameRow row new → IsShown (record { config = config; next_id = n; rows = rows }) state → IsShown (record { config = config; next_id = n; rows = set rows place new }) state
 shown-refused p config n rows state place row new sound at is same shown =
@@ -118,6 +121,7 @@ past-none : (p : ControllerRow → Bool) (rows : List ControllerRow) → length 
 past-none p [] past = refl
 past-none p (x ∷ xs) past = grind (arith, past-none p xs)
 
+-- the same of a place that is an option
 pub nowhere : (p : ControllerRow → Bool) (rows : List ControllerRow) → None ≡ position p rows → find p rows ≡ None
 nowhere p rows none = let past : length rows ≤ position_or_len p rows = grind (arith, nat_tests) in past-none p rows past
 
@@ -129,6 +133,7 @@ delete-nowhere config n rows state number id frame shown none is =
     let none_found = nowhere (λ (r : ControllerRow). r.id == id) rows none in
     nowhere-answers config n rows state number (DeleteVolume id) frame ok_reply shown none_found (ap (delete state id) (live-nowhere n rows state id shown.shows none_found)) is
 
+-- ControllerUnpublishVolume of an id that no row has is answered OK, and the rows show the state after it
 pub unpublish-nowhere : (config : Config) (n : ℕ) (rows : List ControllerRow) (state : ControllerState) (number : Number) (id : ℕ) (node : List ℕ) (frame : Frame)
     → IsShown (record { config = config; next_id = n; rows = rows }) state → None ≡ position (λ (r : ControllerRow). r.id == id) rows → frame ≡ reply_frame number Controller kinds.ControllerUnpublishVolume ok_reply
     → Answers (record { config = config; next_id = n; rows = rows }) frame (fenced_call config state number (ControllerUnpublishVolume id node) (kept_for (ControllerUnpublishVolume id node) state))
@@ -136,6 +141,7 @@ unpublish-nowhere config n rows state number id node frame shown none is =
     let none_found = nowhere (λ (r : ControllerRow). r.id == id) rows none in
     nowhere-answers config n rows state number (ControllerUnpublishVolume id node) frame ok_reply shown none_found (ap (unpublish id node) (held-nowhere n rows state id node shown.shows none_found)) is
 
+-- ControllerPublishVolume of such an id is answered that there is no such volume
 pub publish-nowhere : (config : Config) (n : ℕ) (rows : List ControllerRow) (state : ControllerState) (number : Number) (id : ℕ) (wanted : NodeHolding) (frame : Frame)
     → IsShown (record { config = config; next_id = n; rows = rows }) state → None ≡ position (λ (r : ControllerRow). r.id == id) rows
     → frame ≡ reply_frame number Controller kinds.ControllerPublishVolume (plain_reply NotFound (codes "volume"))
@@ -162,6 +168,7 @@ pub repeat-there : (config : Config) (n : ℕ) (rows : List ControllerRow) (stat
     → IsPlainRepeat (kept_for call state) number → (verdict_of (Some row.last) number ≡ Repeated) × (row.reply.detail ≡ [])
 repeat-there config n rows state number call place row shown first repeat = subst (λ (k : Option Kept). IsPlainRepeat k number) (kept-there config n rows state call place row shown first) repeat
 
+-- a call that has no row has no reply kept
 pub repeat-nowhere : (config : Config) (n : ℕ) (rows : List ControllerRow) (state : ControllerState) (number : Number) (call : Call)
     → IsShown (record { config = config; next_id = n; rows = rows }) state → find (λ (r : ControllerRow). is_row_for call (volume_of_row r)) rows ≡ None → IsPlainRepeat (kept_for call state) number → ⊥
 repeat-nowhere config n rows state number call shown none repeat = subst (λ (k : Option Kept). IsPlainRepeat k number) (kept-nowhere config n rows state call shown none) repeat

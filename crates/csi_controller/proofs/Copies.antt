@@ -16,18 +16,21 @@ use Rattle.csi_controller.specs.Core.{IsShown, IsSound, IsSoundRow, IsRising, Is
 use Rattle.csi_controller.specs.Views.{AreSameRows}
 use Rattle.csi_controller.proofs.Sound.{sound-same, rising-one}
 
+-- rows and copies that say the same say it with one more of each
 pub AreSameRows-append : (rows copies : List ControllerRow) (row copy : ControllerRow) → AreSameRows rows copies → IsSameRow row copy → AreSameRows (rows ++ row ∷ []) (copies ++ copy ∷ [])
 AreSameRows-append [] [] row copy same own = (own, tt)
 AreSameRows-append [] (c ∷ cs) row copy same own = absurd same
 AreSameRows-append (r ∷ rs) [] row copy same own = absurd same
 AreSameRows-append (r ∷ rs) (c ∷ cs) row copy same own = (same.0, AreSameRows-append rs cs row copy (same.1) own)
 
+-- copies are of the same volumes
 volumes-same : (rows copies : List ControllerRow) → AreSameRows rows copies → map volume_of_row copies ≡ map volume_of_row rows
 volumes-same [] [] same = refl
 volumes-same [] (c ∷ cs) same = absurd same
 volumes-same (r ∷ rs) [] same = absurd same
 volumes-same (r ∷ rs) (c ∷ cs) same = let first = (same.0).volume in let rest = volumes-same rs cs (same.1) in λ i. first i ∷ rest i
 
+-- copies have the same holdings, by id
 holdings-same : (rows copies : List ControllerRow) (id : ℕ) → AreSameRows rows copies → holdings_in (find (λ (r : ControllerRow). r.id == id) copies) ≡ holdings_in (find (λ (r : ControllerRow). r.id == id) rows)
 holdings-same [] [] id same = refl
 holdings-same [] (c ∷ cs) id same = absurd same
@@ -43,6 +46,7 @@ holdings-same (r ∷ rs) (c ∷ cs) id same =
     by true h own = own
     by false h own = h
 
+-- copies of a controller's rows show the same state
 pub shown-copies : (config : Config) (n : ℕ) (rows copies : List ControllerRow) (state : ControllerState) → AreSameRows rows copies → IsShown (record { config = config; next_id = n; rows = rows }) state → IsShown (record { config = config; next_id = n; rows = copies }) state
 shown-copies config n rows copies state same shown =
     record {
@@ -55,6 +59,7 @@ shown-copies config n rows copies state same shown =
       next_to = shown.next_to;
     }
 
+-- each rule that the rows keep is kept by their copies
 length-same : (rows copies : List ControllerRow) → AreSameRows rows copies → length copies ≡ length rows
 length-same [] [] same = refl
 length-same [] (c ∷ cs) same = absurd same
@@ -107,12 +112,14 @@ names-same name (r ∷ rs) [] same one = absurd same
 names-same name (r ∷ rs) (c ∷ cs) same one =
     (λ e. none-same name rs cs (same.1) (one.0 (ap (λ k. same_text k name) (sym (ap (λ (v : Volume). v.name) (same.0).volume)) ∙ e)), names-same name rs cs (same.1) (one.1))
 
+-- copies of a record's rows are a record's
 pub sound-copies : (n : ℕ) (rows copies : List ControllerRow) → AreSameRows rows copies → IsSound n rows → IsSound n copies
 sound-copies n rows copies same sound =
     record { limit = limit-same rows copies same sound.limit; each = each-same n rows copies same sound.each; rising = rising-same rows copies same sound.rising; names = λ name. names-same name rows copies same (sound.names name) }
 
 -- ---- one more row of a list that has its rules, beside those before it
 
+-- none is found before the first row that passes
 before-find : (p : ControllerRow → Bool) (rows : List ControllerRow) (place : ℕ) (row : ControllerRow) → FirstAt p rows place row → find p (take place rows) ≡ None
 before-find p [] place row first = absurd first
 before-find p (r ∷ rs) zero row first = refl
@@ -130,6 +137,7 @@ name-before n rows place row sound at =
     before-find (λ (r : ControllerRow). same_text r.name row.name) rows place row
     (FirstAt-only (λ (r : ControllerRow). same_text r.name row.name) rows place row at ((same_text-tells row.name row.name).1 refl) (sound.names row.name))
 
+-- an id that no row has no copy has
 id-none-same : (id : ℕ) (rows copies : List ControllerRow) → AreSameRows rows copies → find (λ (r : ControllerRow). r.id == id) rows ≡ None → find (λ (r : ControllerRow). r.id == id) copies ≡ None
 id-none-same id [] [] same none = refl
 id-none-same id [] (c ∷ cs) same none = absurd same
@@ -159,6 +167,7 @@ at-split : {X : Type 0} (xs : List X) (x : X) (ys : List X) → IsAt (xs ++ x �
 at-split [] x ys = refl
 at-split (z ∷ zs) x ys = at-split zs x ys
 
+-- where at most one of a list passes, and one does, none is found before it
 split-find : {X : Type 0} (p : X → Bool) (xs : List X) (x : X) (ys : List X) → AtMostOne p (xs ++ x ∷ ys) → p x ≡ true → find p xs ≡ None
 split-find p [] x ys one passes = refl
 split-find p (z ∷ zs) x ys one passes = by (p z) refl (split-find p zs x ys (one.1) passes)
@@ -167,8 +176,10 @@ split-find p (z ∷ zs) x ys one passes = by (p z) refl (split-find p zs x ys (o
     by true e rest = absurd (find-not_none p (zs ++ x ∷ ys) (length zs) x (at-split zs x ys) passes (one.0 e))
     by false e rest = rest
 
+-- no row before a record's has its id
 pub id-split : (n : ℕ) (rows : List ControllerRow) (row : ControllerRow) (others : List ControllerRow) → IsSound n (rows ++ row ∷ others) → find (λ (r : ControllerRow). r.id == row.id) rows ≡ None
 id-split n rows row others sound = split-find (λ (r : ControllerRow). r.id == row.id) rows row others (rising-one (rows ++ row ∷ others) sound.rising row.id) (eq-eqb row.id row.id refl)
 
+-- nor its name
 pub name-split : (n : ℕ) (rows : List ControllerRow) (row : ControllerRow) (others : List ControllerRow) → IsSound n (rows ++ row ∷ others) → find (λ (r : ControllerRow). same_text r.name row.name) rows ≡ None
 name-split n rows row others sound = split-find (λ (r : ControllerRow). same_text r.name row.name) rows row others (sound.names row.name) ((same_text-tells row.name row.name).1 refl)

@@ -38,6 +38,7 @@ use Rattle.csi_controller.proofs.Moves.{Move, was_refused, was_found, was_made, 
 use Rattle.csi_controller.proofs.Orderly.{IsOrderly, kept_same, keep_leaves, live_with_id, is_row}
 use Rattle.csi_controller.proofs.Things.{does}
 
+-- a new controller has nothing
 pub empty_view : IsEmpty (view_of empty_controller)
 empty_view = record { held = held; is_spent = λ key number. spent key number; kept = kept }
   where
@@ -56,6 +57,7 @@ empty_view = record { held = held; is_spent = λ key number. spent key number; k
     spent : (key : Key) (number : Number) → is_spent (last_of (kept_in_row empty_controller key)) number ≡ false
     spent key number = ap (λ (o : Option Kept). is_spent (last_of o) number) (kept key)
 
+-- what came before a spent number is spent
 pub closed_view : (state : ControllerState) → IsClosed (view_of state)
 closed_view state key earlier later before spent = spent-earlier (last_of (kept_in_row state key)) earlier later before spent
 
@@ -81,10 +83,12 @@ spent_on (Some last) kept number fresh spent = by (is_before kept.number number)
     by false e = ap not e
     by true e = absurd (true≢false (sym (before-trans last.number kept.number number (not-false (is_before last.number kept.number) fresh) e) ∙ not-true (is_before last.number number) spent))
 
+-- a number that was spent is spent by what is kept later
 later_spent : (kept : Kept) (old new : Option Kept) (number : Number) → IsLater kept old new → IsTrue (is_spent (last_of old) number) → IsTrue (is_spent (last_of new) number)
 later_spent kept old new number (inl same) spent = subst (λ (o : Option Kept). IsTrue (is_spent (last_of o) number)) (sym same) spent
 later_spent kept old new number (inr this) spent = subst (λ (o : Option Kept). IsTrue (is_spent (last_of o) number)) (sym this.0) (spent_on old kept number this.1 spent)
 
+-- what is kept later is what was kept, or the new call
 either_kept : (kept : Kept) (old new : Option Kept) → IsLater kept old new → (new ≡ old) ⊎ (new ≡ Some kept)
 either_kept kept old new (inl same) = inl same
 either_kept kept old new (inr this) = inr this.0
@@ -163,6 +167,7 @@ rests state number call key row kind reply orderly is own spent kept =
 aborted : Aborted ≡ Ok → ⊥
 aborted h = cc
 
+-- what is kept is the same under its own number
 renumbered : (kept : Kept) (number : Number) → number ≡ kept.number → kept ≡ record { number = number; kind = kept.kind; reply = kept.reply }
 renumbered kept number same = let back = sym same in λ i. record { number = back i; kind = kept.kind; reply = kept.reply }
 
@@ -200,6 +205,7 @@ unknown_stays config state call outcome orderly safe party none key (was_attache
 unknown_stays config state call outcome orderly safe party none key (was_detached id node held there) = absurd (held_known state id node held safe there none)
 unknown_stays config state call outcome orderly safe party none key (was_detached_before id node free) = refl
 
+-- a row that isn't the call's stays as it was
 kept_in_other : (call : Call) (kept : Kept) (v : Volume) → is_row_for call v ≡ false → kept_in call kept v ≡ v
 kept_in_other call kept v h = rw h refl
 
@@ -256,6 +262,7 @@ judged_delivered config state number call after orderly safe party (was_stale ro
   becomes = spent_becomes state number call row (kind_of call) stale_reply (key_of state call) orderly refl own spent (λ ok. absurd (aborted ok));
 }
 
+-- whichever call comes to a controller whose state is orderly and exclusive, it is delivered as the laws say
 pub delivered : (config : Config) (state : ControllerState) (number : Number) (call : Call) → IsOrderly state → IsExclusive state → IsTrue (is_party_of (kind_of call) Controller) → IsDeliveredTo config state number call
 delivered config state number call orderly safe party =
     judged_delivered config state number call (fenced_call config state number call (kept_for call state)) orderly safe party (was_judged config state number call)

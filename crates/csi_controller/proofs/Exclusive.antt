@@ -30,15 +30,18 @@ two-apart id later earlier differ compatible =
     let one = apart (held_by 1 later) (held_by 1 earlier) (turned later.node earlier.node differ) compatible in
     record { nodes = one.nodes; first_shared = one.first_shared; second_shared = one.second_shared; one_writer = one.one_writer }
 
+-- the first holding is apart from each later one, at another node, that can be held with it
 from_first : (id : ℕ) (held : NodeHolding) (later : List NodeHolding) → AllByRecursion (λ (h : NodeHolding). same_text h.node held.node ≡ false) later
     → AllByRecursion (λ (h : NodeHolding). is_compatible (held_by 1 h) (held_by 1 held) ≡ true) later → AllByRecursion (AreApart (held_by id held)) (map (held_by id) later)
 from_first id held [] nodes compatible = tt
 from_first id held (h ∷ hs) nodes compatible = (two-apart id h held (nodes.0) (compatible.0), from_first id held hs (nodes.1) (compatible.1))
 
+-- of holdings at different nodes, each of which can be held with each earlier one, each two are apart
 each_two : (id : ℕ) (items : List NodeHolding) → ((node : List ℕ) → AtMostOne (λ (h : NodeHolding). same_text h.node node) items) → AreCompatible items → EachTwo AreApart (map (held_by id) items)
 each_two id [] one compatible = tt
 each_two id (held ∷ later) one compatible =
     (from_first id held later (other_nodes held.node later ((one held.node).0 ((same_text-tells held.node held.node).1 refl))) (compatible.0), each_two id later (λ node. (one node).1) (compatible.1))
 
+-- the holdings of a row that keeps the rules are apart, and there are none where it was deleted
 pub row-exclusive : (n : ℕ) (row : ControllerRow) → IsSoundRow n row → IsRowExclusive row
 row-exclusive n row sound = record { apart = each_two row.id row.holdings.items sound.apart sound.compatible; live = sound.gone }

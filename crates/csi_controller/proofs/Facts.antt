@@ -41,10 +41,12 @@ pub record Facts (config : Config) (state : ControllerState) (call : Call) (outc
   pub ready : outcome.reply.status ≡ Ok → (kept : Kept) → IsReady config (changed state kept outcome.change) call outcome.reply
   pub others : (kept : Kept) → LeavesRest state (changed state kept outcome.change) call
 
+-- what is so of a refusal
 refused_facts : (config : Config) (state : ControllerState) (call : Call) (status : Status) (detail : List ℕ) → (status ≡ Ok → ⊥) → Facts config state call (refused status detail)
 refused_facts config state call status detail not_ok =
     record { stays = λ h. refl; ready = λ h. absurd (not_ok h); others = λ kept. record { volumes = refl; holdings = refl } }
 
+-- what is so of an answer that changes nothing, where the call is ready to be answered so
 same_facts : (config : Config) (state : ControllerState) (call : Call) (reply : Reply) → IsReady config state call reply → Facts config state call (record { reply = reply; change = Stays })
 same_facts config state call reply ready =
     record { stays = λ h. refl; ready = λ h kept. ready; others = λ kept. record { volumes = refl; holdings = refl } }
@@ -61,10 +63,12 @@ create_found config state name required limit first others volume bad none named
     (subst (λ b. cond (not b) (refused AlreadyExists (codes "name")) (cond (serves volume required limit (first ∷ others)) (record { reply = ok_reply_with volume.id; change = Stays }) (refused AlreadyExists (codes "name"))) ≡ record { reply = ok_reply_with volume.id; change = Stays }) (sym live)
     (subst (λ b. cond b (record { reply = ok_reply_with volume.id; change = Stays }) (refused AlreadyExists (codes "name")) ≡ record { reply = ok_reply_with volume.id; change = Stays }) (sym serving) refl))))
 
+-- where the test says that a list has each capability that is asked for, each is in it
 all_from : (list : List Capability) (asked : List Capability) → list_all (has_capability list) asked ≡ true → AllByRecursion (λ capability. IsTrue (has_capability list capability)) asked
 all_from list [] h = tt
 all_from list (x ∷ xs) h = let parts = and_parts (has_capability list x) (list_all (has_capability list) xs) h in (parts.0, all_from list xs parts.1)
 
+-- where the test of a limit passes, there is no limit, or the capacity is at most the limit
 limit_from : (limit capacity : ℕ) → ((limit == 0) || nat_le capacity limit) ≡ true → (limit ≡ 0) ⊎ (capacity ≤ limit)
 limit_from limit capacity h = by (or_cases (limit == 0) (nat_le capacity limit) h)
   where
@@ -72,6 +76,7 @@ limit_from limit capacity h = by (or_cases (limit == 0) (nat_le capacity limit) 
     by (inl e) = inl (eqb-true limit 0 e)
     by (inr e) = inr (leb-true capacity limit e)
 
+-- CreateVolume is ready where a live volume of its name serves it, and is answered that volume's id
 create_ready : (config : Config) (state : ControllerState) (name : List ℕ) (required limit : ℕ) (first : Capability) (others : List Capability) (volume : Volume)
     → is_bad_range required limit ≡ false → is_empty_range required limit ≡ false → volume_named name state ≡ Some volume → volume.is_live ≡ true
     → serves volume required limit (first ∷ others) ≡ true → IsOrderly state
@@ -93,16 +98,20 @@ create_ready config state name required limit first others volume bad none named
       again = create_found config state name required limit first others volume bad none named live serving;
     }
 
+-- the wanted capacity isn't below the required one
 not_below : (required limit : ℕ) → nat_le required (wanted required limit) ≡ true
 not_below required limit = grind (arith, nat_tests)
 
+-- nor is it above the limit, unless the range is empty
 not_above : (required limit : ℕ) → is_empty_range required limit ≡ false → ((limit == 0) || nat_le (wanted required limit) limit) ≡ true
 not_above required limit h = grind (arith, nat_tests)
 
+-- where all of a list pass a test, all pass one that asks no more
 list_all-weaken : (p q : Capability → Bool) (xs : List Capability) → ((x : Capability) → p x ≡ true → q x ≡ true) → list_all p xs ≡ true → list_all q xs ≡ true
 list_all-weaken p q [] f h = refl
 list_all-weaken p q (x ∷ xs) f h = let parts = and_parts (p x) (list_all p xs) h in and_from (q x) (list_all q xs) (f x parts.0) (list_all-weaken p q xs f parts.1)
 
+-- an `or` passes where one of its two does
 or_right : (a b : Bool) → b ≡ true → (a || b) ≡ true
 or_right true b h = refl
 or_right false b h = h
@@ -118,6 +127,7 @@ has_own (x ∷ xs) =
     and_from (has_capability (x ∷ xs) x) (list_all (has_capability (x ∷ xs)) xs) (or_left (same_capability x x) (has_capability xs x) ((same_capability-tells x x).1 refl))
     (list_all-weaken (has_capability xs) (has_capability (x ∷ xs)) xs (λ y h. or_right (same_capability y x) (has_capability xs y) h) (has_own xs))
 
+-- what is so where CreateVolume of a new name makes a volume
 create_made : (config : Config) (state : ControllerState) (name : List ℕ) (required limit : ℕ) (first : Capability) (others : List Capability)
     → is_bad_range required limit ≡ false → is_empty_range required limit ≡ false → volume_named name state ≡ None → IsOrderly state
     → Facts config state (calls.CreateVolume name required limit (first ∷ others)) (record { reply = ok_reply_with state.next_id; change = Makes name (wanted required limit) (first ∷ others) })
@@ -142,12 +152,15 @@ ended_not_live id volume = by (volume.id == id) refl
     by true h = rw h refl
     by false h = rw h refl
 
+-- a deletion leaves a volume of another id as it was
 ended-other : (id : ℕ) (volume : Volume) → not (volume.id == id) ≡ true → ended id volume ≡ volume
 ended-other id volume h = let other : (volume.id == id) ≡ false = not-true (volume.id == id) h in rw other refl
 
+-- DeleteVolume is ready where no live volume has its id
 delete_ready : (config : Config) (state : ControllerState) (id : ℕ) → live_volume id state ≡ None → IsReady config state (calls.DeleteVolume id) ok_reply
 delete_ready config state id none = record { is_done = none; again = ap (delete state id) none }
 
+-- what is so where DeleteVolume ends a volume
 ended_facts : (config : Config) (state : ControllerState) (id : ℕ) → Facts config state (calls.DeleteVolume id) (done (Ends id))
 ended_facts config state id =
     record {
@@ -171,12 +184,14 @@ publish_ready config state holding volume live node capable held =
           (subst (λ b. cond b met (refused AlreadyExists (codes "held otherwise")) ≡ met) (sym self) refl))));
     }
 
+-- a holding is its own volume's, at its own node
 itself_at : (holding : Holding) → is_held_at holding.volume holding.node holding ≡ true
 itself_at holding = and_from _ _ (eq-eqb holding.volume holding.volume refl) ((same_text-tells holding.node holding.node).1 refl)
 
 not_another : (id : ℕ) → not (id == id) ≡ false
 not_another id = let self : (id == id) ≡ true = eq-eqb id id refl in rw self refl
 
+-- what is so where ControllerPublishVolume attaches a volume
 attached_facts : (config : Config) (state : ControllerState) (holding : Holding) (volume : Volume) → CanAttach config state holding volume → holding_at holding.volume holding.node state ≡ None
     → Facts config state (publish_call holding) (done (Attaches holding))
 attached_facts config state holding volume can none =
@@ -194,6 +209,7 @@ not_both : (a b : Bool) → not a ≡ true → not (a && b) ≡ true
 not_both true b h = cc
 not_both false b h = refl
 
+-- what is so where ControllerUnpublishVolume detaches one
 detached_facts : (config : Config) (state : ControllerState) (id : ℕ) (node : List ℕ) → Facts config state (calls.ControllerUnpublishVolume id node) (done (Detaches id node))
 detached_facts config state id node =
     record {
@@ -220,5 +236,6 @@ move_facts config state call outcome orderly (was_attached_before holding volume
 move_facts config state call outcome orderly (was_detached id node held is) = detached_facts config state id node
 move_facts config state call outcome orderly (was_detached_before id node none) = same_facts config state call ok_reply (unpublish_ready config state id node none)
 
+-- what is so of the table's outcome for any call, in an orderly state
 pub row_facts : (config : Config) (state : ControllerState) (call : Call) → IsOrderly state → Facts config state call (controller_row config state call)
 row_facts config state call orderly = move_facts config state call (controller_row config state call) orderly (moved config state call)

@@ -26,40 +26,48 @@ abbrev pub last_id : ℕ → List ControllerRow → ℕ
 last_id n [] = n
 last_id n (row ∷ rows) = last_id row.id rows
 
+-- the last id of rows that end with a row is that row's
 last_id-append : (n : ℕ) (rows : List ControllerRow) (row : ControllerRow) → last_id n (rows ++ row ∷ []) ≡ row.id
 last_id-append n [] row = refl
 last_id-append n (r ∷ rs) row = last_id-append r.id rs row
 
+-- where ids rise, the last one is at least a number that all of them are above
 le-last_id : (n : ℕ) (rows : List ControllerRow) → AllByRecursion (λ (later : ControllerRow). n < later.id) rows → IsRising rows → n ≤ last_id n rows
 le-last_id n [] above rising = omega arith
 le-last_id n (row ∷ rows) above rising =
     let first : n < row.id = above.0 in
     let rest : row.id ≤ last_id row.id rows = le-last_id row.id rows rising.0 rising.1 in omega (arith, first, rest)
 
+-- what is so of each of a list is so of its last
 each-last : {X : Type 0} (P : X → Type 0) (xs : List X) (x : X) → AllByRecursion P (xs ++ x ∷ []) → P x
 each-last P [] x all = all.0
 each-last P (y ∷ ys) x all = each-last P ys x all.1
 
+-- what is so of each of a list is so of each of a front of it
 each-front : {X : Type 0} (P : X → Type 0) (xs ys : List X) → AllByRecursion P (xs ++ ys) → AllByRecursion P xs
 each-front P [] ys all = tt
 each-front P (x ∷ xs) ys all = (all.0, each-front P xs ys all.1)
 
+-- ids still rise with one more row, whose id is above the last
 IsRising-append : (n : ℕ) (rows : List ControllerRow) (row : ControllerRow) → IsRising rows → last_id n rows < row.id → IsRising (rows ++ row ∷ [])
 IsRising-append n [] row rising below = (tt, tt)
 IsRising-append n (r ∷ rs) row rising below =
     let above : r.id < row.id = let last : r.id ≤ last_id r.id rs = le-last_id r.id rs rising.0 rising.1 in omega (arith, last, below) in
     (each-append_one (λ (later : ControllerRow). r.id < later.id) rs row rising.0 above, IsRising-append r.id rs row rising.1 below)
 
+-- where ids rise, those of a front of the rows rise
 IsRising-front : (rows more : List ControllerRow) → IsRising (rows ++ more) → IsRising rows
 IsRising-front [] more rising = tt
 IsRising-front (r ∷ rs) more rising = (each-front (λ (later : ControllerRow). r.id < later.id) rs more rising.0, IsRising-front rs more rising.1)
 
+-- where ids rise, the last row's is above the last one before it
 last_id-below : (n : ℕ) (rows : List ControllerRow) (row : ControllerRow) → n < row.id → IsRising (rows ++ row ∷ []) → last_id n rows < row.id
 last_id-below n [] row above rising = above
 last_id-below n (r ∷ rs) row above rising = last_id-below r.id rs row (each-last (λ (later : ControllerRow). r.id < later.id) rs row rising.0) rising.1
 
 -- ---- at most one
 
+-- what isn't found in a list isn't found in a front of it
 find-front : {X : Type 0} (p : X → Bool) (xs ys : List X) → find p (xs ++ ys) ≡ None → find p xs ≡ None
 find-front p [] ys none = refl
 find-front p (x ∷ xs) ys none =
@@ -67,10 +75,12 @@ find-front p (x ∷ xs) ys none =
     let fails : p x ≡ false = parts.0 in
     rw fails (find-front p xs ys parts.1)
 
+-- where at most one of a list passes, at most one of a front of it does
 AtMostOne-front : {X : Type 0} (p : X → Bool) (xs ys : List X) → AtMostOne p (xs ++ ys) → AtMostOne p xs
 AtMostOne-front p [] ys one = tt
 AtMostOne-front p (x ∷ xs) ys one = (λ e. find-front p xs ys (one.0 e), AtMostOne-front p xs ys one.1)
 
+-- where the last of a list passes, something is found
 last-found : {X : Type 0} (p : X → Bool) (xs : List X) (x : X) → p x ≡ true → find p (xs ++ x ∷ []) ≡ None → ⊥
 last-found p [] x passes none = some_is_not_none x (ap (λ (b : Bool). cond b (Some x) None) (sym passes) ∙ none)
 last-found p (y ∷ ys) x passes none = last-found p ys x passes (find-missed (p y) y (find p (ys ++ x ∷ [])) none).1
@@ -84,11 +94,13 @@ AtMostOne-last p (y ∷ ys) x one passes = by (p y) refl (AtMostOne-last p ys x 
     by true e rest = absurd (last-found p ys x passes (one.0 e))
     by false e rest = rest
 
+-- where none passes, none is found
 none-found : {X : Type 0} (p : X → Bool) (xs : List X) → list_any p xs ≡ false → find p xs ≡ None
 none-found p xs h = none-from_is_some (find p xs) (sym (any-find p xs) ∙ h)
 
 -- ---- the rules of the first rows
 
+-- a front of a record's rows is a record's
 sound-front : (n : ℕ) (rows more : List ControllerRow) → IsSound n (rows ++ more) → IsSound n rows
 sound-front n rows more sound =
     record {
@@ -106,6 +118,7 @@ sound-take n rows k sound = sound-front n (take k rows) (drop k rows) (subst (Is
 pub not-both : (n : ℕ) (rows : List ControllerRow) (place : ℕ) → IsFirstRefused n rows place → IsSound n rows → ⊥
 not-both n rows place first sound = first.refused (sound-take n rows place sound)
 
+-- where a row is the first that no record has there, none at a later place is
 not-earlier : (n : ℕ) (rows : List ControllerRow) (a b : ℕ) → IsFirstRefused n rows a → IsFirstRefused n rows b → a < b → ⊥
 not-earlier n rows a b one other less = one.refused (subst (IsSound n) (take-take a (b - 1) rows (omega arith)) (sound-take n (take (b - 1) rows) a other.before))
 
@@ -120,6 +133,7 @@ same-place n rows a b one other = by (cases_order a b)
 
 -- ---- one more row
 
+-- a record's rows, and one that may follow them under a name that none of them has, are a record's
 sound-more : (n : ℕ) (rows : List ControllerRow) (row : ControllerRow) → IsSound n rows → may_follow n (length rows) (last_id 0 rows) row ≡ true
     → find (λ (r : ControllerRow). same_text r.name row.name) rows ≡ None → IsSound n (rows ++ row ∷ [])
 sound-more n rows row sound follows none =
@@ -135,6 +149,7 @@ sound-more n rows row sound follows none =
           (λ e. subst (λ k. find (λ (r : ControllerRow). same_text r.name k) rows ≡ None) ((same_text-tells row.name name).0 e) none);
     }
 
+-- the last of a record's rows may follow those before it
 follows-sound : (n : ℕ) (rows : List ControllerRow) (row : ControllerRow) → 0 < row.id → IsSound n (rows ++ row ∷ []) → may_follow n (length rows) (last_id 0 rows) row ≡ true
 follows-sound n rows row from sound =
     let room : length rows < 4096 = let limit = sound.limit in let long : length (rows ++ row ∷ []) ≡ length rows + 1 = length_push rows row in omega (arith, limit, long) in
@@ -142,6 +157,7 @@ follows-sound n rows row from sound =
     (and_from (nat_lt (length rows) 4096) (nat_lt (last_id 0 rows) row.id) (lt-ltb (length rows) 4096 room) (lt-ltb (last_id 0 rows) row.id (last_id-below 0 rows row from sound.rising)))
     (row-sound n row (each-last (IsSoundRow n) rows row sound.each))
 
+-- no row before the last of a record's has its name
 new-name : (n : ℕ) (rows : List ControllerRow) (row : ControllerRow) → IsSound n (rows ++ row ∷ []) → find (λ (r : ControllerRow). same_text r.name row.name) rows ≡ None
 new-name n rows row sound = AtMostOne-last (λ (r : ControllerRow). same_text r.name row.name) rows row (sound.names row.name) ((same_text-tells row.name row.name).1 refl)
 
@@ -153,9 +169,11 @@ pub record SoFar (n : ℕ) (rows : List ControllerRow) (place last : ℕ) (has :
   pub is_last : last ≡ last_id 0 (take place rows)
   pub names : (name : List ℕ) → has name ≡ list_any (λ (row : ControllerRow). same_text row.name name) (take place rows)
 
+-- the rows up to a place and with it are those before it, and then the row there
 one-more : (rows : List ControllerRow) (place : ℕ) (row : ControllerRow) → place < length rows → row ≡ get_or rows place row → take (place + 1) rows ≡ take place rows ++ row ∷ []
 one-more rows place row inside is = take_more rows place row inside ∙ ap (λ (r : ControllerRow). take place rows ++ r ∷ []) (sym is)
 
+-- whether a row may follow is told by its place and by the last id so far
 same-test : (n : ℕ) (rows : List ControllerRow) (place last : ℕ) (has : List ℕ → Bool) (row : ControllerRow) → SoFar n rows place last has → place < length rows
     → may_follow n (length (take place rows)) (last_id 0 (take place rows)) row ≡ may_follow n place last row
 same-test n rows place last has row so inside =
@@ -168,9 +186,11 @@ or-turned true false = refl
 or-turned false true = refl
 or-turned false false = refl
 
+-- so it is before the first row, while no name is had
 pub begins : (n : ℕ) (rows : List ControllerRow) (has : List ℕ → Bool) → ((name : List ℕ) → has name ≡ false) → SoFar n rows 0 0 has
 begins n rows has none = record { sound = record { limit = omega arith; each = tt; rising = tt; names = λ name. tt }; is_last = refl; names = none }
 
+-- so it is after a row that may follow and has a new name, once that name is put in
 pub goes_on : (n : ℕ) (rows : List ControllerRow) (place last : ℕ) (has now_has : List ℕ → Bool) (row : ControllerRow) → SoFar n rows place last has → place < length rows → row ≡ get_or rows place row
     → may_follow n place last row ≡ true → has row.name ≡ false → ((name : List ℕ) → now_has name ≡ (same_text row.name name || has name)) → SoFar n rows (place + 1) row.id now_has
 goes_on n rows place last has now_has row so inside is follows absent adds =
@@ -186,6 +206,7 @@ goes_on n rows place last has now_has row so inside is follows absent adds =
           ∙ sym (list_any-append (λ (r : ControllerRow). same_text r.name name) (take place rows) (row ∷ [])) ∙ ap among (sym more);
     }
 
+-- where the rows before a place are a record's, and with the row there they aren't, that row is the first refused one
 refused-there : (n : ℕ) (rows : List ControllerRow) (place : ℕ) (row : ControllerRow) → IsSound n (take place rows) → place < length rows → row ≡ get_or rows place row
     → (IsSound n (take place rows ++ row ∷ []) → ⊥) → IsFirstRefused n rows (place + 1)
 refused-there n rows place row sound inside is fails =
@@ -197,17 +218,20 @@ refused-there n rows place row sound inside is fails =
       refused = λ whole. fails (subst (IsSound n) (one-more rows place row inside is) whole);
     }
 
+-- so is a row that may not follow those before it
 pub refused-rules : (n : ℕ) (rows : List ControllerRow) (place last : ℕ) (has : List ℕ → Bool) (row : ControllerRow) → SoFar n rows place last has → place < length rows → row ≡ get_or rows place row
     → 0 < row.id → may_follow n place last row ≡ false → IsFirstRefused n rows (place + 1)
 refused-rules n rows place last has row so inside is from fails =
     refused-there n rows place row so.sound inside is
     (λ whole. false≢true (sym fails ∙ sym (same-test n rows place last has row so inside) ∙ follows-sound n (take place rows) row from whole))
 
+-- and one whose name an earlier row has
 pub refused-name : (n : ℕ) (rows : List ControllerRow) (place last : ℕ) (has : List ℕ → Bool) (row : ControllerRow) → SoFar n rows place last has → place < length rows → row ≡ get_or rows place row
     → has row.name ≡ true → IsFirstRefused n rows (place + 1)
 refused-name n rows place last has row so inside is there =
     refused-there n rows place row so.sound inside is
     (λ whole. true≢false (sym there ∙ so.names row.name ∙ any-find_none (λ (r : ControllerRow). same_text r.name row.name) (take place rows) (new-name n (take place rows) row whole)))
 
+-- at the end of the rows they are all a record's
 pub ends : (n : ℕ) (rows : List ControllerRow) (place last : ℕ) (has : List ℕ → Bool) → SoFar n rows place last has → length rows ≤ place → IsSound n rows
 ends n rows place last has so end = subst (IsSound n) (take_all place rows end) so.sound

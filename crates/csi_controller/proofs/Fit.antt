@@ -28,6 +28,7 @@ use Rattle.csi_controller.specs.Core.{held_by}
 use Rattle.csi_controller.specs.Counts.{is_node_full}
 use Rattle.csi_controller.proofs.Recounted.{IsMove}
 
+-- what is so of both ways of an `if`, each under its condition, is so of the `if`
 either : {X : Type 0} (P : X → Type 0) (b : Bool) (x y : X) → (b ≡ true → P x) → (b ≡ false → P y) → P (cond b x y)
 either P true x y f g = f refl
 either P false x y f g = g refl
@@ -36,6 +37,7 @@ not_false : (b : Bool) → not b ≡ false → b ≡ true
 not_false true e = refl
 not_false false e = sym e
 
+-- the outcome's reply has an id exactly where it is an OK to CreateVolume
 abbrev HasIdByRule : Kind → RowOutcome → Type 0
 HasIdByRule kind outcome = IsTrue (has_id_by_rule kind outcome.reply)
 
@@ -43,6 +45,7 @@ HasIdByRule kind outcome = IsTrue (has_id_by_rule kind outcome.reply)
 abbrev Ends : Kind → RowChange → Type 0
 Ends kind change = change ≡ RowEnds → kind ≡ DeleteVolume
 
+-- no other change ends a volume, whatever the call
 stays_not : (kind : Kind) → Ends kind RowStays
 stays_not kind e = absurd (let clash : RowStays ≡ RowEnds = e in cc)
 
@@ -63,6 +66,7 @@ pub record IsGood (kind : Kind) (row : ControllerRow) (outcome : RowOutcome) : T
 refused-good : (kind : Kind) (row : ControllerRow) (outcome : RowOutcome) → IsTrue (has_id_by_rule kind outcome.reply) → outcome.change ≡ RowStays → IsGood kind row outcome
 refused-good kind row outcome id stays = record { id = id; fit = subst (IsFit row) (sym stays) tt; move = subst (IsMove row) (sym stays) tt; ends = subst (Ends kind) (sym stays) (stays_not kind) }
 
+-- what is asked of each line is so of these, part by part
 again-good : (row : ControllerRow) (required limit : ℕ) (wished : List Capability) → IsGood CreateVolume row (again_line row required limit wished)
 again-good row required limit wished =
     either (IsGood CreateVolume row) (not row.live) _ _ (λ _. refused-good CreateVolume row _ refl refl)
@@ -109,6 +113,7 @@ spare : (is_full : Bool) (n : ℕ) → (is_full || nat_le 64 n) ≡ false → n 
 spare true n h = cc
 spare false n h = grind (arith, nat_tests)
 
+-- so it is of ControllerPublishVolume's line, where a volume at 64 nodes counts as full
 publish-good : (row : ControllerRow) (wanted : NodeHolding) (configured is_full : Bool)
     → IsGood ControllerPublishVolume row (publish_line row wanted configured (is_full || nat_le 64 (length row.holdings.items)))
 publish-good row wanted configured is_full =

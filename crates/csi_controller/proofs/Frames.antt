@@ -17,6 +17,7 @@ use Rattle.csi_controller.proofs.Moves.{Judgement, was_first, was_fresh, was_rep
 abbrev pub IsKept : (ControllerState → Type 0) → Config → Type 0
 IsKept I config = (state : ControllerState) (number : Number) (call : Call) → I state → I (carried_out state number call (controller_row config state call)).state
 
+-- then so does a call, whatever the fence says, each frame, and any list of frames
 judged_keeps : (I : ControllerState → Type 0) (config : Config) → IsKept I config → (state : ControllerState) (number : Number) (call : Call) (after : Fenced) → Judgement config state number call after → I state → I after.state
 judged_keeps I config keeps state number call after (was_first none) so = keeps state number call so
 judged_keeps I config keeps state number call after (was_fresh row is fresh) so = keeps state number call so

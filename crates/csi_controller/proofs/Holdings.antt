@@ -24,6 +24,7 @@ held_after id RowEnds all = all
 held_after id (RowAttaches held) all = all ++ held_by id held ∷ []
 held_after id (RowDetaches node) all = filter (λ holding. not (is_held_at id node holding)) all
 
+-- a holding is the volume's
 is_of : ℕ → Holding → Bool
 is_of id holding = holding.volume == id
 
@@ -71,6 +72,7 @@ empty-where : (all : List Holding) → ((id : ℕ) → [] ≡ filter (λ h. h.vo
 empty-where [] none = refl
 empty-where (h ∷ hs) none = let whole = none h.volume in absurd (let found : [] ≡ h ∷ filter (λ x. x.volume == h.volume) hs = whole ∙ (rw (self h.volume) refl) in cc)
 
+-- once a volume's holdings are taken out, it has none
 nothing-left : (id : ℕ) (all : List Holding) → filter (λ h. h.volume == id) (filter (λ h. not (h.volume == id)) all) ≡ []
 nothing-left id [] = refl
 nothing-left id (h ∷ hs) = by (h.volume == id) refl (nothing-left id hs)
@@ -80,6 +82,7 @@ nothing-left id (h ∷ hs) = by (h.volume == id) refl (nothing-left id hs)
     by true e k = k
     by false e k = rw e k
 
+-- as many holdings are at a node as rows that are held there
 pub count-rows : (n : ℕ) (node : List ℕ) (rows : List ControllerRow) (all : List Holding) → AllByRecursion (IsSoundRow n) rows → ((id : ℕ) → AtMostOne (λ (r : ControllerRow). r.id == id) rows)
     → ((id : ℕ) → holdings_in (find (λ r. r.id == id) rows) ≡ filter (λ h. h.volume == id) all)
     → count_by (λ (h : Holding). same_text h.node node) all ≡ count_by (λ (r : ControllerRow). list_any (λ (held : NodeHolding). same_text held.node node) r.holdings.items) rows

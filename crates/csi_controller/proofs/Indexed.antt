@@ -18,6 +18,7 @@ use Rattle.csi_controller.specs.Catalog.{rows_of, by_id, by_name, IsIndexed}
 
 -- ---- searches of a list that is seen through a function
 
+-- the first place that passes, or the length, is the same where the list is seen so
 position_or_len-map : {X Y : Type 0} (f : X → Y) (p : Y → Bool) (q : X → Bool) (xs : List X) → ((x : X) → p (f x) ≡ q x) → position_or_len p (map f xs) ≡ position_or_len q xs
 position_or_len-map f p q [] same = refl
 position_or_len-map f p q (x ∷ xs) same =
@@ -32,6 +33,7 @@ position-map f p q xs same =
     let long = length-map xs f in
     λ i. cond (nat_lt (at i) (long i)) (Some (at i)) None
 
+-- the keys of entries that are made of a list
 keys-map : {X K V : Type 0} (f : X → K × V) (xs : List X) → keys_of (map f xs) ≡ map (λ x. (f x).0) xs
 keys-map f [] = refl
 keys-map f (x ∷ xs) = ap (λ ks. (f x).0 ∷ ks) (keys-map f xs)
@@ -40,6 +42,7 @@ keys-map f (x ∷ xs) = ap (λ ks. (f x).0 ∷ ks) (keys-map f xs)
 pub position-keys : {X K V : Type 0} (f : X → K × V) (p : K → Bool) (q : X → Bool) (es : List (K × V)) (xs : List X) → es ≡ map f xs → ((x : X) → p (f x).0 ≡ q x) → position p (keys_of es) ≡ position q xs
 position-keys f p q es xs is same = ap (λ l. position p (keys_of l)) is ∙ ap (position p) (keys-map f xs) ∙ position-map (λ x. (f x).0) p q xs same
 
+-- the value that is found in entries that are made of a list is that of the first of the list that passes
 lookup-map : {X K V : Type 0} (f : X → K × V) (p : K → Bool) (q : X → Bool) (xs : List X) → ((x : X) → p (f x).0 ≡ q x) → lookup p (map f xs) ≡ option_map (λ x. (f x).1) (find q xs)
 lookup-map f p q [] same = refl
 lookup-map f p q (x ∷ xs) same =
@@ -72,11 +75,13 @@ within-both catalog (Some place) indexed within =
 
 -- ---- another row in the place of one
 
+-- a value that is put at a place of the entries stands there among the values
 values-set : {K V : Type 0} (es : List (K × V)) (i : ℕ) (w : V) → values_of (set_value_at es i w) ≡ set (values_of es) i w
 values-set [] i w = refl
 values-set (e ∷ es) zero w = refl
 values-set (e ∷ es) (suc i) w = ap (λ vs. e.1 ∷ vs) (values-set es i w)
 
+-- entries that are rows under their ids are so with another row of the same id at a place
 entries-set : (es : List (ℕ × ControllerRow)) (rows : List ControllerRow) (i : ℕ) (row new : ControllerRow) → es ≡ map by_id rows → slice_get rows i ≡ Some row → new.id ≡ row.id → set_value_at es i new ≡ map by_id (set rows i new)
 entries-set es rows i row new is at same = ap (λ l. set_value_at l i new) is ∙ by rows i at
   where
@@ -99,6 +104,7 @@ rows-set map_ i new = values-set map_.entries i new
 pub within-set : {S : Type 0} (map_ : IndexMap ℕ ControllerRow S) (i k : ℕ) (new : ControllerRow) → k < length map_.entries → k < length (with_value_at map_ i new).entries
 within-set map_ i k new inside = let long = index_map_len-with_value_at map_ i new in omega (arith, long, inside)
 
+-- a place among the entries is one among the rows
 pub rows-within : {S : Type 0} (map_ : IndexMap ℕ ControllerRow S) (i : ℕ) → i < length map_.entries → i < length (values map_)
 rows-within map_ i inside = let long = length-map map_.entries (λ (e : ℕ × ControllerRow). e.1) in omega (arith, long, inside)
 
@@ -114,9 +120,11 @@ pub new-entries : {X K V S : Type 0} (eq : K → K → Bool) (f : X → K × V) 
     → insert_entry eq m.entries k v ≡ m.entries ++ (k, v) ∷ []
 new-entries eq f q m xs k v is same none = insert_entry-new eq m k v (lookup-keys f (eq k) q m.entries xs is same ∙ ap (option_map (λ x. (f x).1)) none)
 
+-- an entry that is put last puts its row last
 pub rows-added : (old new : Catalog) (row : ControllerRow) → new.rows.entries ≡ old.rows.entries ++ by_id row ∷ [] → rows_of new ≡ rows_of old ++ row ∷ []
 rows-added old new row rows = ap values_of rows ∙ map_push (λ (e : ℕ × ControllerRow). e.1) old.rows.entries (by_id row)
 
+-- the maps belong together with one more row, which is put last in both
 pub indexed-added : (old new : Catalog) (row : ControllerRow) → IsIndexed old → new.rows.entries ≡ old.rows.entries ++ by_id row ∷ [] → new.ids.entries ≡ old.ids.entries ++ by_name row ∷ [] → IsIndexed new
 indexed-added old new row indexed rows ids =
     let all : rows_of new ≡ rows_of old ++ row ∷ [] = rows-added old new row rows in
@@ -125,6 +133,7 @@ indexed-added old new row indexed rows ids =
       ids = ids ∙ ap (λ l. l ++ by_name row ∷ []) indexed.ids ∙ sym (map_push by_name (rows_of old) row) ∙ ap (map by_name) (sym all);
     }
 
+-- the maps belong together where their entries are as they were
 pub indexed-same : (old new : Catalog) → IsIndexed old → new.rows.entries ≡ old.rows.entries → new.ids.entries ≡ old.ids.entries → IsIndexed new
 indexed-same old new indexed rows ids =
     record { rows = rows ∙ indexed.rows ∙ ap (λ l. map by_id (values_of l)) (sym rows); ids = ids ∙ indexed.ids ∙ ap (λ l. map by_name (values_of l)) (sym rows) }

@@ -29,6 +29,7 @@ row_of state (Attached id node) = volume_with_id id state
 row_of state (Staged id node) = None
 row_of state (Published id node target) = None
 
+-- what is kept for a thing is what its row keeps
 pub kept_of_row : (state : ControllerState) (key : Key) → kept_in_row state key ≡ option_map (λ volume. volume.kept) (row_of state key)
 kept_of_row state (Exists name) = refl
 kept_of_row state (Attached id node) = refl
@@ -41,10 +42,12 @@ data Comes (kept : Kept) : Option Volume → Option Volume → Type 0 where
   same_comes : (v w : Volume) → w.id ≡ v.id → w.name ≡ v.name → w.kept ≡ v.kept → Comes kept (Some v) (Some w)
   new_comes : (w : Volume) → w.kept ≡ kept → Comes kept None (Some w)
 
+-- a row that stays as it was comes so
 itself_comes : (kept : Kept) (o : Option Volume) → Comes kept o o
 itself_comes kept None = none_comes
 itself_comes kept (Some v) = same_comes v v refl refl refl
 
+-- a deletion leaves what a row keeps
 ended_kept : (id : ℕ) (v : Volume) → (ended id v).kept ≡ v.kept
 ended_kept id v = by (v.id == id)
   where
@@ -52,10 +55,12 @@ ended_kept id v = by (v.id == id)
     by true = refl
     by false = refl
 
+-- so does a row after a deletion, of its own volume or of another
 ended_comes : (kept : Kept) (id : ℕ) (o : Option Volume) → Comes kept o (option_map (ended id) o)
 ended_comes kept id None = none_comes
 ended_comes kept id (Some v) = same_comes v (ended id v) ((end_leaves id).ids v) ((end_leaves id).names v) (ended_kept id v)
 
+-- so does the row that was found before, and else one that was just made
 added_comes : (kept : Kept) (n : Volume) (o : Option Volume) (b : Bool) → n.kept ≡ kept → Comes kept o (option_or o (cond b (Some n) None))
 added_comes kept n None true is = subst (Comes kept None) (sym (option_or-none None (Some n) refl)) (new_comes n is)
 added_comes kept n None false is = subst (Comes kept None) (sym (option_or-none None None refl)) none_comes
@@ -65,12 +70,14 @@ added_comes kept n (Some v) b is = subst (Comes kept (Some v)) (sym (option_or-s
 abbrev IsTest : (Volume → Bool) → Type 0
 IsTest p = (f : Volume → Volume) → LeavesNames f → (v : Volume) → p (f v) ≡ p v
 
+-- the tests of a name and of an id are such tests
 by_name : (name : List ℕ) → IsTest (λ v. same_text v.name name)
 by_name name f leaves v = ap (λ n. same_text n name) (leaves.names v)
 
 by_id : (id : ℕ) → IsTest (λ v. v.id == id)
 by_id id f leaves v = ap (λ n. n == id) (leaves.ids v)
 
+-- what such a test finds after a change comes so
 found_comes : (p : Volume → Bool) → IsTest p → (state : ControllerState) (kept : Kept) (change : Change) → Comes kept (find p state.volumes) (find p (changed state kept change).volumes)
 found_comes p test state kept Stays = itself_comes kept (find p state.volumes)
 found_comes p test state kept (Makes name capacity capabilities) =
@@ -81,12 +88,14 @@ found_comes p test state kept (Ends id) =
 found_comes p test state kept (Attaches holding) = itself_comes kept (find p state.volumes)
 found_comes p test state kept (Detaches id node) = itself_comes kept (find p state.volumes)
 
+-- so comes the row of each thing
 row_comes : (state : ControllerState) (kept : Kept) (change : Change) (key : Key) → Comes kept (row_of state key) (row_of (changed state kept change) key)
 row_comes state kept change (Exists name) = found_comes (λ v. same_text v.name name) (by_name name) state kept change
 row_comes state kept change (Attached id node) = found_comes (λ v. v.id == id) (by_id id) state kept change
 row_comes state kept change (Staged id node) = none_comes
 row_comes state kept change (Published id node target) = none_comes
 
+-- the row of a thing once a call is kept: what it was, with the call kept in it if it is the call's
 row_of-keep : (call : Call) (kept : Kept) (state : ControllerState) (key : Key) → row_of (keep call kept state) key ≡ option_map (kept_in call kept) (row_of state key)
 row_of-keep call kept state (Exists name) = find-map (λ v. same_text v.name name) (kept_in call kept) state.volumes (by_name name (kept_in call kept) (keep_leaves call kept))
 row_of-keep call kept state (Attached id node) = find-map (λ v. v.id == id) (kept_in call kept) state.volumes (by_id id (kept_in call kept) (keep_leaves call kept))
@@ -97,12 +106,15 @@ row_of-keep call kept state (Published id node target) = refl
 abbrev pub IsLater : Kept → Option Kept → Option Kept → Type 0
 IsLater kept old new = (new ≡ old) ⊎ ((new ≡ Some kept) × (is_spent (last_of old) kept.number ≡ false))
 
+-- the call's row keeps the call
 taken : (call : Call) (kept : Kept) (v : Volume) → is_row_for call v ≡ true → (kept_in call kept v).kept ≡ kept
 taken call kept v h = rw h refl
 
+-- a row that isn't the call's keeps what it kept
 left : (call : Call) (kept : Kept) (v : Volume) → is_row_for call v ≡ false → (kept_in call kept v).kept ≡ v.kept
 left call kept v h = rw h refl
 
+-- a row that keeps the call already keeps it still
 new_keeps : (call : Call) (kept : Kept) (v : Volume) → v.kept ≡ kept → (kept_in call kept v).kept ≡ kept
 new_keeps call kept v is = by (is_row_for call v) refl
   where
@@ -114,6 +126,7 @@ new_keeps call kept v is = by (is_row_for call v) refl
 abbrev pub IsFreshFor : Call → Kept → Option Volume → Type 0
 IsFreshFor call kept o = (v : Volume) → o ≡ Some v → is_row_for call v ≡ true → is_spent (Some v.kept.number) kept.number ≡ false
 
+-- what a row that comes so keeps is what it kept, or the call, if the number was fresh for it
 comes_later : (call : Call) (kept : Kept) (o next : Option Volume) → Comes kept o next → IsFreshFor call kept o
     → IsLater kept (option_map (λ v. v.kept) o) (option_map (λ v. v.kept) (option_map (kept_in call kept) next))
 comes_later call kept o next none_comes fresh = inl refl
@@ -124,6 +137,7 @@ comes_later call kept o next (same_comes v w ids names same) fresh = by (is_row_
     by true h = inr (ap Some (taken call kept w (same_row call v w ids names ∙ h)), fresh v refl h)
     by false h = inl (ap Some (left call kept w (same_row call v w ids names ∙ h) ∙ same))
 
+-- after a call that was fresh for a thing's row, what was kept for the thing is kept, or the call
 pub kept_later : (call : Call) (kept : Kept) (state : ControllerState) (change : Change) (key : Key) → IsFreshFor call kept (row_of state key)
     → IsLater kept (kept_in_row state key) (kept_in_row (keep call kept (changed state kept change)) key)
 kept_later call kept state change key fresh =
@@ -132,12 +146,14 @@ kept_later call kept state change key fresh =
     (subst (IsLater kept (option_map (λ v. v.kept) (row_of state key))) (sym (kept_of_row (keep call kept next) key ∙ ap (option_map (λ (v : Volume). v.kept)) (row_of-keep call kept next key)))
     (comes_later call kept (row_of state key) (row_of next key) (row_comes state kept change key) fresh))
 
+-- where the row before was the call's or there was none, the row that comes so keeps the call
 comes_kept : (call : Call) (kept : Kept) (o next : Option Volume) → Comes kept o next → ((v : Volume) → o ≡ Some v → is_row_for call v ≡ true) → (next ≡ None → ⊥)
     → option_map (λ v. v.kept) (option_map (kept_in call kept) next) ≡ Some kept
 comes_kept call kept o next none_comes rows there = absurd (there refl)
 comes_kept call kept o next (new_comes w is) rows there = ap Some (new_keeps call kept w is)
 comes_kept call kept o next (same_comes v w ids names same) rows there = ap Some (taken call kept w (same_row call v w ids names ∙ rows v refl))
 
+-- a row that was there is there after a change
 stays_there : (kept : Kept) (o next : Option Volume) (v : Volume) → Comes kept o next → o ≡ Some v → next ≡ None → ⊥
 stays_there kept o next v none_comes is gone = none-some v is
 stays_there kept o next v (new_comes w k) is gone = none-some v is

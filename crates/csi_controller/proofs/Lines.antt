@@ -48,6 +48,7 @@ again-told config state name required limit wished row true true e f = rw (e, f)
 again-told config state name required limit wished row true false e f = rw (e, f) refl
 again-told config state name required limit wished row false serving e f = rw e refl
 
+-- the table answers CreateVolume as the row of its name does
 create-told : (config : Config) (state : ControllerState) (name : List ℕ) (required limit : ℕ) (wished : List Capability) (row : ControllerRow) → volume_named name state ≡ Some (volume_of_row row)
     → create config state name required limit wished ≡ outcome_of row.id (create_line row required limit wished)
 create-told config state name required limit [] row named = refl
@@ -68,6 +69,7 @@ delete_live-told : (row : ControllerRow) (items : List NodeHolding) → row.live
 delete_live-told row [] e f = rw (e, f) refl
 delete_live-told row (held ∷ others) e f = rw (e, f) refl
 
+-- the table answers DeleteVolume as the volume's row does
 delete-told : (state : ControllerState) (row : ControllerRow) → SeesRow state row → delete state row.id (live_volume row.id state) ≡ outcome_of row.id (delete_line row)
 delete-told state row sees =
     ap (λ o. delete state row.id o) sees.live
@@ -77,12 +79,14 @@ delete-told state row sees =
     by true e = ap (delete_live row.id) sees.held ∙ delete_live-told row row.holdings.items e refl
     by false e = rw e refl
 
+-- how a volume is held at a node is told by its row
 held-told : (state : ControllerState) (row : ControllerRow) (node : List ℕ) → SeesRow state row → holding_at row.id node state ≡ option_map (held_by row.id) (find (λ (held : NodeHolding). same_text held.node node) row.holdings.items)
 held-told state row node sees =
     find-and_filter (λ (h : Holding). h.volume == row.id) (λ (h : Holding). same_text h.node node) state.holdings
     ∙ ap (find (λ (h : Holding). same_text h.node node)) sees.held
     ∙ find-of_map (λ (h : Holding). same_text h.node node) (held_by row.id) row.holdings.items
 
+-- the table answers ControllerUnpublishVolume as the volume's row does
 unpublish-told : (state : ControllerState) (row : ControllerRow) (node : List ℕ) → SeesRow state row → unpublish row.id node (holding_at row.id node state) ≡ outcome_of row.id (unpublish_line row node)
 unpublish-told state row node sees =
     ap (unpublish row.id node) (held-told state row node sees)
@@ -100,6 +104,7 @@ attach-told config state row wanted full (Some other) e = refl
 attach-told config state row wanted true None e = rw e refl
 attach-told config state row wanted false None e = rw e refl
 
+-- by how the volume is held at the node, the table answers as the row does
 held_so-told : (config : Config) (state : ControllerState) (row : ControllerRow) (wanted : NodeHolding) (full : Bool) (o : Option NodeHolding) → SeesRow state row → is_full config state row.id wanted.node ≡ full
     → publish_held config state (held_by row.id wanted) (option_map (held_by row.id) o) ≡ outcome_of row.id (held_line row wanted full o)
 held_so-told config state row wanted full None sees e =
@@ -112,6 +117,7 @@ held_so-told config state row wanted full (Some held) sees e = by (same_holding 
     by true = refl
     by false = refl
 
+-- the table answers ControllerPublishVolume as the volume's row does, by whether the node is configured, and whether it is full
 publish-told : (config : Config) (state : ControllerState) (row : ControllerRow) (wanted : NodeHolding) (configured full : Bool) → SeesRow state row → has_node wanted.node config.nodes ≡ configured → is_full config state row.id wanted.node ≡ full
     → publish config state (held_by row.id wanted) (live_volume row.id state) ≡ outcome_of row.id (publish_line row wanted configured full)
 publish-told config state row wanted configured full sees has e =
@@ -184,6 +190,7 @@ live-nowhere n rows state id shows none =
     ap (find (λ (volume : Volume). (volume.id == id) && volume.is_live)) (sym shows.volumes)
     ∙ find-and_none volume_of_row (λ (volume : Volume). volume.id == id) (λ (volume : Volume). volume.is_live) rows none
 
+-- an id that no row has is held at no node
 pub held-nowhere : (n : ℕ) (rows : List ControllerRow) (state : ControllerState) (id : ℕ) (node : List ℕ) → Shows n rows state → find (λ (r : ControllerRow). r.id == id) rows ≡ None → holding_at id node state ≡ None
 held-nowhere n rows state id node shows none =
     find-and_filter (λ (h : Holding). h.volume == id) (λ (h : Holding). same_text h.node node) state.holdings

@@ -45,12 +45,15 @@ use Rattle.csi_controller.specs.Lines.{argument_fault}
 use Rattle.csi_controller.proofs.Lines.{length-view}
 use Rattle.csi_controller.proofs.Steps.{nowhere-answers}
 
+-- a next id from 1 to 2^64 is told by its 64 bits
 next-is : (n m : ℕ) → n ≡ m % 18446744073709551616 → 1 ≤ m → m ≤ 18446744073709551616 → m ≡ next_shown n
 next-is n m e from to = grind (arith, nat_tests)
 
+-- after each id above 0 and below 2^64, the next id that 64 bits tell is one more
 next_up : (n : ℕ) → 0 < n → n < 18446744073709551616 → next_shown ((n + 1) % 18446744073709551616) ≡ n + 1
 next_up n from fits = grind (arith, nat_tests)
 
+-- an id above 0 tells itself
 next_self : (n : ℕ) → 0 < n → next_shown n ≡ n
 next_self n from = grind (arith, nat_tests)
 
@@ -69,6 +72,7 @@ with_fault config state name required limit (capability ∷ others) reply e = by
     by false true h = let same : plain_reply OutOfRange (codes "range") ≡ reply = cc in λ i. record { reply = same i; change = Stays }
     by false false h = absurd (some_is_not_none reply (sym h))
 
+-- where nothing is wrong with its arguments, CreateVolume is judged by the volume of its name
 no_fault : (config : Config) (state : ControllerState) (name : List ℕ) (required limit : ℕ) (wished : List Capability) → argument_fault required limit wished ≡ None
     → create config state name required limit wished ≡ create_named config state name required limit wished (volume_named name state)
 no_fault config state name required limit [] e = absurd (some_is_not_none _ e)
@@ -81,10 +85,12 @@ no_fault config state name required limit (capability ∷ others) e = by (is_bad
     by false true h = absurd (some_is_not_none _ h)
     by false false h = refl
 
+-- a name that no row has is no volume's in the state that the rows show
 named-nowhere : (config : Config) (n : ℕ) (rows : List ControllerRow) (state : ControllerState) (name : List ℕ) → IsShown (record { config = config; next_id = n; rows = rows }) state → find (λ (r : ControllerRow). same_text r.name name) rows ≡ None → volume_named name state ≡ None
 named-nowhere config n rows state name shown none =
     ap (find (λ (v : Volume). same_text v.name name)) (sym shown.shows.volumes) ∙ find-of_map (λ (v : Volume). same_text v.name name) volume_of_row rows ∙ ap (option_map volume_of_row) none
 
+-- a new name is answered by how many rows there are and by the next id
 new-told : (config : Config) (n : ℕ) (rows : List ControllerRow) (state : ControllerState) (name : List ℕ) (required limit : ℕ) (wished : List Capability) → IsShown (record { config = config; next_id = n; rows = rows }) state
     → find (λ (r : ControllerRow). same_text r.name name) rows ≡ None → argument_fault required limit wished ≡ None
     → create config state name required limit wished ≡ new_line config.greatest (length rows) (next_shown n) name required limit wished
@@ -102,6 +108,7 @@ pub fault-answers : (config : Config) (n : ℕ) (rows : List ControllerRow) (sta
 fault-answers config n rows state number name required limit wished frame reply shown none fault is =
     nowhere-answers config n rows state number (CreateVolume name required limit wished) frame reply shown none (with_fault config state name required limit wished reply fault) is
 
+-- where a new name is refused, that is the answer, and the same rows show the state
 pub refused-answers : (config : Config) (n : ℕ) (rows : List ControllerRow) (state : ControllerState) (number : Number) (name : List ℕ) (required limit : ℕ) (wished : List Capability) (frame : Frame) (reply : Reply)
     → IsShown (record { config = config; next_id = n; rows = rows }) state → find (λ (r : ControllerRow). same_text r.name name) rows ≡ None → argument_fault required limit wished ≡ None
     → new_line config.greatest (length rows) (next_shown n) name required limit wished ≡ record { reply = reply; change = Stays }
@@ -124,6 +131,7 @@ held-append (r ∷ rs) row id empty = by (r.id == id) (held-append rs row id emp
     by true h = refl
     by false h = h
 
+-- ids still rise with one more row, whose id is above all others
 IsRising-append : (rows : List ControllerRow) (row : ControllerRow) → IsRising rows → AllByRecursion (λ (r : ControllerRow). r.id < row.id) rows → IsRising (rows ++ row ∷ [])
 IsRising-append [] row rising below = (tt, tt)
 IsRising-append (r ∷ rs) row rising below =
@@ -175,9 +183,11 @@ pub record IsMadeWell (count capacity : ℕ) (wished : List Capability) : Type 0
   pub capable : 1 ≤ length wished
   pub room : count < 4096
 
+-- unless the range is bad, the wanted capacity is from 1 to 2^63 - 1
 wanted-range : (required limit : ℕ) → is_bad_range required limit ≡ false → (1 ≤ wanted required limit) × (wanted required limit < 9223372036854775808)
 wanted-range required limit good = (grind (arith, nat_tests), grind (arith, nat_tests))
 
+-- a volume that is made has the wanted capacity, and fewer than 4,096 were there
 made-capacity : (greatest count next : ℕ) (name : List ℕ) (required limit capacity id : ℕ) (wished : List Capability)
     → new_line greatest count next name required limit wished ≡ record { reply = ok_reply_with id; change = Makes name capacity wished } → (wanted required limit ≡ capacity) × (count < 4096)
 made-capacity greatest count next name required limit capacity id wished line =
@@ -199,6 +209,7 @@ made-capacity greatest count next name required limit capacity id wished line =
     by false true e h = absurd (stays (ap (λ (o : Outcome). o.change) h))
     by false false e h = (same_capacity (ap (λ (o : Outcome). o.change) h), room (nat_le 18446744073709551616 next) e)
 
+-- so is each volume that the table makes
 pub made-well : (greatest count next : ℕ) (name : List ℕ) (required limit capacity id : ℕ) (wished : List Capability) → argument_fault required limit wished ≡ None
     → new_line greatest count next name required limit wished ≡ record { reply = ok_reply_with id; change = Makes name capacity wished } → IsMadeWell count capacity wished
 made-well greatest count next name required limit capacity id [] good line = absurd (some_is_not_none _ good)
@@ -247,10 +258,12 @@ made-sound n rows number name capacity id wished row sound none is from fits vol
           (λ e. subst (λ x. find (λ (r : ControllerRow). same_text r.name x) rows ≡ None) (sym row_name ∙ (same_text-tells row.name k).0 e) none);
     }
 
+-- what follows from two facts of an `Ok` is so of it
 pub ok-both : {T E : Type 0} (r : Result T E) (P S : T → Type 0) (Q : Type 0) → ((x : T) → P x → Q → S x) → IfOk r P → OnOk r Q → IfOk r S
 ok-both (results.Ok x) P S Q f p q = f x p q
 ok-both (results.Err e) P S Q f p q = tt
 
+-- the rows with the one that was made, and the next id after it, are the new core's parts
 pub parts-made : (old new : Core) (number : Number) (id : ℕ) (name : List ℕ) (capacity : ℕ) (wished : List Capability) (made : IsMade old new number id name capacity wished)
     → record { config = old.config; next_id = (old.next_id + 1) % 18446744073709551616; rows = rows_of old.catalog ++ made.row ∷ [] } ≡ parts_of new
 parts-made old new number id name capacity wished made =

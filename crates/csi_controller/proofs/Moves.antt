@@ -55,10 +55,12 @@ pub data Move (config : Config) (state : ControllerState) : Call → Outcome →
   was_detached : (id : ℕ) (node : List ℕ) (held : Holding) → holding_at id node state ≡ Some held → Move config state (calls.ControllerUnpublishVolume id node) (done (Detaches id node))
   was_detached_before : (id : ℕ) (node : List ℕ) → holding_at id node state ≡ None → Move config state (calls.ControllerUnpublishVolume id node) met
 
+-- an `if` gives one of these answers where each of its two ways does
 by_if : (config : Config) (state : ControllerState) (call : Call) (b : Bool) (x y : Outcome) → (b ≡ true → Move config state call x) → (b ≡ false → Move config state call y) → Move config state call (cond b x y)
 by_if config state call true x y f g = f refl
 by_if config state call false x y f g = g refl
 
+-- no refusal's status is OK
 invalid : InvalidArgument ≡ Ok → ⊥
 invalid h = cc
 
@@ -80,6 +82,7 @@ out_of_range h = cc
 unimplemented : Unimplemented ≡ Ok → ⊥
 unimplemented h = cc
 
+-- each part of the table gives one of these answers, call by call
 create_named_moves : (config : Config) (state : ControllerState) (name : List ℕ) (required limit : ℕ) (first : Capability) (others : List Capability) (o : Option Volume)
     → IsRange required limit → volume_named name state ≡ o
     → Move config state (calls.CreateVolume name required limit (first ∷ others)) (create_named config state name required limit (first ∷ others) o)
@@ -171,16 +174,19 @@ pub data Judgement (config : Config) (state : ControllerState) (number : Number)
   was_stale : (row : Volume) → row_for call state ≡ Some row → is_spent (Some row.kept.number) number ≡ true
       → Judgement config state number call (answered_only state number (kind_of call) stale_reply)
 
+-- a call with a spent number is judged so, as a repetition or as stale
 spent_judged : (config : Config) (state : ControllerState) (number : Number) (call : Call) (row : Volume) (b : Bool) → row_for call state ≡ Some row → is_spent (Some row.kept.number) number ≡ true
     → same_number number row.kept.number ≡ b → Judgement config state number call (judged config state number call row.kept (cond b Repeated Stale))
 spent_judged config state number call row true is spent same = was_repeated row is spent ((same_number-tells number row.kept.number).0 same)
 spent_judged config state number call row false is spent same = was_stale row is spent
 
+-- a call that has a row is judged so
 row_judged : (config : Config) (state : ControllerState) (number : Number) (call : Call) (row : Volume) (b : Bool) → row_for call state ≡ Some row → is_spent (Some row.kept.number) number ≡ b
     → Judgement config state number call (judged config state number call row.kept (cond b (verdict_of_spent (Some row.kept.number) number) Fresh))
 row_judged config state number call row true is spent = spent_judged config state number call row (same_number number row.kept.number) is spent refl
 row_judged config state number call row false is spent = was_fresh row is spent
 
+-- each call is judged so, by its row if it has one
 by_row : (config : Config) (state : ControllerState) (number : Number) (call : Call) (o : Option Volume) → row_for call state ≡ o
     → Judgement config state number call (fenced_call config state number call (option_map (λ volume. volume.kept) o))
 by_row config state number call None is = was_first is

@@ -37,6 +37,7 @@ pub record StaysAs (call : Call) (state : ControllerState) (id : ℕ) : Type 0 w
   pub there : row_for call state ≡ Some row
   pub same : row.id ≡ id
 
+-- a change leaves a call's row there, under its id
 row-changed : (call : Call) (state : ControllerState) (kept : Kept) (row : Volume) (change : Change) → row_for call state ≡ Some row → StaysAs call (changed state kept change) row.id
 row-changed call state kept row Stays is = record { row = row; there = is; same = refl }
 row-changed call state kept row (Makes name capacity capabilities) is =
@@ -50,6 +51,7 @@ row-changed call state kept row (Ends id) is =
 row-changed call state kept row (Attaches holding) is = record { row = row; there = is; same = refl }
 row-changed call state kept row (Detaches id node) is = record { row = row; there = is; same = refl }
 
+-- so does a change with what is kept of the call
 pub row-carried : (call : Call) (state : ControllerState) (kept : Kept) (row : Volume) (change : Change) → row_for call state ≡ Some row → StaysAs call (keep call kept (changed state kept change)) row.id
 row-carried call state kept row change is =
     let next = row-changed call state kept row change is in
@@ -61,6 +63,7 @@ row-carried call state kept row change is =
 
 -- ---- a call that has no row then
 
+-- a call that has no row is kept nowhere
 nothing_kept : (call : Call) (kept : Kept) (state : ControllerState) → row_for call state ≡ None → keep call kept state ≡ state
 nothing_kept call kept state none =
     ap (λ (volumes : List Volume). record state { volumes = volumes })
@@ -70,6 +73,7 @@ nothing_kept call kept state none =
 abbrev pub AreHeldReal : ControllerState → Type 0
 AreHeldReal state = (id : ℕ) → volume_with_id id state ≡ None → holdings_of id state ≡ []
 
+-- a volume that is held nowhere isn't held at any node
 none_held : (state : ControllerState) (id : ℕ) (node : List ℕ) (held : Holding) → holdings_of id state ≡ [] → holding_at id node state ≡ Some held → ⊥
 none_held state id node held none is =
     let own = and_parts (held.volume == id) (same_text held.node node) (find-passes (is_held_at id node) state.holdings held is) in
@@ -96,6 +100,7 @@ stays_nowhere config state call outcome kept orderly real (was_attached_before h
 stays_nowhere config state call outcome kept orderly real (was_detached id node held is) none gone = absurd (none_held state id node held (real id none) is)
 stays_nowhere config state call outcome kept orderly real (was_detached_before id node free) none gone = refl
 
+-- so it is with a call that is carried out
 carried_nowhere : (config : Config) (state : ControllerState) (number : Number) (call : Call) → IsOrderly state → AreHeldReal state → row_for call state ≡ None
     → row_for call (carried_out state number call (controller_row config state call)).state ≡ None → (carried_out state number call (controller_row config state call)).state ≡ state
 carried_nowhere config state number call orderly real none gone =
@@ -105,6 +110,7 @@ carried_nowhere config state number call orderly real none gone =
     let none_next : row_for call next ≡ None = none-from_map (kept_in call kept) (row_for call next) (sym (row-keep call kept next) ∙ gone) in
     nothing_kept call kept next none_next ∙ stays_nowhere config state call outcome kept orderly real (moved config state call) none none_next
 
+-- a call that has no row then changed nothing, whatever the fence says
 pub judged-nowhere : (config : Config) (state : ControllerState) (number : Number) (call : Call) (after : Fenced) → IsOrderly state → AreHeldReal state → Judgement config state number call after → row_for call after.state ≡ None → after.state ≡ state
 judged-nowhere config state number call after orderly real (was_first none) gone = carried_nowhere config state number call orderly real none gone
 judged-nowhere config state number call after orderly real (was_fresh row is fresh) gone =
@@ -133,6 +139,7 @@ own_number call kept (Some v) last own is =
     let pair : last_call (kept_in call kept v) ≡ last = cc in
     sym (ap (λ (p : ℕ × Number). p.1) pair) ∙ ap (λ (k : Kept). k.number) keeps
 
+-- a call whose row has the id and the last number that it had changed nothing, whatever the fence says
 pub judged-spent : (config : Config) (state : ControllerState) (number : Number) (call : Call) (after : Fenced) → IsOrderly state → AreHeldReal state → Judgement config state number call after
     → option_map last_call (row_for call after.state) ≡ option_map last_call (row_for call state) → after.state ≡ state
 judged-spent config state number call after orderly real (was_first none) same =

@@ -72,6 +72,7 @@ pub record LeavesNames (f : Volume → Volume) : Type 0 where
   pub ids : (volume : Volume) → (f volume).id ≡ volume.id
   pub names : (volume : Volume) → (f volume).name ≡ volume.name
 
+-- a change of volumes that leaves ids and names leaves a state orderly
 map_orderly : (f : Volume → Volume) → LeavesNames f → (state : ControllerState) → IsOrderly state → IsOrderly (record state { volumes = map f state.volumes })
 map_orderly f leaves state orderly w among =
     let image = among-map f state.volumes w among in
@@ -87,6 +88,7 @@ map_orderly f leaves state orderly w among =
       given = subst (λ n. n < state.next_id) (sym (leaves.ids v)) own.given;
     })
 
+-- so does a volume that is made, with the next id and a new name
 pub made_orderly : (state : ControllerState) (n : Volume) → n.id ≡ state.next_id → volume_named n.name state ≡ None → IsOrderly state
     → IsOrderly (record state { volumes = state.volumes ++ n ∷ []; next_id = state.next_id + 1 })
 made_orderly state n is_next unnamed orderly w among = by (among-either state.volumes n w among)
@@ -127,9 +129,11 @@ same_row (calls.NodeUnstageVolume id') v w id named = ap (λ n. n == id') id
 same_row (calls.NodePublishVolume id' target capability readonly) v w id named = ap (λ n. n == id') id
 same_row (calls.NodeUnpublishVolume id' target) v w id named = ap (λ n. n == id') id
 
+-- what is kept leaves whose row a volume is
 pub kept_in-row : (call : Call) (kept : Kept) (v : Volume) → is_row_for call (kept_in call kept v) ≡ is_row_for call v
 kept_in-row call kept v = same_row call v (kept_in call kept v) (ap (λ (w : Volume). w.id) (kept_same call kept kept v)) (ap (λ (w : Volume). w.name) (kept_same call kept kept v))
 
+-- to keep a call leaves ids and names, and so does a deletion
 pub keep_leaves : (call : Call) (kept : Kept) → LeavesNames (kept_in call kept)
 keep_leaves call kept =
     record { ids = λ v. ap (λ (v : Volume). v.id) (kept_same call kept kept v); names = λ v. ap (λ (v : Volume). v.name) (kept_same call kept kept v) }
@@ -145,6 +149,7 @@ end_leaves id = record { ids = λ v. same_id v (v.id == id); names = λ v. same_
     same_name v true = refl
     same_name v false = refl
 
+-- each change that the table makes leaves a state orderly
 pub changed_orderly : (config : Config) (state : ControllerState) (call : Call) (outcome : Outcome) (kept : Kept) → Move config state call outcome → IsOrderly state → IsOrderly (changed state kept outcome.change)
 changed_orderly config state call outcome kept (was_refused _ status detail not_ok) orderly = orderly
 changed_orderly config state call outcome kept (was_found name required limit first others volume range is live serving) orderly = orderly
@@ -158,9 +163,11 @@ changed_orderly config state call outcome kept (was_detached id node held is) or
     λ v among. let own = orderly v among in record { by_name = own.by_name; by_id = own.by_id; given = own.given }
 changed_orderly config state call outcome kept (was_detached_before id node none) orderly = orderly
 
+-- so does a call that is carried out
 carried_orderly : (config : Config) (state : ControllerState) (number : Number) (call : Call) → IsOrderly state → IsOrderly (carried_out state number call (controller_row config state call)).state
 carried_orderly config state number call orderly =
     map_orderly (kept_in call _) (keep_leaves call _) (changed state _ (controller_row config state call).change) (changed_orderly config state call (controller_row config state call) _ (moved config state call) orderly)
 
+-- every state that frames lead to is orderly
 pub reached_orderly : (config : Config) (frames : List Frame) → IsOrderly (after_frames config empty_controller frames)
 reached_orderly config frames = frames_keep IsOrderly config (carried_orderly config) empty_controller frames (λ v among. absurd among)

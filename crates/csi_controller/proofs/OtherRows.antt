@@ -39,6 +39,7 @@ use Rattle.csi_controller.proofs.TableLaw.{is_lawful, is_carried_out}
 
 -- ---- volumes and holdings of another id than the row's
 
+-- a search finds the same in what a test keeps, where the test keeps all that the search is for
 find-filter_among : {X : Type 0} (p q : X → Bool) (xs : List X) → ((x : X) → IsAmong x xs → p x ≡ true → q x ≡ true) → find p (filter q xs) ≡ find p xs
 find-filter_among p q [] only = refl
 find-filter_among p q (x ∷ xs) only = by (p x) (q x) refl refl (only x (inl refl)) (find-filter_among p q xs (λ y there. only y (inr there)))
@@ -53,6 +54,7 @@ find-filter_among p q (x ∷ xs) only = by (p x) (q x) refl refl (only x (inl re
 abbrev HasId : Call → ControllerState → ℕ → Type 0
 HasId call state id = (row : Volume) → row_for call state ≡ Some row → row.id ≡ id
 
+-- a volume of another id than the call's row is found among the rows that aren't the call's
 other_volume : (call : Call) (state : ControllerState) (id other : ℕ) → IsOrderly state → HasId call state id → (id == other) ≡ false
     → find (λ (v : Volume). v.id == other) (filter (λ (v : Volume). not (is_row_for call v)) state.volumes) ≡ volume_with_id other state
 other_volume call state id other orderly has differs =
@@ -62,6 +64,7 @@ other_volume call state id other orderly has differs =
     by v true own among is_other = absurd (true≢false (sym is_other ∙ ap (λ (n : ℕ). n == other) (has v (is_row state call v orderly among own)) ∙ differs))
     by v false own among is_other = refl
 
+-- a call that leaves the others leaves the volume of each id but its row's
 volumes-others : (call : Call) (old new : ControllerState) (id other : ℕ) → IsOrderly old → IsOrderly new → HasId call old id → HasId call new id → LeavesOthers old new call → (id == other) ≡ false
     → volume_with_id other new ≡ volume_with_id other old
 volumes-others call old new id other orderly orderly_too has has_too leaves differs =
@@ -81,13 +84,16 @@ by_id-others old new own id other is leaves differs =
         by true t = absurd (true≢false (sym passes ∙ ap (λ (n : ℕ). n == other) (eqb-true h.volume own t ∙ is) ∙ differs))
         by false t = refl
 
+-- where all holdings are as they were, those of each volume are
 of_all : (old new : ControllerState) (other : ℕ) → filter (λ (h : Holding). true) new.holdings ≡ filter (λ (h : Holding). true) old.holdings → holdings_of other new ≡ holdings_of other old
 of_all old new other leaves =
     ap (filter (λ (h : Holding). h.volume == other)) (sym (filter-all (λ (h : Holding). true) new.holdings (λ h. refl)) ∙ leaves ∙ filter-all (λ (h : Holding). true) old.holdings (λ h. refl))
 
+-- the id by which a call finds its row is that row's
 own_id : (call : Call) (state : ControllerState) (row : Volume) (id : ℕ) → ((v : Volume) → is_row_for call v ≡ (v.id == id)) → row_for call state ≡ Some row → id ≡ row.id
 own_id call state row id by_id is = sym (eqb-true row.id id (sym (by_id row) ∙ find-passes (is_row_for call) state.volumes row is))
 
+-- a call that leaves the others leaves the holdings of each id but its row's
 holdings-others : (call : Call) (old new : ControllerState) (row : Volume) (other : ℕ) → row_for call new ≡ Some row → LeavesOthers old new call → (row.id == other) ≡ false → holdings_of other new ≡ holdings_of other old
 holdings-others (calls.CreateVolume name required limit capabilities) old new row other is leaves differs = of_all old new other leaves.holdings
 holdings-others (calls.DeleteVolume id) old new row other is leaves differs =
@@ -107,12 +113,15 @@ holdings-others (calls.NodeUnpublishVolume id target) old new row other is leave
 abbrev StaysAt : ControllerState → ControllerState → ℕ → Type 0
 StaysAt old new id = (volume_with_id id new ≡ volume_with_id id old) × (holdings_of id new ≡ holdings_of id old)
 
+-- all rows of a call in a state have the id of the one that is found
 only_one : (call : Call) (state : ControllerState) (row : Volume) → row_for call state ≡ Some row → HasId call state row.id
 only_one call state row is other is_too = ap (λ (v : Volume). v.id) (same_Some other row (sym is_too ∙ is))
 
+-- a call that has no row has none of another id
 nowhere_had : (call : Call) (state : ControllerState) (id : ℕ) → row_for call state ≡ None → HasId call state id
 nowhere_had call state id none row is = absurd (some_is_not_none row (sym is ∙ none))
 
+-- a call that is carried out leaves each volume of another id, and where it is held
 carried-others : (config : Config) (state : ControllerState) (number : Number) (call : Call) (row : Volume) (other : ℕ) → IsOrderly state
     → IsOrderly (carried_out state number call (controller_row config state call)).state → IsLetThrough state number call → HasId call state row.id
     → row_for call (carried_out state number call (controller_row config state call)).state ≡ Some row → (row.id == other) ≡ false → StaysAt state (carried_out state number call (controller_row config state call)).state other
@@ -127,9 +136,11 @@ had_before config state number call row is old is_old =
     let stays = row-carried call state (record { number = number; kind = kind_of call; reply = (controller_row config state call).reply }) old (controller_row config state call).change is_old in
     sym stays.same ∙ ap (λ (v : Volume). v.id) (same_Some stays.row row (sym stays.there ∙ is))
 
+-- a number that isn't spent is fresh
 unspent : (last number : Number) → is_spent (Some last) number ≡ false → verdict_of (Some last) number ≡ Fresh
 unspent last number fresh = rw fresh refl
 
+-- a call leaves each volume of another id than its row's, whatever the fence says
 judged-others : (config : Config) (state : ControllerState) (number : Number) (call : Call) (after : Fenced) (row : Volume) (other : ℕ) → IsOrderly state → IsOrderly after.state → Judgement config state number call after
     → row_for call after.state ≡ Some row → (row.id == other) ≡ false → StaysAt state after.state other
 judged-others config state number call after row other orderly orderly_too (was_first none) is differs =
@@ -150,19 +161,23 @@ by_party : (P : ControllerState → Type 0) (config : Config) (state : Controlle
 by_party P config state number Controller call same answered = answered
 by_party P config state number (Node id) call same answered = same
 
+-- the same, of a frame with its body
 of_call : (P : ControllerState → Type 0) (config : Config) (state : ControllerState) (frame : Frame) (call : Call) → frame.body ≡ bodies.Call call → P state → P (fenced_call config state frame.number call (kept_for call state)).state
     → P (after_frame config state frame)
 of_call P config state frame call is same answered =
     subst (λ (body : Body). P (fenced_parts config state frame.number frame.party body).state) (sym is) (by_party P config state frame.number frame.party call same answered)
 
+-- a reply changes nothing
 of_reply : (config : Config) (state : ControllerState) (number : Number) (party : Party) (kind : Kind) (reply : Reply) → (fenced_parts config state number party (bodies.Reply kind reply)).state ≡ state
 of_reply config state number Controller kind reply = refl
 of_reply config state number (Node id) kind reply = refl
 
+-- in a state that a controller shows, each holding is of a volume that was made
 held_real : (parts : Parts) (state : ControllerState) → IsShown parts state → AreHeldReal state
 held_real parts state shown id none =
     sym (shown.shows.holdings id) ∙ ap holdings_in (none-from_map volume_of_row _ (sym (with_id-shown parts state id shown) ∙ none))
 
+-- where each volume of another id stays, and where it is held, no row but this volume's changes
 only : (old new : Parts) (before after : ControllerState) (call : Call) (volume : Volume) → AreOf old before → AreOf new after → row_for call after ≡ Some volume
     → ((other : ℕ) → (volume.id == other) ≡ false → StaysAt before after other) → ChangesOnly old new volume
 only old new before after call volume of_it of_it_too is stays =
@@ -175,6 +190,7 @@ only old new before after call volume of_it of_it_too is stays =
       others = λ other differs. let same = stays other differs in same-at old new before after other of_it.shown of_it_too.shown same.0 same.1;
     }
 
+-- what a controller shows tells its rows, and a frame changes one of them at most
 pub rows-law : ControllerRowsLaw
 rows-law = record {
   next_id = next_id-told;

@@ -35,16 +35,19 @@ core_with core place new = record core { catalog = record core.catalog { rows = 
 abbrev pub recounted_core : Core → ℕ → ControllerRow → List ℕ → Core
 recounted_core core place new counts = record (core_with core place new) { counts = counts }
 
+-- what the rows with this one in the place answer, the core with it does
 pub answers-set : (core : Core) (place : ℕ) (new : ControllerRow) (frame : Frame) (answer : Fenced)
     → Answers (record { config = core.config; next_id = core.next_id; rows = set (rows_of core.catalog) place new }) frame answer → Answers (parts_of (core_with core place new)) frame answer
 answers-set core place new frame answer told =
     subst (λ (rows : List ControllerRow). Answers (record { config = core.config; next_id = core.next_id; rows = rows }) frame answer) (sym (rows-set core.catalog.rows place new)) told
 
+-- the state that these rows show, the core with this one shows
 pub shown-set : (core : Core) (place : ℕ) (new : ControllerRow) (state : ControllerState)
     → IsShown (record { config = core.config; next_id = core.next_id; rows = set (rows_of core.catalog) place new }) state → IsShown (parts_of (core_with core place new)) state
 shown-set core place new state shown =
     subst (λ (rows : List ControllerRow). IsShown (record { config = core.config; next_id = core.next_id; rows = rows }) state) (sym (rows-set core.catalog.rows place new)) shown
 
+-- a core with another row of the same id and name at a place is kept, where the rows are sound and the counts right
 kept-set : (core : Core) (place : ℕ) (row new : ControllerRow) → IsKept core → slice_get (rows_of core.catalog) place ≡ Some row → new.id ≡ row.id → new.name ≡ row.name
     → IsSound core.next_id (set (rows_of core.catalog) place new) → (counts : List ℕ) → AreCounted core.config.nodes (set (rows_of core.catalog) place new) counts → IsKept (recounted_core core place new counts)
 kept-set core place row new kept at id name sound counts counted =

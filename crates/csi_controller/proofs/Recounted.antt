@@ -36,16 +36,19 @@ use Rattle.csi_controller.specs.Counts.{is_held, count_held, place_of, AreCounte
 some_node : NodeSlots
 some_node = record { id = []; slots = 0 }
 
+-- a node's place is within the list, and the entry there is that node's
 stands : (node : List ℕ) (nodes : List NodeSlots) (place : ℕ) (other : NodeSlots) → place_of node nodes ≡ Some place → (place < length nodes) × ((get_or nodes place other).id ≡ node)
 stands node nodes place other at =
     let found = position-Some (λ (entry : NodeSlots). same_text entry.id node) nodes place other at in
     (found.0, (same_text-tells (get_or nodes place other).id node).0 found.1)
 
+-- two nodes that have one place are the same
 same-node : (a b : List ℕ) (nodes : List NodeSlots) (place : ℕ) → place_of a nodes ≡ Some place → place_of b nodes ≡ Some place → a ≡ b
 same-node a b nodes place at other = sym (stands a nodes place some_node at).1 ∙ (stands b nodes place some_node other).1
 
 -- ---- one more node is counted
 
+-- where the counts before a place are right, and the node's there is put at it, the counts up to it are right
 pub counted-more : (nodes : List NodeSlots) (rows : List ControllerRow) (counts : List ℕ) (i : ℕ) (entry : NodeSlots) (count : ℕ) → i < length counts → entry ≡ get_or nodes i entry → count ≡ count_held entry.id rows
     → ((node : List ℕ) (place : ℕ) → place_of node nodes ≡ Some place → place < i → slice_index counts place ≡ count_held node rows)
     → (node : List ℕ) (place : ℕ) → place_of node nodes ≡ Some place → place < i + 1 → slice_index (set counts i count) place ≡ count_held node rows
@@ -66,6 +69,7 @@ counted-more nodes rows counts i entry count inside is told before node place at
 pub counted-alike : (nodes : List NodeSlots) (rows after : List ControllerRow) (counts : List ℕ) → ((node : List ℕ) → count_held node after ≡ count_held node rows) → AreCounted nodes rows counts → AreCounted nodes after counts
 counted-alike nodes rows after counts alike counted = record { few = counted.few; fits = counted.fits; each = λ node place at. counted.each node place at ∙ sym (alike node) }
 
+-- the counts are right once one node's went up or down by one, where no other node's changes
 at-node : (nodes : List NodeSlots) (rows after : List ControllerRow) (node : List ℕ) (is : Bool) (counts : List ℕ) → AreCounted nodes rows counts → count_after is (count_held node rows) ≡ count_held node after
     → ((other : List ℕ) → same_text node other ≡ false → count_held other after ≡ count_held other rows) → (found : Option ℕ) → place_of node nodes ≡ found → AreCounted nodes after (counted_at found is counts)
 at-node nodes rows after node is counts counted own others None none = record { few = counted.few; fits = counted.fits; each = each }
@@ -104,6 +108,7 @@ changes node rows place row new inside is =
     ap (λ (r : ControllerRow). count_held node (set rows place new) + cond (is_held node r) 1 0) is
     ∙ sum_by-set (λ (r : ControllerRow). cond (is_held node r) 1 0) rows place new row inside
 
+-- another row in a row's place leaves the count of a node at which both are held, or neither is
 alike-counted : (node : List ℕ) (rows : List ControllerRow) (place : ℕ) (row new : ControllerRow) → place < length rows → row ≡ get_or rows place row → is_held node new ≡ is_held node row
     → count_held node (set rows place new) ≡ count_held node rows
 alike-counted node rows place row new inside is same =
@@ -145,11 +150,13 @@ same-counted nodes rows place row new counts counted inside is same =
 
 -- ---- all nodes
 
+-- the counts are right once each configured node was counted
 pub all-counted : (nodes : List NodeSlots) (rows : List ControllerRow) (counts : List ℕ) (count : ℕ) → length nodes ≤ 64 → length counts ≡ 64 → length nodes ≤ count
     → ((node : List ℕ) (place : ℕ) → place_of node nodes ≡ Some place → place < count → slice_index counts place ≡ count_held node rows) → AreCounted nodes rows counts
 all-counted nodes rows counts count few long all each =
     record { few = few; fits = omega (arith, few, long); each = λ node place at. each node place at (let inside = (stands node nodes place some_node at).0 in omega (arith, inside, all)) }
 
+-- where the place of the first one that passes is past the end, none passes
 past-none : {X : Type 0} (p : X → Bool) (xs : List X) → length xs ≤ position_or_len p xs → list_any p xs ≡ false
 past-none p [] past = refl
 past-none p (x ∷ xs) past = grind (arith, past-none p xs)
@@ -162,6 +169,7 @@ not-configured node nodes none =
 
 -- ---- what is taken out of a row
 
+-- what is held at another node stays where a node's is taken out
 other_held : (node other : List ℕ) → same_text node other ≡ false → (held : NodeHolding) → same_text held.node other ≡ true → not (same_text held.node node) ≡ true
 other_held node other differ held here = by (same_text held.node node) refl
   where
@@ -175,6 +183,7 @@ taken-others : (node other : List ℕ) (items : List NodeHolding) → same_text 
 taken-others node other items differ =
     any-filter_same (λ (held : NodeHolding). same_text held.node other) (λ (held : NodeHolding). not (same_text held.node node)) true (other_held node other differ) items
 
+-- once what is held at a node is taken out, nothing is held there
 here_none : (node : List ℕ) (items : List NodeHolding) → list_any (λ (held : NodeHolding). same_text held.node node) (filter (λ (held : NodeHolding). not (same_text held.node node)) items) ≡ false
 here_none node [] = refl
 here_none node (held ∷ later) = by (same_text held.node node) refl (here_none node later)
@@ -186,6 +195,7 @@ here_none node (held ∷ later) = by (same_text held.node node) refl (here_none 
 
 -- ---- what is added to a row
 
+-- one of a list with one more at its end passes where one did before, or the new one does
 one_more : (p : NodeHolding → Bool) (items : List NodeHolding) (held : NodeHolding) (b : Bool) → p held ≡ b → list_any p (items ++ held ∷ []) ≡ (list_any p items || b)
 one_more p [] held true e = rw e refl
 one_more p [] held false e = rw e refl
@@ -212,6 +222,7 @@ IsMove row RowEnds = Unit {0}
 IsMove row (RowAttaches held) = is_held held.node row ≡ false
 IsMove row (RowDetaches node) = is_held node row ≡ true
 
+-- the counts are right after a row's change, once they are counted again for the node that it moves
 changed-counted : (nodes : List NodeSlots) (rows : List ControllerRow) (place : ℕ) (row new : ControllerRow) (change : RowChange) (counts : List ℕ) → AreCounted nodes rows counts → length rows ≤ 4096
     → place < length rows → row ≡ get_or rows place row → IsMove row change → new.holdings.items ≡ items_after change row.holdings.items
     → AreCounted nodes (set rows place new) (recounted nodes (moved_by change) counts)
@@ -242,10 +253,12 @@ answered-counted nodes rows place row new counts after number call Fresh frame c
 
 -- ---- a row that is added
 
+-- one more row, without holdings, leaves every node's count
 added-one : (node : List ℕ) (rows : List ControllerRow) (row : ControllerRow) → row.holdings.items ≡ [] → count_held node (rows ++ row ∷ []) ≡ count_held node rows
 added-one node [] row empty = count-cons (is_held node) row [] ∙ ap (λ (items : List NodeHolding). cond (list_any (λ (held : NodeHolding). same_text held.node node) items) 1 0 + count_held node []) empty
 added-one node (r ∷ rs) row empty = count-cons (is_held node) r (rs ++ row ∷ []) ∙ ap (λ n. cond (is_held node r) 1 0 + n) (added-one node rs row empty) ∙ sym (count-cons (is_held node) r rs)
 
+-- the counts stay right where a row without holdings is put at the end
 pub made-counted : (old new : Core) (row : ControllerRow) → new.config ≡ old.config → rows_of new.catalog ≡ rows_of old.catalog ++ row ∷ [] → row.holdings.items ≡ [] → new.counts ≡ old.counts
     → AreCounted old.config.nodes (rows_of old.catalog) old.counts → AreCounted new.config.nodes (rows_of new.catalog) new.counts
 made-counted old new row config rows empty counts counted =
@@ -254,6 +267,7 @@ made-counted old new row config rows empty counts counted =
     (subst (λ (rs : List ControllerRow). AreCounted old.config.nodes rs old.counts) (sym rows)
     (counted-alike old.config.nodes (rows_of old.catalog) (rows_of old.catalog ++ row ∷ []) old.counts (λ node. added-one node (rows_of old.catalog) row empty) counted)))
 
+-- the counts stay right where configuration and rows stay
 pub same-parts-counted : (old new : Core) → parts_of new ≡ parts_of old → new.counts ≡ old.counts → AreCounted old.config.nodes (rows_of old.catalog) old.counts → AreCounted new.config.nodes (rows_of new.catalog) new.counts
 same-parts-counted old new parts counts counted =
     subst (λ (k : Parts). AreCounted k.config.nodes k.rows new.counts) (sym parts) (subst (AreCounted old.config.nodes (rows_of old.catalog)) (sym counts) counted)

@@ -37,6 +37,7 @@ same_held id (x ∷ xs) (y ∷ ys) e =
     both : (a b : NodeHolding) → a.node ≡ b.node → a.capability ≡ b.capability → a.readonly ≡ b.readonly → a ≡ b
     both a b node capability readonly = λ i. record { node = node i; capability = capability i; readonly = readonly i }
 
+-- rows of the same volume with the same holdings say the same
 same_row : (old new : ControllerRow) → volume_of_row old ≡ volume_of_row new → holdings_in_row old ≡ holdings_in_row new → IsSameRow old new
 same_row old new volume held =
     let ids : new.id ≡ old.id = sym (ap (λ (v : Volume). v.id) volume) in
@@ -65,12 +66,15 @@ same-at old new before after id shown shown_new volumes held =
 
 -- ---- rows by rising id
 
+-- where ids rise, no later row has the first one's id
 none_later : (row : ControllerRow) (rows : List ControllerRow) (id : ℕ) → IsRising (row ∷ rows) → (row.id == id) ≡ true → find (λ (r : ControllerRow). r.id == id) rows ≡ None
 none_later row rows id rising own = (rising-one (row ∷ rows) rising id).0 own
 
+-- the first row is the one that is found by its id
 first_own : (row : ControllerRow) (rows : List ControllerRow) → find (λ (r : ControllerRow). r.id == row.id) (row ∷ rows) ≡ Some row
 first_own row rows = let self : (row.id == row.id) ≡ true = eq-eqb row.id row.id refl in rw self refl
 
+-- rows by rising id that are of the same volumes, with the same holdings by id, say the same one by one
 same-rows : (xs ys : List ControllerRow) → IsRising xs → IsRising ys → map volume_of_row xs ≡ map volume_of_row ys
     → ((id : ℕ) → holdings_in (find (λ (r : ControllerRow). r.id == id) xs) ≡ holdings_in (find (λ (r : ControllerRow). r.id == id) ys)) → AreSameRows xs ys
 same-rows [] [] up up_too volumes held = tt
@@ -99,11 +103,13 @@ rows-told state first second of_it of_it_too =
     same-rows first.rows second.rows of_it.sound.rising of_it_too.sound.rising (of_it.shown.shows.volumes ∙ sym of_it_too.shown.shows.volumes)
     (λ id. of_it.shown.shows.holdings id ∙ sym (of_it_too.shown.shows.holdings id))
 
+-- parts that show one state have one next id
 pub next_id-told : (state : ControllerState) (first second : Parts) → AreOf first state → AreOf second state → first.next_id ≡ second.next_id
 next_id-told state first second of_it of_it_too = of_it.shown.shows.next ∙ sym of_it_too.shown.shows.next
 
 -- ---- a state that sound rows show is orderly
 
+-- where at most one of a list passes, the one in it that passes is found
 only_found : {X : Type 0} (p : X → Bool) (xs : List X) (x : X) → IsAmong x xs → p x ≡ true → AtMostOne p xs → find p xs ≡ Some x
 only_found p [] x among passes one = absurd among
 only_found p (y ∷ ys) x among passes one = by (p y) refl among (λ there. only_found p ys x there passes one.1)
@@ -114,10 +120,12 @@ only_found p (y ∷ ys) x among passes one = by (p y) refl among (λ there. only
     by false t (inl here) rest = absurd (true≢false (sym passes ∙ ap p here ∙ t))
     by false t (inr there) rest = rest there
 
+-- a next id from 1 to 2^64 is told by its 64 bits, where 0 stands for 2^64
 next-told : (next : ℕ) (kept : ℕ) (b : Bool) → (kept == 0) ≡ b → kept ≡ next % 2 ^ 64 → 1 ≤ next → next ≤ 2 ^ 64 → cond b (2 ^ 64) kept ≡ next
 next-told next kept true zero is from to = let none : kept ≡ 0 = eqb-true kept 0 zero in omega arith
 next-told next kept false some is from to = let one = eqb-false kept 0 some in omega arith
 
+-- a state that a controller shows is orderly
 pub orderly-shown : (parts : Parts) (state : ControllerState) → AreOf parts state → IsOrderly state
 orderly-shown parts state of_it volume among =
     let image = among-map volume_of_row parts.rows volume (subst (IsAmong volume) (sym of_it.shown.shows.volumes) among) in

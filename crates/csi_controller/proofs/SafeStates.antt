@@ -29,6 +29,7 @@ use Rattle.csi_controller.proofs.Moves.{Move, was_refused, was_found, was_made, 
 abbrev Keeps : ControllerState → Change → Type 0
 Keeps state change = (kept : Kept) → IsExclusive state → IsExclusive (changed state kept change)
 
+-- it is kept where nothing changes, and where a volume is made
 stays : (state : ControllerState) → Keeps state Stays
 stays state kept safe = safe
 
@@ -56,6 +57,7 @@ other_number x id n other same = by (x == n) refl
         let e : (n == id) ≡ true = eq-eqb n id (sym xn ∙ xid) in
         absurd (clash (sym e ∙ other))
 
+-- the deletion of a volume leaves which volumes of other ids are live
 ended_test : (id n : ℕ) (volume : Volume) → (n == id) ≡ false → (((ended id volume).id == n) && (ended id volume).is_live) ≡ ((volume.id == n) && volume.is_live)
 ended_test id n volume other = by (volume.id == id) refl
   where
@@ -63,6 +65,7 @@ ended_test id n volume other = by (volume.id == id) refl
     by false same = refl
     by true same = let differs : (volume.id == n) ≡ false = other_number volume.id id n other same in rw differs refl
 
+-- the deletion of a volume that is held nowhere keeps it
 ends_keeps : (state : ControllerState) (id : ℕ) → holdings_of id state ≡ [] → Keeps state (Ends id)
 ends_keeps state id is = λ kept safe. record {
   exclusive = safe.exclusive;
@@ -77,6 +80,7 @@ both_false : (a b : Bool) → a ≡ true → (a && b) ≡ false → b ≡ false
 both_false true b h e = e
 both_false false b h e = cc
 
+-- one more holding keeps it, of a live volume, at a new node, where it can be held with each of the volume's
 attaches_keeps : (state : ControllerState) (holding : Holding) (volume : Volume) → live_volume holding.volume state ≡ Some volume → holding_at holding.volume holding.node state ≡ None
     → find (λ other. not (is_compatible holding other)) (holdings_of holding.volume state) ≡ None → Keeps state (Attaches holding)
 attaches_keeps state holding volume live none can kept safe = record {
@@ -102,6 +106,7 @@ detaches_keeps state id node = λ kept safe. record {
   attached_while_live = λ h among. safe.attached_while_live h (among-filter (λ (k : Holding). not (is_held_at id node k)) state.holdings h among);
 }
 
+-- each answer of the table keeps it
 move_keeps : (config : Config) (state : ControllerState) (call : Call) (outcome : Outcome) → Move config state call outcome → Keeps state outcome.change
 move_keeps config state call outcome (was_refused _ status detail not_ok) = stays state
 move_keeps config state call outcome (was_found name required limit first others volume range named live serving) = stays state
@@ -121,6 +126,7 @@ kept_test call kept n volume = by (is_row_for call volume)
     by true = refl
     by false = refl
 
+-- so it is kept
 keep_keeps : (call : Call) (kept : Kept) (state : ControllerState) → IsExclusive state → IsExclusive (keep call kept state)
 keep_keeps call kept state safe = record {
   exclusive = safe.exclusive;
@@ -128,6 +134,7 @@ keep_keeps call kept state safe = record {
       ∙ is_some-map (kept_in call kept) (live_volume h.volume state) ∙ safe.attached_while_live h among;
 }
 
+-- a call that is carried out keeps it, a frame does, and any list of frames
 carried_keeps : (config : Config) (state : ControllerState) (number : Number) (call : Call) → IsExclusive state → IsExclusive (carried_out state number call (controller_row config state call)).state
 carried_keeps config state number call safe =
     keep_keeps call _ (changed state _ (controller_row config state call).change) (move_keeps config state call (controller_row config state call) (moved config state call) _ safe)
@@ -138,5 +145,6 @@ fenced_keeps config state frame safe = each.frame_keeps IsExclusive config (carr
 pub frames_keep : (config : Config) (state : ControllerState) (frames : List Frame) → IsExclusive state → IsExclusive (after_frames config state frames)
 frames_keep config state frames safe = each.frames_keep IsExclusive config (carried_keeps config) state frames safe
 
+-- it is so of a controller that has answered nothing
 pub empty_exclusive : IsExclusive empty_controller
 empty_exclusive = record { exclusive = tt; attached_while_live = λ h among. absurd among }

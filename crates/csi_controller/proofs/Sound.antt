@@ -34,6 +34,7 @@ use Rattle.csi_controller.specs.Fence.{RowGives, row_after}
 false_is_true : false ≡ true → ⊥
 false_is_true h = cc
 
+-- holdings that can be held together can be so where some are taken out
 AreCompatible-filter : (q : NodeHolding → Bool) (items : List NodeHolding) → AreCompatible items → AreCompatible (filter q items)
 AreCompatible-filter q [] all = tt
 AreCompatible-filter q (held ∷ later) all = by (q held) (AreCompatible-filter q later (all.1))
@@ -42,6 +43,7 @@ AreCompatible-filter q (held ∷ later) all = by (q held) (AreCompatible-filter 
     by true k = (each-filter _ q later (all.0), k)
     by false k = k
 
+-- and with one more at the end, which can be held with each
 AreCompatible-append : (items : List NodeHolding) (wanted : NodeHolding) → AreCompatible items → AllByRecursion (λ (held : NodeHolding). is_compatible (held_by 1 wanted) (held_by 1 held) ≡ true) items → AreCompatible (items ++ wanted ∷ [])
 AreCompatible-append [] wanted all each = (tt, tt)
 AreCompatible-append (held ∷ later) wanted all each =
@@ -60,6 +62,7 @@ compatible-any a b x y =
 abbrev IsListed : List Capability → NodeHolding → Type 0
 IsListed capabilities held = IsTrue (has_capability capabilities held.capability)
 
+-- fewer than 64 holdings are at most 64 with one more
 one_more : (items : List NodeHolding) (held : NodeHolding) → length items < 64 → length (items ++ held ∷ []) ≤ 64
 one_more items held room = let longer : length (items ++ held ∷ []) ≡ length items + 1 = length-append items (held ∷ []) in omega (arith, room, longer)
 
@@ -84,6 +87,7 @@ sound-from n row new items sound id party reply is apart compatible gone capacit
       limit = subst (λ (xs : List NodeHolding). length xs ≤ 64) (sym is) limit;
     }
 
+-- a row that says the same as one that keeps the rules keeps them
 pub sound-same : (n : ℕ) (row new : ControllerRow) → IsSoundRow n row → volume_of_row new ≡ volume_of_row row → new.holdings.items ≡ row.holdings.items → IsSoundRow n new
 sound-same n row new sound volume items =
     sound-from n row new row.holdings.items sound (ap (λ (v : Volume). v.id) volume)
@@ -92,6 +96,7 @@ sound-same n row new sound volume items =
     items sound.apart sound.compatible (λ e. sound.gone (sym (ap (λ (v : Volume). v.is_live) volume) ∙ e))
     (ap (λ (v : Volume). v.capacity) volume) (ap (λ (v : Volume). v.capabilities) volume) sound.listed sound.limit
 
+-- a row keeps the rules after what it answers, where its reply has an id by rule and the row may change so
 pub sound-after : (n : ℕ) (row new : ControllerRow) (frame : Frame) (number : Number) (kind : Kind) (outcome : RowOutcome) → IsSoundRow n row → IsTrue (is_party_of kind Controller) → IsTrue (has_id_by_rule kind outcome.reply)
     → (change : RowChange) → change ≡ outcome.change → IsFit row change → (verdict : Verdict) → RowGives new frame (row_after number kind (record { reply = outcome.reply; change = change }) row verdict) → IsSoundRow n new
 sound-after n row new frame number kind outcome sound party reply change is fit Stale gives = sound-same n row new sound gives.volume gives.items
@@ -135,16 +140,19 @@ above-none (other ∷ rest) id all = by (other.id == id) refl (above-none rest i
     by true f k = absurd (let same : other.id ≡ id = eqb-true other.id id f in omega (arith, all.0, same))
     by false f k = k
 
+-- where ids rise, at most one row has an id
 pub rising-one : (rows : List ControllerRow) → IsRising rows → (id : ℕ) → AtMostOne (λ (row : ControllerRow). row.id == id) rows
 rising-one [] rising id = tt
 rising-one (row ∷ rows) rising id =
     (λ e. subst (λ k. find (λ (r : ControllerRow). r.id == k) rows ≡ None) (eqb-true row.id id e) (above-none rows row.id (rising.0)), rising-one rows (rising.1) id)
 
+-- where all ids are above a number, they are with another row of the same id in a row's place
 above-set : (rows : List ControllerRow) (place : ℕ) (row new : ControllerRow) (id : ℕ) → IsAt rows place row → new.id ≡ row.id → AllByRecursion (λ (later : ControllerRow). id < later.id) rows
     → AllByRecursion (λ (later : ControllerRow). id < later.id) (set rows place new)
 above-set rows place row new id at same all =
     each-set (λ (later : ControllerRow). id < later.id) rows place new all (subst (λ k. id < k) (sym same) (each-at (λ (later : ControllerRow). id < later.id) rows place row all at))
 
+-- where ids rise, they do with another row of the same id in a row's place
 IsRising-set : (rows : List ControllerRow) (place : ℕ) (row new : ControllerRow) → IsAt rows place row → new.id ≡ row.id → IsRising rows → IsRising (set rows place new)
 IsRising-set [] place row new at same rising = tt
 IsRising-set (r ∷ rs) zero row new at same rising =

@@ -21,6 +21,7 @@ use Rattle.csi_controller.proofs.Exclusive.{other_nodes}
 
 -- ---- a test of each
 
+-- the test of all passes exactly where each one passes
 each-from_test : {X : Type 0} (p : X → Bool) (xs : List X) → list_all p xs ≡ true → AllByRecursion (λ (x : X). p x ≡ true) xs
 each-from_test p xs h = all_of (λ x. p x ≡ true) xs (all-then p xs h)
 
@@ -39,12 +40,14 @@ none-at_node held (other ∷ rest) node e h =
     let differ : same_text other.node node ≡ false = subst (λ k. same_text other.node k ≡ false) ((same_text-tells held.node node).0 e) (not-true (same_text other.node held.node) own.0) in
     rw differ (none-at_node held rest node e parts.1)
 
+-- of holdings that are beside one another at most one is at a node
 one-at_node : (items : List NodeHolding) → are_all_beside items ≡ true → (node : List ℕ) → AtMostOne (λ (h : NodeHolding). same_text h.node node) items
 one-at_node [] h node = tt
 one-at_node (held ∷ later) h node =
     let parts = and_parts (list_all (are_beside held) later) (are_all_beside later) h in
     (λ e. none-at_node held later node e parts.0, one-at_node later parts.1 node)
 
+-- and each can be held with each earlier one
 compatible-from : (items : List NodeHolding) → are_all_beside items ≡ true → AreCompatible items
 compatible-from [] h = tt
 compatible-from (held ∷ later) h =
@@ -54,6 +57,7 @@ compatible-from (held ∷ later) h =
       compatible-from later parts.1,
     )
 
+-- a holding is beside each that is at another node and can be held with it
 beside-each : (held : NodeHolding) (later : List NodeHolding) → AllByRecursion (λ (h : NodeHolding). same_text h.node held.node ≡ false) later
     → AllByRecursion (λ (h : NodeHolding). is_compatible (held_by 1 h) (held_by 1 held) ≡ true) later → list_all (are_beside held) later ≡ true
 beside-each held [] nodes compatible = refl
@@ -62,6 +66,7 @@ beside-each held (h ∷ hs) nodes compatible =
     (and_from (not (same_text h.node held.node)) (is_compatible (held_by 1 h) (held_by 1 held)) (not_from_false (same_text h.node held.node) nodes.0) compatible.0)
     (beside-each held hs nodes.1 compatible.1)
 
+-- holdings at different nodes, each of which can be held with each earlier one, are beside one another
 beside-from : (items : List NodeHolding) → ((node : List ℕ) → AtMostOne (λ (h : NodeHolding). same_text h.node node) items) → AreCompatible items → are_all_beside items ≡ true
 beside-from [] one compatible = refl
 beside-from (held ∷ later) one compatible =
@@ -71,11 +76,13 @@ beside-from (held ∷ later) one compatible =
 
 -- ---- a volume that was deleted
 
+-- where the test passes, a volume that was deleted is held nowhere
 none-held : (live : Bool) (items : List NodeHolding) → (live || (length items == 0)) ≡ true → live ≡ false → items ≡ []
 none-held true items h e = absurd (true≢false e)
 none-held false [] h e = refl
 none-held false (held ∷ later) h e = let many : length (held ∷ later) ≡ 0 = eqb-true (length (held ∷ later)) 0 h in absurd (omega arith)
 
+-- and the other way round
 held-while_live : (live : Bool) (items : List NodeHolding) → (live ≡ false → items ≡ []) → (live || (length items == 0)) ≡ true
 held-while_live true items gone = refl
 held-while_live false items gone = eq-eqb (length items) 0 (ap length (gone refl))
@@ -86,6 +93,7 @@ held-while_live false items gone = eq-eqb (length items) 0 (ap length (gone refl
 abbrev is_listed : ControllerRow → NodeHolding → Bool
 is_listed row held = has_capability row.capabilities held.capability
 
+-- a row that passes the tests keeps the rules
 pub sound-row : (n : ℕ) (row : ControllerRow) → is_sound_row n row ≡ true → IsSoundRow n row
 sound-row n row h =
     let items = row.holdings.items in
@@ -112,6 +120,7 @@ sound-row n row h =
       limit = leb-true (length items) 64 few.0;
     }
 
+-- a row that keeps the rules passes the tests
 pub row-sound : (n : ℕ) (row : ControllerRow) → IsSoundRow n row → is_sound_row n row ≡ true
 row-sound n row sound =
     let items = row.holdings.items in

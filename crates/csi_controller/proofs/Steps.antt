@@ -38,6 +38,7 @@ volumes_after id RowEnds volumes = map (ended id) volumes
 volumes_after id (RowAttaches held) volumes = volumes
 volumes_after id (RowDetaches node) volumes = volumes
 
+-- what a row's change makes of the next id, of the list of holdings and of the volumes
 next-after : (state : ControllerState) (kept : Kept) (id : ℕ) (change : RowChange) → (changed state kept (change_of id change)).next_id ≡ state.next_id
 next-after state kept id RowStays = refl
 next-after state kept id RowEnds = refl
@@ -97,6 +98,7 @@ same-volumes [] place row new at same = absurd at
 same-volumes (r ∷ rs) zero row new at same = ap (λ v. v ∷ map volume_of_row rs) (same ∙ ap volume_of_row (sym at))
 same-volumes (r ∷ rs) (suc place) row new at same = ap (λ vs. volume_of_row r ∷ vs) (same-volumes rs place row new at same)
 
+-- rows with one in a row's place that says the same show the same state
 pub shown-same : (config : Config) (n : ℕ) (rows : List ControllerRow) (state : ControllerState) (place : ℕ) (row new : ControllerRow)
     → IsShown (record { config = config; next_id = n; rows = rows }) state → IsAt rows place row → ((id : ℕ) → AtMostOne (λ (r : ControllerRow). r.id == id) rows)
     → volume_of_row new ≡ volume_of_row row → new.holdings.items ≡ row.holdings.items
@@ -104,6 +106,7 @@ pub shown-same : (config : Config) (n : ℕ) (rows : List ControllerRow) (state 
 shown-same config n rows state place row new shown at one volume items =
     shown-after config n rows state state place row new RowStays shown at one refl (same-volumes rows place row new at volume ∙ shown.shows.volumes) refl (ap (λ (v : Volume). v.id) volume) items
 
+-- what becomes of a volume where a deletion is carried out and kept: it changes where it has the id
 kept_and_ended : (id : ℕ) (kept : Kept) (volume : Volume) → kept_in (DeleteVolume id) kept (ended id volume) ≡ cond (volume.id == id) (record volume { is_live = false; kept = kept }) volume
 kept_and_ended id kept volume = by (volume.id == id) refl
   where
@@ -159,6 +162,7 @@ judged-answers config n rows state number call place row new frame outcome shown
     subst (λ (o : Outcome). Answers (record { config = config; next_id = n; rows = set rows place new }) frame (carried_out state number call o)) (sym line)
     (fresh-answers config n rows state number call place row new frame outcome shown first one ids ends gives)
 
+-- a call that has a row is answered as the row answers it, behind the fence, and the rows with the new one show the state then
 pub row-answers : (config : Config) (n : ℕ) (rows : List ControllerRow) (state : ControllerState) (number : Number) (call : Call) (place : ℕ) (row new : ControllerRow) (frame : Frame) (outcome : RowOutcome)
     → IsShown (record { config = config; next_id = n; rows = rows }) state → FirstAt (λ (r : ControllerRow). is_row_for call (volume_of_row r)) rows place row
     → AtMostOne (λ (r : ControllerRow). is_row_for call (volume_of_row r)) rows → ((id : ℕ) → AtMostOne (λ (r : ControllerRow). r.id == id) rows)

@@ -34,6 +34,7 @@ length-map : (f : Volume → Volume) (xs : List Volume) → length (map f xs) �
 length-map f [] = refl
 length-map f (x ∷ xs) = let rest = length-map f xs in cc
 
+-- what is found by name, or live by id, is what was found, but for what is kept
 volume_named-keep : (call : Call) (kept : Kept) (state : ControllerState) (name : List ℕ) → volume_named name (keep call kept state) ≡ option_map (kept_in call kept) (volume_named name state)
 volume_named-keep call kept state name =
     find-map (λ (v : Volume). same_text v.name name) (kept_in call kept) state.volumes (λ v. ap (λ (w : Volume). same_text w.name name) (kept_same call kept kept v))
@@ -42,6 +43,7 @@ live_volume-keep : (call : Call) (kept : Kept) (state : ControllerState) (id : �
 live_volume-keep call kept state id =
     find-map (λ (v : Volume). (v.id == id) && v.is_live) (kept_in call kept) state.volumes (λ v. ap (λ (w : Volume). (w.id == id) && w.is_live) (kept_same call kept kept v))
 
+-- each part of the table answers the same, whatever is kept, and so does the whole
 create_named-keep : (config : Config) (call : Call) (kept : Kept) (state : ControllerState) (name : List ℕ) (required limit : ℕ) (capabilities : List Capability) (o : Option Volume)
     → create_named config (keep call kept state) name required limit capabilities (option_map (kept_in call kept) o) ≡ create_named config state name required limit capabilities o
 create_named-keep config call kept state name required limit capabilities (Some v) =
@@ -96,6 +98,7 @@ made-keep by kept state id name required limit capabilities made =
       has_each = subst (λ (u : Volume). AllByRecursion (λ capability. IsTrue (has_capability u.capabilities capability)) capabilities) (sym same) made.has_each;
     }
 
+-- what each call did stays done, whatever is kept
 done-keep : (by : Call) (kept : Kept) (state : ControllerState) (reply : Reply) (call : Call) → IsDone state reply call → IsDone (keep by kept state) reply call
 done-keep by kept state reply (calls.CreateVolume name required limit capabilities) h = made-keep by kept state reply.id name required limit capabilities h
 done-keep by kept state reply (calls.DeleteVolume id) h = live_volume-keep by kept state id ∙ ap (option_map (kept_in by kept)) h
@@ -116,10 +119,12 @@ let_through : (config : Config) (state : ControllerState) (number : Number) (cal
 let_through config state number call None h = refl
 let_through config state number call (Some kept) h = rw h refl
 
+-- a call that the fence lets through is carried out
 pub is_carried_out : (config : Config) (state : ControllerState) (number : Number) (call : Call) → IsLetThrough state number call
     → fenced config state (call_frame number Controller call) ≡ carried_out state number call (controller_row config state call)
 is_carried_out config state number call h = let_through config state number call (kept_for call state) h
 
+-- a later number is fresh
 fresh : (last later : Number) → IsBefore last later → verdict_of (Some last) later ≡ Fresh
 fresh last later h = rw h refl
 
@@ -130,6 +135,7 @@ later_through call kept later None f before = refl
 later_through call kept later (Some v) f before =
     ap (λ (k : Kept). verdict_of (Some k.number) later) (f v refl) ∙ fresh kept.number later before
 
+-- after a call was kept, its row lets a later number through
 is_later_through : (call : Call) (kept : Kept) (state : ControllerState) (later : Number) → IsBefore kept.number later → IsLetThrough (keep call kept state) later call
 is_later_through call kept state later before =
     let found = find-map (is_row_for call) (kept_in call kept) state.volumes (kept_in-row call kept) in
@@ -147,9 +153,11 @@ once_more config next kept later call reply before ready =
     is_carried_out config after later call (is_later_through call kept next later before) ∙ ap (carried_out after later call) row in
     (ap (λ (f : Fenced). f.reply) e, subst (λ (f : Fenced). IsSameApart after f.state) (sym e) (same_keep call (record { number = later; kind = kind_of call; reply = reply }) after))
 
+-- a row that isn't the call's stays as it was
 kept_in-other : (call : Call) (kept : Kept) (v : Volume) → not (is_row_for call v) ≡ true → kept_in call kept v ≡ v
 kept_in-other call kept v h = let other : is_row_for call v ≡ false = not-true (is_row_for call v) h in rw other refl
 
+-- in an orderly state each call that the fence lets through is lawful
 pub is_lawful : (config : Config) (state : ControllerState) (number : Number) (call : Call) → IsOrderly state → IsLetThrough state number call → IsLawful config state number call
 is_lawful config state number call orderly through =
     let outcome : Outcome = controller_row config state call in

@@ -45,6 +45,7 @@ second_fails : (a b : Bool) → (a ≡ true → b ≡ false) → (a && b) ≡ fa
 second_fails true b f = f refl
 second_fails false b f = refl
 
+-- a name that no volume has no live volume has
 none_named : (state : ControllerState) (name : List ℕ) → volume_named name state ≡ None → live_named name state ≡ None
 none_named state name none =
     find-none (λ (v : Volume). same_text v.name name && v.is_live) state.volumes
@@ -74,6 +75,7 @@ made_things config state name required limit capabilities capacity kept unnamed 
 ended_own : (id : ℕ) (volume : Volume) → (volume.id == id) ≡ true → (ended id volume).is_live ≡ false
 ended_own id volume h = rw h refl
 
+-- a deletion leaves a volume of another id as it was
 ended_other : (id : ℕ) (volume : Volume) → (volume.id == id) ≡ false → ended id volume ≡ volume
 ended_other id volume h = rw h refl
 
@@ -85,15 +87,19 @@ by_id P id volume f g = by (volume.id == id) refl
     by true h = f h
     by false h = subst P (sym (ended_other id volume h)) (g h)
 
+-- in an orderly state each volume of an id is the one that is found by it
 same_volume : (state : ControllerState) (id : ℕ) (volume other : Volume) → IsOrderly state → volume_with_id id state ≡ Some volume → IsAmong other state.volumes → (other.id == id) ≡ true → other ≡ volume
 same_volume state id volume other orderly is among same = same_Some other volume (sym (is_with_id state id other orderly among same) ∙ is)
 
+-- so is each volume of its name
 same_named : (state : ControllerState) (id : ℕ) (volume other : Volume) → IsOrderly state → volume_with_id id state ≡ Some volume → IsAmong other state.volumes → same_text other.name volume.name ≡ true → other ≡ volume
 same_named state id volume other orderly is among same = same_Some other volume (sym (is_named state volume.name other orderly among same) ∙ with_id_by_name state id volume orderly is)
 
+-- the volume that is found by an id has it
 has_own_id : (state : ControllerState) (id : ℕ) (volume : Volume) → volume_with_id id state ≡ Some volume → (volume.id == id) ≡ true
 has_own_id state id volume is = find-passes (λ (v : Volume). v.id == id) state.volumes volume is
 
+-- where DeleteVolume ends a volume, it does what it asks
 ended_things : (state : ControllerState) (id : ℕ) (volume : Volume) (kept : Kept) → IsOrderly state → volume_with_id id state ≡ Some volume
     → Does (Exists volume.name) (calls.DeleteVolume id) ok_reply state (changed state kept (Ends id))
 ended_things state id volume kept orderly is = record { done = λ h. ap (option_map (λ (v : Volume). HasId v.id)) gone; refused = λ h. absurd (h refl); others = others }
@@ -130,6 +136,7 @@ ended_things state id volume kept orderly is = record { done = λ h. ap (option_
     others (Staged other node) h = refl
     others (Published other node target) h = refl
 
+-- and where the volume was deleted before
 ended_before_things : (state : ControllerState) (id : ℕ) (volume : Volume) → IsOrderly state → volume_with_id id state ≡ Some volume → live_volume id state ≡ None
     → Does (Exists volume.name) (calls.DeleteVolume id) ok_reply state state
 ended_before_things state id volume orderly is none =
@@ -157,6 +164,7 @@ held_elsewhere holding id node differs = by (holding.volume == id) (same_text ho
         absurd (true≢false
         (sym (and_from (id == holding.volume) (same_text node holding.node) (eq-eqb id holding.volume (sym (eqb-true holding.volume id h))) (text-turned node holding.node ∙ k)) ∙ differs))
 
+-- a holding is its own volume's, at its own node
 itself_at : (holding : Holding) → is_held_at holding.volume holding.node holding ≡ true
 itself_at holding = and_from _ _ (eq-eqb holding.volume holding.volume refl) ((same_text-tells holding.node holding.node).1 refl)
 
@@ -164,6 +172,7 @@ itself_at holding = and_from _ _ (eq-eqb holding.volume holding.volume refl) ((s
 abbrev form_of : Holding → Form
 form_of holding = AttachedAs holding.capability holding.readonly
 
+-- where ControllerPublishVolume attaches a volume, it does what it asks
 attached_things : (state : ControllerState) (holding : Holding) (kept : Kept) → holding_at holding.volume holding.node state ≡ None
     → Does (Attached holding.volume holding.node) (publish_call holding) ok_reply state (changed state kept (Attaches holding))
 attached_things state holding kept none = record {
@@ -191,6 +200,7 @@ at_both id node other there holding differs at = by (is_held_at id node holding)
         let nodes : there ≡ node = sym ((same_text-tells holding.node there).0 away.1) ∙ (same_text-tells holding.node node).0 here.1 in
         absurd (true≢false (sym (and_from (other == id) (same_text there node) (eq-eqb other id ids) ((same_text-tells there node).1 nodes)) ∙ differs))
 
+-- where ControllerUnpublishVolume detaches one, it does what it asks
 detached_things : (state : ControllerState) (id : ℕ) (node : List ℕ) (kept : Kept)
     → Does (Attached id node) (calls.ControllerUnpublishVolume id node) ok_reply state (changed state kept (Detaches id node))
 detached_things state id node kept = record {
@@ -210,6 +220,7 @@ detached_things state id node kept = record {
 pub at_key : (P : Key → Type 0) (k key : Key) → Some k ≡ Some key → P k → P key
 at_key P k key e p = subst P (same_Some k key e) p
 
+-- what is so of the key of the volume that is found is so of the key that comes of it
 pub by_volume : (P : Key → Type 0) (f : Volume → Key) (o : Option Volume) (key : Key) → option_map f o ≡ Some key → ((v : Volume) → o ≡ Some v → P (f v)) → P key
 by_volume P f None key e g = absurd (none-some key e)
 by_volume P f (Some v) key e g = at_key P (f v) key e (g v refl)

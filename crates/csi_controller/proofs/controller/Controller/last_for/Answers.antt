@@ -11,6 +11,7 @@ use Rattle.csi_controller.specs.CoreParts.{parts_of}
 use Rattle.csi_controller.specs.RowsLaw.{last_call}
 use Rattle.csi_controller.proofs.controller.Controller.last_for.Goals as goal
 
+-- the id and the last number of a call's row are those of its volume in the state
 last-shown : (parts : Parts) (state : ControllerState) (call : Call) → IsShown parts state
     → option_map (λ (r : ControllerRow). (r.id, r.last)) (find (λ (r : ControllerRow). is_row_for call (volume_of_row r)) parts.rows) ≡ option_map last_call (row_for call state)
 last-shown parts state call shown =
