@@ -36,6 +36,7 @@ pub record LeavesRest (old new : ControllerState) (call : Call) : Type 0 where
   pub volumes : filter (λ volume. not (is_row_for call volume)) new.volumes ≡ filter (λ volume. not (is_row_for call volume)) old.volumes
   pub holdings : filter (is_of_another call) new.holdings ≡ filter (is_of_another call) old.holdings
 
+-- what is asked of an outcome: a refusal changes nothing, an OK can be answered so again, and the rest is left
 pub record Facts (config : Config) (state : ControllerState) (call : Call) (outcome : Outcome) : Type 0 where
   pub stays : outcome.reply.status ≢ Ok → outcome.change ≡ Stays
   pub ready : outcome.reply.status ≡ Ok → (kept : Kept) → IsReady config (changed state kept outcome.change) call outcome.reply

@@ -39,6 +39,7 @@ at-world old new outcome occurred world config outcomes own shows is =
 is-there : (shown : WorldShown) (id : List ℕ) → HasOwnNodes shown → has_node id (shown.config).nodes ≡ list_any (same_text id) (map (λ (m : NodeParts). m.id) shown.nodes)
 is-there shown id own = any-ids id (shown.config).nodes ∙ ap (list_any (same_text id)) (sym own.ids)
 
+-- a node that isn't shown isn't configured
 isnt-there : (shown : WorldShown) (id : List ℕ) → HasOwnNodes shown → position (is_shown_node id) shown.nodes ≡ None → has_node id (shown.config).nodes ≡ false
 isnt-there shown id own none = is-there shown id own ∙ none-at id shown.nodes (find-no_place (is_shown_node id) shown.nodes none)
 

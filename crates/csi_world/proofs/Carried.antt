@@ -10,16 +10,19 @@ use Rattle.csi_world.specs.World.{World}
 use Rattle.csi_world.specs.After.{frame_at}
 use Rattle.csi_world.specs.Simulating.{numbered}
 
+-- bytes that spell a frame begin with it, and it takes them all
 pub begins-whole : (frame : Frame) (bytes : List ℕ) → Spells frame bytes → BeginsWith bytes frame (length bytes)
 begins-whole frame bytes spells = record { within = omega arith; spelled = subst (Spells frame) (sym (take-length bytes)) spells }
 
 ok_isnt_err : {X Y : Type 0} (x : X) (y : Y) (result : Result X Y) → result ≡ Ok x → result ≡ Err y → ⊥
 ok_isnt_err x y result f g = cc
 
+-- where nothing but memory can be refused, the fault says so
 pub only-memory : {X : Type 0} (result : Result X FrameFault) (value : X) (fault : FrameFault) → GivesUnlessMemory result value → result ≡ Err fault → fault ≡ no_memory
 only-memory result value fault (inl e) is = absurd (ok_isnt_err value fault result e is)
 only-memory result value fault (inr e) is = cc
 
+-- and what is answered is the value
 pub only-value : {X : Type 0} (result : Result X FrameFault) (value read : X) → GivesUnlessMemory result value → result ≡ Ok read → read ≡ value
 only-value result value read (inl e) is = cc
 only-value result value read (inr e) is = absurd (ok_isnt_err read no_memory result is e)

@@ -39,6 +39,7 @@ use Rattle.csi_world.proofs.Deliveries.{PluginLaws, all-closed, IsGood, frame-go
 abbrev pub IsLast : History → Type 0
 IsLast history = (call : Issued) → IsAmong call (issued_in history.items) → (call.number ≡ last_number history) ⊎ IsBefore call.number (last_number history)
 
+-- a number that is before one is before each after that
 then-before : (a b c : Number) → IsBefore a b → IsBefore b c → IsBefore a c
 then-before a b c h k = is_before-from a c (before-trans a b c (rw h refl) (rw k refl))
   where
@@ -153,6 +154,7 @@ taken-sent : (world : World) (call : Issued) (reply : Reply) → MayTake world c
 taken-sent world call reply may =
     record { call = call; among = (open-sent call.name world.history.items call may.is_open).0; has_number = refl; reply = reply; sent = may.was_sent; has_status = refl; has_id = refl }
 
+-- what is kept of every world is kept by each choice that may be made
 pub chosen-right : PluginLaws → (config : Config) (world : World) (choice : Choice) → IsRight config world → MayChoose world choice → IsRight config (chosen config world choice)
 chosen-right laws config world (Sends call) right may = sent-right laws config world call right may
 chosen-right laws config world (Closes number) right may = noted-right config world (Closed number) refl right tt right.last
@@ -167,6 +169,7 @@ chosen-right laws config world (Answers frame) right may =
 empty-node : (config : Config) (id : List ℕ) (state : NodeState) → node_state id (empty_world config) ≡ Some state → state ≡ empty_node
 empty-node config id state h = let found = found-at id (empty_world config) state h in sym found.3 ∙ knows-nothing config.nodes found.0 found.1
 
+-- in the empty world nothing is there, spent or kept
 empty-view : PluginLaws → (config : Config) → IsEmpty (view_of (empty_world config))
 empty-view laws config = record { held = λ key. (at (party_of key)).held key; is_spent = λ key. (at (party_of key)).is_spent key; kept = λ key. (at (party_of key)).kept key }
   where
@@ -178,6 +181,7 @@ empty-view laws config = record { held = λ key. (at (party_of key)).held key; i
     at Controller = laws.controller.empty
     at (Node id) = node id (node_state id (empty_world config)) refl
 
+-- what is kept of every world is so of the empty one
 pub empty-right : PluginLaws → (config : Config) → IsRight config (empty_world config)
 empty-right laws config =
     let empty = empty-view laws config in

@@ -54,6 +54,7 @@ pub record PluginLaws : Type 0 where
   pub node : nodes.NodeDeliveryLaw
   pub publishing : NodeSafetyLaw
 
+-- in every world what came before a spent number is spent
 pub all-closed : PluginLaws → (world : World) → IsClosed (view_of world)
 all-closed laws world = closed-all (λ w. laws.controller.closed w.controller) laws.node.closed world
 
@@ -102,6 +103,7 @@ made-id controller name id names h = by (controllers.live_named name controller)
     by None e h = absurd (none-some (HasId id) h)
     by (Some volume) e h = ap (option_map (λ (v : Volume). v.id)) (names.live name volume e) ∙ ap Some (same volume.id h)
 
+-- where CreateVolume was carried out and answered OK, the name has the id that the reply has
 made-now : (old new : World) (call : Issued) (key : Key) (kind : Kind) (reply : Reply) (id : ℕ) (create : List ℕ) (required limit : ℕ) (capabilities : List Capability) → key_at call.name call.party call.call ≡ Some key
     → controllers.AreNamed new.controller → Acts key (delivery_of call kind reply) (plugin_view old (party_of key)) (plugin_view new (party_of key))
     → call.call ≡ calls.CreateVolume create required limit capabilities → reply.status ≡ Ok → reply.id ≡ Some id → HasName new.controller call.name id
@@ -163,6 +165,7 @@ pub record IsGood (config : Config) (world : World) : Type 0 where
   pub reached : IsReached config world
   pub well : IsWell world
 
+-- a call of this thing acts on it or rests
 with_key : (o : Option Key) (key : Key) (call : Issued) (kind : Kind) (reply : Reply) (old new : View) → o ≡ Some key → Becomes o (delivery_of call kind reply) old new
     → Acts key (delivery_of call kind reply) old new ⊎ Rests key (delivery_of call kind reply) old new
 with_key o key call kind reply old new e becomes = subst (λ x. Becomes x (delivery_of call kind reply) old new) e becomes
@@ -270,6 +273,7 @@ reply-got config world frame kind reply good is =
     by Controller = good
     by (Node id) = at_node id (node_state id world) refl
 
+-- a frame that was sent came to its plugin, or to none
 pub frame-got : PluginLaws → (config : Config) (world : World) (frame : Frame) → IsGood config world → IsAmong frame world.frames → IsGood config (answered config world frame)
 frame-got laws config world frame good among = by frame.body refl
   where

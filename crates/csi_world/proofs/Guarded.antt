@@ -43,6 +43,7 @@ pub record IsSoFar (history : History) (frames : List Frame) (view : View) (cont
   pub heard : IsHeard history.items (issued_in history.items) frames
   pub stands : Stands history.items view
 
+-- an id that the orchestrator heard for a name is the one that the controller gave it
 pub given-id : (history : History) (frames : List Frame) (view : View) (controller : ControllerState) (name : List ℕ) (id : ℕ) → IsSoFar history frames view controller → HasId history name id → HasName controller name id
 given-id history frames view controller name id so has = id-given history frames controller name id so.heard so.truth.numbers so.named has
 
@@ -102,6 +103,7 @@ not-there history frames view controller thing key so one is_no = by (known-no h
         let ok = success-ok history.items (issued_in history.items) frames latest.0 so.heard so.truth.numbers (among-find (is_of key) (issued_in history.items) latest.0 found) latest.1.success in
         so.truth.told latest.0 key ok.0 found ok.1 ∙ asked-undoing (latest.0).call ok.0 latest.1.is_so
 
+-- where a volume is known not to be staged at a node, nothing stands there
 none-stands : (history : History) (frames : List Frame) (view : View) (controller : ControllerState) (name node : List ℕ) (id : ℕ) (capability : Capability) → IsSoFar history frames view controller → HasName controller name id
     → known history (things.Staged name node) ≡ No → IsStanding (issued_in history.items) view id node capability → ⊥
 none-stands history frames view controller name node id capability so has is_no (inl held) =
@@ -176,6 +178,7 @@ attached-call name (Node here) (calls.NodePublishVolume i target capability read
 attached-call name (Node here) (calls.NodeUnpublishVolume i target) id node of doing = absurd (false≢true of)
 attached-call name party c id node of doing = absurd (false≢true of)
 
+-- texts that the test takes as the same are so the other way round
 turned : (a b : List ℕ) → same_text a b ≡ true → same_text b a ≡ true
 turned a b h = (same_text-tells b a).1 (sym ((same_text-tells a b).0 h))
 
@@ -191,6 +194,7 @@ held-none name node x other named = by x.party x.call other
         at true e = absurd (false≢true (sym other ∙ and_from (same_text name x.name) (same_text node there) (turned x.name name named) (turned there node e)))
     by party c other = refl
 
+-- where the latest call of an attachment put the volume there, it tells how the volume is held
 held-latest : (name node : List ℕ) (id : ℕ) (call : Issued) (here : Held) (xs : List Issued) → call.call ≡ calls.ControllerPublishVolume id node here.capability here.readonly → find (touches (things.Attached name node)) xs ≡ Some call
     → newest (filter_map (λ (issued : Issued). held_by node issued.call) (filter (λ (issued : Issued). same_text issued.name name) xs)) ≡ Some here
 held-latest name node id call here [] publishes found = absurd (none-some call found)

@@ -43,11 +43,13 @@ pub record WasSent (issued : List Issued) (frames : List Frame) (number : Number
 abbrev pub IsHeard : List Item → List Issued → List Frame → Type 0
 IsHeard items issued frames = (number : Number) (status : Status) (id : Option ℕ) → IsAmong (Accepted number status id) items → WasSent issued frames number status id
 
+-- what was sent is so still, with more calls and one more frame
 pub sent-more : (issued more : List Issued) (frames : List Frame) (last : Frame) (number : Number) (status : Status) (id : Option ℕ) → ((call : Issued) → IsAmong call issued → IsAmong call more)
     → WasSent issued frames number status id → WasSent more (frames ++ last ∷ []) number status id
 sent-more issued more frames last number status id wider was =
     record { call = was.call; among = wider was.call was.among; has_number = was.has_number; reply = was.reply; sent = among-append frames (last ∷ []) _ was.sent; has_status = was.has_status; has_id = was.has_id }
 
+-- the test of OK is passed by OK alone
 pub is_ok-then : (status : Status) → is_ok_status status ≡ true → status ≡ Ok
 is_ok-then Ok h = refl
 is_ok-then status h = cc
@@ -113,6 +115,7 @@ pub record IsLatest (items : List Item) (thing : Thing) (call : Issued) (doing :
   pub success : has_success items call.number ≡ true
   pub is_so : is_doing call.call ≡ doing
 
+-- where a thing is known to be so, its latest call does it, and its success was heard
 pub known-yes : (history : History) (thing : Thing) → known history thing ≡ Yes → (call : Issued) × IsLatest history.items thing call true
 known-yes history thing h = by (find (touches thing) (issued_in history.items)) refl h
   where
@@ -125,6 +128,7 @@ known-yes history thing h = by (find (touches thing) (issued_in history.items)) 
         at true false p q h = absurd (false≢true (ap is_yes h))
         at false d p q h = absurd (false≢true (ap is_yes h))
 
+-- where it is known not to be so, it has no call, or its latest undoes it, and its success was heard
 pub known-no : (history : History) (thing : Thing) → known history thing ≡ No → (find (touches thing) (issued_in history.items) ≡ None) ⊎ ((call : Issued) × IsLatest history.items thing call false)
 known-no history thing h = by (find (touches thing) (issued_in history.items)) refl h
   where
@@ -137,6 +141,7 @@ known-no history thing h = by (find (touches thing) (issued_in history.items)) r
         at true false p q h = (call, record { found = e; success = p; is_so = q })
         at false d p q h = absurd (false≢true (ap is_no h))
 
+-- where the latest call does it, and its success was heard, it is known to be so
 pub latest-known : (history : History) (thing : Thing) (call : Issued) → IsLatest history.items thing call true → known history thing ≡ Yes
 latest-known history thing call latest =
     let passes : touches thing call ≡ true = find-passes (touches thing) (issued_in history.items) call latest.found in

@@ -42,6 +42,7 @@ key_at name (Node node) (calls.NodePublishVolume id target capability readonly) 
 key_at name (Node node) (calls.NodeUnpublishVolume id target) = Some (Published id node target)
 key_at name Controller call = None
 
+-- the thing, if there is one, is this
 abbrev pub is_key : Key → Option Key → Bool
 is_key key None = false
 is_key key (Some other) = same_key key other
@@ -89,9 +90,11 @@ pub record IsKeyed (controller : ControllerState) (name : List ℕ) (party : Par
   pub of_party : party_of key ≡ party
   pub of_kind : IsTrue (is_party_of (kind_of call) party)
 
+-- the name that has an id is a volume's, of that id
 pub named-found : (controller : ControllerState) (name : List ℕ) (id : ℕ) → HasName controller name id → (volume : Volume) × (volume_named name controller ≡ Some volume) × (volume.id ≡ id)
 named-found controller name id h = some-from_map (λ (v : Volume). v.id) (volume_named name controller) id h
 
+-- the id of a name is a volume's, of that name
 pub id-found : (controller : ControllerState) (name : List ℕ) (id : ℕ) → controllers.AreNamed controller → HasName controller name id
     → (volume : Volume) × (volume_with_id id controller ≡ Some volume) × (volume.name ≡ name)
 id-found controller name id names h =
@@ -100,11 +103,13 @@ id-found controller name id names h =
     let passes : same_text volume.name name ≡ true = find-passes (λ (v : Volume). same_text v.name name) controller.volumes volume found.1 in
     (volume, subst (λ n. volume_with_id n controller ≡ Some volume) found.2 (names.by_id name volume found.1), (same_text-tells volume.name name).0 passes)
 
+-- an attachment by the id of a name is of a volume that was made
 attached-keyed : (controller : ControllerState) (name node : List ℕ) (id : ℕ) → controllers.AreNamed controller → HasName controller name id
     → option_map (λ (volume : Volume). Attached id node) (volume_with_id id controller) ≡ Some (Attached id node)
 attached-keyed controller name node id names h =
     ap (option_map (λ (volume : Volume). Attached id node)) (id-found controller name id names h).1
 
+-- a call for the volume of a name has one thing, by its name, by its id, and as the plugin sees it
 pub keyed : (controller : ControllerState) (name : List ℕ) (party : Party) (call : Call) → controllers.AreNamed controller → IsOwn controller name party call → IsKeyed controller name party call
 keyed controller name Controller (calls.CreateVolume create required limit capabilities) names own =
     record { thing = things.Exists name; key = Exists name; one = Existence name; by_thing = refl; by_name = refl; seen = ap (λ k. Some (Exists k)) own; of_party = refl; of_kind = refl }
@@ -134,6 +139,7 @@ IsAnsweredOk frames issued reply = IsAmong (reply_frame issued.number issued.par
 abbrev pub ComesAfter : Issued → Issued → Type 0
 ComesAfter newer older = IsBefore older.number newer.number
 
+-- no number is before itself
 pub before-irreflexive : (a : Number) → IsBefore a a → ⊥
 before-irreflexive a h = let t : is_before a a ≡ true = rw h refl in grind (arith, nat_tests)
 

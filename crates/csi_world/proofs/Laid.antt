@@ -5,6 +5,7 @@ use Rattle.csi_world.specs.World.{NodeAt}
 use Rattle.csi_world.specs.Simulated.{AreNodesShown}
 use Rattle.csi_world.specs.Listed.{AreNodesAlike, IsListOf, AreListsOf}
 
+-- lists of nodes, with the list of one more, are lists of them all
 pub lists-more : (nodes : List NodeParts) (lists : List NodeAt) (parts : NodeParts) (listed : NodeAt) → AreListsOf nodes lists → IsListOf parts listed
     → AreListsOf (nodes ++ parts ∷ []) (lists ++ listed ∷ [])
 lists-more [] [] parts listed are is = (is, tt)
@@ -12,6 +13,7 @@ lists-more [] (l ∷ ls) parts listed are is = absurd are
 lists-more (n ∷ ns) [] parts listed are is = absurd are
 lists-more (n ∷ ns) (l ∷ ls) parts listed are is = (are.0, lists-more ns ls parts listed are.1 is)
 
+-- lists of nodes are like all nodes that these show
 pub lists-alike : (nodes : List NodeParts) (lists shown : List NodeAt) → AreListsOf nodes lists → AreNodesShown nodes shown → AreNodesAlike lists shown
 lists-alike [] [] [] are is = tt
 lists-alike [] [] (s ∷ ss) are is = absurd is

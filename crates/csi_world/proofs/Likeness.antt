@@ -13,6 +13,7 @@ use Rattle.csi_world.specs.Listed.{AreDistinct, IsNodeAlike, AreNodesAlike}
 
 -- ---- node by node
 
+-- each node has one that is listed and like it
 pub listed-of : (ls ns : List NodeAt) → AreNodesAlike ls ns → (n : NodeAt) → IsAmong n ns → (l : NodeAt) × IsAmong l ls × IsNodeAlike l n
 listed-of [] [] alike n among = absurd among
 listed-of [] (m ∷ ms) alike n among = absurd alike
@@ -20,6 +21,7 @@ listed-of (l ∷ ls) [] alike n among = absurd among
 listed-of (l ∷ ls) (m ∷ ms) alike n (inl e) = (l, inl refl, subst (IsNodeAlike l) (sym e) alike.0)
 listed-of (l ∷ ls) (m ∷ ms) alike n (inr there) = let found = listed-of ls ms alike.1 n there in (found.0, inr found.1, found.2)
 
+-- each that is listed is like a node
 pub node-of : (ls ns : List NodeAt) → AreNodesAlike ls ns → (l : NodeAt) → IsAmong l ls → (n : NodeAt) × IsAmong n ns × IsNodeAlike l n
 node-of [] ns alike l among = absurd among
 node-of (k ∷ ks) [] alike l among = absurd alike
@@ -30,6 +32,7 @@ node-of (k ∷ ks) (m ∷ ms) alike l (inr there) = let found = node-of ks ms al
 id_among : (ns : List NodeAt) (n : NodeAt) → IsAmong n ns → list_any (same_text n.id) (map (λ (m : NodeAt). m.id) ns) ≡ true
 id_among ns n among = then-any (same_text n.id) (map (λ (m : NodeAt). m.id) ns) n.id (in-map (λ (m : NodeAt). m.id) ns n among) ((same_text-tells n.id n.id).1 refl)
 
+-- where the ids differ, each node is found by its id
 pub node-found-by-id : (ns : List NodeAt) (n : NodeAt) → AreDistinct (map (λ (m : NodeAt). m.id) ns) → IsAmong n ns → find (λ (m : NodeAt). same_text m.id n.id) ns ≡ Some n
 node-found-by-id [] n apart among = absurd among
 node-found-by-id (m ∷ ms) n apart (inl e) =

@@ -23,6 +23,7 @@ yes_not_no e = cc
 
 -- ---- the same thing
 
+-- a thing is the same as itself
 pub same-itself : (thing : Thing) → same_thing thing thing ≡ true
 same-itself (Exists name) = (same_text-tells name name).1 refl
 same-itself (Attached name node) = and_from _ _ ((same_text-tells name name).1 refl) ((same_text-tells node node).1 refl)
@@ -30,6 +31,7 @@ same-itself (Staged name node) = and_from _ _ ((same_text-tells name name).1 ref
 same-itself (Published name node target) =
     and_from _ _ (and_from _ _ ((same_text-tells name name).1 refl) ((same_text-tells node node).1 refl)) ((same_text-tells target target).1 refl)
 
+-- things that the test takes as the same are one
 pub same-tells : (a b : Thing) → same_thing a b ≡ true → a ≡ b
 same-tells (Exists name) (Exists other) e = ap Exists ((same_text-tells name other).0 e)
 same-tells (Attached name node) (Attached other there) e =
@@ -53,9 +55,11 @@ same-tells a b e = absurd (false≢true e)
 
 -- ---- what holds, and what is noted
 
+-- a thing of which something is noted passes the test of that
 is-noted : (noted : List (Thing × Known)) (thing : Thing) (mark : Known) → IsAmong (thing, mark) noted → is_noted noted thing ≡ true
 is-noted noted thing mark among = then-any (λ (entry : Thing × Known). same_thing thing entry.0) noted (thing, mark) among (same-itself thing)
 
+-- and where the test passes, something is noted of the thing
 noted-is : (noted : List (Thing × Known)) (thing : Thing) → is_noted noted thing ≡ true → (mark : Known) × IsAmong (thing, mark) noted
 noted-is noted thing h =
     let found = any-then (λ (entry : Thing × Known). same_thing thing entry.0) noted h in
@@ -63,19 +67,23 @@ noted-is noted thing h =
     let same : thing ≡ entry.0 = same-tells thing entry.0 found.2 in
     (entry.1, subst (λ (t : Thing). IsAmong {X = Thing × Known} (t, entry.1) noted) (sym same) found.1)
 
+-- what the test takes as listed is in the list
 listed-is : (things : List Thing) (thing : Thing) → is_listed things thing ≡ true → IsAmong thing things
 listed-is things thing h =
     let found = any-then (same_thing thing) things h in
     subst (λ (t : Thing). IsAmong t things) (sym (same-tells thing found.0 found.2)) found.1
 
+-- and what is in the list the test takes as listed
 is-listed : (things : List Thing) (thing : Thing) → IsAmong thing things → is_listed things thing ≡ true
 is-listed things thing among = then-any (same_thing thing) things thing among (same-itself thing)
 
+-- an entry passes where its thing is in the list, if it is known to be so
 each-affirmed : (things : List Thing) (entry : Thing × Known) → (entry.1 ≡ Yes → IsAmong entry.0 things) → is_affirmed things entry ≡ true
 each-affirmed things (thing, Yes) f = is-listed things thing (f refl)
 each-affirmed things (thing, No) f = refl
 each-affirmed things (thing, Maybe) f = refl
 
+-- by a list of what holds and a list of what is known, the two tests tell whether all is marked right
 pub marked-told : (marks : Thing → Known) (world : World) (things : List Thing) (noted : List (Thing × Known)) → ((thing : Thing) → IsAmong thing things ↔ (holds world thing ≡ true)) → ListsKnown marks noted
     → (b : Bool) → b ≡ (list_all (is_affirmed things) noted && list_all (is_noted noted) things) → IsTrue b ↔ AreMarkedRight marks world
 marked-told marks world things noted all lists b g = (λ h. to h, λ right. g ∙ and_from affirmed known (back_affirmed right) (back_noted right))

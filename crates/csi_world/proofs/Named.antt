@@ -21,6 +21,7 @@ use Rattle.csi_orchestrator.specs.declared.thing.Thing.{Thing}
 use Rattle.csi_orchestrator.specs.Thing.{Issued, same_thing, is_thing, touches}
 use Rattle.csi_world.proofs.Issued.{HasName, IsOwn, IsOne, Existence, Attachment, Staging, Publication, IsAnsweredOk, is_key, is_of, id-found, keyed}
 
+-- each sent call is for the volume of its name, and an OK to CreateVolume has the id of its name
 pub record Named (issued : List Issued) (frames : List Frame) (controller : ControllerState) : Type 0 where
   pub own : (call : Issued) → IsAmong call issued → IsOwn controller call.name call.party call.call
   pub made : (call : Issued) (reply : Reply) (id : ℕ) (create : List ℕ) (required limit : ℕ) (capabilities : List Capability) → IsAmong call issued
@@ -30,6 +31,7 @@ pub record Named (issued : List Issued) (frames : List Frame) (controller : Cont
 abbrev pub KeepsIds : ControllerState → ControllerState → Type 0
 KeepsIds old new = (name : List ℕ) (id : ℕ) → HasName old name id → HasName new name id
 
+-- a call for the volume of a name is so still, where each name keeps its id
 pub own-kept : (old new : ControllerState) (name : List ℕ) (party : Party) (call : Call) → KeepsIds old new → IsOwn old name party call → IsOwn new name party call
 own-kept old new name Controller (calls.CreateVolume create required limit capabilities) keeps own = own
 own-kept old new name Controller (calls.DeleteVolume id) keeps own = keeps name id own

@@ -9,6 +9,7 @@ use Rattle.csi_world.specs.Assembled.{AreOfNodes}
 abbrev pub AreSameBelow : List NodeParts → List NodeSlots → ℕ → Type 0
 AreSameBelow kept nodes place = (k : ℕ) (d : NodeParts) (e : NodeSlots) → k < place → (get_or kept k d).id ≡ (get_or nodes k e).id
 
+-- where the ids are those of the nodes, they are so at each place
 pub same-at : (kept : List NodeParts) (nodes : List NodeSlots) → AreOfNodes kept nodes → (k : ℕ) (d : NodeParts) (e : NodeSlots) → k < length nodes → (get_or kept k d).id ≡ (get_or nodes k e).id
 same-at [] [] same k d e within = absurd (omega arith)
 same-at [] (n ∷ ns) same k d e within = let clash : [] ≡ n.id ∷ map node_id ns → ⊥ = (λ h. cc) in absurd (clash same)
@@ -19,6 +20,7 @@ same-at (m ∷ ms) (n ∷ ns) same (suc k) d e within =
     let rest : map (λ (one : NodeParts). one.id) ms ≡ map node_id ns = cc in
     same-at ms ns rest k d e (omega arith)
 
+-- and where they are so at each place, of as many, they are those of the nodes
 pub same-from : (kept : List NodeParts) (nodes : List NodeSlots) → length kept ≡ length nodes → AreSameBelow kept nodes (length nodes) → AreOfNodes kept nodes
 same-from [] [] long same = refl
 same-from [] (n ∷ ns) long same = absurd (omega (arith, long))

@@ -37,6 +37,7 @@ use Rattle.csi_world.proofs.Likeness.{listed-of, node-of}
 
 -- ---- the controller
 
+-- any two holdings of the row of an id are apart
 row_apart : (rows : List ControllerRow) (id : ℕ) → AllByRecursion IsRowExclusive rows → EachTwo AreApart (holdings_in (find (λ (row : ControllerRow). row.id == id) rows))
 row_apart rows id all = by (find (λ (row : ControllerRow). row.id == id) rows) refl
   where
@@ -44,11 +45,13 @@ row_apart rows id all = by (find (λ (row : ControllerRow). row.id == id) rows) 
     by None e = tt
     by (Some row) e = (each_of IsRowExclusive rows row all (among-find (λ (r : ControllerRow). r.id == id) rows row e)).apart
 
+-- where each row's holdings are apart, any two holdings of one volume in the world are
 exclusive : (parts : ControllerParts) (world : World) → AllByRecursion IsRowExclusive parts.rows → IsShown parts world.controller → IsExclusive world
 exclusive parts world all is =
     two-by_key AreApart (λ (h : Holding). h.volume) world.controller.holdings
     (λ id. subst (EachTwo AreApart) (is.shows.holdings id) (row_apart parts.rows id all))
 
+-- a row that is held somewhere is live, where one that was deleted is held nowhere
 live_row : (row : ControllerRow) (holding : Holding) → (row.live ≡ false → row.holdings.items ≡ []) → IsAmong holding (holdings_in_row row) → row.live ≡ true
 live_row row holding gone among = by row.live refl
   where
@@ -63,6 +66,7 @@ live_row row holding gone among = by row.live refl
 some_is : {X : Type 0} (o : Option X) (x : X) → o ≡ Some x → IsSome o
 some_is o x e = ap is_some e
 
+-- and then what is attached in the world wasn't deleted
 attached_live : (parts : ControllerParts) (world : World) → AllByRecursion IsRowExclusive parts.rows → IsShown parts world.controller → IsAttachedWhileLive world
 attached_live parts world all is holding among =
     by (find p parts.rows) refl
@@ -84,6 +88,7 @@ attached_live parts world all is holding among =
 
 -- ---- the nodes
 
+-- where each node's parts show only states in which what is published is staged, each node of the world is in such a state
 shown_by : (nodes : List NodeParts) (ns : List NodeAt) → AreNodesShown nodes ns → AllByRecursion IsPublishing nodes → (n : NodeAt) → IsAmong n ns → IsPublishedRight n.state
 shown_by [] [] are all n among = absurd among
 shown_by [] (m ∷ ms) are all n among = absurd are
@@ -91,6 +96,7 @@ shown_by (p ∷ ps) [] are all n among = absurd among
 shown_by (p ∷ ps) (m ∷ ms) are all n (inl e) = subst (λ (k : NodeAt). IsPublishedRight k.state) (sym e) (all.0 m.state are.1)
 shown_by (p ∷ ps) (m ∷ ms) are all n (inr there) = shown_by ps ms are.2 all.1 n there
 
+-- then each world that the parts show is safe in all that the plugins keep by themselves
 pub plugins-safe : (parts : ControllerParts) (nodes : List NodeParts) (world : World) → AllByRecursion IsRowExclusive parts.rows → AllByRecursion IsPublishing nodes
     → ArePlugins parts nodes world → ArePluginsSafe world
 plugins-safe parts nodes world rows publishing are =
@@ -102,6 +108,7 @@ plugins-safe parts nodes world rows publishing are =
 
 -- ---- what is staged is attached
 
+-- the test of a holding tells its node and its capability
 held_parts : (node : List ℕ) (capability : Capability) (held : NodeHolding) → is_held_as node capability held ≡ true → (held.node ≡ node) × (held.capability ≡ capability)
 held_parts node capability held e =
     let parts = and_parts (same_text held.node node) (same_capability held.capability capability) e in
@@ -131,6 +138,7 @@ row_attached lists world is id node capability = by (row_with_id id lists.rows) 
           same_capability = parts.1;
         }
 
+-- what is attached so is held so by the row of its id
 attached_row : (lists : Lists) (world : World) → IsListed lists world → (id : ℕ) (node : List ℕ) (capability : Capability) → IsAttachedAs world id node capability → is_row_held node capability (row_with_id id lists.rows) ≡ true
 attached_row lists world is id node capability at =
     by (row_with_id id lists.rows)
@@ -146,6 +154,7 @@ attached_row lists world is id node capability at =
         then-any (is_held_as node capability) row.holdings.items entry.0 entry.1
         (and_from _ _ ((same_text-tells (entry.0).node node).1 place) ((same_capability-tells (entry.0).capability capability).1 same))
 
+-- where the test of all listed nodes passes, what is staged is attached
 to_attached : (lists : Lists) (world : World) → IsListed lists world → list_all (is_node_attached lists.rows) lists.nodes ≡ true → IsStagedWhereAttached world
 to_attached lists world is h n s at staged =
     let found = listed-of (map node_listed lists.nodes) world.nodes is.nodes n at in
@@ -172,6 +181,7 @@ to_attached lists world is h n s at staged =
           same_capability = attached.same_capability ∙ ap (λ (y : StagedVolume). y.capability) shown;
         }
 
+-- and the other way round
 from_attached : (lists : Lists) (world : World) → IsListed lists world → IsStagedWhereAttached world → list_all (is_node_attached lists.rows) lists.nodes ≡ true
 from_attached lists world listed is =
     then-all (is_node_attached lists.rows) lists.nodes (λ k at. then-all (is_staged_right lists.rows k.id) k.staged.items (λ x staged. here k at x staged))
@@ -185,5 +195,6 @@ from_attached lists world listed is =
         let held : IsAttachedAs world x.id n.id x.capability = is n (staged_shown x) found.1 there in
         attached_row lists world listed x.id k.id x.capability (subst (λ (id : List ℕ). IsAttachedAs world x.id id x.capability) (sym same.id) held)
 
+-- the test of all listed nodes tells whether what is staged is attached
 pub staged-told : (lists : Lists) (world : World) → IsListed lists world → (b : Bool) → b ≡ list_all (is_node_attached lists.rows) lists.nodes → IsTrue b ↔ IsStagedWhereAttached world
 staged-told lists world is b e = (λ h. to_attached lists world is (sym e ∙ h), λ staged. e ∙ from_attached lists world is staged)

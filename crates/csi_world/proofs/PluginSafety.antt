@@ -15,6 +15,7 @@ use Rattle.csi_world.specs.World.{World}
 use Rattle.csi_world.specs.Safe.{IsPublishedWhereStaged}
 use Rattle.csi_world.proofs.Reached.{IsReached, IsNodeOfFrames}
 
+-- what the controller holds of one volume is apart, and of volumes that weren't deleted
 pub exclusive : ControllerSafetyLaw → (config : Config) (world : World) → IsReached config world → IsExclusive world.controller
 exclusive law config world reached = let of = reached.controller in subst IsExclusive (sym of.1) (law config of.0)
 
@@ -29,6 +30,7 @@ staged_there state id capability h =
     let equal : s ≡ record { volume = id; capability = capability } = λ i. record { volume = volume i; capability = same i } in
     subst (λ (x : StagedVolume). IsAmong x state.staged) equal (among-find (λ (s : StagedVolume). s.volume == id) state.staged s found.1)
 
+-- what is published at a node is staged there, in the same capability
 pub published-staged : NodeSafetyLaw → (config : Config) (world : World) → IsReached config world → IsPublishedWhereStaged world
 published-staged law config world reached at published there among =
     let of = each_of IsNodeOfFrames world.nodes at reached.nodes there in

@@ -30,6 +30,7 @@ IsOfFrames config state = (frames : List Frame) × (state ≡ controller.after_f
 abbrev pub IsNodeOfFrames : NodeAt → Type 0
 IsNodeOfFrames at = (frames : List Frame) × (at.state ≡ node.after_frames at.id empty_node frames)
 
+-- the plugins are in such states, and each node is as the one that is found by its id
 pub record IsReached (config : Config) (world : World) : Type 0 where
   pub controller : IsOfFrames config world.controller
   pub nodes : AllByRecursion IsNodeOfFrames world.nodes
@@ -40,10 +41,12 @@ controller-more : (config : Config) (state : ControllerState) (frames : List Fra
 controller-more config state [] frame = refl
 controller-more config state (f ∷ fs) frame = controller-more config (controller.fenced config state f).state fs frame
 
+-- the same of a node
 node-more : (id : List ℕ) (state : NodeState) (frames : List Frame) (frame : Frame) → node.after_frames id state (frames ++ frame ∷ []) ≡ (node.fenced id (node.after_frames id state frames) frame).state
 node-more id state [] frame = refl
 node-more id state (f ∷ fs) frame = node-more id (node.fenced id state f).state fs frame
 
+-- from a state to which frames lead, one more frame leads to another
 pub controller-next : (config : Config) (state : ControllerState) (frame : Frame) → IsOfFrames config state → IsOfFrames config (controller.fenced config state frame).state
 controller-next config state frame of =
     (of.0 ++ frame ∷ [], ap (λ (s : ControllerState). (controller.fenced config s frame).state) of.1 ∙ sym (controller-more config empty_controller of.0 frame))
@@ -55,6 +58,7 @@ found-at id world state h =
     let found = some-from_map (λ (n : NodeAt). n.state) (find p world.nodes) state h in
     (found.0, among-find p world.nodes found.0 found.1, (same_text-tells (found.0).id id).0 (find-passes p world.nodes found.0 found.1), found.2)
 
+-- the node of an id is in a state that frames lead to
 pub node-of-frames : (config : Config) (world : World) (id : List ℕ) (state : NodeState) → IsReached config world → node_state id world ≡ Some state → (frames : List Frame) × (state ≡ node.after_frames id empty_node frames)
 node-of-frames config world id state reached h =
     let found = found-at id world state h in
@@ -69,23 +73,27 @@ with_state-id id other state at = by (same_text at.id id)
     by true = refl
     by false = refl
 
+-- another state of one node leaves what a node of another id knows
 state-other : (id other : List ℕ) (state : NodeState) (o : Option NodeAt) → same_text other id ≡ false → ((at : NodeAt) → o ≡ Some at → at.id ≡ other)
     → option_map (λ (n : NodeAt). n.state) (option_map (with_state id state) o) ≡ option_map (λ (n : NodeAt). n.state) o
 state-other id other state None differs is = refl
 state-other id other state (Some at) differs is =
     ap (λ b. Some (cond b (let n : NodeAt = record at { state = state } in n) at).state) (ap (λ n. same_text n id) (is at refl) ∙ differs)
 
+-- so it is in a world
 pub node_state-other : (id other : List ℕ) (state : NodeState) (world : World) → same_text other id ≡ false → node_state other (with_node id state world) ≡ node_state other world
 node_state-other id other state world differs =
     ap (option_map (λ (n : NodeAt). n.state)) (find-map (λ (n : NodeAt). same_text n.id other) (with_state id state) world.nodes (with_state-id id other state))
     ∙ state-other id other state (find (λ (n : NodeAt). same_text n.id other) world.nodes) differs
     (λ at e. (same_text-tells at.id other).0 (find-passes (λ (n : NodeAt). same_text n.id other) world.nodes at e))
 
+-- the node of the id knows what was put there
 state-same : (id : List ℕ) (old state : NodeState) (o : Option NodeAt) → option_map (λ (n : NodeAt). n.state) o ≡ Some old → ((at : NodeAt) → o ≡ Some at → same_text at.id id ≡ true)
     → option_map (λ (n : NodeAt). n.state) (option_map (with_state id state) o) ≡ Some state
 state-same id old state None h is = absurd (none-some old h)
 state-same id old state (Some at) h is = ap (λ b. Some (cond b (let n : NodeAt = record at { state = state } in n) at).state) (is at refl)
 
+-- so it is in a world
 pub node_state-same : (id : List ℕ) (old state : NodeState) (world : World) → node_state id world ≡ Some old → node_state id (with_node id state world) ≡ Some state
 node_state-same id old state world h =
     ap (option_map (λ (n : NodeAt). n.state)) (find-map (λ (n : NodeAt). same_text n.id id) (with_state id state) world.nodes (with_state-id id id state))
@@ -100,6 +108,7 @@ with_states id state (n ∷ ns) of all = (by (same_text n.id id) refl, with_stat
     by true e = (of.0, of.1 ∙ ap (λ i. node.after_frames i empty_node of.0) (sym ((same_text-tells n.id id).0 e)))
     by false e = all.0
 
+-- a world is so reached after a node's answer to a frame
 pub node-next : (config : Config) (world : World) (id : List ℕ) (state : NodeState) (frame : Frame) → IsReached config world → node_state id world ≡ Some state
     → IsReached config (with_node id (node.fenced id state frame).state world)
 node-next config world id state frame reached h =
@@ -148,6 +157,7 @@ new_alike entries at among =
     let first = some-found p (map new_node entries) at among ((same_text-tells at.id at.id).1 refl) in
     ap (option_map (λ (n : NodeAt). n.state)) first.1 ∙ ap Some (knows-nothing entries first.0 (among-find p (map new_node entries) first.0 first.1) ∙ sym (knows-nothing entries at among))
 
+-- so is the empty world
 pub empty-reached : (config : Config) → IsReached config (empty_world config)
 empty-reached config = record { controller = ([], refl); nodes = new_nodes config.nodes; alike = λ at among. new_alike config.nodes at among }
 
@@ -160,6 +170,7 @@ with_frame-history : (reply : Option Frame) (world : World) → (with_frame repl
 with_frame-history None world = refl
 with_frame-history (Some frame) world = refl
 
+-- a plugin's answer leaves the orchestrator's history
 pub answered-history : (config : Config) (world : World) (frame : Frame) → (answered config world frame).history ≡ world.history
 answered-history config world frame = by frame.party
   where

@@ -47,6 +47,7 @@ asked-doing (calls.NodeStageVolume id capability) reply doing ok rule = refl
 asked-doing (calls.NodePublishVolume id target capability readonly) reply doing ok rule = refl
 asked-doing c reply doing ok rule = absurd (false≢true doing)
 
+-- what is known to be so is there
 is_there : (world : World) (thing : Thing) (key : Key) → IsWell world → IsOne world.controller thing key → known world.history thing ≡ Yes → is_some ((view_of world).held key) ≡ true
 is_there world thing key well one h =
     let latest = known-yes world.history thing h in
@@ -77,6 +78,7 @@ attached-holds world name node id has =
 self : (node : List ℕ) → same_text node node ≡ true
 self node = (same_text-tells node node).1 refl
 
+-- a volume is staged where the view has it so
 staged-holds : (world : World) (name node : List ℕ) (id : ℕ) → HasName world.controller name id → holds world (things.Staged name node) ≡ is_some ((view_of world).held (Staged id node))
 staged-holds world name node id has =
     let found = named-found world.controller name id has in
@@ -86,6 +88,7 @@ staged-holds world name node id has =
     by None volume e = refl
     by (Some state) volume e = ap (λ n. is_some (staged_of n state)) e ∙ sym (is_some-map StagedAs (staged_of id state)) ∙ sym (ap (λ b. is_some (cond b (option_map StagedAs (staged_of id state)) None)) (self node))
 
+-- and published where the view has it so
 published-holds : (world : World) (name node target : List ℕ) (id : ℕ) → HasName world.controller name id → holds world (things.Published name node target) ≡ is_some ((view_of world).held (Published id node target))
 published-holds world name node target id has =
     let found = named-found world.controller name id has in
@@ -98,6 +101,7 @@ published-holds world name node target id has =
     by None volume e = refl
     by (Some state) volume e = ap (λ n. is_some (published_at n target state)) e ∙ sym (is_some-map published_as (published_at id target state)) ∙ sym (ap (λ b. is_some (cond b (option_map published_as (published_at id target state)) None)) (self node))
 
+-- a thing holds where the view has it, by the id of its name
 holds-one : (world : World) (thing : Thing) (key : Key) → IsOne world.controller thing key → holds world thing ≡ is_some ((view_of world).held key)
 holds-one world _ _ (Existence name) = sym (is_some-map _ (controllers.live_named name world.controller))
 holds-one world _ _ (Attachment name node id has) = attached-holds world name node id has
@@ -108,6 +112,7 @@ holds-one world _ _ (Publication name node target id has) = published-holds worl
 abbrev IsOneOrNone : World → Thing → Type 0
 IsOneOrNone world thing = (holds world thing ≡ false) ⊎ ((key : Key) × IsOne world.controller thing key)
 
+-- a thing doesn't hold, or has a key, by whether its name has an id
 by-name : (world : World) (name : List ℕ) (thing : Thing) (key : ℕ → Key) → (volume_named name world.controller ≡ None → holds world thing ≡ false)
     → ((id : ℕ) → HasName world.controller name id → IsOne world.controller thing (key id)) → IsOneOrNone world thing
 by-name world name thing key none one = by (volume_named name world.controller) refl
@@ -116,6 +121,7 @@ by-name world name thing key none one = by (volume_named name world.controller) 
     by None e = inl (none e)
     by (Some volume) e = inr (key volume.id, one volume.id (ap (option_map (λ (v : Volume). v.id)) e))
 
+-- so it is of each thing
 one-or-none : (world : World) (thing : Thing) → IsOneOrNone world thing
 one-or-none world (things.Exists name) = inr (Exists name, Existence name)
 one-or-none world (things.Attached name node) = by-name world name (things.Attached name node) (λ id. Attached id node) (λ e. ap (holds_attached world.controller node) e) (λ id has. Attachment name node id has)
@@ -123,6 +129,7 @@ one-or-none world (things.Staged name node) = by-name world name (things.Staged 
 one-or-none world (things.Published name node target) =
     by-name world name (things.Published name node target) (λ id. Published id node target) (λ e. ap (λ o. holds_published target o (node_state node world)) e) (λ id has. Publication name node target id has)
 
+-- what is known of each thing is right
 pub recorded : (world : World) → IsWell world → (thing : Thing) → IsRecordedRight world thing
 recorded world well thing =
     record {

@@ -32,6 +32,7 @@ all-append : (config : Config) (world : World) (xs ys : List Choice) → MayChoo
 all-append config world [] ys f g = g
 all-append config world (x ∷ xs) ys f g = (f.0, all-append config (chosen config world x) xs ys f.1 g)
 
+-- the world after choices and then others is the one to which the others lead from the first ones' world
 chosen-append : (config : Config) (world : World) (xs ys : List Choice) → chosen_all config world (xs ++ ys) ≡ chosen_all config (chosen_all config world xs) ys
 chosen-append config world [] ys = refl
 chosen-append config world (x ∷ xs) ys = chosen-append config (chosen config world x) xs ys
@@ -44,10 +45,12 @@ choice-of history input (Accepted number status id) may = Takes may.issued may.r
 choice-of history input (Closed number) may = Closes number
 choice-of history input (Noted name goal) may = Notes name goal
 
+-- the choices by which items are done, the oldest first
 choices-of : (history : History) (input : orchestrator.Input) (items : List Item) → stepwise.MayDoAll history input items → List Choice
 choices-of history input [] may = []
 choices-of history input (item ∷ older) may = choices-of history input older may.1 ++ choice-of (with_items history older) input item may.0 ∷ []
 
+-- there are as many as items
 choices-count : (history : History) (input : orchestrator.Input) (items : List Item) (may : stepwise.MayDoAll history input items) → length (choices-of history input items may) ≡ length items
 unfolding choices-of
 choices-count history input [] may = refl
@@ -61,9 +64,11 @@ frames-after : List Frame → List Issued → List Frame
 frames-after frames [] = frames
 frames-after frames (issued ∷ older) = frames-after frames older ++ frame_of issued ∷ []
 
+-- the world after items, with the frames that they send
 world-after : World → List Item → World
 world-after world items = record world { frames = frames-after world.frames (issued_in items); history = with_items world.history items }
 
+-- the choice of one more item leads to the world after it
 one-more : (config : Config) (world : World) (input : orchestrator.Input) (item : Item) (older : List Item) (may : stepwise.MayDo (with_items world.history older) input item)
     → chosen config (world-after world older) (choice-of (with_items world.history older) input item may) ≡ world-after world (item ∷ older)
 unfolding choice-of frames-after world-after
@@ -77,6 +82,7 @@ one-more config world input (Accepted number status id) older may =
 one-more config world input (Closed number) older may = refl
 one-more config world input (Noted name goal) older may = refl
 
+-- the choices of items lead to the world after them
 then-world : (config : Config) (world : World) (input : orchestrator.Input) (items : List Item) (may : stepwise.MayDoAll world.history input items)
     → chosen_all config world (choices-of world.history input items may) ≡ world-after world items
 unfolding choices-of frames-after world-after
@@ -96,6 +102,7 @@ abbrev CameFrom : List Frame → orchestrator.Input → Type 0
 CameFrom frames (orchestrator.Comes frame) = IsAmong frame frames
 CameFrom frames input = Unit {0}
 
+-- the choice of an item that may be done may be made, where a frame that comes was sent
 may-choose : (world : World) (input : orchestrator.Input) (item : Item) (older : List Item) → CameFrom world.frames input → (may : stepwise.MayDo (with_items world.history older) input item)
     → MayChoose (world-after world older) (choice-of (with_items world.history older) input item may)
 unfolding choice-of world-after
@@ -105,6 +112,7 @@ may-choose world input (Accepted number status id) older came may = record { is_
 may-choose world input (Closed number) older came may = may
 may-choose world input (Noted name goal) older came may = tt
 
+-- so may those of many, one after another
 may-choose-all : (config : Config) (world : World) (input : orchestrator.Input) (items : List Item) → CameFrom world.frames input → (may : stepwise.MayDoAll world.history input items)
     → MayChooseAll config world (choices-of world.history input items may)
 unfolding choices-of
@@ -122,6 +130,7 @@ none-sent frames (one ∷ older) e = absurd (clash e)
     clash : stepwise.frame_of one ∷ map stepwise.frame_of older ≡ [] → ⊥
     clash h = cc
 
+-- calls whose only frame is this one send it
 one-sent : (frames : List Frame) (frame : Frame) (issued : List Issued) → map stepwise.frame_of issued ≡ frame ∷ [] → frames-after frames issued ≡ frames ++ frame ∷ []
 unfolding frames-after
 one-sent frames frame [] e = absurd (clash e)
@@ -133,6 +142,7 @@ one-sent frames frame (one ∷ older) e =
     let none : map stepwise.frame_of older ≡ [] = cc in
     ap (λ fs. fs ++ frame_of one ∷ []) (none-sent frames older none) ∙ ap (λ f. frames ++ f ∷ []) same
 
+-- the world with the frames of the calls is the one after the answer that has them
 answer-frames : (world : World) (issued : List Issued) (answer : orchestrator.Answer) → map stepwise.frame_of issued ≡ stepwise.frames_in answer
     → record world { frames = frames-after world.frames issued } ≡ (by_answer world answer).world
 answer-frames world issued (orchestrator.Sends (Some frame)) e = ap (λ fs. record world { frames = fs }) (one-sent world.frames frame issued e)
@@ -147,6 +157,7 @@ record Stepped (config : Config) (old new : World) : Type 0 where
   same_world : chosen_all config old choices ≡ new
   reached : stepwise.IsReached (map node_id config.nodes) new.history
 
+-- a world that stays comes so, by no step
 stays : (config : Config) (world : World) → stepwise.IsReached (map node_id config.nodes) world.history → Stepped config world world
 stays config world reached = record { choices = []; may = tt; few = omega arith; same_world = refl; reached = reached }
 
@@ -167,6 +178,7 @@ moved config world input law came reached (Ok done) e steps =
       reached = subst (stepwise.IsReached (map node_id config.nodes)) (ap (orchestrator.moved_to world.history) e ∙ ap (λ (w : World). w.history) sent) (stepwise.GoesOn world.history input reached);
     }
 
+-- so does the world after an input of the orchestrator
 orchestrates : (config : Config) (world : World) (input : orchestrator.Input) → stepwise.MovesLaw → CameFrom world.frames input → stepwise.IsReached (map node_id config.nodes) world.history → Stepped config world (orchestrated config world input).world
 orchestrates config world input law came reached =
     moved config world input law came reached (orchestrator.moves (map node_id config.nodes) world.history input) refl (law (map node_id config.nodes) world.history input reached)
@@ -182,6 +194,7 @@ answers config world frame among reached =
       reached = subst (stepwise.IsReached (map node_id config.nodes)) (sym (answered-history config world frame)) reached;
     }
 
+-- and the world after a call came, to a plugin that is there or not
 calls : (config : Config) (world : World) (frame : Frame) → IsAmong frame world.frames → stepwise.IsReached (map node_id config.nodes) world.history → (party : Party) → Stepped config world (called config world frame party).world
 calls config world frame among reached Controller = answers config world frame among reached
 calls config world frame among reached (Node id) = by (has_node id config.nodes)
@@ -191,14 +204,17 @@ calls config world frame among reached (Node id) = by (has_node id config.nodes)
     by true = answers config world frame among reached
     by false = stays config world reached
 
+-- and the world after a frame that was sent came
 delivers : (config : Config) (world : World) (frame : Frame) → stepwise.MovesLaw → IsAmong frame world.frames → stepwise.IsReached (map node_id config.nodes) world.history → (body : Body) → Stepped config world (delivered_body config world frame body).world
 delivers config world frame law among reached (bodies.Call call) = calls config world frame among reached frame.party
 delivers config world frame law among reached (bodies.Reply kind reply) = orchestrates config world (orchestrator.Comes frame) law among reached
 
+-- the frame of a number was sent
 frame-there : (world : World) (number : ℕ) (frame : Frame) → frame_at world number ≡ Some frame → IsAmong frame world.frames
 frame-there world zero frame e = absurd (none-some frame e)
 frame-there world (suc place) frame e = among-get world.frames place frame e
 
+-- the world after any event comes so
 one-event : (config : Config) (world : World) (event : Event) → stepwise.MovesLaw → stepwise.IsReached (map node_id config.nodes) world.history → Stepped config world (occurs config world event).world
 one-event config world (events.Create name required limit capabilities) law reached =
     orchestrates config world (orchestrator.ToCreate name (record { required = required; limit = limit; capabilities = capabilities })) law tt reached
@@ -223,6 +239,7 @@ record IsRun (config : Config) (world last : World) (count : ℕ) : Type 0 where
   few : length choices ≤ 3 * count
   same_world : chosen_all config world choices ≡ last
 
+-- the run of any list of events is made of steps, at most three for each
 run-from : (config : Config) (world : World) (list : List Event) → stepwise.MovesLaw → stepwise.IsReached (map node_id config.nodes) world.history → IsRun config world (after_from config world list).world (length list)
 run-from config world [] law reached = record { choices = []; may = tt; few = omega arith; same_world = refl }
 run-from config world (event ∷ others) law reached = then-run (one-event config world event law reached)
@@ -238,6 +255,7 @@ run-from config world (event ∷ others) law reached = then-run (one-event confi
           same_world = chosen-append config world first.choices rest.choices ∙ ap (λ w. chosen_all config w rest.choices) first.same_world ∙ rest.same_world;
         }
 
+-- so is every run from the empty world
 pub runs-are-steps : stepwise.MovesLaw → RunsAreSteps
 runs-are-steps law config list =
     let run = run-from config (empty_world config) list law (stepwise.Begins (record { session = 1; call = 0 })) in

@@ -55,6 +55,7 @@ staged-seen laws config world at staged right there among =
     ∙ ap (λ b. cond b (option_map StagedAs (staged_of staged.volume at.state)) None) ((same_text-tells at.id at.id).1 refl)
     ∙ ap (option_map StagedAs) found
 
+-- what is staged at a node is attached there, in the same capability
 staged-attached : PluginLaws → (config : Config) (world : World) → IsRight config world → IsStagedWhereAttached world
 staged-attached laws config world right at staged there among =
     let well = right.good.well in
@@ -63,6 +64,7 @@ staged-attached laws config world right at staged there among =
     held-there world staged.volume at.id staged.capability attached.readonly
     (well.truth.told attached.call (Attached staged.volume at.id) ok.0 attached.found ok.1 ∙ ap (λ c. asked c ok.0) attached.publishes)
 
+-- every world to which choices lead that may be made is safe
 pub worlds_are_safe : PluginLaws → (config : Config) (choices : List Choice) → MayChooseAll config (empty_world config) choices → Safe (chosen_all config (empty_world config) choices)
 worlds_are_safe laws config choices may =
     let world : World = chosen_all config (empty_world config) choices in

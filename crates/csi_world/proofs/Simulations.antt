@@ -21,6 +21,7 @@ after-more config world (x ∷ xs) event =
     let first : Occurred = occurs config world x in
     ap (λ (rest : Run). let run : Run = record { world = rest.world; outcomes = first.outcome ∷ rest.outcomes } in run) (after-more config first.world xs event)
 
+-- a run with one more event that is logged is a run
 pub run-more : (config : Config) (events : List Event) (event : Event) (old new : WorldShown) → IsRun config events old → IsLogged old new (occurs old.config (after config events).world event) → IsRun config (events ++ event ∷ []) new
 run-more config events event old new was logged =
     let now : IsLogged old new (occurs config (after config events).world event) = subst (λ c. IsLogged old new (occurs c (after config events).world event)) was.configured logged in

@@ -45,6 +45,7 @@ pub record IsAttachedSo (items : List Item) (id : ℕ) (node : List ℕ) (capabi
   pub publishes : call.call ≡ calls.ControllerPublishVolume id node capability readonly
   pub success : has_success items call.number ≡ true
 
+-- whatever stands is attached so
 abbrev pub Stands : List Item → View → Type 0
 Stands items view = (id : ℕ) (node : List ℕ) (capability : Capability) → IsStanding (issued_in items) view id node capability → IsAttachedSo items id node capability
 
@@ -63,6 +64,7 @@ staged_by name (Node here) (calls.NodeUnstageVolume i) reply id node capability 
 staged_by name Controller (calls.NodeStageVolume i other) reply id node capability of asks = absurd (false≢true of)
 staged_by name party c reply id node capability of asks = absurd (false≢true of)
 
+-- what stands after a call was carried out stood before
 standing-acts : (issued : List Issued) (old new : View) (call : Issued) (key : Key) (kind : Kind) (reply : Reply) → IsAmong call issued → is_of key call ≡ true → Acts key (delivery_of call kind reply) old new
     → (id : ℕ) (node : List ℕ) (capability : Capability) → IsStanding issued new id node capability → IsStanding issued old id node capability
 standing-acts issued old new call key kind reply there of acts id node capability (inr may) =
@@ -85,11 +87,13 @@ standing-acts issued old new call key kind reply there of acts id node capabilit
         let is = staged_by call.name call.party call.call reply id node capability (subst (λ k. is_of k call ≡ true) (sym same) of) asks in
         inr (record { call = call; among = there; of_node = is.0; stages = is.1; unspent = subst (λ k. old.is_spent k call.number ≡ false) (sym same) acts.was_fresh })
 
+-- whatever stands is attached so after a plugin carried a sent call out
 pub stands-acts : (items : List Item) (old new : View) (call : Issued) (key : Key) (kind : Kind) (reply : Reply) → IsAmong call (issued_in items) → is_of key call ≡ true → Acts key (delivery_of call kind reply) old new
     → Stands items old → Stands items new
 stands-acts items old new call key kind reply there of acts stands id node capability standing =
     stands id node capability (standing-acts (issued_in items) old new call key kind reply there of acts id node capability standing)
 
+-- and after one that wasn't carried out
 pub stands-rests : (items : List Item) (old new : View) (call : Issued) (key : Key) (kind : Kind) (reply : Reply) → Rests key (delivery_of call kind reply) old new → Stands items old → Stands items new
 stands-rests items old new call key kind reply rests stands id node capability standing = stands id node capability (before standing)
   where

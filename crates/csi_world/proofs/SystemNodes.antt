@@ -34,6 +34,7 @@ pub record IsFound (id : List ℕ) (shown : NodeParts) (nodes : List NodeAt) : T
   pub same_id : shown.id ≡ node.id
   pub shows : Shows shown.rows node.state
 
+-- where the first node of an id is shown, the world's node of the id is found, and shown so
 pub node-found : (id : List ℕ) (shown : List NodeParts) (nodes : List NodeAt) (i : ℕ) (one : NodeParts) → AreNodesShown shown nodes → FirstAt (is_shown_node id) shown i one → IsFound id one nodes
 node-found id [] nodes i one are first = absurd first
 node-found id (x ∷ xs) [] i one are first = absurd are
@@ -81,18 +82,21 @@ pub any-ids : (id : List ℕ) (nodes : List NodeSlots) → has_node id nodes ≡
 any-ids id [] = refl
 any-ids id (n ∷ ns) = ap (λ b. same_text id n.id || b) (any-ids id ns)
 
+-- where no two nodes have one id, their ids are distinct
 apart-from : (nodes : List NodeSlots) → has_same_node nodes ≡ false → AreDistinct (map node_id nodes)
 apart-from [] h = tt
 apart-from (n ∷ ns) h =
     let both = or_parts (has_node n.id ns) (has_same_node ns) h in
     (sym (any-ids n.id ns) ∙ both.0, apart-from ns (both.1))
 
+-- where none of four faults is found, the third isn't there
 fault-none : (a b c d : Bool) → cond a (Some BadGreatest) (cond b (Some TooManyNodes) (cond c (Some SameNode) (cond d (Some BadSlots) None))) ≡ None → c ≡ false
 fault-none true b c d h = absurd (some_is_not_none BadGreatest h)
 fault-none false true c d h = absurd (some_is_not_none TooManyNodes h)
 fault-none false false true d h = absurd (some_is_not_none SameNode h)
 fault-none false false false d h = refl
 
+-- the nodes of a configuration without a fault have distinct ids
 pub fit-apart : (config : Config) → config_fault config.greatest config.nodes ≡ None → AreDistinct (map node_id config.nodes)
 fit-apart config h =
     apart-from config.nodes (fault-none (is_bad_greatest config.greatest) (nat_lt 64 (length config.nodes)) (has_same_node config.nodes) (has_bad_slots config.nodes) h)
@@ -140,6 +144,7 @@ none-at id (x ∷ xs) none = by (same_text x.id id) refl (none-at id xs) none
     by true e rest h = absurd (some_is_not_none x h)
     by false e rest h = rw (same-symmetric id x.id ∙ e) (rest h)
 
+-- an id that is found among what is shown is one of the ids
 pub some-at : (id : List ℕ) (shown : List NodeParts) (i : ℕ) (x : NodeParts) → FirstAt (is_shown_node id) shown i x → list_any (same_text id) (map (λ (m : NodeParts). m.id) shown) ≡ true
 some-at id [] i x first = absurd first
 some-at id (y ∷ ys) zero x first = rw (same-symmetric id y.id ∙ first.0) refl
@@ -150,6 +155,7 @@ pub new-shown : (nodes : List NodeSlots) → AreNodesShown (map new_node_parts n
 new-shown [] = tt
 new-shown (n ∷ ns) = (refl, record { count = refl; kept = λ id. refl; staged = λ id. refl; published = λ id. refl }, new-shown ns)
 
+-- nodes that answered nothing have the ids of the configuration
 pub new-ids : (nodes : List NodeSlots) → map (λ (m : NodeParts). m.id) (map new_node_parts nodes) ≡ map node_id nodes
 new-ids [] = refl
 new-ids (n ∷ ns) = ap (λ (ids : List (List ℕ)). n.id ∷ ids) (new-ids ns)

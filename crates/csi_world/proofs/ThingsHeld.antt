@@ -42,9 +42,11 @@ only-found p (y ∷ ys) x one (inr there) passes = by (p y) refl (only-found p y
     by true e found = let none : None ≡ Some x = sym (one.0 e) ∙ found in absurd (none-some x none)
     by false e found = found
 
+-- a row of this id is the one that is found by it
 row-by-id : (rows : List ControllerRow) → AreKept rows → (row : ControllerRow) → IsAmong row rows → (id : ℕ) → row.id ≡ id → row_with_id id rows ≡ Some row
 row-by-id rows kept row among id same = only-found (λ (r : ControllerRow). r.id == id) rows row (rising-one rows kept.rising id) among (eq-eqb row.id id same)
 
+-- and a row of this name is the one that is found by the name
 row-by-name : (rows : List ControllerRow) → AreKept rows → (row : ControllerRow) → IsAmong row rows → (name : List ℕ) → row.name ≡ name → find (λ (r : ControllerRow). same_text r.name name) rows ≡ Some row
 row-by-name rows kept row among name same =
     only-found (λ (r : ControllerRow). same_text r.name name) rows row (kept.names name) among ((same_text-tells row.name name).1 same)
@@ -55,6 +57,7 @@ volume-by-name : (lists : Lists) (world : World) → IsListed lists world → (n
 volume-by-name lists world is name =
     ap (find (λ (v : Volume). same_text v.name name)) (sym is.volumes) ∙ find-of_map (λ (v : Volume). same_text v.name name) volume_of_row lists.rows
 
+-- the volume of a listed row's name is the row's
 volume-of : (lists : Lists) (world : World) → IsListed lists world → AreKept lists.rows → (row : ControllerRow) → IsAmong row lists.rows → volume_named row.name world.controller ≡ Some (volume_of_row row)
 volume-of lists world is kept row among =
     volume-by-name lists world is row.name ∙ ap (option_map volume_of_row) (row-by-name lists.rows kept row among row.name refl)
@@ -70,21 +73,25 @@ row-of-volume lists world is name v e =
 
 -- ---- holdings
 
+-- the holding of a row, as the volume's
 abbrev held_of : ControllerRow → NodeHolding → Holding
 held_of row held = record { volume = row.id; node = held.node; capability = held.capability; readonly = held.readonly }
 
+-- the holdings of a listed row are those of its volume in the world
 holdings-of-row : (lists : Lists) (world : World) → IsListed lists world → AreKept lists.rows → (row : ControllerRow) → IsAmong row lists.rows
     → holdings_in_row row ≡ filter (λ (h : Holding). h.volume == row.id) world.controller.holdings
 holdings-of-row lists world is kept row among = ap holdings_in (sym (row-by-id lists.rows kept row among row.id refl)) ∙ is.holdings row.id
 
 -- ---- each that is listed holds
 
+-- the volume of a live row exists
 exists-holds : (lists : Lists) (world : World) → IsListed lists world → (row : ControllerRow) → IsAmong row lists.rows → row.live ≡ true → holds world (Exists row.name) ≡ true
 exists-holds lists world is row among live =
     let p : Volume → Bool = λ volume. same_text volume.name row.name && volume.is_live in
     ap (λ (vs : List Volume). is_some (find p vs)) (sym is.volumes) ∙ sym (any-find p (map volume_of_row lists.rows)) ∙ any-of_map p volume_of_row lists.rows
     ∙ then-any (λ (r : ControllerRow). p (volume_of_row r)) lists.rows row among (and_from _ _ ((same_text-tells row.name row.name).1 refl) live)
 
+-- the volume of a row is attached where the row is held
 attached-holds : (lists : Lists) (world : World) → IsListed lists world → AreKept lists.rows → (row : ControllerRow) → IsAmong row lists.rows → (held : NodeHolding) → IsAmong held row.holdings.items
     → holds world (Attached row.name held.node) ≡ true
 attached-holds lists world is kept row among held here =
@@ -103,6 +110,7 @@ record IsNodeOf (world : World) (n : NodeLists) : Type 0 where
   alike : IsNodeAlike (node_listed n) node
   state : node_state n.id world ≡ Some node.state
 
+-- each listed node is one of the world
 node-of-list : (lists : Lists) (world : World) → IsListed lists world → (n : NodeLists) → IsAmong n lists.nodes → IsNodeOf world n
 node-of-list lists world is n at =
     let found = node-of (map node_listed lists.nodes) world.nodes is.nodes (node_listed n) (in-map node_listed lists.nodes n at) in
@@ -113,10 +121,12 @@ node-of-list lists world is n at =
     in
     record { node = m; is_there = found.1; alike = alike; state = ap (option_map (λ (k : NodeAt). k.state)) by_id }
 
+-- the row that is found by an id is among the rows, and has the id
 id-of-row : (rows : List ControllerRow) (id : ℕ) (row : ControllerRow) → row_with_id id rows ≡ Some row → IsAmong row rows × (id ≡ row.id)
 id-of-row rows id row e =
     (among-find (λ (r : ControllerRow). r.id == id) rows row e, sym (eqb-true row.id id (find-passes (λ (r : ControllerRow). r.id == id) rows row e)))
 
+-- what is listed as staged is staged, where a row has its id
 staged-holds : (lists : Lists) (world : World) → IsListed lists world → AreKept lists.rows → (n : NodeLists) → IsAmong n lists.nodes → (s : StagedEntry) → IsAmong s n.staged.items
     → (row : ControllerRow) → row_with_id s.id lists.rows ≡ Some row → holds world (Staged row.name n.id) ≡ true
 staged-holds lists world is kept n at s here row e =
@@ -132,6 +142,7 @@ staged-holds lists world is kept n at s here row e =
     ∙ is_some-map (λ (x : StagedVolume). x.capability) (find p (m.node).state.staged) ∙ sym (any-find p (m.node).state.staged)
     ∙ then-any p (m.node).state.staged (staged_shown s) there (eq-eqb s.id row.id own.1)
 
+-- and what is listed as published is published
 published-holds : (lists : Lists) (world : World) → IsListed lists world → AreKept lists.rows → (n : NodeLists) → IsAmong n lists.nodes → (s : PublishedEntry) → IsAmong s n.published.items
     → (row : ControllerRow) → row_with_id s.id lists.rows ≡ Some row → holds world (Published row.name n.id s.target) ≡ true
 published-holds lists world is kept n at s here row e =
@@ -147,11 +158,13 @@ published-holds lists world is kept n at s here row e =
     ∙ sym (any-find p (m.node).state.published)
     ∙ then-any p (m.node).state.published (published_shown s) there (and_from _ _ (eq-eqb s.id row.id own.1) ((same_text-tells s.target s.target).1 refl))
 
+-- what is among one or none, by a test, is that one, and the test passes
 one_if : {X : Type 0} (b : Bool) (x y : X) → IsAmong y (cond b (x ∷ []) []) → (b ≡ true) × (y ≡ x)
 one_if true x y (inl e) = (refl, e)
 one_if true x y (inr none) = absurd none
 one_if false x y among = absurd among
 
+-- each thing that is listed holds
 pub listed-then-holds : (lists : Lists) (world : World) → IsListed lists world → AreKept lists.rows → (thing : Thing) → IsAmong thing (things_listed lists.rows lists.nodes) → holds world thing ≡ true
 listed-then-holds lists world is kept thing among = either (among-joined (flat_map things_of rows) (flat_map (things_at rows) lists.nodes) thing among)
   where
@@ -193,16 +206,20 @@ listed-then-holds lists world is kept thing among = either (among-joined (flat_m
 
 -- ---- what holds is listed
 
+-- where the test passes, the one is among them
 in_one : {X : Type 0} (b : Bool) (x : X) → b ≡ true → IsAmong x (cond b (x ∷ []) [])
 in_one true x e = inl refl
 in_one false x e = absurd (false≢true e)
 
+-- what holds of a row's volume at the controller is listed
 at-controller : (rows : List ControllerRow) (nodes : List NodeLists) (row : ControllerRow) (thing : Thing) → IsAmong row rows → IsAmong thing (things_of row) → IsAmong thing (things_listed rows nodes)
 at-controller rows nodes row thing among here = among-append (flat_map things_of rows) (flat_map (things_at rows) nodes) thing (in-flat things_of rows row thing among here)
 
+-- and what holds at a listed node
 at-node : (rows : List ControllerRow) (nodes : List NodeLists) (n : NodeLists) (thing : Thing) → IsAmong n nodes → IsAmong thing (things_at rows n) → IsAmong thing (things_listed rows nodes)
 at-node rows nodes n thing at here = among-right (flat_map things_of rows) (flat_map (things_at rows) nodes) thing (in-flat (things_at rows) nodes n thing at here)
 
+-- what exists is listed
 exists-listed : (lists : Lists) (world : World) → IsListed lists world → (name : List ℕ) → holds world (Exists name) ≡ true → IsAmong (Exists name) (things_listed lists.rows lists.nodes)
 exists-listed lists world is name h =
     let rows : List ControllerRow = lists.rows in
@@ -218,6 +235,7 @@ exists-listed lists world is name h =
     (at-controller rows lists.nodes row (Exists row.name) found.1
     (among-append (exists_thing row) (map (attached_thing row.name) row.holdings.items) (Exists row.name) (in_one row.live (Exists row.name) parts.1)))
 
+-- what is attached is listed
 attached-listed : (lists : Lists) (world : World) → IsListed lists world → AreKept lists.rows → (name node : List ℕ) → holds world (Attached name node) ≡ true → IsAmong (Attached name node) (things_listed lists.rows lists.nodes)
 attached-listed lists world is kept name node = by (volume_named name world.controller) refl
   where
@@ -251,6 +269,7 @@ record IsListOfId (lists : Lists) (world : World) (id : List ℕ) (state : NodeS
   alike : IsNodeAlike (node_listed list) node
   own_state : node.state ≡ state
 
+-- each node of the world is listed, under its id
 list-of-id : (lists : Lists) (world : World) → IsListed lists world → (id : List ℕ) (state : NodeState) → node_state id world ≡ Some state → IsListOfId lists world id state
 list-of-id lists world is id state e =
     let p : NodeAt → Bool = λ n. same_text n.id id in
@@ -261,6 +280,7 @@ list-of-id lists world is id state e =
     let own : IsNodeAlike (node_listed entry.0) n = subst (λ (l : NodeAt). IsNodeAlike l n) entry.2 found.2 in
     record { list = entry.0; is_there = entry.1; own_id = own.id ∙ (same_text-tells n.id id).0 (find-passes p world.nodes n at.1); node = n; alike = own; own_state = at.2 }
 
+-- what is staged is listed
 staged-listed : (lists : Lists) (world : World) → IsListed lists world → AreKept lists.rows → (name node : List ℕ) → holds world (Staged name node) ≡ true → IsAmong (Staged name node) (things_listed lists.rows lists.nodes)
 staged-listed lists world is kept name node = by (volume_named name world.controller) (node_state node world) refl refl
   where
@@ -295,6 +315,7 @@ staged-listed lists world is kept name node = by (volume_named name world.contro
         (among-append (flat_map (staged_thing rows n.id) n.staged.items) (flat_map (published_thing rows n.id) n.published.items) (Staged row.name n.id)
         (in-flat (staged_thing rows n.id) n.staged.items s (Staged row.name n.id) entry.1 here)))
 
+-- what is published is listed
 published-listed : (lists : Lists) (world : World) → IsListed lists world → AreKept lists.rows → (name node target : List ℕ) → holds world (Published name node target) ≡ true
     → IsAmong (Published name node target) (things_listed lists.rows lists.nodes)
 published-listed lists world is kept name node target = by (volume_named name world.controller) (node_state node world) refl refl
@@ -331,6 +352,7 @@ published-listed lists world is kept name node target = by (volume_named name wo
         (among-right (flat_map (staged_thing rows n.id) n.staged.items) (flat_map (published_thing rows n.id) n.published.items) thing
         (in-flat (published_thing rows n.id) n.published.items s thing entry.1 here)))
 
+-- each thing that holds is listed
 pub holds-then-listed : (lists : Lists) (world : World) → IsListed lists world → AreKept lists.rows → (thing : Thing) → holds world thing ≡ true → IsAmong thing (things_listed lists.rows lists.nodes)
 holds-then-listed lists world is kept (Exists name) h = exists-listed lists world is name h
 holds-then-listed lists world is kept (Attached name node) h = attached-listed lists world is kept name node h

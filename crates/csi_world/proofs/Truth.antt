@@ -41,6 +41,7 @@ pub record IsFrameOf (issued : List Issued) (frame : Frame) : Type 0 where
   pub among : IsAmong call issued
   pub is : frame ≡ frame_of call
 
+-- what is so of the calls that were sent, of all frames, and of the things
 pub record Truth (issued : List Issued) (frames : List Frame) (view : View) : Type 0 where
   -- what was sent: calls that were issued, and replies to their numbers, an OK with an id where it must, what is kept
   -- among them
@@ -54,6 +55,7 @@ pub record Truth (issued : List Issued) (frames : List Frame) (view : View) : Ty
   pub told : (call : Issued) (key : Key) (reply : Reply) → find (is_of key) issued ≡ Some call → IsAnsweredOk frames call reply → view.held key ≡ asked call.call reply
   pub untouched : (key : Key) → find (is_of key) issued ≡ None → view.held key ≡ None
 
+-- no reply is the frame of a call
 reply_is_call : (number : Number) (party : Party) (kind : Kind) (reply : Reply) (call : Issued) → reply_frame number party kind reply ≡ frame_of call → ⊥
 reply_is_call number party kind reply call e = clash (ap (λ (f : Frame). f.body) e)
   where
@@ -117,6 +119,7 @@ truth-sent issued frames view call truth later =
 abbrev pub answer_to : Issued → Kind → Reply → Frame
 answer_to call kind reply = reply_frame call.number call.party kind reply
 
+-- a call that was delivered, with its reply
 abbrev pub delivery_of : Issued → Kind → Reply → Delivery
 delivery_of call kind reply = record { number = call.number; call = call.call; kind = kind; reply = reply }
 
@@ -247,6 +250,7 @@ sent_before : (issued : List Issued) (frames : List Frame) (old new : View) (cal
 sent_before issued frames old new call key kind reply truth party rests ok =
     subst (λ p. IsAmong (reply_frame call.number p kind reply) frames) party (truth.kept key (kept_of (delivery_of call kind reply)) (rests.was_kept ok))
 
+-- where a call wasn't carried out, each OK was sent before its answer
 pub ok-before : (issued : List Issued) (frames : List Frame) (old new : View) (call : Issued) (key : Key) (kind : Kind) (reply : Reply) → Truth issued frames old → party_of key ≡ call.party
     → Rests key (delivery_of call kind reply) old new → (other : Issued) (r : Reply) → IsAnsweredOk (frames ++ answer_to call kind reply ∷ []) other r → IsAnsweredOk frames other r
 ok-before issued frames old new call key kind reply truth party rests other r ok =

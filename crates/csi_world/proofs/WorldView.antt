@@ -26,14 +26,17 @@ party_of (Published id node target) = Node node
 abbrev pub no_view : View
 no_view = record { held = λ key. None; is_spent = λ key number. false; kept = λ key. None }
 
+-- a node by its things, if it is there
 abbrev pub node_view : List ℕ → Option NodeState → View
 node_view node None = no_view
 node_view node (Some state) = nodes.view_of node state
 
+-- a plugin by its things
 abbrev pub plugin_view : World → Party → View
 plugin_view world Controller = controllers.view_of world.controller
 plugin_view world (Node id) = node_view id (node_state id world)
 
+-- the world by its things
 abbrev pub view_of : World → View
 view_of world =
     record {
@@ -56,6 +59,7 @@ for_each P party old new only key its same = by (same_party (party_of key) party
     by true e = subst (λ p. P (plugin_view old p) (plugin_view new p) key) (sym ((same_party-tells (party_of key) party).0 e)) its
     by false e = subst (λ view. P (plugin_view old (party_of key)) view key) (sym (only (party_of key) e)) (same (plugin_view old (party_of key)))
 
+-- a call that acts on a thing of one plugin, while the others are as they were, acts so in the world
 pub acts-all : (old new : World) (key : Key) (delivery : Delivery) → ChangesOnly (party_of key) old new
     → Acts key delivery (plugin_view old (party_of key)) (plugin_view new (party_of key)) → Acts key delivery (view_of old) (view_of new)
 acts-all old new key delivery only acts =
@@ -71,6 +75,7 @@ acts-all old new key delivery only acts =
       keeps = λ other. for_each (λ before after k. (after.kept k ≡ before.kept k) ⊎ (after.kept k ≡ Some (kept_of delivery))) (party_of key) old new only other (acts.keeps other) (λ view. inl refl);
     }
 
+-- where one plugin is as it was by its things, and the others are as they were, so is the world
 pub same-all : (party : Party) (old new : World) → ChangesOnly party old new → IsSameView (plugin_view old party) (plugin_view new party) → IsSameView (view_of old) (view_of new)
 same-all party old new only same =
     record {
@@ -79,6 +84,7 @@ same-all party old new only same =
       kept = λ key. for_each (λ before after k. after.kept k ≡ before.kept k) party old new only key (same.kept key) (λ view. refl);
     }
 
+-- a call that rests at one plugin, while the others are as they were, rests in the world
 pub rests-all : (old new : World) (key : Key) (delivery : Delivery) → ChangesOnly (party_of key) old new
     → Rests key delivery (plugin_view old (party_of key)) (plugin_view new (party_of key)) → Rests key delivery (view_of old) (view_of new)
 rests-all old new key delivery only rests =

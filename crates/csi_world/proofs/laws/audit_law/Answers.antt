@@ -13,6 +13,7 @@ use Rattle.csi_world.specs.Safe.{Safe}
 use Rattle.csi_world.specs.Audited.{AreMarkedRight, Finds}
 use Rattle.csi_world.proofs.laws.audit_law.Goals as goal
 
+-- in a safe world all is marked right, by marks that are what is known
 marked : (marks : Thing → Known) (world : World) → ((thing : Thing) → marks thing ≡ known world.history thing) → Safe world → AreMarkedRight marks world
 marked marks world same safe thing =
     record {
@@ -20,6 +21,7 @@ marked marks world same safe thing =
       no = λ is. (safe.recorded_right thing).no (sym (same thing) ∙ is);
     }
 
+-- where an audit finds nothing by such marks, the world is safe
 is_safe : (marks : Thing → Known) (world : World) → ((thing : Thing) → marks thing ≡ known world.history thing) → Finds marks world None → Safe world
 is_safe marks world same finds =
     record {
@@ -30,6 +32,7 @@ is_safe marks world same finds =
       recorded_right = λ thing. record { yes = λ is. (finds.4 thing).yes (same thing ∙ is); no = λ is. (finds.4 thing).no (same thing ∙ is) };
     }
 
+-- and where it finds something, the world isn't
 unsafe : (marks : Thing → Known) (world : World) (violation : Violation) → ((thing : Thing) → marks thing ≡ known world.history thing) → Finds marks world (Some violation) → Safe world → ⊥
 unsafe marks world TwoNodes same finds safe = finds safe.exclusive
 unsafe marks world StagedUnattached same finds safe = finds.1 safe.staged_where_attached

@@ -12,6 +12,7 @@ use Rattle.csi_world.specs.Safe.{holds}
 use Rattle.csi_world.proofs.Reached.{knows-nothing}
 use Rattle.csi_world.proofs.laws.empty_is_safe.Goals as goal
 
+-- in the empty world no thing holds
 nothing_holds : (config : Config) (thing : Thing) → holds (empty_world config) thing ≡ false
 nothing_holds config (Exists name) = refl
 nothing_holds config (Attached name node) = refl
