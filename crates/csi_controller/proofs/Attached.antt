@@ -70,7 +70,7 @@ own_volumes : (id : ℕ) (items : List NodeHolding) → AllByRecursion (λ (h : 
 own_volumes id [] = tt
 own_volumes id (held ∷ later) = (refl, own_volumes id later)
 
--- where the ids of all rows are above a number, so are those of the volumes that they hold
+-- where the ids of all rows are above a number, so are those in all their holdings
 above_all : (id : ℕ) (rows : List ControllerRow) → AllByRecursion (λ (later : ControllerRow). id < later.id) rows → AllByRecursion (λ (h : Holding). id < h.volume) (attached rows)
 above_all id [] above = tt
 above_all id (row ∷ rows) above =

@@ -176,7 +176,7 @@ split-find p (z ∷ zs) x ys one passes = by (p z) refl (split-find p zs x ys (o
     by true e rest = absurd (find-not_none p (zs ++ x ∷ ys) (length zs) x (at-split zs x ys) passes (one.0 e))
     by false e rest = rest
 
--- no row before a record's has its id
+-- no row that stands before one of a record's has its id
 pub id-split : (n : ℕ) (rows : List ControllerRow) (row : ControllerRow) (others : List ControllerRow) → IsSound n (rows ++ row ∷ others) → find (λ (r : ControllerRow). r.id == row.id) rows ≡ None
 id-split n rows row others sound = split-find (λ (r : ControllerRow). r.id == row.id) rows row others (rising-one (rows ++ row ∷ others) sound.rising row.id) (eq-eqb row.id row.id refl)
 

@@ -149,7 +149,7 @@ sound-more n rows row sound follows none =
           (λ e. subst (λ k. find (λ (r : ControllerRow). same_text r.name k) rows ≡ None) ((same_text-tells row.name name).0 e) none);
     }
 
--- the last of a record's rows may follow those before it
+-- the last of a record's rows may follow those before it, if its id isn't 0
 follows-sound : (n : ℕ) (rows : List ControllerRow) (row : ControllerRow) → 0 < row.id → IsSound n (rows ++ row ∷ []) → may_follow n (length rows) (last_id 0 rows) row ≡ true
 follows-sound n rows row from sound =
     let room : length rows < 4096 = let limit = sound.limit in let long : length (rows ++ row ∷ []) ≡ length rows + 1 = length_push rows row in omega (arith, limit, long) in
@@ -186,11 +186,11 @@ or-turned true false = refl
 or-turned false true = refl
 or-turned false false = refl
 
--- so it is before the first row, while no name is had
+-- the walk begins so, before the first row and while no name is had
 pub begins : (n : ℕ) (rows : List ControllerRow) (has : List ℕ → Bool) → ((name : List ℕ) → has name ≡ false) → SoFar n rows 0 0 has
 begins n rows has none = record { sound = record { limit = omega arith; each = tt; rising = tt; names = λ name. tt }; is_last = refl; names = none }
 
--- so it is after a row that may follow and has a new name, once that name is put in
+-- it goes on so after a row that may follow and has a new name, once that name is put in
 pub goes_on : (n : ℕ) (rows : List ControllerRow) (place last : ℕ) (has now_has : List ℕ → Bool) (row : ControllerRow) → SoFar n rows place last has → place < length rows → row ≡ get_or rows place row
     → may_follow n place last row ≡ true → has row.name ≡ false → ((name : List ℕ) → now_has name ≡ (same_text row.name name || has name)) → SoFar n rows (place + 1) row.id now_has
 goes_on n rows place last has now_has row so inside is follows absent adds =
@@ -218,7 +218,7 @@ refused-there n rows place row sound inside is fails =
       refused = λ whole. fails (subst (IsSound n) (one-more rows place row inside is) whole);
     }
 
--- so is a row that may not follow those before it
+-- so is a row that may not follow those before it, if its id isn't 0
 pub refused-rules : (n : ℕ) (rows : List ControllerRow) (place last : ℕ) (has : List ℕ → Bool) (row : ControllerRow) → SoFar n rows place last has → place < length rows → row ≡ get_or rows place row
     → 0 < row.id → may_follow n place last row ≡ false → IsFirstRefused n rows (place + 1)
 refused-rules n rows place last has row so inside is from fails =

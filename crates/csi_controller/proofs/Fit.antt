@@ -113,7 +113,7 @@ spare : (is_full : Bool) (n : ℕ) → (is_full || nat_le 64 n) ≡ false → n 
 spare true n h = cc
 spare false n h = grind (arith, nat_tests)
 
--- so it is of ControllerPublishVolume's line, where a volume at 64 nodes counts as full
+-- what is asked of each line is so of ControllerPublishVolume's, where a volume at 64 nodes counts as full
 publish-good : (row : ControllerRow) (wanted : NodeHolding) (configured is_full : Bool)
     → IsGood ControllerPublishVolume row (publish_line row wanted configured (is_full || nat_le 64 (length row.holdings.items)))
 publish-good row wanted configured is_full =

@@ -55,12 +55,12 @@ ended_kept id v = by (v.id == id)
     by true = refl
     by false = refl
 
--- so does a row after a deletion, of its own volume or of another
+-- a row comes so where a volume is deleted, its own or another
 ended_comes : (kept : Kept) (id : ℕ) (o : Option Volume) → Comes kept o (option_map (ended id) o)
 ended_comes kept id None = none_comes
 ended_comes kept id (Some v) = same_comes v (ended id v) ((end_leaves id).ids v) ((end_leaves id).names v) (ended_kept id v)
 
--- so does the row that was found before, and else one that was just made
+-- so does the row that was found before, or else one that was just made
 added_comes : (kept : Kept) (n : Volume) (o : Option Volume) (b : Bool) → n.kept ≡ kept → Comes kept o (option_or o (cond b (Some n) None))
 added_comes kept n None true is = subst (Comes kept None) (sym (option_or-none None (Some n) refl)) (new_comes n is)
 added_comes kept n None false is = subst (Comes kept None) (sym (option_or-none None None refl)) none_comes

@@ -209,7 +209,7 @@ made-capacity greatest count next name required limit capacity id wished line =
     by false true e h = absurd (stays (ap (λ (o : Outcome). o.change) h))
     by false false e h = (same_capacity (ap (λ (o : Outcome). o.change) h), room (nat_le 18446744073709551616 next) e)
 
--- so is each volume that the table makes
+-- each volume that the table makes is made so
 pub made-well : (greatest count next : ℕ) (name : List ℕ) (required limit capacity id : ℕ) (wished : List Capability) → argument_fault required limit wished ≡ None
     → new_line greatest count next name required limit wished ≡ record { reply = ok_reply_with id; change = Makes name capacity wished } → IsMadeWell count capacity wished
 made-well greatest count next name required limit capacity id [] good line = absurd (some_is_not_none _ good)

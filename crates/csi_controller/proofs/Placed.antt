@@ -47,7 +47,7 @@ pub shown-set : (core : Core) (place : ℕ) (new : ControllerRow) (state : Contr
 shown-set core place new state shown =
     subst (λ (rows : List ControllerRow). IsShown (record { config = core.config; next_id = core.next_id; rows = rows }) state) (sym (rows-set core.catalog.rows place new)) shown
 
--- a core with another row of the same id and name at a place is kept, where the rows are sound and the counts right
+-- a core keeps its rules with another row of the same id and name at a place, where the rows do and the counts are right
 kept-set : (core : Core) (place : ℕ) (row new : ControllerRow) → IsKept core → slice_get (rows_of core.catalog) place ≡ Some row → new.id ≡ row.id → new.name ≡ row.name
     → IsSound core.next_id (set (rows_of core.catalog) place new) → (counts : List ℕ) → AreCounted core.config.nodes (set (rows_of core.catalog) place new) counts → IsKept (recounted_core core place new counts)
 kept-set core place row new kept at id name sound counts counted =

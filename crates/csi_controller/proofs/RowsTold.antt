@@ -37,7 +37,7 @@ same_held id (x ∷ xs) (y ∷ ys) e =
     both : (a b : NodeHolding) → a.node ≡ b.node → a.capability ≡ b.capability → a.readonly ≡ b.readonly → a ≡ b
     both a b node capability readonly = λ i. record { node = node i; capability = capability i; readonly = readonly i }
 
--- rows of the same volume with the same holdings say the same
+-- a row is told by its volume and its holdings
 same_row : (old new : ControllerRow) → volume_of_row old ≡ volume_of_row new → holdings_in_row old ≡ holdings_in_row new → IsSameRow old new
 same_row old new volume held =
     let ids : new.id ≡ old.id = sym (ap (λ (v : Volume). v.id) volume) in

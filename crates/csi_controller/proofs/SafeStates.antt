@@ -126,7 +126,7 @@ kept_test call kept n volume = by (is_row_for call volume)
     by true = refl
     by false = refl
 
--- so it is kept
+-- to keep a call's reply leaves it so
 keep_keeps : (call : Call) (kept : Kept) (state : ControllerState) → IsExclusive state → IsExclusive (keep call kept state)
 keep_keeps call kept state safe = record {
   exclusive = safe.exclusive;

@@ -135,7 +135,7 @@ later_through call kept later None f before = refl
 later_through call kept later (Some v) f before =
     ap (λ (k : Kept). verdict_of (Some k.number) later) (f v refl) ∙ fresh kept.number later before
 
--- after a call was kept, its row lets a later number through
+-- after a call was kept, the fence lets it through under a later number
 is_later_through : (call : Call) (kept : Kept) (state : ControllerState) (later : Number) → IsBefore kept.number later → IsLetThrough (keep call kept state) later call
 is_later_through call kept state later before =
     let found = find-map (is_row_for call) (kept_in call kept) state.volumes (kept_in-row call kept) in

@@ -39,7 +39,7 @@ use Rattle.csi_world.proofs.Deliveries.{PluginLaws, all-closed, IsGood, frame-go
 abbrev pub IsLast : History → Type 0
 IsLast history = (call : Issued) → IsAmong call (issued_in history.items) → (call.number ≡ last_number history) ⊎ IsBefore call.number (last_number history)
 
--- a number that is before one is before each after that
+-- what comes before a number comes before each later one
 then-before : (a b c : Number) → IsBefore a b → IsBefore b c → IsBefore a c
 then-before a b c h k = is_before-from a c (before-trans a b c (rw h refl) (rw k refl))
   where

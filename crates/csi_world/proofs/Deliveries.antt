@@ -273,7 +273,7 @@ reply-got config world frame kind reply good is =
     by Controller = good
     by (Node id) = at_node id (node_state id world) refl
 
--- a frame that was sent came to its plugin, or to none
+-- what is kept of every world is so after a frame that was sent came
 pub frame-got : PluginLaws → (config : Config) (world : World) (frame : Frame) → IsGood config world → IsAmong frame world.frames → IsGood config (answered config world frame)
 frame-got laws config world frame good among = by frame.body refl
   where

@@ -128,7 +128,7 @@ known-yes history thing h = by (find (touches thing) (issued_in history.items)) 
         at true false p q h = absurd (false≢true (ap is_yes h))
         at false d p q h = absurd (false≢true (ap is_yes h))
 
--- where it is known not to be so, it has no call, or its latest undoes it, and its success was heard
+-- where it is known not to be so, no call of it was sent, or the latest undoes it, and its success was heard
 pub known-no : (history : History) (thing : Thing) → known history thing ≡ No → (find (touches thing) (issued_in history.items) ≡ None) ⊎ ((call : Issued) × IsLatest history.items thing call false)
 known-no history thing h = by (find (touches thing) (issued_in history.items)) refl h
   where

@@ -13,7 +13,7 @@ lists-more [] (l ∷ ls) parts listed are is = absurd are
 lists-more (n ∷ ns) [] parts listed are is = absurd are
 lists-more (n ∷ ns) (l ∷ ls) parts listed are is = (are.0, lists-more ns ls parts listed are.1 is)
 
--- lists of nodes are like all nodes that these show
+-- lists of nodes are like whatever nodes these show
 pub lists-alike : (nodes : List NodeParts) (lists shown : List NodeAt) → AreListsOf nodes lists → AreNodesShown nodes shown → AreNodesAlike lists shown
 lists-alike [] [] [] are is = tt
 lists-alike [] [] (s ∷ ss) are is = absurd is

@@ -15,7 +15,7 @@ use Rattle.csi_world.specs.World.{World}
 use Rattle.csi_world.specs.Safe.{IsPublishedWhereStaged}
 use Rattle.csi_world.proofs.Reached.{IsReached, IsNodeOfFrames}
 
--- what the controller holds of one volume is apart, and of volumes that weren't deleted
+-- any two holdings of one volume are apart, and what is attached wasn't deleted
 pub exclusive : ControllerSafetyLaw → (config : Config) (world : World) → IsReached config world → IsExclusive world.controller
 exclusive law config world reached = let of = reached.controller in subst IsExclusive (sym of.1) (law config of.0)
 

@@ -108,7 +108,7 @@ with_states id state (n ∷ ns) of all = (by (same_text n.id id) refl, with_stat
     by true e = (of.0, of.1 ∙ ap (λ i. node.after_frames i empty_node of.0) (sym ((same_text-tells n.id id).0 e)))
     by false e = all.0
 
--- a world is so reached after a node's answer to a frame
+-- the plugins of a world are in such states after a node got a frame
 pub node-next : (config : Config) (world : World) (id : List ℕ) (state : NodeState) (frame : Frame) → IsReached config world → node_state id world ≡ Some state
     → IsReached config (with_node id (node.fenced id state frame).state world)
 node-next config world id state frame reached h =
@@ -157,7 +157,7 @@ new_alike entries at among =
     let first = some-found p (map new_node entries) at among ((same_text-tells at.id at.id).1 refl) in
     ap (option_map (λ (n : NodeAt). n.state)) first.1 ∙ ap Some (knows-nothing entries first.0 (among-find p (map new_node entries) first.0 first.1) ∙ sym (knows-nothing entries at among))
 
--- so is the empty world
+-- the plugins of the empty world are in such states
 pub empty-reached : (config : Config) → IsReached config (empty_world config)
 empty-reached config = record { controller = ([], refl); nodes = new_nodes config.nodes; alike = λ at among. new_alike config.nodes at among }
 

@@ -178,7 +178,7 @@ moved config world input law came reached (Ok done) e steps =
       reached = subst (stepwise.IsReached (map node_id config.nodes)) (ap (orchestrator.moved_to world.history) e ∙ ap (λ (w : World). w.history) sent) (stepwise.GoesOn world.history input reached);
     }
 
--- so does the world after an input of the orchestrator
+-- the world after an input of the orchestrator comes so
 orchestrates : (config : Config) (world : World) (input : orchestrator.Input) → stepwise.MovesLaw → CameFrom world.frames input → stepwise.IsReached (map node_id config.nodes) world.history → Stepped config world (orchestrated config world input).world
 orchestrates config world input law came reached =
     moved config world input law came reached (orchestrator.moves (map node_id config.nodes) world.history input) refl (law (map node_id config.nodes) world.history input reached)
@@ -194,7 +194,7 @@ answers config world frame among reached =
       reached = subst (stepwise.IsReached (map node_id config.nodes)) (sym (answered-history config world frame)) reached;
     }
 
--- and the world after a call came, to a plugin that is there or not
+-- so does the world after a call came, to a plugin that is there or not
 calls : (config : Config) (world : World) (frame : Frame) → IsAmong frame world.frames → stepwise.IsReached (map node_id config.nodes) world.history → (party : Party) → Stepped config world (called config world frame party).world
 calls config world frame among reached Controller = answers config world frame among reached
 calls config world frame among reached (Node id) = by (has_node id config.nodes)

@@ -23,7 +23,7 @@ rises (row ∷ rows) zero (suc j) d rising le within =
 rises (row ∷ rows) (suc i) zero d rising le within = absurd (omega arith)
 rises (row ∷ rows) (suc i) (suc j) d rising le within = rises rows i j d (rising.1) (omega arith) (omega arith)
 
--- where ids rise, so does how they compare with an id
+-- how rising ids compare with an id never goes down
 comparisons_rise : (rows : List ControllerRow) (id : ℕ) → IsRising rows → IsNonDecreasingBy (λ (row : ControllerRow). ordering_index (nat_cmp row.id id)) rows
 comparisons_rise rows id rising = λ i j d le within.
     let rise = rises rows i j d rising le within in

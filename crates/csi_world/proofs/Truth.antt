@@ -250,7 +250,7 @@ sent_before : (issued : List Issued) (frames : List Frame) (old new : View) (cal
 sent_before issued frames old new call key kind reply truth party rests ok =
     subst (λ p. IsAmong (reply_frame call.number p kind reply) frames) party (truth.kept key (kept_of (delivery_of call kind reply)) (rests.was_kept ok))
 
--- where a call wasn't carried out, each OK was sent before its answer
+-- where a call wasn't carried out, each OK among the frames with its answer was sent before
 pub ok-before : (issued : List Issued) (frames : List Frame) (old new : View) (call : Issued) (key : Key) (kind : Kind) (reply : Reply) → Truth issued frames old → party_of key ≡ call.party
     → Rests key (delivery_of call kind reply) old new → (other : Issued) (r : Reply) → IsAnsweredOk (frames ++ answer_to call kind reply ∷ []) other r → IsAnsweredOk frames other r
 ok-before issued frames old new call key kind reply truth party rests other r ok =
