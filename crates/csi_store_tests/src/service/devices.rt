@@ -43,10 +43,11 @@ impl Read for Source<'_> {
     }
 }
 
-/// A writer that takes so many bytes a call at most, and keeps them.
+/// A writer that takes so many bytes a call at most, keeps them, and counts how often it is flushed.
 #[derive(Drop)]
 pub(super) struct Sink {
     pub bytes: Vec<u8>,
+    pub flushes: u64,
     size: usize,
     failing: u64,
     calls: u64,
@@ -56,6 +57,7 @@ impl Sink {
     pub(super) fn new(alloc: Global, size: usize, failing: u64) -> Sink {
         Sink {
             bytes: Vec::new(alloc),
+            flushes: 0,
             size,
             failing,
             calls: 0,
@@ -76,6 +78,7 @@ impl Write for Sink {
     }
 
     fn flush(&mut self) -> io::Result<()> {
+        self.flushes = self.flushes.saturating_add(1);
         Ok(())
     }
 }

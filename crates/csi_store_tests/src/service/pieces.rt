@@ -123,6 +123,12 @@ fn is_end(ended: &Result<Served, ServeFault>, frames: u64, fault: Option<ServeFa
     }
 }
 
+// Whether so much of the replies was written, and the writer was flushed after each of them.
+fn is_written(sink: &Sink, size: usize) -> bool {
+    let written = sink.bytes.as_slice();
+    written == &REPLIES[..size.min(REPLIES.len())] && sink.flushes == (written.len() / 33) as u64
+}
+
 // Whether a new controller is served so.
 fn comes_to(rt: &(impl Abort + AllocGlobal), given: &Given, wanted: &Outcome) -> bool {
     let mut inner = MemoryKeep::new(rt.alloc(), 1000);
@@ -131,9 +137,8 @@ fn comes_to(rt: &(impl Abort + AllocGlobal), given: &Given, wanted: &Outcome) ->
     let mut reader = Counted::new(Source::new(given.0, given.1.0, given.1.1));
     let mut writer = Counted::new(Sink::new(rt.alloc(), given.2.0, given.2.1));
     let ended = serve(rt.alloc(), service, &mut keep, &mut reader, &mut writer);
-    let written = writer.into_inner().bytes;
     is_end(&ended, wanted.0, wanted.1)
-        && written.as_slice() == &REPLIES[..wanted.2.min(REPLIES.len())]
+        && is_written(&writer.into_inner(), wanted.2)
         && has_content(&mut keep, wanted.3)
         && reader.into_inner().calls == wanted.4
 }
