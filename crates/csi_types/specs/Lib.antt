@@ -19,3 +19,4 @@ pub mod Key
 pub mod Delivery
 pub mod Lawful
 pub mod NodeUse
+pub mod Lent

@@ -1,7 +1,9 @@
 //! What a volume can do.
 ghost use Rattle.std.specs.Prelude.{◌≡◌, ◌≤◌, ◌↔◌, length, IsSome, IfSome, vec_len};
-ghost use Rattle.csi_types.specs.Same.{same_capability as is_same_capability, has_capability as is_among};
+ghost use Rattle.csi_types.specs.Lent.{lent_access, lent_capability};
+ghost use Rattle.csi_types.specs.Same.{same_access as is_same_access, same_capability as is_same_capability, has_capability as is_among};
 
+use crate::lent::{AccessRef, CapabilityRef};
 use crate::mode::Mode;
 use crate::text::FsType;
 use std::marker::Model;
@@ -22,18 +24,33 @@ pub struct Capability {
     pub mode: Mode,
 }
 
-/// Whether access and mode are the same. It takes no memory.
-pub fn same_capability(a: &Capability, b: &Capability) -> bool
-    ensures { result ≡ is_same_capability a.now b.now }
+// Whether both are block, or both mount the same type of file system.
+fn same_access(a: AccessRef, b: AccessRef) -> bool
+    ensures { result ≡ is_same_access (lent_access a.entry) (lent_access b.entry) }
 {
-    a == b
+    match a {
+        AccessRef::Block => matches!(b, AccessRef::Block),
+        AccessRef::Mount(own) => match b {
+            AccessRef::Block => false,
+            AccessRef::Mount(other) => own == other,
+        },
+    }
+}
+
+/// Whether access and mode are the same. It takes no memory.
+pub fn same_capability(a: CapabilityRef, b: CapabilityRef) -> bool
+    ensures { result ≡ is_same_capability (lent_capability a.entry) (lent_capability b.entry) }
+{
+    a.mode == b.mode && same_access(a.access, b.access)
 }
 
 /// Whether the capability is one of these. It takes no memory.
-pub fn has_capability(capabilities: &[Capability], wished: &Capability) -> bool
-    ensures { result ≡ is_among capabilities.now wished.now }
+pub fn has_capability(capabilities: &[Capability], wished: CapabilityRef) -> bool
+    ensures { result ≡ is_among capabilities.now (lent_capability wished.entry) }
 {
-    capabilities.iter().any(|own| same_capability(wished, own))
+    capabilities
+        .iter()
+        .any(|own| same_capability(wished, own.lend()))
 }
 
 /// From none to 8 capabilities, in order (this profile's own limit). A contract sees it as a list.

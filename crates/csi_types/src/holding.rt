@@ -22,7 +22,7 @@ pub struct Holding {
 fn are_compatible(first: &Holding, second: &Holding) -> bool
     ensures { result ≡ is_compatible first.now second.now }
 {
-    let (own, other) = (&first.capability, &second.capability);
+    let (own, other) = (first.capability.lend(), second.capability.lend());
     if first.node == second.node {
         return first.volume == second.volume
             && same_way(own, first.readonly, other, second.readonly);

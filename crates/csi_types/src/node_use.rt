@@ -1,19 +1,20 @@
 //! Uses of a volume at nodes, lent, and which two of them can be held together.
 ghost use Rattle.std.specs.Prelude.{◌≡◌, ◌↔◌, ◌&&◌, ℕ, IsTrue};
 ghost use Rattle.csi_types.specs.Holding.{CanHoldBoth, is_compatible};
+ghost use Rattle.csi_types.specs.Lent.{lent_capability};
 ghost use Rattle.csi_types.specs.NodeUse.{holding_of};
 ghost use Rattle.csi_types.specs.Same.{same_capability as is_same_capability, same_flag};
 
-use crate::capability::{Capability, same_capability};
+use crate::capability::same_capability;
+use crate::lent::CapabilityRef;
 use crate::sharing::can_share;
-use crate::text::NodeId;
 
 /// How a volume is used at a node: what a `Holding` says beside its volume, lent (CSI's spec.md,
 /// "ControllerPublishVolume").
 #[derive(Clone, Copy)]
 pub struct NodeUse<'a> {
-    pub node: &'a NodeId,
-    pub capability: &'a Capability,
+    pub node: &'a str,
+    pub capability: CapabilityRef<'a>,
     pub readonly: bool,
 }
 
@@ -27,12 +28,12 @@ fn same_readonly(a: bool, b: bool) -> bool
 /// Whether the two ways to publish a volume are one: the same capability, and both readonly or neither
 /// (CSI's spec.md, "ControllerPublishVolume" and "NodePublishVolume"). It takes no memory.
 pub fn same_way(
-    capability: &Capability,
+    capability: CapabilityRef,
     readonly: bool,
-    other: &Capability,
+    other: CapabilityRef,
     other_readonly: bool,
 ) -> bool
-    ensures { result ≡ (is_same_capability capability.now other.now && same_flag readonly other_readonly) }
+    ensures { result ≡ (is_same_capability (lent_capability capability.entry) (lent_capability other.entry) && same_flag readonly other_readonly) }
 {
     same_capability(capability, other) && same_readonly(readonly, other_readonly)
 }
@@ -42,7 +43,7 @@ fn are_compatible(first: NodeUse, second: NodeUse) -> bool
     ensures { (id : ℕ) → result ≡ is_compatible (holding_of id first.entry) (holding_of id second.entry) }
 {
     let (capability, other) = (first.capability, second.capability);
-    if *first.node == *second.node {
+    if first.node == second.node {
         return same_way(capability, first.readonly, other, second.readonly);
     }
     can_share(capability.mode, first.readonly, other.mode, second.readonly)

@@ -1,0 +1,237 @@
+//! Calls that lend their texts: whoever keeps a part of one makes a copy of that part, and nobody else does.
+ghost use Rattle.std.specs.Prelude.{◌≡◌, ◌≤◌, ◌↔◌, ◌&&◌, IfOk, IsTrue, length};
+ghost use Rattle.csi_types.specs.Call.{kind_of};
+ghost use Rattle.csi_types.specs.Lent.{lent_access, lent_capability, lent_call, HasFitTexts};
+ghost use Rattle.csi_types.specs.Limits.{IsAccess};
+ghost use Rattle.csi_types.specs.Text.{IsText};
+
+use crate::call::{Call, Kind};
+use crate::capability::{Access, Capability, CapabilityList};
+use crate::mode::Mode;
+use crate::text::{FsType, Name, NodeId, Target, TextFault};
+use crate::volume_id::VolumeId;
+use std::alloc::Global;
+
+/// An `Access`, lent.
+#[derive(Clone, Copy)]
+pub enum AccessRef<'a> {
+    Block,
+    Mount(&'a str),
+}
+
+/// A `Capability`, lent.
+#[derive(Clone, Copy)]
+pub struct CapabilityRef<'a> {
+    pub access: AccessRef<'a>,
+    pub mode: Mode,
+}
+
+/// A `Call`, lent. Its texts may be outside their limits, which a `Call`'s are not.
+#[derive(Clone, Copy)]
+pub enum CallRef<'a> {
+    CreateVolume {
+        name: &'a str,
+        required: u64,
+        limit: u64,
+        capabilities: &'a CapabilityList,
+    },
+    DeleteVolume {
+        id: VolumeId,
+    },
+    ControllerPublishVolume {
+        id: VolumeId,
+        node: &'a str,
+        capability: CapabilityRef<'a>,
+        readonly: bool,
+    },
+    ControllerUnpublishVolume {
+        id: VolumeId,
+        node: &'a str,
+    },
+    NodeStageVolume {
+        id: VolumeId,
+        capability: CapabilityRef<'a>,
+    },
+    NodeUnstageVolume {
+        id: VolumeId,
+    },
+    NodePublishVolume {
+        id: VolumeId,
+        target: &'a str,
+        capability: CapabilityRef<'a>,
+        readonly: bool,
+    },
+    NodeUnpublishVolume {
+        id: VolumeId,
+        target: &'a str,
+    },
+}
+
+impl Access {
+    // The access, lent.
+    fn lend(&self) -> AccessRef<'_>
+        ensures { lent_access result ≡ self.now }
+    {
+        match self {
+            Access::Block => AccessRef::Block,
+            Access::Mount(fs_type) => AccessRef::Mount(fs_type.as_str()),
+        }
+    }
+}
+
+impl Capability {
+    /// The capability, lent. It takes no memory.
+    pub fn lend(&self) -> CapabilityRef<'_>
+        ensures { lent_capability result ≡ self.now }
+    {
+        CapabilityRef {
+            access: self.access.lend(),
+            mode: self.mode,
+        }
+    }
+}
+
+impl Call {
+    /// The call, lent. It takes no memory.
+    pub fn lend(&self) -> CallRef<'_>
+        ensures { lent_call result ≡ self.now }
+    {
+        match self {
+            Call::CreateVolume {
+                name,
+                required,
+                limit,
+                capabilities,
+            } => CallRef::CreateVolume {
+                name: name.as_str(),
+                required: *required,
+                limit: *limit,
+                capabilities,
+            },
+            Call::DeleteVolume { id } => CallRef::DeleteVolume { id: *id },
+            Call::ControllerPublishVolume {
+                id,
+                node,
+                capability,
+                readonly,
+            } => CallRef::ControllerPublishVolume {
+                id: *id,
+                node: node.as_str(),
+                capability: capability.lend(),
+                readonly: *readonly,
+            },
+            Call::ControllerUnpublishVolume { id, node } => CallRef::ControllerUnpublishVolume {
+                id: *id,
+                node: node.as_str(),
+            },
+            Call::NodeStageVolume { id, capability } => CallRef::NodeStageVolume {
+                id: *id,
+                capability: capability.lend(),
+            },
+            Call::NodeUnstageVolume { id } => CallRef::NodeUnstageVolume { id: *id },
+            Call::NodePublishVolume {
+                id,
+                target,
+                capability,
+                readonly,
+            } => CallRef::NodePublishVolume {
+                id: *id,
+                target: target.as_str(),
+                capability: capability.lend(),
+                readonly: *readonly,
+            },
+            Call::NodeUnpublishVolume { id, target } => CallRef::NodeUnpublishVolume {
+                id: *id,
+                target: target.as_str(),
+            },
+        }
+    }
+}
+
+impl AccessRef<'_> {
+    // The access with a text of its own.
+    fn to_access(self, alloc: Global) -> Result<Access, TextFault>
+        ensures { IfOk result (λ access. access ≡ lent_access self.entry) }
+    {
+        match self {
+            AccessRef::Block => Ok(Access::Block),
+            AccessRef::Mount(text) => match FsType::try_new(alloc, text) {
+                Ok(fs_type) => Ok(Access::Mount(fs_type)),
+                Err(fault) => Err(fault),
+            },
+        }
+    }
+}
+
+impl CapabilityRef<'_> {
+    /// The capability with a text of its own: `TooLong` where the type of its file system has more than 128 bytes, `NoMemory`
+    /// where a growth is refused. Without a text, and with an empty one, it takes no memory.
+    pub fn to_capability(self, alloc: Global) -> Result<Capability, TextFault>
+        ensures { IfOk result (λ capability. capability ≡ lent_capability self.entry) }
+    {
+        let mode = self.mode;
+        match self.access.to_access(alloc) {
+            Ok(access) => Ok(Capability { access, mode }),
+            Err(fault) => Err(fault),
+        }
+    }
+}
+
+// Whether a text has so many bytes.
+fn fits(text: &str, least: usize, most: usize) -> bool
+    ensures { IsTrue result ↔ IsText least most text.now }
+{
+    least <= text.len() && text.len() <= most
+}
+
+// Whether the type of a file system is within its limit.
+fn fits_access(access: &AccessRef<'_>) -> bool
+    ensures { IsTrue result ↔ IsAccess (lent_access access.now) }
+{
+    match access {
+        AccessRef::Block => true,
+        AccessRef::Mount(text) => fits(text, 0, FsType::MAX_LEN),
+    }
+}
+
+impl CallRef<'_> {
+    /// Which call it is. It takes no memory.
+    pub fn kind(&self) -> Kind
+        ensures { result ≡ kind_of (lent_call self.now) }
+    {
+        match self {
+            CallRef::CreateVolume { .. } => Kind::CreateVolume,
+            CallRef::DeleteVolume { .. } => Kind::DeleteVolume,
+            CallRef::ControllerPublishVolume { .. } => Kind::ControllerPublishVolume,
+            CallRef::ControllerUnpublishVolume { .. } => Kind::ControllerUnpublishVolume,
+            CallRef::NodeStageVolume { .. } => Kind::NodeStageVolume,
+            CallRef::NodeUnstageVolume { .. } => Kind::NodeUnstageVolume,
+            CallRef::NodePublishVolume { .. } => Kind::NodePublishVolume,
+            CallRef::NodeUnpublishVolume { .. } => Kind::NodeUnpublishVolume,
+        }
+    }
+
+    /// Whether each of its texts is within its limits, so that a `Call` could have them. It takes no memory.
+    pub fn is_within_limits(&self) -> bool
+        ensures { IsTrue result ↔ HasFitTexts (lent_call self.now) }
+    {
+        match self {
+            CallRef::CreateVolume { name, .. } => fits(name, 1, Name::MAX_LEN),
+            CallRef::DeleteVolume { .. } => true,
+            CallRef::ControllerPublishVolume {
+                node,
+                capability,
+                ..
+            } => fits(node, 1, NodeId::MAX_LEN) && fits_access(&capability.access),
+            CallRef::ControllerUnpublishVolume { node, .. } => fits(node, 1, NodeId::MAX_LEN),
+            CallRef::NodeStageVolume { capability, .. } => fits_access(&capability.access),
+            CallRef::NodeUnstageVolume { .. } => true,
+            CallRef::NodePublishVolume {
+                target,
+                capability,
+                ..
+            } => fits(target, 1, Target::MAX_LEN) && fits_access(&capability.access),
+            CallRef::NodeUnpublishVolume { target, .. } => fits(target, 1, Target::MAX_LEN),
+        }
+    }
+}
