@@ -9,7 +9,12 @@ use crate::mode::Mode;
 pub fn single_node(mode: Mode) -> bool
     ensures { result ≡ is_single_node mode }
 {
-    matches!(mode, Mode::SingleNodeWriter | Mode::SingleNodeReaderOnly)
+    match mode {
+        Mode::SingleNodeWriter | Mode::SingleNodeReaderOnly => true,
+        Mode::MultiNodeReaderOnly | Mode::MultiNodeSingleWriter | Mode::MultiNodeMultiWriter => {
+            false
+        }
+    }
 }
 
 /// Whether a volume in this mode may be at several nodes, of which one may write (`AccessMode` of CSI's
@@ -17,18 +22,25 @@ pub fn single_node(mode: Mode) -> bool
 pub fn single_writer(mode: Mode) -> bool
     ensures { result ≡ is_single_writer mode }
 {
-    matches!(mode, Mode::MultiNodeSingleWriter)
+    match mode {
+        Mode::MultiNodeSingleWriter => true,
+        Mode::SingleNodeWriter
+        | Mode::SingleNodeReaderOnly
+        | Mode::MultiNodeReaderOnly
+        | Mode::MultiNodeMultiWriter => false,
+    }
 }
 
 /// Whether a holder in this mode, published readonly or not, may write. It takes no memory.
 pub fn writes(mode: Mode, readonly: bool) -> bool
     ensures { result ≡ writes_in mode readonly }
 {
-    !readonly
-        && matches!(
-            mode,
-            Mode::SingleNodeWriter | Mode::MultiNodeSingleWriter | Mode::MultiNodeMultiWriter
-        )
+    match mode {
+        Mode::SingleNodeWriter | Mode::MultiNodeSingleWriter | Mode::MultiNodeMultiWriter => {
+            !readonly
+        }
+        Mode::SingleNodeReaderOnly | Mode::MultiNodeReaderOnly => false,
+    }
 }
 
 /// Whether a volume in this mode is published at one target of a node at a time (CSI's spec.md,
