@@ -3,6 +3,7 @@ mod calls;
 mod compared;
 mod full;
 mod growths;
+mod lent;
 mod plain;
 mod records;
 mod worked;

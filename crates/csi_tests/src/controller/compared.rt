@@ -93,7 +93,38 @@ fn has_row(rt: &impl Abort, controller: &Controller, rows: &[PlainRow], ask: Ask
     is_same && controller.next_id() == next_id(rows)
 }
 
-// Whether both answer the call alike.
+// Whether the controller answers the call so, which is lent.
+fn answers_lent(
+    rt: &impl Abort,
+    controller: &mut Controller,
+    number: Number,
+    call: &Call,
+    kind: Kind,
+    told: Told,
+) -> bool {
+    match controller.answer(number, &call.lend()).expect(rt, "memory") {
+        Some((of, reply)) => of == kind && tells(&reply, told),
+        None => false,
+    }
+}
+
+// Whether the controller answers the call so, which comes in a frame.
+fn answers_framed(
+    rt: &impl Abort,
+    controller: &mut Controller,
+    number: Number,
+    call: Call,
+    kind: Kind,
+    told: Told,
+) -> bool {
+    let frame = Frame::call(number, Party::Controller, call).expect(rt, "a call");
+    match controller.step(&frame).expect(rt, "memory") {
+        Some(reply) => is_reply_to(&reply, None, number, kind, told),
+        None => false,
+    }
+}
+
+// Whether both answer the call alike: lent where its number is even, and else in a frame.
 fn answers_alike(
     rt: &(impl Abort + AllocGlobal),
     controller: &mut Controller,
@@ -102,12 +133,11 @@ fn answers_alike(
     ask: Ask,
 ) -> bool {
     let call = call_of(rt, ask);
-    let frame = Frame::call(number, Party::Controller, call).expect(rt, "a call");
-    let reply = controller.step(&frame).expect(rt, "memory");
     let (kind, told) = answer(rt, rows, number, ask);
-    match reply {
-        Some(reply) => is_reply_to(&reply, None, number, kind, told),
-        None => false,
+    if number.call % 2 == 0 {
+        answers_lent(rt, controller, number, &call, kind, told)
+    } else {
+        answers_framed(rt, controller, number, call, kind, told)
     }
 }
 

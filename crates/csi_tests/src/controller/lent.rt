@@ -1,0 +1,41 @@
+//! Calls that are lent, with texts that no call has.
+use super::*;
+use crate::values::number;
+use csi_types::CallRef;
+
+// One byte more than a name has.
+const LONG: &str = "vvvvvvvvvvvvvvvvvvvvvvvvvvvvvvvvvvvvvvvvvvvvvvvvvvvvvvvvvvvvvvvvvvvvvvvvvvvvvvvvvvvvvvvvvvvvvvvvvvvvvvvvvvvvvvvvvvvvvvvvvvvvvvvvv";
+
+// Whether the call gets no answer.
+fn is_unanswered(
+    rt: &(impl Abort + AllocGlobal),
+    controller: &mut Controller,
+    call: u64,
+    lent: &CallRef<'_>,
+) -> bool {
+    controller
+        .answer(number(call), lent)
+        .expect(rt, "memory")
+        .is_none()
+}
+
+#[test]
+fn a_lent_call_outside_its_limits_gets_no_answer(rt: HostRuntime) {
+    let mut controller = new_answers(&rt, &[("n1", 1)], &[(1, MAKE, FIRST)]);
+    let before = controller.record().expect(&rt, "memory");
+    let id = volume_id(&rt, 1);
+    let detach = CallRef::ControllerUnpublishVolume { id, node: "" };
+    assert!(rt; is_unanswered(&rt, &mut controller, 2, &detach));
+    assert!(rt; LONG.len() == 129);
+    let capabilities = blocks(&rt, &[B1]);
+    let create = CallRef::CreateVolume {
+        name: LONG,
+        required: 10,
+        limit: 0,
+        capabilities: &capabilities,
+    };
+    assert!(rt; is_unanswered(&rt, &mut controller, 2, &create));
+    let after = controller.record().expect(&rt, "memory");
+    assert!(rt; after.next_id() == 2 && after.rows() == before.rows());
+    answers(&rt, &mut controller, &[(2, Ask::Delete(1), DONE)]);
+}
