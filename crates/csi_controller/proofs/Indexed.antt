@@ -1,6 +1,8 @@
 -- The two maps of a catalog, kept in the order of its rows: what a look-up finds, and what stays after a change.
-use Rattle.std.proofs.Common.{◌≡◌, ◌<◌, ◌+◌, ℕ, zero, suc, Bool, true, false, cond, not, List, [], ◌∷◌, ◌++◌, length, get_or, map, set, refl, sym, ◌∙◌, ap, arith}
-use Rattle.std.specs.Prelude.{Option, Some, None, IsSome, IfSome, option_map, find, position, slice_get, nat_lt, ◌==◌}
+use Rattle.std.proofs.Common.{◌≡◌, ◌<◌, ◌+◌, ℕ, zero, suc, Bool, true, false, cond, not, List, [], ◌∷◌, ◌++◌, length, get_or, map, set, refl, sym, ◌∙◌, ap, arith, Global}
+use Rattle.std.specs.Prelude.{Option, Some, None, IsSome, IfSome, option_map, find, position, slice_get, nat_lt, nat_eq, ◌==◌, String}
+use Rattle.std.specs.Cmp.Lexicographic.{pointwise}
+use Rattle.std.specs.String.{string_bytes, string_eq}
 use Rattle.std.specs.Option.{option_to_list}
 use Rattle.std.specs.List.{position_or_len}
 use Rattle.std.specs.Map.{keys_of, values_of, lookup}
@@ -14,7 +16,7 @@ use Rattle.indexmap.specs.IndexMap.{IndexMap, values, with_value_at, insert_entr
 use Rattle.indexmap.specs.Layout.{set_value_at}
 use Rattle.csi_controller.specs.declared.row.ControllerRow.{ControllerRow}
 use Rattle.csi_controller.specs.declared.catalog.Catalog.{Catalog}
-use Rattle.csi_controller.specs.Catalog.{rows_of, by_id, by_name, IsIndexed}
+use Rattle.csi_controller.specs.Catalog.{rows_of, by_id, by_name, by_text, IsIndexed}
 
 -- ---- searches of a list that is seen through a function
 
@@ -57,6 +59,25 @@ lookup-map f p q (x ∷ xs) same =
 pub lookup-keys : {X K V : Type 0} (f : X → K × V) (p : K → Bool) (q : X → Bool) (es : List (K × V)) (xs : List X) → es ≡ map f xs → ((x : X) → p (f x).0 ≡ q x) → lookup p es ≡ option_map (λ x. (f x).1) (find q xs)
 lookup-keys f p q es xs is same = ap (lookup p) is ∙ lookup-map f p q xs same
 
+-- the place of the row that passes, where the texts of the keys are the names of rows
+pub position-texts : {Z : Type 0} (p : List ℕ → Bool) (q : ControllerRow → Bool) (es : List (String Z × ℕ)) (rows : List ControllerRow) → map by_text es ≡ map by_name rows → ((row : ControllerRow) → p row.name ≡ q row)
+    → position (λ (key : String Z). p (string_bytes key)) (keys_of es) ≡ position q rows
+position-texts {Z} p q es rows is same =
+    position-map (λ (e : String Z × ℕ). e.0) (λ (key : String Z). p (string_bytes key)) (λ (e : String Z × ℕ). p (string_bytes e.0)) es (λ e. refl)
+    ∙ sym (position-map by_text (λ (e : List ℕ × ℕ). p e.0) (λ (e : String Z × ℕ). p (string_bytes e.0)) es (λ e. refl))
+    ∙ ap (position (λ (e : List ℕ × ℕ). p e.0)) is
+    ∙ position-map by_name (λ (e : List ℕ × ℕ). p e.0) q rows same
+
+-- a look-up by keys is one by their texts
+lookup-texts : {Z : Type 0} (p : List ℕ → Bool) (es : List (String Z × ℕ)) → lookup (λ (key : String Z). p (string_bytes key)) es ≡ lookup p (map by_text es)
+lookup-texts p [] = refl
+lookup-texts p (e ∷ es) = ap (cond (p (string_bytes e.0)) (Some e.1)) (lookup-texts p es)
+
+-- the id of the row that passes
+pub id-texts : {Z : Type 0} (p : List ℕ → Bool) (q : ControllerRow → Bool) (es : List (String Z × ℕ)) (rows : List ControllerRow) → map by_text es ≡ map by_name rows → ((row : ControllerRow) → p row.name ≡ q row)
+    → lookup (λ (key : String Z). p (string_bytes key)) es ≡ option_map (λ (row : ControllerRow). row.id) (find q rows)
+id-texts p q es rows is same = lookup-texts p es ∙ lookup-keys by_name p q (map by_text es) rows is same
+
 -- a test of ids, turned
 pub id-turned : (a b : ℕ) → (a == b) ≡ (b == a)
 id-turned a b = grind (arith, nat_tests)
@@ -70,7 +91,7 @@ pub within-both : (catalog : Catalog) (found : Option ℕ) → IsIndexed catalog
 within-both catalog None indexed within = tt
 within-both catalog (Some place) indexed within =
     let one = ap length indexed.rows ∙ length-map (rows_of catalog) by_id in
-    let other = ap length indexed.ids ∙ length-map (rows_of catalog) by_name in
+    let other = sym (length-map catalog.ids.entries by_text) ∙ ap length indexed.ids ∙ length-map (rows_of catalog) by_name in
     omega (arith, one, other, within)
 
 -- ---- another row in the place of one
@@ -124,19 +145,26 @@ new-entries eq f q m xs k v is same none = insert_entry-new eq m k v (lookup-key
 pub rows-added : (old new : Catalog) (row : ControllerRow) → new.rows.entries ≡ old.rows.entries ++ by_id row ∷ [] → rows_of new ≡ rows_of old ++ row ∷ []
 rows-added old new row rows = ap values_of rows ∙ map_push (λ (e : ℕ × ControllerRow). e.1) old.rows.entries (by_id row)
 
+-- a name that no row has goes last
+pub new-name : {Z S : Type 0} (q : ControllerRow → Bool) (m : IndexMap (String Z) ℕ S) (rows : List ControllerRow) (key : String Z) (id : ℕ) → map by_text m.entries ≡ map by_name rows
+    → ((row : ControllerRow) → pointwise nat_eq (string_bytes key) row.name ≡ q row) → find q rows ≡ None → insert_entry string_eq m.entries key id ≡ m.entries ++ (key, id) ∷ []
+new-name q m rows key id is same none =
+    insert_entry-new string_eq m key id (id-texts (pointwise nat_eq (string_bytes key)) q m.entries rows is same ∙ ap (option_map (λ (row : ControllerRow). row.id)) none)
+
 -- the maps belong together with one more row, which is put last in both
-pub indexed-added : (old new : Catalog) (row : ControllerRow) → IsIndexed old → new.rows.entries ≡ old.rows.entries ++ by_id row ∷ [] → new.ids.entries ≡ old.ids.entries ++ by_name row ∷ [] → IsIndexed new
-indexed-added old new row indexed rows ids =
+pub indexed-added : (old new : Catalog) (row : ControllerRow) (key : String Global) → IsIndexed old → new.rows.entries ≡ old.rows.entries ++ by_id row ∷ [] → new.ids.entries ≡ old.ids.entries ++ (key, row.id) ∷ []
+    → string_bytes key ≡ row.name → IsIndexed new
+indexed-added old new row key indexed rows ids named =
     let all : rows_of new ≡ rows_of old ++ row ∷ [] = rows-added old new row rows in
     record {
       rows = rows ∙ ap (λ l. l ++ by_id row ∷ []) indexed.rows ∙ sym (map_push by_id (rows_of old) row) ∙ ap (map by_id) (sym all);
-      ids = ids ∙ ap (λ l. l ++ by_name row ∷ []) indexed.ids ∙ sym (map_push by_name (rows_of old) row) ∙ ap (map by_name) (sym all);
+      ids = ap (map by_text) ids ∙ map_push by_text old.ids.entries (key, row.id) ∙ (λ i. indexed.ids i ++ (named i, row.id) ∷ []) ∙ sym (map_push by_name (rows_of old) row) ∙ ap (map by_name) (sym all);
     }
 
 -- the maps belong together where their entries are as they were
 pub indexed-same : (old new : Catalog) → IsIndexed old → new.rows.entries ≡ old.rows.entries → new.ids.entries ≡ old.ids.entries → IsIndexed new
 indexed-same old new indexed rows ids =
-    record { rows = rows ∙ indexed.rows ∙ ap (λ l. map by_id (values_of l)) (sym rows); ids = ids ∙ indexed.ids ∙ ap (λ l. map by_name (values_of l)) (sym rows) }
+    record { rows = rows ∙ indexed.rows ∙ ap (λ l. map by_id (values_of l)) (sym rows); ids = ap (map by_text) ids ∙ indexed.ids ∙ ap (λ l. map by_name (values_of l)) (sym rows) }
 
 -- another state of the same volume in its place
 pub indexed-set : (old new : Catalog) (place : ℕ) (row row_new : ControllerRow) → IsIndexed old → slice_get (rows_of old) place ≡ Some row → row_new.id ≡ row.id → row_new.name ≡ row.name
@@ -146,5 +174,5 @@ indexed-set old new place row row_new indexed at id name rows ids =
     let own : by_name row_new ≡ by_name (get_or (rows_of old) place row) = (λ i. (name i, id i)) ∙ ap by_name (read-at (rows_of old) place row at) in
     record {
       rows = ap (λ m. m.entries) rows ∙ entries-set old.rows.entries (rows_of old) place row row_new indexed.rows at id ∙ ap (map by_id) (sym all);
-      ids = ap (λ m. m.entries) ids ∙ indexed.ids ∙ sym (map-set_same by_name (rows_of old) place row_new row own) ∙ ap (map by_name) (sym all);
+      ids = ap (λ m. map by_text m.entries) ids ∙ indexed.ids ∙ sym (map-set_same by_name (rows_of old) place row_new row own) ∙ ap (map by_name) (sym all);
     }

@@ -8,7 +8,6 @@ pub mod Calls
 pub mod Recounted
 pub mod Placed
 pub mod Made
-pub mod Called
 pub mod Views
 pub mod Copies
 pub mod Apart

@@ -3,6 +3,7 @@ use Rattle.std.specs.Prelude.{◌≡◌, ℕ, ◌<◌, List, [], ◌∷◌, ◌+
 use Rattle.csi_types.specs.declared.reply.Reply.{Reply}
 use Rattle.csi_types.specs.declared.status.Status.{Status}
 use Rattle.csi_types.specs.Holding.{is_compatible}
+use Rattle.csi_types.specs.Lent.{lent_capability}
 use Rattle.csi_types.specs.Replies.{plain_reply, ok_reply}
 use Rattle.csi_types.specs.Same.{same_text, has_capability}
 use Rattle.csi_controller.specs.declared.row.NodeHolding.{NodeHolding}
@@ -13,7 +14,7 @@ use Rattle.csi_controller.specs.Core.{held_by}
 
 -- a use of a volume at a node, as a row holds it
 abbrev pub held_so : NodeUse → NodeHolding
-held_so there = record { node = there.node.now; capability = there.capability.now; readonly = there.readonly }
+held_so there = record { node = there.node.now; capability = lent_capability there.capability; readonly = there.readonly }
 
 -- what a call changes of its row
 pub data RowChange : Type 0 where

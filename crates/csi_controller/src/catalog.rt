@@ -1,6 +1,7 @@
 //! A controller's rows by id and by name. No look-up walks them.
 ghost use Rattle.std.specs.Prelude.{◌≡◌, ◌==◌, ◌++◌, ◌∷◌, [], None, Some, length, find, position, option_map, OnOk, OnErr, IfOk, IfSome, ◌<◌};
 ghost use Rattle.std.specs.Option.{option_copied};
+ghost use Rattle.std.specs.String.{string_bytes};
 ghost use Rattle.indexmap.specs.IndexMap.{index_map_len};
 ghost use Rattle.csi_types.specs.Same.{same_text};
 ghost use Rattle.csi_controller.specs.Catalog.{rows_of, IsIndexed};
@@ -18,14 +19,14 @@ use std::alloc::{AllocError, Global};
 #[derive(Drop)]
 pub struct Catalog {
     pub rows: IndexMap<VolumeId, ControllerRow>,
-    pub ids: IndexMap<Name, VolumeId>,
+    pub ids: IndexMap<String, VolumeId>,
 }
 
-// The same name again.
-fn copied_name(name: &Name) -> Result<Name, AllocError>
-    ensures { IfOk result (λ copy. copy ≡ name.now) }
+// The text of a name.
+fn text_of(alloc: Global, name: &Name) -> Result<String, AllocError>
+    ensures { IfOk result (λ text. string_bytes text ≡ name.now) }
 {
-    name.clone()
+    String::from_str(alloc, name.as_str())
 }
 
 impl Catalog {
@@ -52,7 +53,7 @@ impl Catalog {
     {
         let mut catalog = Catalog::new(alloc);
         for row in rows {
-            catalog.add(row)?;
+            catalog.add(alloc, row)?;
         }
         Ok(catalog)
     }
@@ -81,7 +82,7 @@ impl Catalog {
     }
 
     /// Where the row of this name is.
-    pub fn place_of_name(&self, name: &Name) -> Option<usize>
+    pub fn place_of_name(&self, name: &str) -> Option<usize>
         requires { IsIndexed self.now }
         ensures place { result ≡ position (λ row. same_text row.name name.now) (rows_of self.now) }
         ensures within { IfSome result (λ place. place < index_map_len self.now.rows) }
@@ -90,7 +91,7 @@ impl Catalog {
     }
 
     /// The id of this name.
-    pub fn id_of(&self, name: &Name) -> Option<VolumeId>
+    pub fn id_of(&self, name: &str) -> Option<VolumeId>
         requires { IsIndexed self.now }
         ensures { result ≡ option_map (λ row. row.id) (find (λ row. same_text row.name name.now) (rows_of self.now)) }
     {
@@ -112,7 +113,7 @@ impl Catalog {
     }
 
     /// The row of this name.
-    pub fn named(&self, name: &Name) -> Option<&ControllerRow>
+    pub fn named(&self, name: &str) -> Option<&ControllerRow>
         requires { IsIndexed self.now }
         ensures { option_copied result ≡ find (λ row. same_text row.name name.now) (rows_of self.now) }
     {
@@ -123,7 +124,7 @@ impl Catalog {
     }
 
     /// Adds a row, the last one. A refusal changes nothing.
-    pub fn add(&mut self, row: ControllerRow) -> Result<(), CoreFault>
+    pub fn add(&mut self, alloc: Global, row: ControllerRow) -> Result<(), CoreFault>
         requires indexed { IsIndexed self.old }
         requires new_id { find (λ other. other.id == row.id) (rows_of self.old) ≡ None }
         requires new_name { find (λ other. same_text other.name row.name) (rows_of self.old) ≡ None }
@@ -132,7 +133,7 @@ impl Catalog {
         ensures indexed { IsIndexed self.new }
     {
         let id = row.id;
-        let name = copied_name(&row.name)?;
+        let name = text_of(alloc, &row.name)?;
         self.ids.insert(name, id)?;
         match self.rows.insert(id, row) {
             Ok(_) => Ok(()),
@@ -151,7 +152,7 @@ impl Catalog {
     {
         let mut copies = Catalog::new(alloc);
         for row in self.rows() {
-            copies.add(copied_row(row)?)?;
+            copies.add(alloc, copied_row(row)?)?;
         }
         Ok(copies)
     }

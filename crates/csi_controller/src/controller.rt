@@ -1,9 +1,13 @@
 //! The controller plugin.
-ghost use Rattle.std.specs.Prelude.{◌≡◌, ◌%◌, ◌^◌, Some, None, [], Ok, IfOk, OnOk, OnErr, IsOk, option_map, find, ◌==◌};
+ghost use Rattle.std.specs.Prelude.{◌≡◌, ◌%◌, ◌^◌, Some, None, [], Ok, IfOk, IfSome, OnOk, OnErr, IsOk, IsTrue, not, option_map, find, ◌==◌};
 ghost use Rattle.std.specs.Option.{option_copied};
 ghost use Rattle.csi_types.specs.declared.call.Call.{Call as OneCall};
+ghost use Rattle.csi_types.specs.declared.call.Party.{Party as OneParty};
+ghost use Rattle.csi_types.specs.Call.{kind_of, is_party_of};
+ghost use Rattle.csi_types.specs.Frame.{IsAllowed};
+ghost use Rattle.csi_types.specs.Lent.{lent_call, HasFitTexts};
+ghost use Rattle.csi_types.specs.Replies.{call_frame};
 
-mod answer;
 mod changes;
 pub(crate) mod copies;
 mod counts;
@@ -17,6 +21,7 @@ mod listing;
 mod making;
 mod new_row;
 mod readers;
+mod replies;
 mod state;
 mod step;
 mod views;
@@ -26,7 +31,10 @@ use crate::fault::CoreFault;
 use crate::record::ControllerRecord;
 use crate::row::ControllerRow;
 use counts::counted;
-use csi_types::{Body, Call, Config, Frame, Holding, Name, Number, VolumeId};
+use csi_types::{
+    Body, Call, CallRef, CapabilityList, CapabilityRef, Config, Frame, Holding, Kind, Name, Number,
+    Party, Reply, VolumeId,
+};
 use state::Core;
 use std::alloc::Global;
 use std::marker::Model;
@@ -56,6 +64,7 @@ impl Controller {
     ghost use Rattle.csi_controller.specs.State.{ControllerState, empty_controller, volume_named, row_for};
     ghost use Rattle.csi_controller.specs.Fenced.{fenced, kept_for};
     ghost use Rattle.csi_controller.specs.Repeats.{IsPlainRepeat};
+    ghost use Rattle.csi_controller.specs.Step.{answer_frame};
     ghost use Rattle.csi_lists.specs.Members.{EachTwo};
     ghost use Rattle.csi_controller.specs.Views.{shown_if_live, attached, IsHeldBefore, HasHoldingsOf, IsCopyOf, IsRowOf};
     ghost use Rattle.csi_controller.specs.Core.{IsShown, IsSound, IsAnsweredOk, IsUndoing};
@@ -100,18 +109,48 @@ impl Controller {
         self.core.step(frame)
     }
 
+    /// Answers a call as `step` answers a frame of it, by the kind and the reply that the frame of the answer has: those that were
+    /// kept, where the call comes again. Another plugin's call, and a call with a text outside its limits, which no frame has, get no
+    /// answer, change nothing and take no memory. Beyond that it takes memory where `step` does. A refusal for want of memory leaves
+    /// the controller as it was.
+    pub fn answer(
+        &mut self,
+        number: Number,
+        call: &CallRef<'_>,
+    ) -> Result<Option<(Kind, Reply)>, CoreFault>
+        // what a frame of the call gets, for any plugin that it is for
+        ensures reply { (state : ControllerState) (party : OneParty) → IsShown self.old state → IsAllowed party (Body.Call (lent_call call.now)) → HasFitTexts (lent_call call.now)
+            → IfOk result (λ answer. option_map (answer_frame number) answer ≡ (fenced self.old.config state (call_frame number party (lent_call call.now))).reply) }
+        ensures state { (state : ControllerState) (party : OneParty) → IsShown self.old state → IsAllowed party (Body.Call (lent_call call.now)) → HasFitTexts (lent_call call.now)
+            → OnOk result (IsShown self.new (fenced self.old.config state (call_frame number party (lent_call call.now))).state) }
+        ensures allowed { IfOk result (λ answer. IfSome answer (λ own. IsAllowed Party.Controller (Body.Reply own.0 own.1))) }
+        ensures config { self.new.config ≡ self.old.config }
+        ensures err { (state : ControllerState) → IsShown self.old state → OnErr result (IsShown self.new state) }
+        // no frame has a call with such a text
+        ensures unfit { (HasFitTexts (lent_call call.now) → ⊥) → (result ≡ Ok None) × (self.new ≡ self.old) }
+        // what takes no memory succeeds
+        ensures others { IsTrue (not (is_party_of (kind_of (lent_call call.now)) Party.Controller)) → result ≡ Ok None }
+        ensures undone { (state : ControllerState) → IsShown self.old state → IsUndoing (lent_call call.now) → IsAnsweredOk self.old.config state number (lent_call call.now) → IsOk result }
+        ensures repeated { (state : ControllerState) → IsShown self.old state → IsPlainRepeat (kept_for (lent_call call.now) state) number → IsOk result }
+    {
+        if !call.is_within_limits() {
+            return Ok(None);
+        }
+        self.core.answer(number, call)
+    }
+
     /// Id and capacity in bytes of the volume of this name, unless it was deleted. It takes no memory.
     pub fn volume(&self, name: &Name) -> Option<(VolumeId, u64)>
         ensures { (state : ControllerState) → IsShown self.now state → result ≡ shown_if_live (volume_named name.now state) }
     {
-        self.core.volume(name)
+        self.core.volume(name.as_str())
     }
 
     /// The id of the volume of this name, deleted or not. It takes no memory.
     pub fn id_of(&self, name: &Name) -> Option<VolumeId>
         ensures { (state : ControllerState) → IsShown self.now state → result ≡ option_map (λ volume. volume.id) (volume_named name.now state) }
     {
-        self.core.id_of(name)
+        self.core.id_of(name.as_str())
     }
 
     /// The id of the next volume, 0 once all were given. It takes no memory.
@@ -178,7 +217,9 @@ impl Controller {
     pub fn last_for(&self, call: &Call) -> Option<(VolumeId, Number)>
         ensures { (state : ControllerState) → IsShown self.now state → result ≡ option_map last_call (row_for call.now state) }
     {
-        self.core.last_for(call)
+        // the proof has to be told the types of a lent call's parts
+        let _parts: Option<(&CapabilityList, CapabilityRef<'_>)> = None;
+        self.core.last_for(&call.lend())
     }
 
     /// Where each volume is held, by rising id, and for each volume in the order of its row.

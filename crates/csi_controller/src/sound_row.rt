@@ -70,9 +70,7 @@ fn are_all_listed(row: &ControllerRow) -> bool
     ensures { result ≡ list_all (λ held. is_among row.now.capabilities held.capability) row.now.holdings.items }
 {
     let capabilities = row.capabilities.as_slice();
-    row.holdings
-        .iter()
-        .all(|held| has_capability(capabilities, &held.capability))
+    row.holdings.iter().all(|held| has_capability(capabilities, held.capability.lend()))
 }
 
 // Whether the row may be held at these nodes, in these ways.

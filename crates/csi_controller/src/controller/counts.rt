@@ -7,7 +7,7 @@ ghost use Rattle.csi_controller.specs.Counts.{place_of, count_held, count_at as 
 
 use super::holdings::is_held_at;
 use crate::row::ControllerRow;
-use csi_types::{NodeId, NodeSlots};
+use csi_types::NodeSlots;
 
 /// The most nodes that are configured.
 pub const MAX_NODES: usize = 64;
@@ -15,26 +15,26 @@ pub const MAX_NODES: usize = 64;
 /// The node at which a volume came to be held, or ceased to be.
 #[derive(Clone, Copy)]
 pub struct Moved<'a> {
-    pub node: &'a NodeId,
+    pub node: &'a str,
     pub is_held: bool,
 }
 
 /// Whether the node is configured.
-pub fn has_node(nodes: &[NodeSlots], node: &NodeId) -> bool
+pub fn has_node(nodes: &[NodeSlots], node: &str) -> bool
     ensures { result ≡ is_configured node.now nodes.now }
 {
-    nodes.iter().any(|entry| *node == entry.id)
+    nodes.iter().any(|entry| node == entry.id.as_str())
 }
 
 // Where the node is configured.
-fn place_of_node(nodes: &[NodeSlots], node: &NodeId) -> Option<usize>
+fn place_of_node(nodes: &[NodeSlots], node: &str) -> Option<usize>
     ensures { result ≡ place_of node.now nodes.now }
 {
-    nodes.iter().position(|entry| entry.id == *node)
+    nodes.iter().position(|entry| entry.id.as_str() == node)
 }
 
 // How many volumes are held at the node.
-fn count_in(rows: &[ControllerRow], node: &NodeId) -> usize
+fn count_in(rows: &[ControllerRow], node: &str) -> usize
     ensures { result ≡ count_held node.now rows.now }
 {
     rows.iter().filter(|row| is_held_at(row, node)).count()
@@ -47,13 +47,13 @@ pub fn counted(nodes: &[NodeSlots], rows: &[ControllerRow]) -> [u64; MAX_NODES]
 {
     let mut counts = [0; MAX_NODES];
     for (place, entry) in nodes.iter().enumerate() {
-        counts[place] = count_in(rows, &entry.id) as u64;
+        counts[place] = count_in(rows, entry.id.as_str()) as u64;
     }
     counts
 }
 
 // The count of the node, 0 where it isn't configured.
-fn count_at(counts: &[u64; MAX_NODES], nodes: &[NodeSlots], node: &NodeId) -> u64
+fn count_at(counts: &[u64; MAX_NODES], nodes: &[NodeSlots], node: &str) -> u64
     requires { length nodes.now ≤ 64 }
     ensures { result ≡ count_told (place_of node.now nodes.now) counts.now }
 {
@@ -64,16 +64,16 @@ fn count_at(counts: &[u64; MAX_NODES], nodes: &[NodeSlots], node: &NodeId) -> u6
 }
 
 // Whether the node is configured, with at most so many slots.
-fn has_at_most(nodes: &[NodeSlots], node: &NodeId, count: u64) -> bool
+fn has_at_most(nodes: &[NodeSlots], node: &str, count: u64) -> bool
     ensures { result ≡ list_any (λ entry. same_text entry.id node.now && nat_le entry.slots count) nodes.now }
 {
     nodes
         .iter()
-        .any(|entry| entry.id == *node && entry.slots <= count)
+        .any(|entry| entry.id.as_str() == node && entry.slots <= count)
 }
 
 /// Whether the node takes no more volumes.
-pub fn is_full(counts: &[u64; MAX_NODES], nodes: &[NodeSlots], node: &NodeId) -> bool
+pub fn is_full(counts: &[u64; MAX_NODES], nodes: &[NodeSlots], node: &str) -> bool
     requires { length nodes.now ≤ 64 }
     ensures { result ≡ is_node_full nodes.now counts.now node.now }
 {

@@ -18,9 +18,7 @@ use csi_types::{Capability, Status, has_capability, is_bad_range, is_empty_range
 fn has_each(capabilities: &[Capability], wished: &[Capability]) -> bool
     ensures { result ≡ list_all (is_among capabilities.now) wished.now }
 {
-    wished
-        .iter()
-        .all(|capability| has_capability(capabilities, capability))
+    wished.iter().all(|capability| has_capability(capabilities, capability.lend()))
 }
 
 // Whether the volume has a capacity in the range, where a limit of 0 is none, and each capability.

@@ -2,6 +2,7 @@
 ghost use Rattle.std.specs.Prelude.{◌≡◌, ◌<◌, position, option_map, IfSome};
 ghost use Rattle.std.specs.List.{find};
 ghost use Rattle.csi_types.specs.Call.{kind_of, is_party_of};
+ghost use Rattle.csi_types.specs.Lent.{lent_call};
 ghost use Rattle.csi_types.specs.declared.call.Party.TheVariants.{Controller};
 ghost use Rattle.indexmap.specs.IndexMap.{index_map_len};
 ghost use Rattle.csi_controller.specs.Catalog.{rows_of};
@@ -10,44 +11,44 @@ ghost use Rattle.csi_controller.specs.Shown.{volume_of_row};
 ghost use Rattle.csi_controller.specs.State.{is_row_for};
 
 use super::state::Core;
-use csi_types::{Call, Number, VolumeId};
+use csi_types::{CallRef, Number, VolumeId};
 
 /// Whether it is a call for the controller.
-pub fn is_own(call: &Call) -> bool
-    ensures { result ≡ is_party_of (kind_of call.now) Controller }
+pub fn is_own(call: &CallRef<'_>) -> bool
+    ensures { result ≡ is_party_of (kind_of (lent_call call.now)) Controller }
 {
     match call {
-        Call::CreateVolume { .. }
-        | Call::DeleteVolume { .. }
-        | Call::ControllerPublishVolume { .. }
-        | Call::ControllerUnpublishVolume { .. } => true,
+        CallRef::CreateVolume { .. }
+        | CallRef::DeleteVolume { .. }
+        | CallRef::ControllerPublishVolume { .. }
+        | CallRef::ControllerUnpublishVolume { .. } => true,
         _ => false,
     }
 }
 
 impl Core {
     /// Where the row of this call is: that of the name for CreateVolume, and else that of the id.
-    pub fn place_for(&self, call: &Call) -> Option<usize>
+    pub fn place_for(&self, call: &CallRef<'_>) -> Option<usize>
         requires { IsKept self.now }
-        ensures place { result ≡ position (λ row. is_row_for call.now (volume_of_row row)) (rows_of self.now.catalog) }
+        ensures place { result ≡ position (λ row. is_row_for (lent_call call.now) (volume_of_row row)) (rows_of self.now.catalog) }
         ensures within { IfSome result (λ place. place < index_map_len self.now.catalog.rows) }
     {
         match call {
-            Call::CreateVolume { name, .. } => self.catalog.place_of_name(name),
-            Call::DeleteVolume { id } => self.catalog.place_of_id(*id),
-            Call::ControllerPublishVolume { id, .. } => self.catalog.place_of_id(*id),
-            Call::ControllerUnpublishVolume { id, .. } => self.catalog.place_of_id(*id),
-            Call::NodeStageVolume { id, .. } => self.catalog.place_of_id(*id),
-            Call::NodeUnstageVolume { id } => self.catalog.place_of_id(*id),
-            Call::NodePublishVolume { id, .. } => self.catalog.place_of_id(*id),
-            Call::NodeUnpublishVolume { id, .. } => self.catalog.place_of_id(*id),
+            CallRef::CreateVolume { name, .. } => self.catalog.place_of_name(name),
+            CallRef::DeleteVolume { id } => self.catalog.place_of_id(*id),
+            CallRef::ControllerPublishVolume { id, .. } => self.catalog.place_of_id(*id),
+            CallRef::ControllerUnpublishVolume { id, .. } => self.catalog.place_of_id(*id),
+            CallRef::NodeStageVolume { id, .. } => self.catalog.place_of_id(*id),
+            CallRef::NodeUnstageVolume { id } => self.catalog.place_of_id(*id),
+            CallRef::NodePublishVolume { id, .. } => self.catalog.place_of_id(*id),
+            CallRef::NodeUnpublishVolume { id, .. } => self.catalog.place_of_id(*id),
         }
     }
 
     /// The id of this call's row, and the number of the last call that was answered for it.
-    pub fn last_for(&self, call: &Call) -> Option<(VolumeId, Number)>
+    pub fn last_for(&self, call: &CallRef<'_>) -> Option<(VolumeId, Number)>
         requires { IsKept self.now }
-        ensures { result ≡ option_map (λ row. (row.id, row.last)) (find (λ row. is_row_for call.now (volume_of_row row)) (parts_of self.now).rows) }
+        ensures { result ≡ option_map (λ row. (row.id, row.last)) (find (λ row. is_row_for (lent_call call.now) (volume_of_row row)) (parts_of self.now).rows) }
     {
         match self.place_for(call) {
             Some(place) => {

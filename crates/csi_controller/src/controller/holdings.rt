@@ -8,25 +8,25 @@ ghost use Rattle.csi_controller.specs.Core.{held_by};
 ghost use Rattle.csi_controller.specs.OneRow.{held_so};
 
 use crate::row::{ControllerRow, NodeHolding};
-use csi_types::{NodeId, NodeUse, can_use_both, same_way};
+use csi_types::{NodeUse, can_use_both, same_way};
 
 /// The most nodes at which a volume is held.
 pub const MAX_HOLDINGS: usize = 64;
 
 /// Whether the volume is held at the node.
-pub fn is_held_at(row: &ControllerRow, node: &NodeId) -> bool
+pub fn is_held_at(row: &ControllerRow, node: &str) -> bool
     ensures { result ≡ list_any (λ held. same_text held.node node.now) row.now.holdings.items }
 {
-    row.holdings.iter().any(|held| held.node == *node)
+    row.holdings.iter().any(|held| held.node.as_str() == node)
 }
 
 /// Whether the volume is held so: at this node, with this capability and flag.
 pub fn is_held_so(held: &NodeHolding, wanted: NodeUse) -> bool
     ensures { (id : ℕ) → result ≡ same_holding (held_by id held.now) (held_by id (held_so wanted.entry)) }
 {
-    held.node == *wanted.node
+    held.node.as_str() == wanted.node
         && same_way(
-            &held.capability,
+            held.capability.lend(),
             held.readonly,
             wanted.capability,
             wanted.readonly,
@@ -38,17 +38,17 @@ pub fn use_of(held: &NodeHolding) -> NodeUse<'_>
     ensures { held_so result ≡ held.now }
 {
     NodeUse {
-        node: &held.node,
-        capability: &held.capability,
+        node: held.node.as_str(),
+        capability: held.capability.lend(),
         readonly: held.readonly,
     }
 }
 
 /// How the volume is held at the node, if it is.
-pub fn held_at<'a>(row: &'a ControllerRow, node: &NodeId) -> Option<&'a NodeHolding>
+pub fn held_at<'a>(row: &'a ControllerRow, node: &str) -> Option<&'a NodeHolding>
     ensures { option_copied result ≡ find (λ held. same_text held.node node.now) row.now.holdings.items }
 {
-    row.holdings.iter().find(|held| held.node == *node)
+    row.holdings.iter().find(|held| held.node.as_str() == node)
 }
 
 /// The first holding that can't be held with this one.

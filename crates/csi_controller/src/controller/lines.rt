@@ -4,6 +4,7 @@ ghost use Rattle.std.specs.Prelude.{◌≡◌, ◌≤◌, ◌||◌, IsTrue, nat_
 ghost use Rattle.csi_types.specs.declared.call.Kind.TheVariants.{DeleteVolume, ControllerPublishVolume, ControllerUnpublishVolume};
 ghost use Rattle.csi_types.specs.Call.{kind_of};
 ghost use Rattle.csi_types.specs.Config.{has_node as is_configured};
+ghost use Rattle.csi_types.specs.Lent.{lent_call};
 ghost use Rattle.csi_types.specs.Reply.{has_id_by_rule};
 ghost use Rattle.csi_controller.specs.Counts.{is_node_full};
 ghost use Rattle.csi_controller.specs.Line.{line_told};
@@ -16,7 +17,7 @@ use super::create_lines::create_line;
 use super::holdings::{MAX_HOLDINGS, excluding, held_at, is_held_at, is_held_so};
 use super::line::{Line, met, refused};
 use crate::row::ControllerRow;
-use csi_types::{Call, NodeId, NodeSlots, NodeUse, Status, has_capability};
+use csi_types::{CallRef, NodeSlots, NodeUse, Status, has_capability};
 
 // DeleteVolume of this row's volume.
 fn delete_line(row: &ControllerRow) -> Option<Line<'_>>
@@ -38,7 +39,7 @@ fn is_full_for(
     row: &ControllerRow,
     nodes: &[NodeSlots],
     counts: &[u64; MAX_NODES],
-    node: &NodeId,
+    node: &str,
 ) -> bool
     requires { length nodes.now ≤ 64 }
     ensures { result ≡ (is_node_full nodes.now counts.now node.now || nat_le 64 (length row.now.holdings.items)) }
@@ -85,7 +86,7 @@ fn publish_line<'a>(
 }
 
 // ControllerUnpublishVolume of this row's volume.
-fn unpublish_line(row: &ControllerRow, node: &NodeId) -> Option<Line<'static>>
+fn unpublish_line(row: &ControllerRow, node: &str) -> Option<Line<'static>>
     ensures ok { unpublish_told row.now node.now ≡ by_line (RowDetaches node.now) (option_map line_told result) }
     ensures id { IfSome result (λ line. IsTrue (has_id_by_rule ControllerUnpublishVolume (line_told line))) }
     ensures plain { IfSome result (λ line. (line_told line).status ≡ Status.Ok → (line_told line).detail ≡ []) }
@@ -102,22 +103,22 @@ pub fn line<'a>(
     row: &'a ControllerRow,
     nodes: &[NodeSlots],
     counts: &[u64; MAX_NODES],
-    call: &Call,
+    call: &CallRef<'_>,
 ) -> Option<Line<'a>>
     requires { length nodes.now ≤ 64 }
-    ensures ok { row_line nodes.now counts.now row.now call.now ≡ by_line (row_change call.now) (option_map line_told result) }
-    ensures id { IfSome result (λ line. IsTrue (has_id_by_rule (kind_of call.now) (line_told line))) }
+    ensures ok { row_line nodes.now counts.now row.now (lent_call call.now) ≡ by_line (row_change (lent_call call.now)) (option_map line_told result) }
+    ensures id { IfSome result (λ line. IsTrue (has_id_by_rule (kind_of (lent_call call.now)) (line_told line))) }
     ensures plain { IfSome result (λ line. (line_told line).status ≡ Status.Ok → (line_told line).detail ≡ []) }
 {
     match call {
-        Call::CreateVolume {
+        CallRef::CreateVolume {
             required,
             limit,
             capabilities,
             ..
         } => Some(create_line(row, *required, *limit, capabilities.as_slice())),
-        Call::DeleteVolume { .. } => delete_line(row),
-        Call::ControllerPublishVolume {
+        CallRef::DeleteVolume { .. } => delete_line(row),
+        CallRef::ControllerPublishVolume {
             node,
             capability,
             readonly,
@@ -125,12 +126,12 @@ pub fn line<'a>(
         } => {
             let wanted = NodeUse {
                 node,
-                capability,
+                capability: *capability,
                 readonly: *readonly,
             };
             publish_line(row, nodes, counts, wanted)
         }
-        Call::ControllerUnpublishVolume { node, .. } => unpublish_line(row, node),
+        CallRef::ControllerUnpublishVolume { node, .. } => unpublish_line(row, node),
         _ => Some(refused(Status::Unimplemented, "")),
     }
 }

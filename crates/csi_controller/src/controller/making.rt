@@ -9,15 +9,13 @@ ghost use Rattle.csi_types.specs.Replies.{ok_reply_with, reply_frame};
 ghost use Rattle.csi_types.specs.Same.{same_text};
 ghost use Rattle.csi_controller.specs.Line.{line_told};
 
-use super::answer::{carried, done, unkept};
 use super::create_lines::argument_fault;
 use super::line::{Line, refused};
 use super::new_row::new_row;
+use super::replies::{done, reply_of};
 use super::state::Core;
 use crate::fault::CoreFault;
-use csi_types::{
-    Call, CapabilityList, Frame, Kind, Name, Number, Status, VolumeId, wanted_capacity,
-};
+use csi_types::{Call, CapabilityList, Number, Reply, Status, VolumeId, wanted_capacity};
 
 /// The most rows that a controller has.
 const MAX_ROWS: usize = 4096;
@@ -62,13 +60,13 @@ impl Core {
         number: Number,
         id: VolumeId,
         capacity: u64,
-        name: &Name,
+        name: &str,
         capabilities: &CapabilityList,
-    ) -> Result<Frame, CoreFault>
+    ) -> Result<Reply, CoreFault>
         requires kept { IsKept self.old }
         requires new_id { find (λ row. row.id == id) (parts_of self.old).rows ≡ None }
         requires new_name { find (λ row. same_text row.name name.now) (parts_of self.old).rows ≡ None }
-        ensures frame { IfOk result (λ frame. frame ≡ reply_frame number Controller CreateKind (ok_reply_with id)) }
+        ensures reply { IfOk result (λ reply. reply ≡ ok_reply_with id) }
         ensures made { OnOk result (IsMade self.old self.new number id name.now capacity capabilities.now) }
         ensures err { OnErr result (parts_of self.new ≡ parts_of self.old) }
         ensures indexed { IsIndexed self.new.catalog }
@@ -77,24 +75,25 @@ impl Core {
     {
         let alloc = self.alloc;
         let row = new_row(alloc, number, id, name, capacity, capabilities)?;
-        self.catalog.add(row)?;
+        self.catalog.add(alloc, row)?;
         self.next_id = self.next_id.wrapping_add(1);
-        Ok(carried(number, Kind::CreateVolume, done(alloc, Some(id))))
+        Ok(done(alloc, Some(id)))
     }
 
     /// CreateVolume of a name that has no row. A refusal changes nothing.
     pub fn create(
         &mut self,
         number: Number,
-        name: &Name,
+        name: &str,
         required: u64,
         limit: u64,
         capabilities: &CapabilityList,
-    ) -> Result<Frame, CoreFault>
+    ) -> Result<Reply, CoreFault>
         requires kept { IsKept self.old }
         requires new { find (λ row. same_text row.name name.now) (parts_of self.old).rows ≡ None }
-        ensures ok { (state : ControllerState) → IsShown (parts_of self.old) state → IfOk result (λ frame. Answers (parts_of self.new) frame
+        ensures ok { (state : ControllerState) → IsShown (parts_of self.old) state → IfOk result (λ reply. Answers (parts_of self.new) (reply_frame number Controller CreateKind reply)
             (fenced_call self.old.config state number (Call.CreateVolume name.now required limit capabilities.now) (kept_for (Call.CreateVolume name.now required limit capabilities.now) state))) }
+        ensures id { IfOk result (λ reply. IsTrue (has_id_by_rule CreateKind reply)) }
         ensures err { (state : ControllerState) → IsShown (parts_of self.old) state → OnErr result (IsShown (parts_of self.new) state) }
         ensures kept { IsKept self.new }
         ensures config { self.new.config ≡ self.old.config }
@@ -102,11 +101,11 @@ impl Core {
         let alloc = self.alloc;
         let wished = capabilities.as_slice();
         if let Some(line) = argument_fault(required, limit, wished) {
-            return unkept(alloc, number, Kind::CreateVolume, &line);
+            return reply_of(alloc, &line);
         }
         match self.room_for(required, limit) {
             Ok(made) => self.make(number, made.0, made.1, name, capabilities),
-            Err(line) => unkept(alloc, number, Kind::CreateVolume, &line),
+            Err(line) => reply_of(alloc, &line),
         }
     }
 }

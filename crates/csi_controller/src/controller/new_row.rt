@@ -3,7 +3,7 @@ ghost use Rattle.std.specs.Prelude.{◌≡◌, [], IfOk};
 ghost use Rattle.csi_controller.specs.Shown.{volume_of_row};
 ghost use Rattle.csi_controller.specs.Making.{made_volume};
 
-use super::answer::done;
+use super::replies::done;
 use crate::fault::CoreFault;
 use crate::row::{ControllerRow, copied_capabilities};
 use csi_types::{CapabilityList, Kind, Name, Number, VolumeId};
@@ -14,14 +14,16 @@ pub fn new_row(
     alloc: Global,
     number: Number,
     id: VolumeId,
-    name: &Name,
+    name: &str,
     capacity: u64,
     capabilities: &CapabilityList,
 ) -> Result<ControllerRow, CoreFault>
     ensures volume { IfOk result (λ row. volume_of_row row ≡ made_volume number id name.now capacity capabilities.now) }
     ensures items { IfOk result (λ row. row.holdings.items ≡ []) }
 {
-    let name = name.clone()?;
+    let Ok(name) = Name::try_new(alloc, name) else {
+        return Err(CoreFault::NoMemory);
+    };
     let capabilities = copied_capabilities(capabilities)?;
     Ok(ControllerRow {
         id,

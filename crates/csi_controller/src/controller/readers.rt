@@ -7,13 +7,13 @@ use super::copies::copied_row;
 use super::state::Core;
 use crate::fault::CoreFault;
 use crate::row::ControllerRow;
-use csi_types::{Name, VolumeId};
+use csi_types::VolumeId;
 
 impl Core {
     ghost use Rattle.csi_controller.specs.CoreParts.{parts_of, IsKept};
 
     /// Id and capacity of the volume of this name, unless it was deleted.
-    pub fn volume(&self, name: &Name) -> Option<(VolumeId, u64)>
+    pub fn volume(&self, name: &str) -> Option<(VolumeId, u64)>
         requires { IsKept self.now }
         ensures { result ≡ row_if_live (find (λ row. same_text row.name name.now) (parts_of self.now).rows) }
     {
@@ -30,7 +30,7 @@ impl Core {
     }
 
     /// The id of the volume of this name, deleted or not.
-    pub fn id_of(&self, name: &Name) -> Option<VolumeId>
+    pub fn id_of(&self, name: &str) -> Option<VolumeId>
         requires { IsKept self.now }
         ensures { result ≡ option_map (λ row. row.id) (find (λ row. same_text row.name name.now) (parts_of self.now).rows) }
     {

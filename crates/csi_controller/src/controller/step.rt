@@ -1,17 +1,32 @@
-//! What a controller does with a frame.
-ghost use Rattle.std.specs.Prelude.{◌≡◌, ◌<◌, None, Some, position, IfOk, OnErr, OnOk, IsOk, IsTrue};
+//! What a controller answers to a call, and what it does with a frame.
+ghost use Rattle.std.specs.Prelude.{◌≡◌, ◌<◌, None, Some, position, option_map, IfOk, IfSome, OnErr, OnOk, IsOk, IsTrue, not};
 ghost use Rattle.indexmap.specs.IndexMap.{index_map_len};
 ghost use Rattle.csi_types.specs.declared.call.Call.{Call as OneCall};
+ghost use Rattle.csi_types.specs.declared.call.Party.{Party as OneParty};
 ghost use Rattle.csi_types.specs.declared.call.Party.TheVariants.{Controller};
 ghost use Rattle.csi_types.specs.Call.{kind_of, is_party_of};
+ghost use Rattle.csi_types.specs.Frame.{IsAllowed};
+ghost use Rattle.csi_types.specs.Lent.{lent_call};
+ghost use Rattle.csi_types.specs.Reply.{has_id_by_rule};
+ghost use Rattle.csi_types.specs.Replies.{call_frame, reply_frame};
 
-use super::answer::{carried, done, unkept};
-use super::fence::answer_again;
+use super::fence::answer_at_row;
 use super::finding::is_own;
 use super::line::refused;
+use super::replies::{done, reply_of};
 use super::state::Core;
 use crate::fault::CoreFault;
-use csi_types::{Body, Call, Frame, Kind, Number, Status};
+use csi_types::{
+    Body, CallRef, CapabilityList, CapabilityRef, Frame, Kind, Number, Party, Reply, Status,
+};
+
+// The frame of a reply. It takes no memory.
+fn frame_of(number: Number, kind: Kind, reply: Reply) -> Frame
+    requires { IsAllowed Controller (Body.Reply kind reply) }
+    ensures { result ≡ reply_frame number Controller kind reply }
+{
+    Frame::reply(number, Party::Controller, kind, reply).unwrap()
+}
 
 impl Core {
     ghost use Rattle.csi_controller.specs.State.{ControllerState, is_row_for};
@@ -19,85 +34,115 @@ impl Core {
     ghost use Rattle.csi_controller.specs.Shown.{volume_of_row};
     ghost use Rattle.csi_controller.specs.Catalog.{rows_of};
     ghost use Rattle.csi_controller.specs.Core.{IsShown, IsAnsweredOk, IsUndoing};
-    ghost use Rattle.csi_controller.specs.Step.{Answers};
+    ghost use Rattle.csi_controller.specs.Step.{Answers, answer_frame};
     ghost use Rattle.csi_controller.specs.CoreParts.{parts_of, IsKept};
     ghost use Rattle.csi_controller.specs.Repeats.{IsPlainRepeat};
 
     // Answers a call whose row is at this place. An `Err` changes nothing.
-    fn answer_there(
+    fn answer_with_row(
         &mut self,
         place: usize,
         number: Number,
-        call: &Call,
-    ) -> Result<Frame, CoreFault>
-        requires party { IsTrue (is_party_of (kind_of call.now) Controller) }
+        call: &CallRef<'_>,
+    ) -> Result<(Kind, Reply), CoreFault>
+        requires party { IsTrue (is_party_of (kind_of (lent_call call.now)) Controller) }
         requires kept { IsKept self.old }
-        requires place { Some place ≡ position (λ row. is_row_for call.now (volume_of_row row)) (rows_of self.old.catalog) }
+        requires place { Some place ≡ position (λ row. is_row_for (lent_call call.now) (volume_of_row row)) (rows_of self.old.catalog) }
         requires within { place < index_map_len self.old.catalog.rows }
-        ensures ok { (state : ControllerState) → IsShown (parts_of self.old) state → IfOk result (λ frame. Answers (parts_of self.new) frame
-            (fenced_call self.old.config state number call.now (kept_for call.now state))) }
+        ensures ok { (state : ControllerState) → IsShown (parts_of self.old) state → IfOk result (λ answer. Answers (parts_of self.new) (answer_frame number answer)
+            (fenced_call self.old.config state number (lent_call call.now) (kept_for (lent_call call.now) state))) }
+        ensures allowed { IfOk result (λ answer. IsAllowed Controller (Body.Reply answer.0 answer.1)) }
         ensures err { (state : ControllerState) → IsShown (parts_of self.old) state → OnErr result (IsShown (parts_of self.new) state) }
         ensures kept { IsKept self.new }
         ensures config { self.new.config ≡ self.old.config }
-        ensures repeated { (state : ControllerState) → IsShown (parts_of self.old) state → IsPlainRepeat (kept_for call.now state) number → IsOk result }
-        ensures undone { (state : ControllerState) → IsShown (parts_of self.old) state → IsUndoing call.now → IsAnsweredOk self.old.config state number call.now → IsOk result }
+        ensures repeated { (state : ControllerState) → IsShown (parts_of self.old) state → IsPlainRepeat (kept_for (lent_call call.now) state) number → IsOk result }
+        ensures undone { (state : ControllerState) → IsShown (parts_of self.old) state → IsUndoing (lent_call call.now) → IsAnsweredOk self.old.config state number (lent_call call.now) → IsOk result }
     {
         let alloc = self.alloc;
         let nodes = self.config.nodes();
         let row = &mut self.catalog.rows[place];
-        answer_again(row, nodes, &mut self.counts, alloc, number, call)
+        answer_at_row(row, nodes, &mut self.counts, alloc, number, call)
     }
 
     // Answers a call that has no row. An `Err` changes nothing.
-    fn answer_first(&mut self, number: Number, call: &Call) -> Result<Frame, CoreFault>
-        requires party { IsTrue (is_party_of (kind_of call.now) Controller) }
+    fn answer_without_row(&mut self, number: Number, call: &CallRef<'_>) -> Result<Reply, CoreFault>
+        requires party { IsTrue (is_party_of (kind_of (lent_call call.now)) Controller) }
         requires kept { IsKept self.old }
-        requires none { None ≡ position (λ row. is_row_for call.now (volume_of_row row)) (rows_of self.old.catalog) }
-        ensures ok { (state : ControllerState) → IsShown (parts_of self.old) state → IfOk result (λ frame. Answers (parts_of self.new) frame
-            (fenced_call self.old.config state number call.now (kept_for call.now state))) }
+        requires none { None ≡ position (λ row. is_row_for (lent_call call.now) (volume_of_row row)) (rows_of self.old.catalog) }
+        ensures ok { (state : ControllerState) → IsShown (parts_of self.old) state → IfOk result (λ reply. Answers (parts_of self.new) (reply_frame number Controller (kind_of (lent_call call.now)) reply)
+            (fenced_call self.old.config state number (lent_call call.now) (kept_for (lent_call call.now) state))) }
+        ensures id { IfOk result (λ reply. IsTrue (has_id_by_rule (kind_of (lent_call call.now)) reply)) }
         ensures err { (state : ControllerState) → IsShown (parts_of self.old) state → OnErr result (IsShown (parts_of self.new) state) }
         ensures kept { IsKept self.new }
         ensures config { self.new.config ≡ self.old.config }
-        ensures repeated { (state : ControllerState) → IsShown (parts_of self.old) state → IsPlainRepeat (kept_for call.now state) number → IsOk result }
-        ensures undone { (state : ControllerState) → IsShown (parts_of self.old) state → IsUndoing call.now → IsAnsweredOk self.old.config state number call.now → IsOk result }
+        ensures repeated { (state : ControllerState) → IsShown (parts_of self.old) state → IsPlainRepeat (kept_for (lent_call call.now) state) number → IsOk result }
+        ensures undone { (state : ControllerState) → IsShown (parts_of self.old) state → IsUndoing (lent_call call.now) → IsAnsweredOk self.old.config state number (lent_call call.now) → IsOk result }
     {
         let alloc = self.alloc;
         match call {
-            Call::CreateVolume {
+            CallRef::CreateVolume {
                 name,
                 required,
                 limit,
                 capabilities,
             } => self.create(number, name, *required, *limit, capabilities),
-            Call::DeleteVolume { .. } => {
-                Ok(carried(number, Kind::DeleteVolume, done(alloc, None)))
-            }
-            Call::ControllerPublishVolume { .. } => {
+            CallRef::DeleteVolume { .. } => Ok(done(alloc, None)),
+            CallRef::ControllerPublishVolume { .. } => {
                 let line = refused(Status::NotFound, "volume");
-                unkept(alloc, number, Kind::ControllerPublishVolume, &line)
+                reply_of(alloc, &line)
             }
-            Call::ControllerUnpublishVolume { .. } => {
-                Ok(carried(number, Kind::ControllerUnpublishVolume, done(alloc, None)))
-            }
+            CallRef::ControllerUnpublishVolume { .. } => Ok(done(alloc, None)),
             _ => unreachable!(),
         }
     }
 
     // Answers a call of the controller. An `Err` changes nothing.
-    fn answer(&mut self, number: Number, call: &Call) -> Result<Frame, CoreFault>
-        requires party { IsTrue (is_party_of (kind_of call.now) Controller) }
+    fn answer_own(&mut self, number: Number, call: &CallRef<'_>) -> Result<(Kind, Reply), CoreFault>
+        requires party { IsTrue (is_party_of (kind_of (lent_call call.now)) Controller) }
         requires kept { IsKept self.old }
-        ensures ok { (state : ControllerState) → IsShown (parts_of self.old) state → IfOk result (λ frame. Answers (parts_of self.new) frame
-            (fenced_call self.old.config state number call.now (kept_for call.now state))) }
+        ensures ok { (state : ControllerState) → IsShown (parts_of self.old) state → IfOk result (λ answer. Answers (parts_of self.new) (answer_frame number answer)
+            (fenced_call self.old.config state number (lent_call call.now) (kept_for (lent_call call.now) state))) }
+        ensures allowed { IfOk result (λ answer. IsAllowed Controller (Body.Reply answer.0 answer.1)) }
         ensures err { (state : ControllerState) → IsShown (parts_of self.old) state → OnErr result (IsShown (parts_of self.new) state) }
         ensures kept { IsKept self.new }
         ensures config { self.new.config ≡ self.old.config }
-        ensures repeated { (state : ControllerState) → IsShown (parts_of self.old) state → IsPlainRepeat (kept_for call.now state) number → IsOk result }
-        ensures undone { (state : ControllerState) → IsShown (parts_of self.old) state → IsUndoing call.now → IsAnsweredOk self.old.config state number call.now → IsOk result }
+        ensures repeated { (state : ControllerState) → IsShown (parts_of self.old) state → IsPlainRepeat (kept_for (lent_call call.now) state) number → IsOk result }
+        ensures undone { (state : ControllerState) → IsShown (parts_of self.old) state → IsUndoing (lent_call call.now) → IsAnsweredOk self.old.config state number (lent_call call.now) → IsOk result }
     {
         match self.place_for(call) {
-            Some(place) => self.answer_there(place, number, call),
-            None => self.answer_first(number, call),
+            Some(place) => self.answer_with_row(place, number, call),
+            None => match self.answer_without_row(number, call) {
+                Ok(reply) => Ok((call.kind(), reply)),
+                Err(fault) => Err(fault),
+            },
+        }
+    }
+
+    /// Answers a call, as `Controller::answer` says, whatever its texts are.
+    pub fn answer(
+        &mut self,
+        number: Number,
+        call: &CallRef<'_>,
+    ) -> Result<Option<(Kind, Reply)>, CoreFault>
+        requires kept { IsKept self.old }
+        ensures reply { (state : ControllerState) (party : OneParty) → IsShown (parts_of self.old) state → IsAllowed party (Body.Call (lent_call call.now))
+            → IfOk result (λ answer. option_map (answer_frame number) answer ≡ (fenced self.old.config state (call_frame number party (lent_call call.now))).reply) }
+        ensures state { (state : ControllerState) (party : OneParty) → IsShown (parts_of self.old) state → IsAllowed party (Body.Call (lent_call call.now))
+            → OnOk result (IsShown (parts_of self.new) (fenced self.old.config state (call_frame number party (lent_call call.now))).state) }
+        ensures allowed { IfOk result (λ answer. IfSome answer (λ own. IsAllowed Controller (Body.Reply own.0 own.1))) }
+        ensures others { IsTrue (not (is_party_of (kind_of (lent_call call.now)) Controller)) → result ≡ Ok None }
+        ensures err { (state : ControllerState) → IsShown (parts_of self.old) state → OnErr result (IsShown (parts_of self.new) state) }
+        ensures kept { IsKept self.new }
+        ensures config { self.new.config ≡ self.old.config }
+        ensures repeated { (state : ControllerState) → IsShown (parts_of self.old) state → IsPlainRepeat (kept_for (lent_call call.now) state) number → IsOk result }
+        ensures undone { (state : ControllerState) → IsShown (parts_of self.old) state → IsUndoing (lent_call call.now) → IsAnsweredOk self.old.config state number (lent_call call.now) → IsOk result }
+    {
+        if !is_own(call) {
+            return Ok(None);
+        }
+        match self.answer_own(number, call) {
+            Ok(answer) => Ok(Some(answer)),
+            Err(fault) => Err(fault),
         }
     }
 
@@ -118,10 +163,13 @@ impl Core {
         let Body::Call(call) = frame.body() else {
             return Ok(None);
         };
-        if !is_own(call) {
-            return Ok(None);
+        // the proof has to be told the types of a lent call's parts
+        let _parts: Option<(&CapabilityList, CapabilityRef<'_>)> = None;
+        let number = frame.number();
+        match self.answer(number, &call.lend()) {
+            Ok(Some(answer)) => Ok(Some(frame_of(number, answer.0, answer.1))),
+            Ok(None) => Ok(None),
+            Err(fault) => Err(fault),
         }
-        let answer = self.answer(frame.number(), call)?;
-        Ok(Some(answer))
     }
 }

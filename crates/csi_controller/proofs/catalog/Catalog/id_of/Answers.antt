@@ -2,17 +2,17 @@
 use Rattle.std.proofs.Common.{◌∙◌}
 use Rattle.csi_types.specs.Same.{same_text}
 use Rattle.csi_controller.specs.declared.row.ControllerRow.{ControllerRow}
-use Rattle.csi_controller.specs.Catalog.{rows_of, by_name}
+use Rattle.csi_controller.specs.Catalog.{rows_of}
 use Rattle.csi_controller.proofs.Finds.{text-turned}
-use Rattle.csi_controller.proofs.Indexed.{lookup-keys}
+use Rattle.csi_controller.proofs.Indexed.{id-texts}
 use Rattle.csi_controller.proofs.catalog.Catalog.id_of.Goals as goal
 
 pub returns-in-Some : goal.returns-in-Some
 returns-in-Some c =
     c.in-Some.ensures.value
-    ∙ lookup-keys by_name _ (λ (row : ControllerRow). same_text row.name c.args.name.now) c.args.self.now.ids.entries (rows_of c.args.self.now) c.requires.ids (λ row. text-turned c.args.name.now row.name)
+    ∙ id-texts _ (λ (row : ControllerRow). same_text row.name c.args.name.now) c.args.self.now.ids.entries (rows_of c.args.self.now) c.requires.ids (λ row. text-turned c.args.name.now row.name)
 
 pub returns-in-None : goal.returns-in-None
 returns-in-None c =
     c.in-None.ensures.value
-    ∙ lookup-keys by_name _ (λ (row : ControllerRow). same_text row.name c.args.name.now) c.args.self.now.ids.entries (rows_of c.args.self.now) c.requires.ids (λ row. text-turned c.args.name.now row.name)
+    ∙ id-texts _ (λ (row : ControllerRow). same_text row.name c.args.name.now) c.args.self.now.ids.entries (rows_of c.args.self.now) c.requires.ids (λ row. text-turned c.args.name.now row.name)

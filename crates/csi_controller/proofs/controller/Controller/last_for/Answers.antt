@@ -24,4 +24,5 @@ last-shown parts state call shown =
 
 pub returns : goal.returns
 returns c = λ state shown.
-    c.last_for.ensures ∙ last-shown (parts_of c.self.inside.core) state c.args.call.now (subst (λ (k : Parts). IsShown k state) (sym c.self.view_is) shown)
+    subst (λ (call : Call). c.last_for.result ≡ option_map (λ (row : ControllerRow). (row.id, row.last)) (find (λ (row : ControllerRow). is_row_for call (volume_of_row row)) (parts_of c.self.inside.core).rows)) c.lend.ensures c.last_for.ensures
+    ∙ last-shown (parts_of c.self.inside.core) state c.args.call.now (subst (λ (k : Parts). IsShown k state) (sym c.self.view_is) shown)

@@ -1,6 +1,7 @@
 -- One more node has its count.
-use Rattle.std.proofs.Common.{◌∙◌, arith}
+use Rattle.std.proofs.Common.{◌≡◌, ◌∙◌, ℕ, List, subst, arith}
 use Rattle.std.proofs.lemmas.List.{length-set}
+use Rattle.csi_controller.specs.Counts.{count_held}
 use Rattle.csi_controller.proofs.Recounted.{counted-more, all-counted}
 use Rattle.csi_controller.proofs.controller.counts.counted.Goals as goal
 
@@ -10,7 +11,7 @@ loop-place-preserved c =
     let long = at.invariant.0 in
     let few = c.requires in
     let turn = c.loop-place-test.true in
-    (length-set at.counts at.place c.count_in.result ∙ long, counted-more c.args.nodes.now c.args.rows.now at.counts at.place c.index-nodes-place.result c.count_in.result (omega (arith, long, few, turn)) c.index-nodes-place.is c.count_in.ensures at.invariant.1)
+    (length-set at.counts at.place c.count_in.result ∙ long, counted-more c.args.nodes.now c.args.rows.now at.counts at.place c.index-nodes-place.result c.count_in.result (omega (arith, long, few, turn)) c.index-nodes-place.is (subst (λ (node : List ℕ). c.count_in.result ≡ count_held node c.args.rows.now) c.as_str.ensures.value c.count_in.ensures) at.invariant.1)
 
 pub returns : goal.returns
 returns c =

@@ -2,6 +2,9 @@
 use Rattle.std.proofs.Common.{◌≡◌, ◌∙◌, ap, subst, sym, length, Some, None}
 use Rattle.std.proofs.lemmas.Result.{IfOk-weaker}
 use Rattle.csi_types.specs.declared.call.Call.TheVariants.{CreateVolume}
+use Rattle.csi_types.specs.declared.call.Kind.TheVariants as kinds
+use Rattle.csi_types.specs.declared.call.Party.TheVariants.{Controller}
+use Rattle.csi_types.specs.Replies.{reply_frame}
 use Rattle.csi_controller.specs.Fenced.{fenced_call, kept_for}
 use Rattle.csi_controller.specs.Core.{Parts, IsSound, next_shown}
 use Rattle.csi_controller.specs.Step.{Answers}
@@ -26,9 +29,9 @@ returns-in-Some-clause-ok c = λ state shown.
     let core = c.args.self.now in
     let fault : argument_fault c.args.required c.args.limit c.args.capabilities.now ≡ Some (line_told c.in-Some.line)
     = ap (argument_fault c.args.required c.args.limit) (sym c.as_slice-wished.ensures.value) ∙ sym c.argument_fault.ensures.ok ∙ ap (option_map line_told) c.in-Some.is in
-    IfOk-weaker c.unkept.result _ _
-    (λ frame is. fault-answers core.config core.next_id (rows_of core.catalog) state c.args.number c.args.name.now c.args.required c.args.limit c.args.capabilities.now frame (line_told c.in-Some.line) shown c.requires.new fault is)
-    c.unkept.ensures.ok
+    IfOk-weaker c.reply_of.result _ _
+    (λ reply is. fault-answers core.config core.next_id (rows_of core.catalog) state c.args.number c.args.name.now c.args.required c.args.limit c.args.capabilities.now (reply_frame c.args.number Controller kinds.CreateVolume reply) (line_told c.in-Some.line) shown c.requires.new fault (ap (reply_frame c.args.number Controller kinds.CreateVolume) is))
+    c.reply_of.ensures.ok
 
 pub returns-in-Ok-clause-ok : goal.returns-in-Ok-clause-ok
 returns-in-Ok-clause-ok c = λ state shown.
@@ -36,11 +39,11 @@ returns-in-Ok-clause-ok c = λ state shown.
     let good : argument_fault c.args.required c.args.limit c.args.capabilities.now ≡ None
     = ap (argument_fault c.args.required c.args.limit) (sym c.as_slice-wished.ensures.value) ∙ sym c.argument_fault.ensures.ok ∙ ap (option_map line_told) (none-where _ c.in_default.not-Some) in
     ok-both c.make.result _ _ _
-    (λ frame is made. subst (λ (k : Parts). Answers k frame (fenced_call core.config state c.args.number (CreateVolume c.args.name.now c.args.required c.args.limit c.args.capabilities.now) (kept_for (CreateVolume c.args.name.now c.args.required c.args.limit c.args.capabilities.now) state)))
+    (λ reply is made. subst (λ (k : Parts). Answers k (reply_frame c.args.number Controller kinds.CreateVolume reply) (fenced_call core.config state c.args.number (CreateVolume c.args.name.now c.args.required c.args.limit c.args.capabilities.now) (kept_for (CreateVolume c.args.name.now c.args.required c.args.limit c.args.capabilities.now) state)))
     (parts-made core c.make.new.self c.args.number c.in-Ok.made.0 c.args.name.now c.in-Ok.made.1 c.args.capabilities.now made)
-    (made-answers core.config core.next_id (rows_of core.catalog) state c.args.number c.args.name.now c.args.required c.args.limit c.in-Ok.made.1 c.in-Ok.made.0 c.args.capabilities.now made.row frame shown c.requires.new good
-    (c.in-Ok.ensures.line c.args.name.now c.args.capabilities.now) c.in-Ok.ensures.id c.in-Ok.ensures.from made.fits is made.volume made.items))
-    c.make.ensures.frame c.make.ensures.made
+    (made-answers core.config core.next_id (rows_of core.catalog) state c.args.number c.args.name.now c.args.required c.args.limit c.in-Ok.made.1 c.in-Ok.made.0 c.args.capabilities.now made.row (reply_frame c.args.number Controller kinds.CreateVolume reply) shown c.requires.new good
+    (c.in-Ok.ensures.line c.args.name.now c.args.capabilities.now) c.in-Ok.ensures.id c.in-Ok.ensures.from made.fits (ap (reply_frame c.args.number Controller kinds.CreateVolume) is) made.volume made.items))
+    c.make.ensures.reply c.make.ensures.made
 
 pub returns-in-Ok-clause-kept : goal.returns-in-Ok-clause-kept
 returns-in-Ok-clause-kept c =
@@ -70,7 +73,7 @@ returns-in-Err-clause-ok c = λ state shown.
     let core = c.args.self.now in
     let good : argument_fault c.args.required c.args.limit c.args.capabilities.now ≡ None
     = ap (argument_fault c.args.required c.args.limit) (sym c.as_slice-wished.ensures.value) ∙ sym c.argument_fault.ensures.ok ∙ ap (option_map line_told) (none-where _ c.in_default.not-Some) in
-    IfOk-weaker c.unkept-in-Err.result _ _
-    (λ frame is. refused-answers core.config core.next_id (rows_of core.catalog) state c.args.number c.args.name.now c.args.required c.args.limit c.args.capabilities.now frame (line_told c.in-Err.line) shown c.requires.new good
-    (c.in-Err.ensures.line c.args.name.now c.args.capabilities.now) is)
-    c.unkept-in-Err.ensures.ok
+    IfOk-weaker c.reply_of-in-Err.result _ _
+    (λ reply is. refused-answers core.config core.next_id (rows_of core.catalog) state c.args.number c.args.name.now c.args.required c.args.limit c.args.capabilities.now (reply_frame c.args.number Controller kinds.CreateVolume reply) (line_told c.in-Err.line) shown c.requires.new good
+    (c.in-Err.ensures.line c.args.name.now c.args.capabilities.now) (ap (reply_frame c.args.number Controller kinds.CreateVolume) is))
+    c.reply_of-in-Err.ensures.ok

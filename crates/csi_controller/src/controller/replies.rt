@@ -1,0 +1,50 @@
+//! Replies of lines, and copies of replies.
+ghost use Rattle.std.specs.Prelude.{◌≡◌, [], IsOk, IfOk};
+ghost use Rattle.csi_controller.specs.Line.{line_told};
+
+use super::line::Line;
+use crate::fault::CoreFault;
+use csi_types::{Detail, Reply, Status, VolumeId};
+use std::alloc::Global;
+
+/// The reply of a line. Without a detail it takes no memory.
+pub fn reply_of(alloc: Global, line: &Line) -> Result<Reply, CoreFault>
+    ensures ok { IfOk result (λ reply. reply ≡ line_told line.now) }
+    ensures succeeds { (line_told line.now).detail ≡ [] → IsOk result }
+{
+    match Detail::try_new(alloc, line.detail) {
+        Ok(detail) => Ok(Reply {
+            status: line.status,
+            id: line.id,
+            detail,
+        }),
+        Err(_) => Err(CoreFault::NoMemory),
+    }
+}
+
+/// Done, with this id. It takes no memory.
+pub fn done(alloc: Global, id: Option<VolumeId>) -> Reply
+    ensures { result ≡ record { status = Status.Ok; id = id; detail = [] } }
+{
+    let detail = Detail::try_new(alloc, "").unwrap();
+    Reply {
+        status: Status::Ok,
+        id,
+        detail,
+    }
+}
+
+/// The same reply again. Without a detail it takes no memory.
+pub fn copied(alloc: Global, reply: &Reply) -> Result<Reply, CoreFault>
+    ensures ok { IfOk result (λ copy. copy ≡ reply.now) }
+    ensures succeeds { reply.now.detail ≡ [] → IsOk result }
+{
+    match Detail::try_new(alloc, reply.detail.as_str()) {
+        Ok(detail) => Ok(Reply {
+            status: reply.status,
+            id: reply.id,
+            detail,
+        }),
+        Err(_) => Err(CoreFault::NoMemory),
+    }
+}
