@@ -4,6 +4,7 @@ use Rattle.std.specs.Prelude.{Option, Some, None, option_map, ◌==◌, codes}
 use Rattle.std.proofs.lemmas.Bool.{eqb-true}
 use Rattle.std.proofs.lemmas.Bool.Decides.{nat_tests}
 use Rattle.csi_types.specs.declared.call.Call.{Call}
+use Rattle.csi_types.specs.declared.call.Kind.{Kind}
 use Rattle.csi_types.specs.declared.call.Party.TheVariants.{Node}
 use Rattle.csi_types.specs.declared.number.Number.{Number}
 use Rattle.csi_types.specs.declared.reply.Reply.{Reply}
@@ -17,7 +18,7 @@ use Rattle.csi_types.specs.Replies.{reply_frame, plain_reply}
 use Rattle.csi_lists.proofs.Searches.{find-passes}
 use Rattle.csi_node.specs.State.{NodeState, StagedVolume, volume_of}
 use Rattle.csi_node.specs.Table.{Outcome, lifecycle_row, node_row, has_no_room, changed}
-use Rattle.csi_node.specs.Fenced.{Fenced, keep, answered_only, carried_out, judged, fenced_call, kept_for}
+use Rattle.csi_node.specs.Fenced.{Fenced, answer_frame, keep, answered_only, carried_out, judged, fenced_call, kept_for}
 use Rattle.csi_node.specs.OneRow.{RowShown, alone, row_anew, IsAfter, RowAnswers}
 use Rattle.csi_node.proofs.StateChanges.{lifecycle-part}
 use Rattle.csi_node.proofs.Steps.{ShowsAll, RowsAfter, grown, answered_of, row_of, alone_in, part_of, kept-shown_by, room-by, shows_then, state_then}
@@ -46,40 +47,44 @@ full_then : (node : List ℕ) (state : NodeState) (number : Number) (call : Call
 full_then node state number call full = simp full
 
 module _ (node : List ℕ) (id : ℕ) (number : Number) (call : Call) (old new : List RowShown) (state : NodeState) (v : volume_of call ≡ Some id) (all : ShowsAll old state) where
+  -- an answer as a frame that is given
+  abbrev framed : Kind × Reply → Option Frame
+  framed answer = Some (answer_frame node number answer)
+
   -- a call that is carried out, for a row that was there or is new
-  gives-done : (before after : RowShown) (frame : Frame) → has_no_room state call ≡ false → RowsAfter id old new after → before.id ≡ id → alone before ≡ alone_in (row_of id old)
-      → frame ≡ reply_frame number (Node node) (kind_of call) (lifecycle_row (alone before) call).reply → IsAfter number call before after
-      → GivesAll new frame (carried_out node state number call (node_row state call))
-  gives-done before after frame room rows own is_before is_frame is_after =
+  gives-done : (before after : RowShown) (answer : Kind × Reply) → has_no_room state call ≡ false → RowsAfter id old new after → before.id ≡ id → alone before ≡ alone_in (row_of id old)
+      → answer ≡ (kind_of call, (lifecycle_row (alone before) call).reply) → IsAfter number call before after
+      → GivesAll new (answer_frame node number answer) (carried_out node state number call (node_row state call))
+  gives-done before after answer room rows own is_before is_answer is_after =
       let same_reply : (lifecycle_row (alone before) call).reply ≡ (lifecycle_row state call).reply =
       ap (λ (s : NodeState). (lifecycle_row s call).reply) is_before
       ∙ ap (λ (o : Outcome). o.reply) (lifecycle-part id (alone_in (row_of id old)) state call v (part_of id old state all)) in
       let kept : Kept = record { number = number; kind = kind_of call; reply = (lifecycle_row state call).reply } in
       let is_kept : after.kept ≡ kept = is_after.kept ∙ ap (λ (r : Reply). let k : Kept = record { number = number; kind = kind_of call; reply = r } in k) same_reply in
-      subst (GivesAll new frame) (sym (done_then node state number call id v room)) (record {
-        reply = ap (λ (r : Reply). Some (reply_frame number (Node node) (kind_of call) r)) (sym same_reply) ∙ ap Some (sym is_frame);
+      subst (GivesAll new (answer_frame node number answer)) (sym (done_then node state number call id v room)) (record {
+        reply = ap (λ (r : Reply). Some (reply_frame number (Node node) (kind_of call) r)) (sym same_reply) ∙ ap framed (sym is_answer);
         shows = shows_then id call old new state before after kept v all rows is_before (is_after.id ∙ own) is_kept is_after.state;
       })
 
   -- a call of a volume that has no row, where there is room
-  pub gives-anew : (after : RowShown) (frame : Frame) → row_of id old ≡ None → length old < 4096 → RowsAfter id old new after
-      → frame ≡ reply_frame number (Node node) (kind_of call) (lifecycle_row (alone (row_anew id number (kind_of call))) call).reply
+  pub gives-anew : (after : RowShown) (answer : Kind × Reply) → row_of id old ≡ None → length old < 4096 → RowsAfter id old new after
+      → answer ≡ (kind_of call, (lifecycle_row (alone (row_anew id number (kind_of call))) call).reply)
       → IsAfter number call (row_anew id number (kind_of call)) after
-      → GivesAll new frame (fenced_call node state number call (kept_for call state))
-  gives-anew after frame none few rows is_frame is_after =
+      → GivesAll new (answer_frame node number answer) (fenced_call node state number call (kept_for call state))
+  gives-anew after answer none few rows is_answer is_after =
       let room : has_no_room state call ≡ false = room-by id call old state None v all none ∙ grind (arith, nat_tests) in
       let kept : kept_for call state ≡ None = kept-shown_by id call old state None v all none in
-      subst (λ (o : Option Kept). GivesAll new frame (fenced_call node state number call o)) (sym kept)
-      (gives-done (row_anew id number (kind_of call)) after frame room rows refl (ap alone_in (sym none)) is_frame is_after)
+      subst (λ (o : Option Kept). GivesAll new (answer_frame node number answer) (fenced_call node state number call o)) (sym kept)
+      (gives-done (row_anew id number (kind_of call)) after answer room rows refl (ap alone_in (sym none)) is_answer is_after)
 
   -- and where there is none
-  pub gives-full : (frame : Frame) → row_of id old ≡ None → 4096 ≤ length old → frame ≡ reply_frame number (Node node) (kind_of call) (plain_reply ResourceExhausted (codes "rows"))
-      → GivesAll old frame (fenced_call node state number call (kept_for call state))
-  gives-full frame none many is_frame =
+  pub gives-full : (answer : Kind × Reply) → row_of id old ≡ None → 4096 ≤ length old → answer ≡ (kind_of call, plain_reply ResourceExhausted (codes "rows"))
+      → GivesAll old (answer_frame node number answer) (fenced_call node state number call (kept_for call state))
+  gives-full answer none many is_answer =
       let full : has_no_room state call ≡ true = room-by id call old state None v all none ∙ grind (arith, nat_tests) in
       let kept : kept_for call state ≡ None = kept-shown_by id call old state None v all none in
-      subst (λ (o : Option Kept). GivesAll old frame (fenced_call node state number call o)) (sym kept)
-      (subst (GivesAll old frame) (sym (full_then node state number call full)) (record { reply = ap Some (sym is_frame); shows = all }))
+      subst (λ (o : Option Kept). GivesAll old (answer_frame node number answer) (fenced_call node state number call o)) (sym kept)
+      (subst (GivesAll old (answer_frame node number answer)) (sym (full_then node state number call full)) (record { reply = ap framed (sym is_answer); shows = all }))
 
   -- rows that are as they were
   unchanged : (before after : RowShown) → row_of id old ≡ Some before → RowsAfter id old new after → after ≡ before → ShowsAll new state
@@ -95,12 +100,12 @@ module _ (node : List ℕ) (id : ℕ) (number : Number) (call : Call) (old new :
       as_was k false e = rows.others k e
 
   -- a call of a volume that has a row
-  pub gives-again : (before after : RowShown) (frame : Frame) → row_of id old ≡ Some before → RowsAfter id old new after
-      → RowAnswers node number call before after frame (verdict_of (Some before.kept.number) number)
-      → GivesAll new frame (fenced_call node state number call (kept_for call state))
-  gives-again before after frame found rows answers =
+  pub gives-again : (before after : RowShown) (answer : Kind × Reply) → row_of id old ≡ Some before → RowsAfter id old new after
+      → RowAnswers number call before after answer (verdict_of (Some before.kept.number) number)
+      → GivesAll new (answer_frame node number answer) (fenced_call node state number call (kept_for call state))
+  gives-again before after answer found rows answers =
       let kept : kept_for call state ≡ Some before.kept = kept-shown_by id call old state (Some before) v all found in
-      subst (λ (o : Option Kept). GivesAll new frame (fenced_call node state number call o)) (sym kept)
+      subst (λ (o : Option Kept). GivesAll new (answer_frame node number answer) (fenced_call node state number call o)) (sym kept)
       (by (verdict_of (Some before.kept.number) number) answers)
     where
       room : has_no_room state call ≡ false
@@ -109,7 +114,7 @@ module _ (node : List ℕ) (id : ℕ) (number : Number) (call : Call) (old new :
       own : before.id ≡ id
       own = eqb-true before.id id (find-passes (λ (row : RowShown). row.id == id) old before found)
 
-      by : (verdict : Verdict) → RowAnswers node number call before after frame verdict → GivesAll new frame (judged node state number call before.kept verdict)
-      by Stale h = record { reply = ap Some (sym h.0); shows = unchanged before after found rows h.1 }
-      by Repeated h = record { reply = ap Some (sym h.0); shows = unchanged before after found rows h.1 }
-      by Fresh h = gives-done before after frame room rows own (ap alone_in (sym found)) h.0 h.1
+      by : (verdict : Verdict) → RowAnswers number call before after answer verdict → GivesAll new (answer_frame node number answer) (judged node state number call before.kept verdict)
+      by Stale h = record { reply = ap framed (sym h.0); shows = unchanged before after found rows h.1 }
+      by Repeated h = record { reply = ap framed (sym h.0); shows = unchanged before after found rows h.1 }
+      by Fresh h = gives-done before after answer room rows own (ap alone_in (sym found)) h.0 h.1

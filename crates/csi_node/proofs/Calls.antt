@@ -4,20 +4,21 @@ use Rattle.std.specs.Prelude.{OnErr}
 use Rattle.std.specs.List.{insert}
 use Rattle.std.proofs.lemmas.List.{map-set, map-append, take-map, drop-map, length-map}
 use Rattle.csi_types.specs.declared.call.Call.{Call}
+use Rattle.csi_types.specs.declared.call.Kind.{Kind}
 use Rattle.csi_types.specs.declared.number.Number.{Number}
+use Rattle.csi_types.specs.declared.reply.Reply.{Reply}
 use Rattle.csi_types.specs.declared.fence.Verdict.{Verdict}
 use Rattle.csi_types.specs.declared.fence.Verdict.TheVariants.{Stale, Repeated, Fresh}
 use Rattle.csi_types.specs.Fence.{verdict_of}
 use Rattle.csi_types.specs.Frame.{Frame}
 use Rattle.csi_types.specs.Call.{kind_of}
-use Rattle.csi_types.specs.Replies.{reply_frame, plain_reply}
-use Rattle.csi_types.specs.declared.call.Party.TheVariants.{Node}
+use Rattle.csi_types.specs.Replies.{plain_reply}
 use Rattle.csi_types.specs.declared.status.Status.TheVariants.{ResourceExhausted}
 use Rattle.std.specs.Prelude.{codes}
 use Rattle.csi_node.specs.declared.row.NodeRow.{NodeRow}
 use Rattle.csi_node.specs.State.{NodeState, volume_of}
 use Rattle.csi_node.specs.Table.{lifecycle_row}
-use Rattle.csi_node.specs.Fenced.{Fenced, fenced_call, kept_for}
+use Rattle.csi_node.specs.Fenced.{Fenced, answer_frame, fenced_call, kept_for}
 use Rattle.csi_node.specs.Shown.{Shows}
 use Rattle.csi_node.specs.OneRow.{RowShown, shown, alone, row_anew, IsRow, IsAfter, RowAnswers}
 use Rattle.csi_node.specs.Record.{parts, id_at, IsAt, IsGapFor, IsRecord, Gives}
@@ -64,26 +65,26 @@ there rows id place row is rules at =
     }
 
 -- a row keeps its id
-pub answers-id : (node : List ℕ) (number : Number) (call : Call) (old new : RowShown) (frame : Frame) (verdict : Verdict) → RowAnswers node number call old new frame verdict → new.id ≡ old.id
-answers-id node number call old new frame Stale h = ap (λ (r : RowShown). r.id) h.1
-answers-id node number call old new frame Repeated h = ap (λ (r : RowShown). r.id) h.1
-answers-id node number call old new frame Fresh h = h.1.id
+pub answers-id : (number : Number) (call : Call) (old new : RowShown) (answer : Kind × Reply) (verdict : Verdict) → RowAnswers number call old new answer verdict → new.id ≡ old.id
+answers-id number call old new answer Stale h = ap (λ (r : RowShown). r.id) h.1
+answers-id number call old new answer Repeated h = ap (λ (r : RowShown). r.id) h.1
+answers-id number call old new answer Fresh h = h.1.id
 
 -- a row keeps its id, whether its call is answered or ends in an error
-pub kept_id : {E : Type 0} (r : Result Frame E) (node : List ℕ) (number : Number) (call : Call) (old new : RowShown) (verdict : Verdict)
-    → IfOk r (λ frame. RowAnswers node number call old new frame verdict) → OnErr r (new ≡ old) → new.id ≡ old.id
-kept_id (Ok frame) node number call old new verdict ok err = answers-id node number call old new frame verdict ok
-kept_id (Err fault) node number call old new verdict ok err = ap (λ (r : RowShown). r.id) err
+pub kept_id : {E : Type 0} (r : Result (Kind × Reply) E) (number : Number) (call : Call) (old new : RowShown) (verdict : Verdict)
+    → IfOk r (λ answer. RowAnswers number call old new answer verdict) → OnErr r (new ≡ old) → new.id ≡ old.id
+kept_id (Ok answer) number call old new verdict ok err = answers-id number call old new answer verdict ok
+kept_id (Err fault) number call old new verdict ok err = ap (λ (r : RowShown). r.id) err
 
 -- a call of a volume that has a row
 pub gives-there : (node : List ℕ) (id : ℕ) (number : Number) (call : Call) (rows : List NodeRow) (place : ℕ) (row new : NodeRow) (state : NodeState) → volume_of call ≡ Some id
     → IsRecord (parts rows) → IsAt (parts rows) id place → There rows id place row → Shows rows state
-    → (frame : Frame) → RowAnswers node number call (shown row) (shown new) frame (verdict_of (Some row.last) number)
-    → Gives (set rows place new) frame (fenced_call node state number call (kept_for call state))
-gives-there node id number call rows place row new state v rules at is shows frame answers =
-    let own : new.id ≡ id = answers-id node number call (shown row) (shown new) frame _ answers ∙ is.own in
-    gives-from_all (set rows place new) frame _ (subst (λ (l : List RowShown). GivesAll l frame (fenced_call node state number call (kept_for call state))) (sym (map-set shown rows place new))
-    (gives-again node id number call (parts rows) (set (parts rows) place (shown new)) state v (all-from_shows rows state shows) (shown row) (shown new) frame is.found
+    → (answer : Kind × Reply) → RowAnswers number call (shown row) (shown new) answer (verdict_of (Some row.last) number)
+    → Gives (set rows place new) (answer_frame node number answer) (fenced_call node state number call (kept_for call state))
+gives-there node id number call rows place row new state v rules at is shows answer answers =
+    let own : new.id ≡ id = answers-id number call (shown row) (shown new) answer _ answers ∙ is.own in
+    gives-from_all (set rows place new) _ _ (subst (λ (l : List RowShown). GivesAll l (answer_frame node number answer) (fenced_call node state number call (kept_for call state))) (sym (map-set shown rows place new))
+    (gives-again node id number call (parts rows) (set (parts rows) place (shown new)) state v (all-from_shows rows state shows) (shown row) (shown new) answer is.found
     (after-set (parts rows) id place (shown new) (shown row) rules.rising at own) answers))
 
 -- the rules then
@@ -93,14 +94,14 @@ rules-there id rows place row new rules at is own same =
     subst IsRecord (sym (map-set shown rows place new)) (rules-set (parts rows) place (shown new) rules own (same ∙ is.at_place) at.within)
 
 -- the first call of a volume
-pub gives-first : (node : List ℕ) (id : ℕ) (number : Number) (call : Call) (rows : List NodeRow) (place : ℕ) (new : NodeRow) (state : NodeState) (frame : Frame) → volume_of call ≡ Some id
+pub gives-first : (node : List ℕ) (id : ℕ) (number : Number) (call : Call) (rows : List NodeRow) (place : ℕ) (new : NodeRow) (state : NodeState) (answer : Kind × Reply) → volume_of call ≡ Some id
     → IsGapFor (parts rows) id place → length rows < 4096 → Shows rows state
-    → frame ≡ reply_frame number (Node node) (kind_of call) (lifecycle_row (alone (row_anew id number (kind_of call))) call).reply
+    → answer ≡ (kind_of call, (lifecycle_row (alone (row_anew id number (kind_of call))) call).reply)
     → IsAfter number call (row_anew id number (kind_of call)) (shown new)
-    → Gives (insert rows place new) frame (fenced_call node state number call (kept_for call state))
-gives-first node id number call rows place new state frame v gap few shows is after =
-    gives-from_all (insert rows place new) frame _ (subst (λ (l : List RowShown). GivesAll l frame (fenced_call node state number call (kept_for call state))) (sym (parts-insert rows place new))
-    (gives-anew node id number call (parts rows) (insert (parts rows) place (shown new)) state v (all-from_shows rows state shows) (shown new) frame (absent-gap (parts rows) id place gap)
+    → Gives (insert rows place new) (answer_frame node number answer) (fenced_call node state number call (kept_for call state))
+gives-first node id number call rows place new state answer v gap few shows is after =
+    gives-from_all (insert rows place new) _ _ (subst (λ (l : List RowShown). GivesAll l (answer_frame node number answer) (fenced_call node state number call (kept_for call state))) (sym (parts-insert rows place new))
+    (gives-anew node id number call (parts rows) (insert (parts rows) place (shown new)) state v (all-from_shows rows state shows) (shown new) answer (absent-gap (parts rows) id place gap)
     (let many = length-map rows shown in omega arith) (after-insert (parts rows) id place (shown new) gap after.id) is after))
 
 -- the rules once a new row stands in the gap of its id
@@ -111,7 +112,7 @@ rules-first id rows place new rules gap few own same =
 
 -- where there is no room
 pub gives-none : (node : List ℕ) (id : ℕ) (number : Number) (call : Call) (rows : List NodeRow) (place : ℕ) (state : NodeState) → volume_of call ≡ Some id → IsGapFor (parts rows) id place → 4096 ≤ length rows → Shows rows state
-    → (frame : Frame) → frame ≡ reply_frame number (Node node) (kind_of call) (plain_reply ResourceExhausted (codes "rows"))
-    → Gives rows frame (fenced_call node state number call (kept_for call state))
-gives-none node id number call rows place state v gap many shows frame is =
-    gives-from_all rows frame _ (gives-full node id number call (parts rows) (parts rows) state v (all-from_shows rows state shows) frame (absent-gap (parts rows) id place gap) (let same = length-map rows shown in omega arith) is)
+    → (answer : Kind × Reply) → answer ≡ (kind_of call, plain_reply ResourceExhausted (codes "rows"))
+    → Gives rows (answer_frame node number answer) (fenced_call node state number call (kept_for call state))
+gives-none node id number call rows place state v gap many shows answer is =
+    gives-from_all rows _ _ (gives-full node id number call (parts rows) (parts rows) state v (all-from_shows rows state shows) answer (absent-gap (parts rows) id place gap) (let same = length-map rows shown in omega arith) is)

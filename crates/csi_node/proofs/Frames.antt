@@ -3,9 +3,12 @@ use Rattle.std.proofs.Common.{◌≡◌, ℕ, List, true, false, refl, sym, ◌�
 use Rattle.std.specs.Prelude.{OnErr, Option, Some, option_map}
 use Rattle.csi_types.specs.declared.call.Call.{Call}
 use Rattle.csi_types.specs.declared.call.Party.TheVariants.{Node}
+use Rattle.csi_types.specs.declared.number.Number.{Number}
 use Rattle.csi_types.specs.declared.frame.Body.TheVariants as bodies
 use Rattle.csi_types.specs.Frame.{Frame}
+use Rattle.csi_types.specs.Replies.{call_frame}
 use Rattle.csi_types.specs.Same.{same_text}
+use Rattle.csi_types.proofs.Equality.{same_text-tells}
 use Rattle.csi_node.specs.declared.row.NodeRow.{NodeRow}
 use Rattle.csi_node.specs.State.{NodeState, row_with_id}
 use Rattle.csi_node.specs.Fenced.{fenced, fenced_parts, fenced_call, kept_for}
@@ -30,6 +33,10 @@ not_for node state frame id call party body other = by_parts node state frame id
 pub for_this : (node : List ℕ) (state : NodeState) (frame : Frame) (id : List ℕ) (call : Call) → frame.party ≡ Node id → frame.body ≡ bodies.Call call → same_text id node ≡ true
     → fenced node state frame ≡ fenced_call node state frame.number call (kept_for call state)
 for_this node state frame id call party body same = by_parts node state frame id call party body ∙ rw same refl
+
+-- a call of which the frame is one for this node
+pub for_own : (node : List ℕ) (state : NodeState) (number : Number) (call : Call) → fenced node state (call_frame number (Node node) call) ≡ fenced_call node state number call (kept_for call state)
+for_own node state number call = for_this node state (call_frame number (Node node) call) node call refl refl ((same_text-tells node node).1 refl)
 
 -- which isn't one for another
 pub never_other : (node : List ℕ) (frame : Frame) (id : List ℕ) (call : Call) → frame.party ≡ Node id → frame.body ≡ bodies.Call call → same_text id node ≡ true

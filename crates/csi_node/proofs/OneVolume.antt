@@ -1,6 +1,6 @@
 -- A call of one volume puts its row in, and leaves the others as they were.
-use Rattle.std.proofs.Common.{◌≡◌, ℕ, zero, suc, ◌<◌, ◌≤◌, List, [], ◌∷◌, length, map, get_or, set, Bool, true, false, cond, not, refl, sym, ◌∙◌, ap, subst, arith, Result, Ok, Err, IfOk}
-use Rattle.std.specs.Prelude.{Option, Some, None, option_map, find, ◌==◌, nat_lt, OnOk}
+use Rattle.std.proofs.Common.{◌≡◌, ℕ, zero, suc, ◌<◌, List, [], ◌∷◌, get_or, set, Bool, true, false, cond, refl, sym, ◌∙◌, ap, subst, arith, Result, Ok, Err, IfOk}
+use Rattle.std.specs.Prelude.{Option, Some, None, option_map, ◌==◌, OnOk}
 use Rattle.std.specs.List.{insert}
 use Rattle.std.proofs.lemmas.Bool.{eqb-true}
 use Rattle.std.proofs.lemmas.Bool.Decides.{nat_tests}
@@ -11,10 +11,11 @@ use Rattle.csi_types.specs.declared.number.Number.{Number}
 use Rattle.csi_types.specs.declared.fence.Verdict.{Verdict}
 use Rattle.csi_types.specs.declared.fence.Verdict.TheVariants.{Stale, Repeated, Fresh}
 use Rattle.csi_types.specs.Fence.{Kept, verdict_of, verdict_of_spent}
-use Rattle.csi_types.specs.Frame.{Frame}
+use Rattle.csi_types.specs.declared.call.Kind.{Kind}
+use Rattle.csi_types.specs.declared.reply.Reply.{Reply}
 use Rattle.csi_types.specs.Same.{same_number}
 use Rattle.csi_node.specs.declared.row.NodeRow.{NodeRow}
-use Rattle.csi_node.specs.OneRow.{RowShown, shown, RowAnswers, IsAfter}
+use Rattle.csi_node.specs.OneRow.{RowShown, shown, RowAnswers}
 use Rattle.csi_node.specs.OneVolume.{row_by_id, last_of, put_row, IsOneRowPut, AreRowsAfter}
 use Rattle.csi_node.specs.Record.{parts, id_at, IsAt, IsGapFor, IsRecord}
 use Rattle.csi_node.proofs.Numbers.{answered_spent}
@@ -68,11 +69,11 @@ not_again number fresh = by (same_number number number) (sym spent ∙ fresh)
     by false h = cc
 
 -- a row of which the last number stays, stays
-row_stays : (node : List ℕ) (number : Number) (call : Call) (old new : RowShown) (frame : Frame) → RowAnswers node number call old new frame (verdict_of (Some old.kept.number) number)
+row_stays : (number : Number) (call : Call) (old new : RowShown) (answer : Kind × Reply) → RowAnswers number call old new answer (verdict_of (Some old.kept.number) number)
     → new.kept.number ≡ old.kept.number → new ≡ old
-row_stays node number call old new frame answers same = by (verdict_of (Some old.kept.number) number) refl answers
+row_stays number call old new answer answers same = by (verdict_of (Some old.kept.number) number) refl answers
   where
-    by : (verdict : Verdict) → verdict_of (Some old.kept.number) number ≡ verdict → RowAnswers node number call old new frame verdict → new ≡ old
+    by : (verdict : Verdict) → verdict_of (Some old.kept.number) number ≡ verdict → RowAnswers number call old new answer verdict → new ≡ old
     by Stale e h = h.1
     by Repeated e h = h.1
     by Fresh e h =
@@ -126,15 +127,15 @@ put-nowhere id rows place gap = record {
 }
 
 -- an answered call of a volume that has a row
-pub one-there : (node : List ℕ) (id : ℕ) (number : Number) (call : Call) (rows : List NodeRow) (place : ℕ) (row new : NodeRow)
+pub one-there : (id : ℕ) (number : Number) (call : Call) (rows : List NodeRow) (place : ℕ) (row new : NodeRow)
     → row ≡ get_or rows place row → IsRecord (parts rows) → IsAt (parts rows) id place → There rows id place row
-    → (frame : Frame) → RowAnswers node number call (shown row) (shown new) frame (verdict_of (Some row.last) number)
+    → (answer : Kind × Reply) → RowAnswers number call (shown row) (shown new) answer (verdict_of (Some row.last) number)
     → IsOneRowPut id (parts rows) (parts (set rows place new))
-one-there node id number call rows place row new at_place rules at is frame answers =
+one-there id number call rows place row new at_place rules at is answer answers =
     subst (IsOneRowPut id (parts rows)) (sym (map-set shown rows place new))
-    (put-there id (parts rows) place (shown row) (shown new) rules.rising at (answers-id node number call (shown row) (shown new) frame _ answers ∙ is.own)
+    (put-there id (parts rows) place (shown row) (shown new) rules.rising at (answers-id number call (shown row) (shown new) answer _ answers ∙ is.own)
     (parts-at rows place row ∙ ap shown (sym at_place))
-    (row_stays node number call (shown row) (shown new) frame answers))
+    (row_stays number call (shown row) (shown new) answer answers))
 
 -- the first one of a volume
 pub one-first : (id : ℕ) (rows : List NodeRow) (place : ℕ) (new : NodeRow) → IsGapFor (parts rows) id place → new.id ≡ id → IsOneRowPut id (parts rows) (parts (insert rows place new))

@@ -23,6 +23,10 @@ pub record Fenced : Type 0 where
   pub reply : Option Frame
   pub state : NodeState
 
+-- a kind and a reply, as a frame of this node
+abbrev pub answer_frame : List ℕ → Number → Kind × Reply → Frame
+answer_frame node number answer = reply_frame number (Node node) answer.0 answer.1
+
 -- the row, with this kept if it is the one of this id
 abbrev pub kept_in : ℕ → Kept → Answered → Answered
 kept_in id kept row = if row.id == id then record row { kept = kept } else row

@@ -6,11 +6,10 @@ use Rattle.csi_types.specs.declared.call.Call.TheVariants as calls
 use Rattle.csi_types.specs.declared.number.Number.{Number}
 use Rattle.csi_types.specs.declared.status.Status.TheVariants.{AlreadyExists, FailedPrecondition}
 use Rattle.csi_types.specs.declared.call.Kind.{Kind}
-use Rattle.csi_types.specs.declared.call.Party.TheVariants.{Node}
+use Rattle.csi_types.specs.declared.reply.Reply.{Reply}
 use Rattle.csi_types.specs.declared.fence.Verdict.{Verdict}
 use Rattle.csi_types.specs.declared.fence.Verdict.TheVariants.{Stale, Repeated, Fresh}
-use Rattle.csi_types.specs.Frame.{Frame}
-use Rattle.csi_types.specs.Replies.{ok_reply, stale_reply, reply_frame}
+use Rattle.csi_types.specs.Replies.{ok_reply, stale_reply}
 use Rattle.csi_types.specs.Call.{kind_of, is_node_kind}
 use Rattle.csi_types.specs.Fence.{Kept}
 use Rattle.csi_types.specs.Same.{same_text, same_capability, same_flag}
@@ -154,8 +153,12 @@ abbrev pub row_anew : ℕ → Number → Kind → RowShown
 row_anew id number kind = record { id = id; staged = None; targets = []; kept = record { number = number; kind = kind; reply = ok_reply } }
 
 -- what a row answers to a call by the fence's verdict, and what it is then
-abbrev pub RowAnswers : List ℕ → Number → Call → RowShown → RowShown → Frame → Verdict → Type 0
-RowAnswers node number call old new frame Stale = (frame ≡ reply_frame number (Node node) (kind_of call) stale_reply) × (new ≡ old)
-RowAnswers node number call old new frame Repeated = (frame ≡ reply_frame number (Node node) old.kept.kind old.kept.reply) × (new ≡ old)
-RowAnswers node number call old new frame Fresh =
-    (frame ≡ reply_frame number (Node node) (kind_of call) (lifecycle_row (alone old) call).reply) × IsAfter number call old new
+abbrev pub RowAnswers : Number → Call → RowShown → RowShown → Kind × Reply → Verdict → Type 0
+RowAnswers number call old new answer Stale = (answer ≡ (kind_of call, stale_reply)) × (new ≡ old)
+RowAnswers number call old new answer Repeated = (answer ≡ (old.kept.kind, old.kept.reply)) × (new ≡ old)
+RowAnswers number call old new answer Fresh = (answer ≡ (kind_of call, (lifecycle_row (alone old) call).reply)) × IsAfter number call old new
+
+-- a kind and a reply that a node's frame can have
+pub record IsNodeAnswer (answer : Kind × Reply) : Type 0 where
+  pub kind : is_node_kind answer.0 ≡ true
+  pub no_id : answer.1.id ≡ None

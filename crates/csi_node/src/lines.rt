@@ -1,6 +1,7 @@
 //! The node's table, for the row of a call's volume.
-ghost use Rattle.std.specs.Prelude.{◌≡◌, ◌<◌, List, [], length, true, Some, None, option_copied, codes, if◌then◌else◌};
+ghost use Rattle.std.specs.Prelude.{◌≡◌, ◌<◌, [], length, true, Some, None, option_copied, codes, if◌then◌else◌};
 ghost use Rattle.csi_types.specs.Call.{kind_of, is_node_kind};
+ghost use Rattle.csi_types.specs.Lent.{lent_capability, lent_call};
 ghost use Rattle.csi_types.specs.Sharing.{allows_one_target as allows_one};
 ghost use Rattle.csi_types.specs.declared.status.Status.TheVariants.{AlreadyExists};
 ghost use Rattle.csi_node.specs.Lines.{outcome_shown, WhereDone};
@@ -10,35 +11,39 @@ ghost use Rattle.csi_node.specs.Table.{Change, Stages, Unstages, Publishes, Unpu
 
 use crate::line::Line;
 use crate::row::{NodeRow, NodeTarget};
-use csi_types::{Call, Capability, Status, Target, allows_one_target, same_capability, same_way};
+use csi_types::{
+    CallRef, Capability, CapabilityRef, Status, allows_one_target, same_capability, same_way,
+};
 
 /// The most targets that a volume has on a node.
 pub(crate) const MAX_TARGETS: usize = 16;
 
 /// Whether the target is a path from the root.
-pub(crate) fn is_absolute(target: &Target) -> bool
+pub(crate) fn is_absolute(target: &str) -> bool
     ensures { result ≡ begins_with_slash target.now }
 {
-    target.as_str().as_bytes().first() == Some(&b'/')
+    target.as_bytes().first() == Some(&b'/')
 }
 
 // How the row's volume is published at the target, if it is.
-fn find_target<'a>(row: &'a NodeRow, target: &Target) -> Option<&'a NodeTarget>
+fn find_target<'a>(row: &'a NodeRow, target: &str) -> Option<&'a NodeTarget>
     ensures { option_copied result ≡ target_in (shown row.now) target.now }
 {
-    row.targets.iter().find(|there| there.target == *target)
+    row.targets
+        .iter()
+        .find(|there| there.target.as_str() == target)
 }
 
 // NodeStageVolume.
-fn stage_line(row: &NodeRow, capability: &Capability) -> Line<'static>
-    ensures line { stage (record { volume = row.now.id; capability = capability.now }) row.now.staged
-        ≡ outcome_shown (Stages (record { volume = row.now.id; capability = capability.now })) result }
+fn stage_line(row: &NodeRow, capability: &CapabilityRef<'_>) -> Line<'static>
+    ensures line { stage (record { volume = row.now.id; capability = lent_capability capability.now }) row.now.staged
+        ≡ outcome_shown (Stages (record { volume = row.now.id; capability = lent_capability capability.now })) result }
     ensures ready { WhereDone result (row.now.staged ≡ None) }
 {
     match &row.staged {
         None => Line::Done,
         Some(staged) => {
-            if same_capability(staged, capability) {
+            if same_capability(staged.lend(), *capability) {
                 return Line::Met;
             }
             Line::Refused(Status::AlreadyExists, "staged otherwise")
@@ -59,8 +64,8 @@ fn unstage_line(row: &NodeRow) -> Line<'_>
 }
 
 // NodePublishVolume at a target where the volume isn't published, in the capability in which it is staged.
-fn publish_new_line<'a>(row: &'a NodeRow, capability: &Capability) -> Line<'a>
-    ensures line { (published : PublishedVolume) (staged : Capability) → published.capability ≡ capability.now →
+fn publish_new_line<'a>(row: &'a NodeRow, capability: &CapabilityRef<'_>) -> Line<'a>
+    ensures line { (published : PublishedVolume) (staged : Capability) → published.capability ≡ lent_capability capability.now →
         publish_new published (published_by row.now.id (Some staged) row.now.targets.items) ≡ outcome_shown (Publishes published) result }
     ensures single { WhereDone result (allows_one capability.now.mode ≡ true → row.now.targets.items ≡ []) }
     ensures limit { WhereDone result (length row.now.targets.items < 16) }
@@ -94,18 +99,21 @@ fn published_line(is_same: bool) -> Line<'static>
 fn publish_staged_line<'a>(
     row: &'a NodeRow,
     staged: &Capability,
-    target: &Target,
-    capability: &Capability,
+    target: &str,
+    capability: &CapabilityRef<'_>,
     readonly: bool,
 ) -> Line<'a>
-    ensures line { let published : PublishedVolume = record { volume = row.now.id; target = target.now; capability = capability.now; readonly = readonly } in
+    ensures line { let published : PublishedVolume = record { volume = row.now.id; target = target.now; capability = lent_capability capability.now; readonly = readonly } in
         publish_by_row (shown row.now) staged.now published (target_in (shown row.now) target.now) ≡ outcome_shown (Publishes published) result }
-    ensures ready { WhereDone result (IsNew (shown row.now) staged.now target.now capability.now) }
+    ensures ready { WhereDone result (IsNew (shown row.now) staged.now target.now (lent_capability capability.now)) }
 {
     match find_target(row, target) {
-        Some(there) => published_line(same_way(staged, there.readonly, capability, readonly)),
+        Some(there) => {
+            let is_same = same_way(staged.lend(), there.readonly, *capability, readonly);
+            published_line(is_same)
+        }
         None => {
-            if !same_capability(staged, capability) {
+            if !same_capability(staged.lend(), *capability) {
                 return Line::Refused(Status::FailedPrecondition, "staged otherwise");
             }
             publish_new_line(row, capability)
@@ -116,13 +124,13 @@ fn publish_staged_line<'a>(
 // NodePublishVolume.
 fn publish_line<'a>(
     row: &'a NodeRow,
-    target: &Target,
-    capability: &Capability,
+    target: &str,
+    capability: &CapabilityRef<'_>,
     readonly: bool,
 ) -> Line<'a>
-    ensures line { let published : PublishedVolume = record { volume = row.now.id; target = target.now; capability = capability.now; readonly = readonly } in
+    ensures line { let published : PublishedVolume = record { volume = row.now.id; target = target.now; capability = lent_capability capability.now; readonly = readonly } in
         publish (alone (shown row.now)) published ≡ outcome_shown (Publishes published) result }
-    ensures ready { WhereDone result (HasRoomFor (shown row.now) target.now capability.now) }
+    ensures ready { WhereDone result (HasRoomFor (shown row.now) target.now (lent_capability capability.now)) }
 {
     if !is_absolute(target) {
         return Line::Refused(Status::InvalidArgument, "target");
@@ -134,7 +142,7 @@ fn publish_line<'a>(
 }
 
 // NodeUnpublishVolume.
-fn unpublish_line(row: &NodeRow, target: &Target) -> Line<'static>
+fn unpublish_line(row: &NodeRow, target: &str) -> Line<'static>
     requires rules { IsRow (shown row.now) }
     ensures { unpublish row.now.id target.now (published_at row.now.id target.now (alone (shown row.now))) ≡ outcome_shown (Unpublishes row.now.id target.now) result }
 {
@@ -145,23 +153,23 @@ fn unpublish_line(row: &NodeRow, target: &Target) -> Line<'static>
 }
 
 /// What the table answers to a call of the row's volume.
-pub(crate) fn line<'a>(row: &'a NodeRow, call: &Call) -> Line<'a>
-    requires volume { volume_of call.now ≡ Some row.now.id }
-    requires kind { is_node_kind (kind_of call.now) ≡ true }
+pub(crate) fn line<'a>(row: &'a NodeRow, call: &CallRef<'_>) -> Line<'a>
+    requires volume { volume_of (lent_call call.now) ≡ Some row.now.id }
+    requires kind { is_node_kind (kind_of (lent_call call.now)) ≡ true }
     requires rules { IsRow (shown row.now) }
-    ensures line { lifecycle_row (alone (shown row.now)) call.now ≡ outcome_shown (change_of call.now) result }
-    ensures ready { WhereDone result (CanChange (shown row.now) call.now) }
+    ensures line { lifecycle_row (alone (shown row.now)) (lent_call call.now) ≡ outcome_shown (change_of (lent_call call.now)) result }
+    ensures ready { WhereDone result (CanChange (shown row.now) (lent_call call.now)) }
 {
     match call {
-        Call::NodeStageVolume { capability, .. } => stage_line(row, capability),
-        Call::NodeUnstageVolume { .. } => unstage_line(row),
-        Call::NodePublishVolume {
+        CallRef::NodeStageVolume { capability, .. } => stage_line(row, capability),
+        CallRef::NodeUnstageVolume { .. } => unstage_line(row),
+        CallRef::NodePublishVolume {
             target,
             capability,
             readonly,
             ..
         } => publish_line(row, target, capability, *readonly),
-        Call::NodeUnpublishVolume { target, .. } => unpublish_line(row, target),
+        CallRef::NodeUnpublishVolume { target, .. } => unpublish_line(row, target),
         _ => Line::Refused(Status::Unimplemented, ""),
     }
 }

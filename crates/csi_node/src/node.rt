@@ -1,8 +1,10 @@
 //! The node plugin.
-ghost use Rattle.std.specs.Prelude.{◌≡◌, true, false, Some, None, [], IfOk, OnOk, OnErr, Ok, IsOk, IfSome, option_map, map};
+ghost use Rattle.std.specs.Prelude.{◌≡◌, false, Some, None, [], IfOk, OnOk, OnErr, Ok, IsOk, IfSome, option_map, map};
 ghost use Rattle.std.specs.Option.{option_copied};
-ghost use Rattle.csi_types.specs.Call.{kind_of, is_node_kind};
+ghost use Rattle.csi_types.specs.Lent.{lent_call};
 ghost use Rattle.csi_types.specs.Same.{same_text};
+ghost use Rattle.csi_node.specs.Fenced.{answer_frame};
+ghost use Rattle.csi_node.specs.OneRow.{IsNodeAnswer};
 ghost use Rattle.csi_node.specs.State.{volume_of};
 
 use crate::entries::{Published, Staged};
@@ -10,7 +12,7 @@ use crate::fault::CoreFault;
 use crate::record::NodeRecord;
 use crate::row::NodeRow;
 use crate::views::{published_in, staged_in};
-use csi_types::{Body, Call, Frame, NodeId, Party, VolumeId};
+use csi_types::{Body, CallRef, Frame, Kind, NodeId, Number, Party, Reply, VolumeId};
 use std::alloc::Global;
 use std::marker::Model;
 
@@ -31,20 +33,6 @@ impl Model for Node {
     ghost view = { λ node. node.«record» };
 }
 
-// The volume that a node's call is about.
-fn volume_id(call: &Call) -> VolumeId
-    requires { is_node_kind (kind_of call.now) ≡ true }
-    ensures { volume_of call.now ≡ Some result }
-{
-    match call {
-        Call::NodeStageVolume { id, .. }
-        | Call::NodeUnstageVolume { id }
-        | Call::NodePublishVolume { id, .. }
-        | Call::NodeUnpublishVolume { id, .. } => *id,
-        _ => unreachable!(),
-    }
-}
-
 // Whether the two are the same.
 fn is_same_node(a: &NodeId, b: &NodeId) -> bool
     ensures { result ≡ same_text a.now b.now }
@@ -52,7 +40,22 @@ fn is_same_node(a: &NodeId, b: &NodeId) -> bool
     a == b
 }
 
+// An answer of this node, as a frame.
+fn frame_of(node: NodeId, number: Number, answer: (Kind, Reply)) -> Frame
+    requires { IsNodeAnswer answer }
+    ensures { result ≡ answer_frame node number answer }
+{
+    let (kind, reply) = answer;
+    Frame::reply(number, Party::Node(node), kind, reply).unwrap()
+}
+
 impl Node {
+    ghost use Rattle.csi_types.specs.declared.call.Party.TheVariants.{Node as OfNode};
+    ghost use Rattle.csi_types.specs.declared.frame.Body.TheVariants.{Call as CallBody, Reply as ReplyBody};
+    ghost use Rattle.csi_types.specs.Call.{kind_of, is_party_of};
+    ghost use Rattle.csi_types.specs.Frame.{IsAllowed};
+    ghost use Rattle.csi_types.specs.Lent.{HasFitTexts};
+    ghost use Rattle.csi_types.specs.Replies.{call_frame};
     ghost use Rattle.csi_node.specs.Fenced.{fenced};
     ghost use Rattle.csi_node.specs.Record.{parts, is_call_for, IsRecord};
     ghost use Rattle.csi_node.specs.OneRow.{shown, alone, IsRow};
@@ -108,11 +111,57 @@ impl Node {
         if !is_same_node(id, self.record.id()) {
             return Ok(None);
         }
-        let alloc = self.alloc;
-        let reply = self
-            .record
-            .answer(alloc, frame.number(), volume_id(call), call)?;
-        Ok(Some(reply))
+        let node = self.record.id().clone()?;
+        let number = frame.number();
+        let call = call.lend();
+        let id = match &call {
+            CallRef::NodeStageVolume { id, .. }
+            | CallRef::NodeUnstageVolume { id }
+            | CallRef::NodePublishVolume { id, .. }
+            | CallRef::NodeUnpublishVolume { id, .. } => *id,
+            // No frame to a node has another call.
+            _ => return Ok(None),
+        };
+        let answer = self.record.answer(self.alloc, number, id, &call)?;
+        Ok(Some(frame_of(node, number, answer)))
+    }
+
+    /// Answers a call as `step` answers a frame of it to this node, by the kind and the reply that the frame of the answer
+    /// has: those that were kept, where the call comes again. The controller's call, and a call with a text outside its
+    /// limits, which no frame has, get no answer, change nothing and take no memory. An `Err`, an allocation that was
+    /// refused, leaves the node as it was.
+    pub fn answer(
+        &mut self,
+        number: Number,
+        call: &CallRef<'_>,
+    ) -> Result<Option<(Kind, Reply)>, CoreFault>
+        // What a frame of the call gets.
+        ensures reply { (state : NodeState) → Shows self.old.rows state → IsAllowed (OfNode self.old.id) (CallBody (lent_call call.now)) → HasFitTexts (lent_call call.now) →
+            IfOk result (λ answer. option_map (answer_frame self.old.id number) answer ≡ (fenced self.old.id state (call_frame number (OfNode self.old.id) (lent_call call.now))).reply) }
+        ensures state { (state : NodeState) → Shows self.old.rows state → IsAllowed (OfNode self.old.id) (CallBody (lent_call call.now)) → HasFitTexts (lent_call call.now) →
+            OnOk result (Shows self.new.rows (fenced self.old.id state (call_frame number (OfNode self.old.id) (lent_call call.now))).state) }
+        ensures allowed { IfOk result (λ answer. IfSome answer (λ own. IsAllowed (OfNode self.old.id) (ReplyBody own.0 own.1))) }
+        ensures id { self.new.id ≡ self.old.id }
+        ensures err { (state : NodeState) → Shows self.old.rows state → OnErr result (Shows self.new.rows state) }
+        // What becomes of the rows.
+        ensures rows { OnOk result (AreRowsAfter (volume_of (lent_call call.now)) (parts self.old.rows) (parts self.new.rows)) }
+        ensures err_rows { OnErr result (parts self.new.rows ≡ parts self.old.rows) }
+        // What no frame has, and what is not for a node.
+        ensures unfit { (HasFitTexts (lent_call call.now) → ⊥) → (result ≡ Ok None) × (self.new ≡ self.old) }
+        ensures others { is_party_of (kind_of (lent_call call.now)) (OfNode self.old.id) ≡ false → (result ≡ Ok None) × (self.new ≡ self.old) }
+    {
+        let id = match call {
+            CallRef::NodeStageVolume { id, .. }
+            | CallRef::NodeUnstageVolume { id }
+            | CallRef::NodePublishVolume { id, .. }
+            | CallRef::NodeUnpublishVolume { id, .. } => *id,
+            _ => return Ok(None),
+        };
+        if !call.is_within_limits() {
+            return Ok(None);
+        }
+        let answer = self.record.answer(self.alloc, number, id, call)?;
+        Ok(Some(answer))
     }
 
     /// The node's record as a value. The node stays as it is. An `Err` is an allocation that was refused.

@@ -1,5 +1,5 @@
 //! A node's record as a value.
-ghost use Rattle.std.specs.Prelude.{◌≡◌, true, Some, None, [], IfOk, IfErr, IsOk, OnOk, OnErr, IfSome, option_map};
+ghost use Rattle.std.specs.Prelude.{◌≡◌, ℕ, List, true, Some, None, [], IfOk, IfErr, IsOk, OnOk, OnErr, IfSome, option_map};
 ghost use Rattle.std.specs.Option.{option_copied};
 
 use crate::copies::{copies_of, copy_in};
@@ -8,7 +8,7 @@ use crate::finding::row_with_id;
 use crate::judging::first_refused;
 use crate::row::NodeRow;
 use crate::step::answer;
-use csi_types::{Call, Frame, NodeId, Number, VolumeId};
+use csi_types::{CallRef, Kind, NodeId, Number, Reply, VolumeId};
 use std::alloc::Global;
 use std::marker::Model;
 
@@ -35,11 +35,12 @@ impl Model for NodeRecord {
 impl NodeRecord {
     ghost use Rattle.csi_node.specs.Judging.{IsRefusal};
     ghost use Rattle.csi_types.specs.Call.{kind_of, is_node_kind};
-    ghost use Rattle.csi_node.specs.Fenced.{fenced_call, kept_for};
+    ghost use Rattle.csi_types.specs.Lent.{lent_call};
+    ghost use Rattle.csi_node.specs.Fenced.{answer_frame, fenced_call, kept_for};
     ghost use Rattle.csi_node.specs.OneVolume.{IsOneRowPut, row_by_id};
     ghost use Rattle.csi_node.specs.Record.{parts, IsRecord, Gives};
     ghost use Rattle.csi_node.specs.Shown.{Shows, row_in};
-    ghost use Rattle.csi_node.specs.OneRow.{shown, IsRow};
+    ghost use Rattle.csi_node.specs.OneRow.{shown, IsRow, IsNodeAnswer};
     ghost use Rattle.csi_node.specs.State.{NodeState, volume_of};
 
     /// The record of the node of this id that has these rows, by rising id (this profile's own). It is refused with `BadRow` at
@@ -83,23 +84,24 @@ impl NodeRecord {
         }
     }
 
-    /// Answers a call of this volume to the record's node, behind the fence. An `Err` changes nothing.
+    /// Answers a call of this volume, behind the fence. An `Err` changes nothing.
     pub(crate) fn answer(
         &mut self,
         alloc: Global,
         number: Number,
         id: VolumeId,
-        call: &Call,
-    ) -> Result<Frame, CoreFault>
-        requires volume { volume_of call.now ≡ Some id }
-        requires kind { is_node_kind (kind_of call.now) ≡ true }
-        ensures ok { (state : NodeState) → Shows self.old.rows state → IfOk result (λ frame.
-            Gives self.new.rows frame (fenced_call self.old.id state number call.now (kept_for call.now state))) }
+        call: &CallRef<'_>,
+    ) -> Result<(Kind, Reply), CoreFault>
+        requires volume { volume_of (lent_call call.now) ≡ Some id }
+        requires kind { is_node_kind (kind_of (lent_call call.now)) ≡ true }
+        ensures ok { (node : List ℕ) (state : NodeState) → Shows self.old.rows state → IfOk result (λ answer.
+            Gives self.new.rows (answer_frame node number answer) (fenced_call node state number (lent_call call.now) (kept_for (lent_call call.now) state))) }
+        ensures fits { IfOk result IsNodeAnswer }
         ensures id { self.new.id ≡ self.old.id }
         ensures one { OnOk result (IsOneRowPut id (parts self.old.rows) (parts self.new.rows)) }
         ensures err { OnErr result (parts self.new.rows ≡ parts self.old.rows) }
     {
-        answer(&mut self.rows, alloc, &self.id, number, id, call)
+        answer(&mut self.rows, alloc, number, id, call)
     }
 
     /// A copy of the record.

@@ -61,7 +61,9 @@ fn are_distinct(targets: &[NodeTarget]) -> bool
 fn are_absolute(targets: &[NodeTarget]) -> bool
     ensures { result ≡ is_each_absolute targets.now }
 {
-    targets.iter().all(|there| is_absolute(&there.target))
+    targets
+        .iter()
+        .all(|there| is_absolute(there.target.as_str()))
 }
 
 // Whether the volume may have these targets, staged as it is.

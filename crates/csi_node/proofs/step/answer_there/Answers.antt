@@ -1,6 +1,7 @@
 use Rattle.std.proofs.Common.{◌∙◌, ap, sym, Some}
 use Rattle.std.proofs.lemmas.Result.{IfOk-weaker, on_err_weaker}
 use Rattle.std.proofs.Math.Seq.{map-set_same}
+use Rattle.csi_types.specs.Lent.{lent_call}
 use Rattle.csi_node.specs.OneRow.{shown}
 use Rattle.csi_node.proofs.Calls.{there, gives-there, rules-there, kept_id}
 use Rattle.csi_node.proofs.OneVolume.{one-there, on_ok_of}
@@ -16,17 +17,17 @@ answer_again-requires-clause-rules c =
     (there c.args.rows.now.items c.args.id c.args.place c.index_mut.result.now c.index_mut.ensures.value c.requires.rules c.requires.place).rules
 
 pub returns-clause-ok : goal.returns-clause-ok
-returns-clause-ok c = λ state shows.
+returns-clause-ok c = λ node state shows.
     let is = there c.args.rows.now.items c.args.id c.args.place c.index_mut.result.now c.index_mut.ensures.value c.requires.rules c.requires.place in
     IfOk-weaker c.answer_again.result _ _
-    (gives-there c.args.node.now c.args.id c.args.number c.args.call.now c.args.rows.now.items c.args.place c.index_mut.result.now c.answer_again.new.row state c.requires.volume c.requires.rules c.requires.place is shows)
+    (gives-there node c.args.id c.args.number (lent_call c.args.call.now) c.args.rows.now.items c.args.place c.index_mut.result.now c.answer_again.new.row state c.requires.volume c.requires.rules c.requires.place is shows)
     c.answer_again.ensures.ok
 
 pub returns-clause-rules : goal.returns-clause-rules
 returns-clause-rules c =
     let is = there c.args.rows.now.items c.args.id c.args.place c.index_mut.result.now c.index_mut.ensures.value c.requires.rules c.requires.place in
     rules-there c.args.id c.args.rows.now.items c.args.place c.index_mut.result.now c.answer_again.new.row c.requires.rules c.requires.place is c.answer_again.ensures.rules
-    (kept_id c.answer_again.result c.args.node.now c.args.number c.args.call.now (shown c.index_mut.result.now) (shown c.answer_again.new.row) _ c.answer_again.ensures.ok c.answer_again.ensures.err)
+    (kept_id c.answer_again.result c.args.number (lent_call c.args.call.now) (shown c.index_mut.result.now) (shown c.answer_again.new.row) _ c.answer_again.ensures.ok c.answer_again.ensures.err)
 
 pub returns-clause-err : goal.returns-clause-err
 returns-clause-err c =
@@ -38,5 +39,5 @@ pub returns-clause-one : goal.returns-clause-one
 returns-clause-one c =
     let is = there c.args.rows.now.items c.args.id c.args.place c.index_mut.result.now c.index_mut.ensures.value c.requires.rules c.requires.place in
     on_ok_of c.answer_again.result
-    (one-there c.args.node.now c.args.id c.args.number c.args.call.now c.args.rows.now.items c.args.place c.index_mut.result.now c.answer_again.new.row c.index_mut.ensures.value c.requires.rules c.requires.place is)
+    (one-there c.args.id c.args.number (lent_call c.args.call.now) c.args.rows.now.items c.args.place c.index_mut.result.now c.answer_again.new.row c.index_mut.ensures.value c.requires.rules c.requires.place is)
     c.answer_again.ensures.ok

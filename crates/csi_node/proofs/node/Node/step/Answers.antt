@@ -10,6 +10,6 @@ returns-in_default-party-clause-rows c = none-put (called_volume c.args.frame.no
 pub returns-then-not-is_same_node-clause-rows : goal.returns-then-not-is_same_node-clause-rows
 returns-then-not-is_same_node-clause-rows c = none-put (called_volume c.args.frame.now.body) (parts c.args.self.now.rows)
 
-pub returns-in_err-reply-clause-err : goal.returns-in_err-reply-clause-err
-returns-in_err-reply-clause-err c = λ state shows.
-    err_holds c.from_residual.result (shows-same c.args.self.now.rows c.answer.new.self.rows state shows (rw c.self.view_is at c.in_err-reply.ensures.err))
+pub returns-in_err-answer-clause-err : goal.returns-in_err-answer-clause-err
+returns-in_err-answer-clause-err c = λ state shows.
+    err_holds c.from_residual-in_err-answer.result (shows-same c.args.self.now.rows c.answer.new.self.rows state shows (rw c.self.view_is at c.in_err-answer.ensures.err))
