@@ -1,12 +1,13 @@
 -- What was written piece by piece is the spelling of the whole.
-use Rattle.std.proofs.Common.{◌≡◌, ℕ, ◌+◌, List, [], ◌∷◌, ◌++◌, length, ap, ◌∙◌, append_assoc, arith}
+use Rattle.std.proofs.Common.{◌≡◌, ℕ, ◌+◌, List, [], ◌∷◌, ◌++◌, length, ap, subst, ◌∙◌, append_assoc, arith}
 use Rattle.std.specs.Global.{Vec}
 use Rattle.std.proofs.lemmas.List.{length-append}
 use Rattle.byteorder.specs.Endian.{big_bytes}
 use Rattle.csi_types.specs.declared.number.Number.{Number}
+use Rattle.csi_types.specs.declared.call.Party.{Party}
 use Rattle.csi_types.specs.Frame.{Frame}
 use Rattle.csi_frames.specs.Appends.{Appends}
-use Rattle.csi_frames.specs.Spelling.{word, party, body_fields, body_kind, frame_body, spelling}
+use Rattle.csi_frames.specs.Spelling.{word, party, body_fields, body_kind, head, frame_body, spelling}
 
 -- one list of bytes was appended, and then another: both were appended, one after the other
 Appends-then : (a b c : Vec ℕ) (x y : List ℕ) → Appends a b x → Appends b c y → Appends a c (x ++ y)
@@ -26,21 +27,19 @@ pub length-spelling : (frame : Frame) → length (spelling frame) ≡ 4 + length
 unfolding spelling
 length-spelling frame = omega (arith, length-append (big_bytes 4 (length (frame_body frame))) (frame_body frame))
 
--- the head of a frame: its length, version, kind and number
-abbrev pub head : ℕ → ℕ → Number → List ℕ
-head size kind number = big_bytes 4 size ++ 1 ∷ kind ∷ word number.session ++ word number.call
+-- the parts of what stands before a frame's fields, appended one after another, are that
+pub Appends-head : (o0 o1 o2 o3 o4 o5 o6 : Vec ℕ) (size kind : ℕ) (number : Number) (p : Party) → Appends o0 o1 (big_bytes 4 size) → Appends o1 o2 (1 ∷ []) → Appends o2 o3 (kind ∷ []) → Appends o3 o4 (word number.session) → Appends o4 o5 (word number.call) → Appends o5 o6 (party p)
+    → Appends o0 o6 (head size kind number ++ party p)
+Appends-head o0 o1 o2 o3 o4 o5 o6 size kind number p a b c d e f =
+    Appends-then o0 o5 o6 (head size kind number) (party p)
+    (Appends-then o0 o4 o5 (big_bytes 4 size ++ 1 ∷ kind ∷ word number.session) (word number.call)
+    (Appends-then o0 o3 o4 (big_bytes 4 size ++ 1 ∷ kind ∷ []) (word number.session) (Appends-then o0 o2 o3 (big_bytes 4 size ++ 1 ∷ []) (kind ∷ []) (Appends-then o0 o1 o2 (big_bytes 4 size) (1 ∷ []) a b) c) d) e) f
 
--- the five parts of a frame's head, appended one after another, are the head
-pub Appends-head : (o0 o1 o2 o3 o4 o5 : Vec ℕ) (size kind : ℕ) (number : Number) → Appends o0 o1 (big_bytes 4 size) → Appends o1 o2 (1 ∷ []) → Appends o2 o3 (kind ∷ []) → Appends o3 o4 (word number.session) → Appends o4 o5 (word number.call)
-    → Appends o0 o5 (head size kind number)
-Appends-head o0 o1 o2 o3 o4 o5 size kind number a b c d e =
-    Appends-then o0 o4 o5 (big_bytes 4 size ++ 1 ∷ kind ∷ word number.session) (word number.call)
-    (Appends-then o0 o3 o4 (big_bytes 4 size ++ 1 ∷ kind ∷ []) (word number.session) (Appends-then o0 o2 o3 (big_bytes 4 size ++ 1 ∷ []) (kind ∷ []) (Appends-then o0 o1 o2 (big_bytes 4 size) (1 ∷ []) a b) c) d) e
-
--- the head, the party and the kind's fields, appended one after another, are the frame's spelling
-pub Appends-frame : (o0 o5 o6 o7 : Vec ℕ) (frame : Frame) → Appends o0 o5 (head (length (frame_body frame)) (body_kind frame.body) frame.number) → Appends o5 o6 (party frame.party) → Appends o6 o7 (body_fields frame.body)
-    → Appends o0 o7 (spelling frame)
+-- that, with the count of the body's bytes and the kind byte, and the kind's fields are the frame's spelling
+pub Appends-frame : (o0 o1 o2 : Vec ℕ) (frame : Frame) (size kind : ℕ) → size ≡ length (frame_body frame) → kind ≡ body_kind frame.body → Appends o0 o1 (head size kind frame.number ++ party frame.party) → Appends o1 o2 (body_fields frame.body)
+    → Appends o0 o2 (spelling frame)
 unfolding spelling frame_body
-Appends-frame o0 o5 o6 o7 frame a b c =
-    Appends-then o0 o6 o7 (head (length (frame_body frame)) (body_kind frame.body) frame.number ++ party frame.party) (body_fields frame.body)
-    (Appends-then o0 o5 o6 (head (length (frame_body frame)) (body_kind frame.body) frame.number) (party frame.party) a b) c
+Appends-frame o0 o1 o2 frame size kind counted is a b =
+    subst (λ (n : ℕ). Appends o0 o2 (head n (body_kind frame.body) frame.number ++ party frame.party ++ body_fields frame.body)) counted
+    (subst (λ (k : ℕ). Appends o0 o2 (head size k frame.number ++ party frame.party ++ body_fields frame.body)) is
+    (Appends-then o0 o1 o2 (head size kind frame.number ++ party frame.party) (body_fields frame.body) a b))

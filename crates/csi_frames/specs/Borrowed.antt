@@ -1,7 +1,5 @@
 -- What a frame that borrows its texts stands for: the frame that has copies of them.
 use Rattle.std.specs.Prelude.{ℕ, List, [], Result, Ok, Err}
-use Rattle.csi_types.specs.declared.capability.Access.{Access}
-use Rattle.csi_types.specs.declared.capability.Access.TheVariants as accesses
 use Rattle.csi_types.specs.declared.capability.Capability.{Capability}
 use Rattle.csi_types.specs.declared.call.Party.{Party}
 use Rattle.csi_types.specs.declared.call.Party.TheVariants as parties
@@ -11,27 +9,18 @@ use Rattle.csi_types.specs.declared.reply.Reply.{Reply}
 use Rattle.csi_types.specs.declared.frame.Body.{Body}
 use Rattle.csi_types.specs.declared.frame.Body.TheVariants as bodies
 use Rattle.csi_types.specs.Frame.{Frame}
-use Rattle.csi_frames.specs.declared.borrowed.AccessRef.{AccessRef}
-use Rattle.csi_frames.specs.declared.borrowed.AccessRef.TheVariants.{Block, Mount}
-use Rattle.csi_frames.specs.declared.borrowed.CapabilityRef.{CapabilityRef}
+use Rattle.csi_types.specs.Lent.{lent_capability}
 use Rattle.csi_frames.specs.declared.borrowed.CapabilitiesRef.{CapabilitiesRef}
 use Rattle.csi_frames.specs.declared.fields.Stop.{Stop}
 use Rattle.csi_frames.specs.Reading.{capabilities_at}
 use Rattle.csi_frames.specs.declared.borrowed.PartyRef.{PartyRef}
 use Rattle.csi_frames.specs.declared.borrowed.PartyRef.TheVariants.{Controller, Node}
-use Rattle.csi_frames.specs.declared.borrowed.CallRef.{CallRef}
-use Rattle.csi_frames.specs.declared.borrowed.CallRef.TheVariants.{CreateVolume, DeleteVolume, ControllerPublishVolume, ControllerUnpublishVolume, NodeStageVolume, NodeUnstageVolume, NodePublishVolume, NodeUnpublishVolume}
+use Rattle.csi_frames.specs.declared.borrowed.BorrowedCall.{BorrowedCall}
+use Rattle.csi_frames.specs.declared.borrowed.BorrowedCall.TheVariants.{CreateVolume, DeleteVolume, ControllerPublishVolume, ControllerUnpublishVolume, NodeStageVolume, NodeUnstageVolume, NodePublishVolume, NodeUnpublishVolume}
 use Rattle.csi_frames.specs.declared.borrowed.ReplyRef.{ReplyRef}
 use Rattle.csi_frames.specs.declared.borrowed.BodyRef.{BodyRef}
 use Rattle.csi_frames.specs.declared.borrowed.BodyRef.TheVariants as refs
 use Rattle.csi_frames.specs.declared.borrowed.BorrowedFrame.{BorrowedFrame}
-
-abbrev pub owned_access : AccessRef → Access
-owned_access Block = accesses.Block
-owned_access (Mount fs_type) = accesses.Mount fs_type.now
-
-abbrev pub owned_capability : CapabilityRef → Capability
-owned_capability c = record { access = owned_access c.access; mode = c.mode }
 
 -- the capabilities that are read from their bytes
 abbrev pub list_in : Result (List Capability × List ℕ) Stop → List Capability
@@ -45,14 +34,14 @@ abbrev pub owned_party : PartyRef → Party
 owned_party Controller = parties.Controller
 owned_party (Node id) = parties.Node id.now
 
-abbrev pub owned_call : CallRef → Call
+abbrev pub owned_call : BorrowedCall → Call
 owned_call (CreateVolume name required limit capabilities) = calls.CreateVolume name.now required limit (owned_capabilities capabilities)
 owned_call (DeleteVolume id) = calls.DeleteVolume id
-owned_call (ControllerPublishVolume id node c readonly) = calls.ControllerPublishVolume id node.now (owned_capability c) readonly
+owned_call (ControllerPublishVolume id node c readonly) = calls.ControllerPublishVolume id node.now (lent_capability c) readonly
 owned_call (ControllerUnpublishVolume id node) = calls.ControllerUnpublishVolume id node.now
-owned_call (NodeStageVolume id c) = calls.NodeStageVolume id (owned_capability c)
+owned_call (NodeStageVolume id c) = calls.NodeStageVolume id (lent_capability c)
 owned_call (NodeUnstageVolume id) = calls.NodeUnstageVolume id
-owned_call (NodePublishVolume id target c readonly) = calls.NodePublishVolume id target.now (owned_capability c) readonly
+owned_call (NodePublishVolume id target c readonly) = calls.NodePublishVolume id target.now (lent_capability c) readonly
 owned_call (NodeUnpublishVolume id target) = calls.NodeUnpublishVolume id target.now
 
 abbrev pub owned_reply : ReplyRef → Reply

@@ -3,6 +3,7 @@
 use Rattle.std.specs.Prelude.{◌≡◌, ℕ, ◌+◌, ◌≤◌, Bool, if◌then◌else◌, List, [], ◌∷◌, ◌++◌, length, take, Option, Some, None}
 use Rattle.std.specs.List.{flat_map}
 use Rattle.byteorder.specs.Endian.{big_bytes}
+use Rattle.csi_types.specs.declared.number.Number.{Number}
 use Rattle.csi_types.specs.declared.capability.Access.{Access}
 use Rattle.csi_types.specs.declared.capability.Access.TheVariants.{Block, Mount}
 use Rattle.csi_types.specs.declared.capability.Capability.{Capability}
@@ -69,6 +70,10 @@ reply_fields reply = status_code reply.status ∷ reply_id reply.id ++ text repl
 abbrev pub body_fields : Body → List ℕ
 body_fields (bodies.Call call) = call_fields call
 body_fields (bodies.Reply kind reply) = reply_fields reply
+
+-- what stands before a frame's party, by the count of its body's bytes and its kind byte
+abbrev pub head : ℕ → ℕ → Number → List ℕ
+head size kind number = big_bytes 4 size ++ 1 ∷ kind ∷ word number.session ++ word number.call
 
 -- the version, 1, the kind, the number, the party, and the kind's fields
 unfoldable pub frame_body : Frame → List ℕ

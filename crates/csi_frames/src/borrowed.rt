@@ -3,19 +3,7 @@
 ghost use Rattle.std.specs.Prelude.{◌≡◌, true, is_ok};
 ghost use Rattle.csi_frames.specs.Reading.{capabilities_at};
 
-use csi_types::{Kind, Mode, Number, Status};
-
-#[derive(Clone, Copy)]
-pub(crate) enum AccessRef<'a> {
-    Block,
-    Mount(&'a str),
-}
-
-#[derive(Clone, Copy)]
-pub(crate) struct CapabilityRef<'a> {
-    pub access: AccessRef<'a>,
-    pub mode: Mode,
-}
+use csi_types::{CapabilityRef, Kind, Number, Status};
 
 /// Capabilities one after another, at the front of these bytes.
 #[derive(Clone, Copy)]
@@ -32,7 +20,7 @@ pub(crate) enum PartyRef<'a> {
 }
 
 #[derive(Drop)]
-pub(crate) enum CallRef<'a> {
+pub(crate) enum BorrowedCall<'a> {
     CreateVolume {
         name: &'a str,
         required: u64,
@@ -80,7 +68,7 @@ pub(crate) struct ReplyRef<'a> {
 
 #[derive(Drop)]
 pub(crate) enum BodyRef<'a> {
-    Call(CallRef<'a>),
+    Call(BorrowedCall<'a>),
     Reply(Kind, ReplyRef<'a>),
 }
 

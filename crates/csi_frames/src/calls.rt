@@ -1,18 +1,21 @@
 //! Capabilities, calls and replies, read from the bytes of a body.
 ghost use Rattle.std.specs.Prelude.{◌≡◌, ◌&&◌};
+ghost use Rattle.csi_types.specs.Lent.{lent_access, lent_capability};
 ghost use Rattle.csi_types.specs.Reply.{is_create, is_ok_status};
-ghost use Rattle.csi_frames.specs.Borrowed.{owned_access, owned_capability, owned_capabilities, owned_call, owned_reply};
+ghost use Rattle.csi_frames.specs.Borrowed.{owned_capabilities, owned_call, owned_reply};
 ghost use Rattle.csi_frames.specs.Gives.{Gives};
 ghost use Rattle.csi_frames.specs.Reading.{access_at, mode_at, capability_at, capabilities_at, create_at, call_at, status_at, reply_id_at, reply_at};
 
-use crate::borrowed::{AccessRef, CallRef, CapabilitiesRef, CapabilityRef, ReplyRef};
+use crate::borrowed::{BorrowedCall, CapabilitiesRef, ReplyRef};
 use crate::fault::FaultKind;
 use crate::fields::{Fields, Stop};
-use csi_types::{Detail, FsType, Kind, Mode, Name, NodeId, Status, Target};
+use csi_types::{
+    AccessRef, CapabilityRef, Detail, FsType, Kind, Mode, Name, NodeId, Status, Target,
+};
 
 #[tactic(auto, unfolding(crate::specs::Reading::access_at))]
 fn access_at<'a>(fields: &mut Fields<'a>) -> Result<AccessRef<'a>, Stop>
-    ensures { Gives owned_access result fields.new (access_at fields.old.bytes.now) }
+    ensures { Gives lent_access result fields.new (access_at fields.old.bytes.now) }
 {
     let byte = fields.byte(1, FaultKind::BadAccess)?;
     if byte == 0 {
@@ -33,7 +36,7 @@ fn mode_at(fields: &mut Fields<'_>) -> Result<Mode, Stop>
 
 #[tactic(auto, unfolding(crate::specs::Reading::capability_at))]
 pub(crate) fn capability_at<'a>(fields: &mut Fields<'a>) -> Result<CapabilityRef<'a>, Stop>
-    ensures { Gives owned_capability result fields.new (capability_at fields.old.bytes.now) }
+    ensures { Gives lent_capability result fields.new (capability_at fields.old.bytes.now) }
 {
     let access = access_at(fields)?;
     let mode = mode_at(fields)?;
@@ -52,7 +55,7 @@ fn capabilities_at<'a>(fields: &mut Fields<'a>, count: u8) -> Result<Capabilitie
 }
 
 #[tactic(auto, unfolding(crate::specs::Reading::create_at))]
-fn create_at<'a>(fields: &mut Fields<'a>) -> Result<CallRef<'a>, Stop>
+fn create_at<'a>(fields: &mut Fields<'a>) -> Result<BorrowedCall<'a>, Stop>
     ensures { Gives owned_call result fields.new (create_at fields.old.bytes.now) }
 {
     let name = fields.text(1, Name::MAX_LEN)?;
@@ -60,7 +63,7 @@ fn create_at<'a>(fields: &mut Fields<'a>) -> Result<CallRef<'a>, Stop>
     let limit = fields.word()?;
     let count = fields.byte(8, FaultKind::BadCount)?;
     let capabilities = capabilities_at(fields, count)?;
-    Ok(CallRef::CreateVolume {
+    Ok(BorrowedCall::CreateVolume {
         name,
         required,
         limit,
@@ -69,14 +72,14 @@ fn create_at<'a>(fields: &mut Fields<'a>) -> Result<CallRef<'a>, Stop>
 }
 
 #[tactic(auto, unfolding(crate::specs::Reading::call_at, crate::specs::Reading::publish_at))]
-fn controller_publish_at<'a>(fields: &mut Fields<'a>) -> Result<CallRef<'a>, Stop>
+fn controller_publish_at<'a>(fields: &mut Fields<'a>) -> Result<BorrowedCall<'a>, Stop>
     ensures { Gives owned_call result fields.new (call_at Kind.ControllerPublishVolume fields.old.bytes.now) }
 {
     let id = fields.id()?;
     let node = fields.text(1, NodeId::MAX_LEN)?;
     let capability = capability_at(fields)?;
     let readonly = fields.flag()?;
-    Ok(CallRef::ControllerPublishVolume {
+    Ok(BorrowedCall::ControllerPublishVolume {
         id,
         node,
         capability,
@@ -85,14 +88,14 @@ fn controller_publish_at<'a>(fields: &mut Fields<'a>) -> Result<CallRef<'a>, Sto
 }
 
 #[tactic(auto, unfolding(crate::specs::Reading::call_at, crate::specs::Reading::publish_at))]
-fn node_publish_at<'a>(fields: &mut Fields<'a>) -> Result<CallRef<'a>, Stop>
+fn node_publish_at<'a>(fields: &mut Fields<'a>) -> Result<BorrowedCall<'a>, Stop>
     ensures { Gives owned_call result fields.new (call_at Kind.NodePublishVolume fields.old.bytes.now) }
 {
     let id = fields.id()?;
     let target = fields.text(1, Target::MAX_LEN)?;
     let capability = capability_at(fields)?;
     let readonly = fields.flag()?;
-    Ok(CallRef::NodePublishVolume {
+    Ok(BorrowedCall::NodePublishVolume {
         id,
         target,
         capability,
@@ -101,35 +104,35 @@ fn node_publish_at<'a>(fields: &mut Fields<'a>) -> Result<CallRef<'a>, Stop>
 }
 
 #[tactic(auto, unfolding(crate::specs::Reading::call_at, crate::specs::Reading::id_alone_at, crate::specs::Reading::id_and_text_at, crate::specs::Reading::stage_at))]
-pub(crate) fn call_at<'a>(fields: &mut Fields<'a>, kind: Kind) -> Result<CallRef<'a>, Stop>
+pub(crate) fn call_at<'a>(fields: &mut Fields<'a>, kind: Kind) -> Result<BorrowedCall<'a>, Stop>
     ensures { Gives owned_call result fields.new (call_at kind fields.old.bytes.now) }
 {
     match kind {
         Kind::CreateVolume => create_at(fields),
         Kind::DeleteVolume => {
             let id = fields.id()?;
-            Ok(CallRef::DeleteVolume { id })
+            Ok(BorrowedCall::DeleteVolume { id })
         }
         Kind::ControllerPublishVolume => controller_publish_at(fields),
         Kind::ControllerUnpublishVolume => {
             let id = fields.id()?;
             let node = fields.text(1, NodeId::MAX_LEN)?;
-            Ok(CallRef::ControllerUnpublishVolume { id, node })
+            Ok(BorrowedCall::ControllerUnpublishVolume { id, node })
         }
         Kind::NodeStageVolume => {
             let id = fields.id()?;
             let capability = capability_at(fields)?;
-            Ok(CallRef::NodeStageVolume { id, capability })
+            Ok(BorrowedCall::NodeStageVolume { id, capability })
         }
         Kind::NodeUnstageVolume => {
             let id = fields.id()?;
-            Ok(CallRef::NodeUnstageVolume { id })
+            Ok(BorrowedCall::NodeUnstageVolume { id })
         }
         Kind::NodePublishVolume => node_publish_at(fields),
         Kind::NodeUnpublishVolume => {
             let id = fields.id()?;
             let target = fields.text(1, Target::MAX_LEN)?;
-            Ok(CallRef::NodeUnpublishVolume { id, target })
+            Ok(BorrowedCall::NodeUnpublishVolume { id, target })
         }
     }
 }

@@ -3,13 +3,19 @@ ghost use Rattle.std.specs.Prelude.{◌≡◌, ◌≤◌, ◌<◌, ◌+◌, ◌+
 ghost use Rattle.std.specs.List.{flat_map, AllByRecursion};
 ghost use Rattle.byteorder.specs.Endian.{big_bytes};
 ghost use Rattle.csi_types.specs.VolumeId.{IsVolumeId};
-ghost use Rattle.csi_types.specs.Limits.{IsAccess, IsCapability, IsCapabilityList, IsParty, IsCall, IsReply, IsBody, IsFrame, IsWord};
+ghost use Rattle.csi_types.specs.Limits.{IsNumber, IsAccess, IsCapability, IsCapabilityList, IsParty, IsCall, IsReply, IsBody, IsFrame, IsWord};
+ghost use Rattle.csi_types.specs.Replies.{reply_frame};
 ghost use Rattle.csi_frames.specs.Appends.{Appends, HasRoom};
-ghost use Rattle.csi_frames.specs.Spelling.{word, text, flag, access, capability, party, reply_id, call_fields, reply_fields, body_fields, body_kind, frame_body, spelling, Spells};
+ghost use Rattle.csi_frames.specs.Spelling.{word, text, flag, access, capability, party, reply_id, call_fields, reply_fields, body_fields, body_kind, head, frame_body, spelling, Spells};
 
 use crate::body_kind::kind_number;
 use byteorder::{BigEndian, ByteOrder};
-use csi_types::{Access, Body, Call, Capability, Frame, NoMemory, Party, Reply, VolumeId};
+use csi_types::{
+    Access, Body, Call, Capability, Frame, Kind, NoMemory, Number, Party, Reply, VolumeId,
+};
+
+/// A body's version, kind and the two parts of its number, which stand before the party.
+const HEAD: usize = 1 + 1 + 8 + 8;
 
 /// Bytes behind what a vector has, which must have room for them.
 fn put(out: &mut Vec<u8>, bytes: &[u8])
@@ -111,13 +117,20 @@ fn call_len(from: &Call) -> usize
     }
 }
 
+fn reply_len(from: &Reply) -> usize
+    ensures len { result ≡ length (reply_fields from.now) }
+    ensures small { result ≤ 265 }
+{
+    1 + 8 + text_len(from.detail.as_str())
+}
+
 fn body_len(from: &Body) -> usize
     ensures len { result ≡ length (body_fields from.now) }
     ensures small { result ≤ 1194 }
 {
     match from {
         Body::Call(call) => call_len(call),
-        Body::Reply(_, reply) => 1 + 8 + text_len(reply.detail.as_str()),
+        Body::Reply(_, reply) => reply_len(reply),
     }
 }
 
@@ -291,6 +304,24 @@ fn kind_byte(from: &Body) -> u8
     }
 }
 
+// What stands before the kind's fields: the length of the body, which has been counted, the version, the kind byte, the number
+// and the party.
+fn put_head(out: &mut Vec<u8>, size: u32, kind: u8, number: Number, from: &Party)
+    requires { HasRoom out.old (22 + length (party from.now)) }
+    ensures appends { Appends out.old out.new (head size kind number ++ party from.now) }
+    ensures number_fits { IsNumber number }
+    ensures fits { IsParty from.now }
+{
+    let mut four = [0; 4];
+    BigEndian::write_u32(&mut four, size);
+    put(out, &four);
+    put_byte(out, 1);
+    put_byte(out, kind);
+    put_word(out, number.session);
+    put_word(out, number.call);
+    put_party(out, from);
+}
+
 // The frame with its body's length, which has been counted.
 #[tactic(auto, unfolding(crate::specs::Spelling::frame_body, crate::specs::Spelling::spelling))]
 fn put_frame(out: &mut Vec<u8>, frame: &Frame, size: u32)
@@ -299,15 +330,13 @@ fn put_frame(out: &mut Vec<u8>, frame: &Frame, size: u32)
     ensures appends { Appends out.old out.new (spelling frame.now) }
     ensures fits { IsFrame frame.now }
 {
-    let mut four = [0; 4];
-    BigEndian::write_u32(&mut four, size);
-    put(out, &four);
-    put_byte(out, 1);
-    put_byte(out, kind_byte(frame.body()));
-    let number = frame.number();
-    put_word(out, number.session);
-    put_word(out, number.call);
-    put_party(out, frame.party());
+    put_head(
+        out,
+        size,
+        kind_byte(frame.body()),
+        frame.number(),
+        frame.party(),
+    );
     put_body(out, frame.body());
 }
 
@@ -320,9 +349,27 @@ pub fn encode(frame: &Frame, out: &mut Vec<u8>) -> Result<(), NoMemory>
     ensures err { OnErr result (out.new.items ≡ out.old.items) }
     ensures spare { vec_len out.old + length (spelling frame.now) ≤ vec_capacity out.old → IsOk result }
 {
-    // The version, the kind and the two parts of the number come before the party.
-    let size = 1 + 1 + 8 + 8 + party_len(frame.party()) + body_len(frame.body());
+    let size = HEAD + party_len(frame.party()) + body_len(frame.body());
     out.reserve(4 + size)?;
     put_frame(out, frame, size as u32);
+    Ok(())
+}
+
+/// Appends the bytes that spell the frame of a reply, as `encode` does, with no frame made of its parts. This profile's own.
+pub fn encode_reply(
+    number: Number,
+    party: &Party,
+    kind: Kind,
+    reply: &Reply,
+    out: &mut Vec<u8>,
+) -> Result<(), NoMemory>
+    ensures appends { OnOk result (out.new.items ≡ out.old.items ++ spelling (reply_frame number party.now kind reply.now)) }
+    ensures err { OnErr result (out.new.items ≡ out.old.items) }
+    ensures spare { vec_len out.old + length (spelling (reply_frame number party.now kind reply.now)) ≤ vec_capacity out.old → IsOk result }
+{
+    let size = HEAD + party_len(party) + reply_len(reply);
+    out.reserve(4 + size)?;
+    put_head(out, size as u32, 128 + kind_number(kind), number, party);
+    put_reply(out, reply);
     Ok(())
 }

@@ -5,9 +5,9 @@ ghost use Rattle.csi_frames.specs.Bytes.{AreBytes};
 ghost use Rattle.csi_frames.specs.Reading.{first_frame};
 ghost use Rattle.csi_frames.specs.Spelling.{spelling};
 
-use crate::borrowed::BorrowedFrame;
-use crate::owned;
-use csi_types::{Frame, NoMemory};
+use crate::borrowed::{BodyRef, BorrowedFrame};
+use crate::{lending, owned};
+use csi_types::{CallRef, CapabilityList, Frame, NoMemory, Number};
 use std::alloc::Global;
 
 /// A frame whose texts are slices of the bytes that it was read from. A contract sees the frame that it stands for, by its
@@ -21,11 +21,12 @@ pub struct FrameRef<'a> {
 }
 
 impl<'a> FrameRef<'a> {
-    ghost use Rattle.std.specs.Prelude.{◌≡◌, IfOk, IsOk};
+    ghost use Rattle.std.specs.Prelude.{◌≡◌, IfOk, IsOk, IfSome, option_map};
+    ghost use Rattle.csi_types.specs.Lent.{lent_call, HasFitTexts};
     ghost use Rattle.csi_types.specs.Limits.{IsFrame};
     ghost use Rattle.csi_frames.specs.Borrowed.{owned};
     ghost use Rattle.csi_frames.specs.Bytes.{AreBytes};
-    ghost use Rattle.csi_frames.specs.Lent.{lent};
+    ghost use Rattle.csi_frames.specs.Lent.{lent, call_of, capabilities_of, IsNoCreate};
     ghost use Rattle.csi_frames.specs.Spelling.{spelling};
     ghost use Rattle.csi_frames.specs.Texts.{IsTextless};
 
@@ -45,5 +46,37 @@ impl<'a> FrameRef<'a> {
         ensures textless { IsTextless (lent self.now) → IsOk result }
     {
         owned::frame(alloc, &self.frame)
+    }
+
+    /// The number of the call. It takes no memory.
+    #[inline]
+    pub fn number(&self) -> Number
+        ensures { result ≡ (lent self.now).number }
+    {
+        self.frame.number
+    }
+
+    /// The capabilities of a CreateVolume, with texts of their own. Of any other call, and of a reply, they are none, which takes
+    /// no memory.
+    #[inline]
+    pub fn capabilities(&self, alloc: Global) -> Result<CapabilityList, NoMemory>
+        ensures value { IfOk result (λ list. list ≡ capabilities_of (lent self.now)) }
+        ensures others { IsNoCreate (lent self.now).body → IsOk result }
+    {
+        owned::capabilities_in(alloc, &self.frame.body)
+    }
+
+    /// The call, with texts that lie in the bytes that the frame was read from and are within their limits; a CreateVolume has the
+    /// capabilities that are given, and is the frame's own with those of `capabilities`. `None` for a reply. It takes no memory.
+    #[inline]
+    pub fn call<'b>(&'b self, capabilities: &'b CapabilityList) -> Option<CallRef<'b>>
+        ensures value { capabilities.now ≡ capabilities_of (lent self.now) → option_map lent_call result ≡ call_of (lent self.now) }
+        ensures texts { IfSome result (λ call. HasFitTexts (lent_call call)) }
+        ensures limits { IsFrame (lent self.now) }
+    {
+        match &self.frame.body {
+            BodyRef::Call(call) => Some(lending::call(call, capabilities)),
+            BodyRef::Reply(..) => None,
+        }
     }
 }

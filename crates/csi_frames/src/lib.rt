@@ -11,13 +11,14 @@ mod encoding;
 mod fault;
 mod fields;
 mod frame_ref;
+mod lending;
 mod owned;
 mod progress;
 mod splitter;
 
 pub use cutting::any_cutting;
 pub use decoding::{decode, one_reading};
-pub use encoding::encode;
+pub use encoding::{encode, encode_reply};
 pub use fault::{FaultKind, FrameFault};
 pub use frame_ref::FrameRef;
 pub use splitter::Splitter;

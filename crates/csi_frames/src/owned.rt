@@ -1,19 +1,19 @@
 //! Copies of what a borrowed frame stands for.
 ghost use Rattle.std.specs.Prelude.{◌≡◌, ◌≤◌, [], length, IfOk, IsOk, IfSome};
+ghost use Rattle.csi_types.specs.Lent.{lent_access, lent_capability};
 ghost use Rattle.csi_types.specs.Text.{IsName, IsFsType, IsNodeId, IsTarget, IsDetail};
 ghost use Rattle.csi_types.specs.VolumeId.{IsVolumeId};
 ghost use Rattle.csi_types.specs.Limits.{IsAccess, IsCapability, IsCapabilityList, IsParty, IsCall, IsReply, IsBody, IsFrame};
-ghost use Rattle.csi_frames.specs.Borrowed.{owned_access, owned_capability, owned_capabilities, owned_party, owned_call, owned_reply, owned_body, owned};
+ghost use Rattle.csi_frames.specs.Borrowed.{owned_capabilities, owned_party, owned_call, owned_reply, owned_body, owned};
+ghost use Rattle.csi_frames.specs.Lent.{capabilities_in_body, IsNoCreate};
 ghost use Rattle.csi_frames.specs.Texts.{AreEmpty, access_texts, capability_texts, party_texts, call_texts, body_texts, IsTextless};
 
-use crate::borrowed::{
-    AccessRef, BodyRef, BorrowedFrame, CallRef, CapabilitiesRef, CapabilityRef, PartyRef, ReplyRef,
-};
+use crate::borrowed::{BodyRef, BorrowedCall, BorrowedFrame, CapabilitiesRef, PartyRef, ReplyRef};
 use crate::calls::capability_at;
 use crate::fields::Fields;
 use csi_types::{
-    Access, Body, Call, Capability, CapabilityList, Detail, Frame, FsType, Name, NoMemory, NodeId,
-    Party, Reply, Target, TextFault, VolumeId,
+    Access, AccessRef, Body, Call, Capability, CapabilityList, CapabilityRef, Detail, Frame,
+    FsType, Name, NoMemory, NodeId, Party, Reply, Target, TextFault, VolumeId,
 };
 use std::alloc::Global;
 
@@ -27,7 +27,8 @@ fn only_memory(fault: TextFault) -> NoMemory
     }
 }
 
-fn volume_id(number: u64) -> VolumeId
+/// The id of this number.
+pub(crate) fn volume_id(number: u64) -> VolumeId
     requires { IsVolumeId number }
     ensures { result ≡ number }
 {
@@ -82,9 +83,9 @@ fn detail(alloc: Global, text: &str) -> Result<Detail, NoMemory>
 }
 
 fn access(alloc: Global, from: &AccessRef<'_>) -> Result<Access, NoMemory>
-    requires { IsAccess (owned_access from.now) }
-    ensures value { IfOk result (λ access. access ≡ owned_access from.now) }
-    ensures textless { AreEmpty (access_texts (owned_access from.now)) → IsOk result }
+    requires { IsAccess (lent_access from.now) }
+    ensures value { IfOk result (λ access. access ≡ lent_access from.now) }
+    ensures textless { AreEmpty (access_texts (lent_access from.now)) → IsOk result }
 {
     match from {
         AccessRef::Block => Ok(Access::Block),
@@ -93,9 +94,9 @@ fn access(alloc: Global, from: &AccessRef<'_>) -> Result<Access, NoMemory>
 }
 
 fn capability(alloc: Global, from: &CapabilityRef<'_>) -> Result<Capability, NoMemory>
-    requires { IsCapability (owned_capability from.now) }
-    ensures value { IfOk result (λ capability. capability ≡ owned_capability from.now) }
-    ensures textless { AreEmpty (capability_texts (owned_capability from.now)) → IsOk result }
+    requires { IsCapability (lent_capability from.now) }
+    ensures value { IfOk result (λ capability. capability ≡ lent_capability from.now) }
+    ensures textless { AreEmpty (capability_texts (lent_capability from.now)) → IsOk result }
 {
     Ok(Capability {
         access: access(alloc, &from.access)?,
@@ -119,6 +120,24 @@ fn capabilities(alloc: Global, from: &CapabilitiesRef<'_>) -> Result<CapabilityL
     Ok(CapabilityList::try_new(items).unwrap())
 }
 
+/// The capabilities of a CreateVolume, and none, without memory, of anything else.
+pub(crate) fn capabilities_in(alloc: Global, from: &BodyRef<'_>) -> Result<CapabilityList, NoMemory>
+    requires { IsBody (owned_body from.now) }
+    ensures value { IfOk result (λ list. list ≡ capabilities_in_body (owned_body from.now)) }
+    ensures others { IsNoCreate (owned_body from.now) → IsOk result }
+{
+    if let BodyRef::Call(
+        BorrowedCall::CreateVolume {
+            capabilities: list,
+            ..
+        },
+    ) = from
+    {
+        return capabilities(alloc, list);
+    }
+    Ok(CapabilityList::try_new(Vec::new(alloc)).unwrap())
+}
+
 fn party(alloc: Global, from: &PartyRef<'_>) -> Result<Party, NoMemory>
     requires { IsParty (owned_party from.now) }
     ensures value { IfOk result (λ party. party ≡ owned_party from.now) }
@@ -130,13 +149,13 @@ fn party(alloc: Global, from: &PartyRef<'_>) -> Result<Party, NoMemory>
     }
 }
 
-fn call(alloc: Global, from: &CallRef<'_>) -> Result<Call, NoMemory>
+fn call(alloc: Global, from: &BorrowedCall<'_>) -> Result<Call, NoMemory>
     requires { IsCall (owned_call from.now) }
     ensures value { IfOk result (λ call. call ≡ owned_call from.now) }
     ensures textless { AreEmpty (call_texts (owned_call from.now)) → IsOk result }
 {
     Ok(match from {
-        CallRef::CreateVolume {
+        BorrowedCall::CreateVolume {
             name: text,
             required,
             limit,
@@ -147,8 +166,8 @@ fn call(alloc: Global, from: &CallRef<'_>) -> Result<Call, NoMemory>
             limit: *limit,
             capabilities: capabilities(alloc, list)?,
         },
-        CallRef::DeleteVolume { id } => Call::DeleteVolume { id: volume_id(*id) },
-        CallRef::ControllerPublishVolume {
+        BorrowedCall::DeleteVolume { id } => Call::DeleteVolume { id: volume_id(*id) },
+        BorrowedCall::ControllerPublishVolume {
             id,
             node,
             capability: usage,
@@ -159,19 +178,19 @@ fn call(alloc: Global, from: &CallRef<'_>) -> Result<Call, NoMemory>
             capability: capability(alloc, usage)?,
             readonly: *readonly,
         },
-        CallRef::ControllerUnpublishVolume { id, node } => Call::ControllerUnpublishVolume {
+        BorrowedCall::ControllerUnpublishVolume { id, node } => Call::ControllerUnpublishVolume {
             id: volume_id(*id),
             node: node_id(alloc, node)?,
         },
-        CallRef::NodeStageVolume {
+        BorrowedCall::NodeStageVolume {
             id,
             capability: usage,
         } => Call::NodeStageVolume {
             id: volume_id(*id),
             capability: capability(alloc, usage)?,
         },
-        CallRef::NodeUnstageVolume { id } => Call::NodeUnstageVolume { id: volume_id(*id) },
-        CallRef::NodePublishVolume {
+        BorrowedCall::NodeUnstageVolume { id } => Call::NodeUnstageVolume { id: volume_id(*id) },
+        BorrowedCall::NodePublishVolume {
             id,
             target: text,
             capability: usage,
@@ -182,7 +201,7 @@ fn call(alloc: Global, from: &CallRef<'_>) -> Result<Call, NoMemory>
             capability: capability(alloc, usage)?,
             readonly: *readonly,
         },
-        CallRef::NodeUnpublishVolume { id, target: text } => Call::NodeUnpublishVolume {
+        BorrowedCall::NodeUnpublishVolume { id, target: text } => Call::NodeUnpublishVolume {
             id: volume_id(*id),
             target: target(alloc, text)?,
         },

@@ -1,7 +1,8 @@
 use Rattle.std.proofs.Common.{List, ◌++◌, ◌∷◌, [], Ok, is_ok, sym, ap, ◌∙◌}
 use Rattle.std.proofs.lemmas.Result.{err_from_is_err_and}
 use Rattle.csi_types.specs.declared.capability.Capability.{Capability}
-use Rattle.csi_frames.specs.Borrowed.{owned_capability, list_in}
+use Rattle.csi_types.specs.Lent.{lent_capability}
+use Rattle.csi_frames.specs.Borrowed.{list_in}
 use Rattle.csi_frames.specs.Reading.{capabilities_at}
 use Rattle.csi_frames.proofs.Loop.{goes_on, ends, is_done}
 use Rattle.csi_frames.proofs.calls.capabilities_at.Goals as goal
@@ -13,8 +14,8 @@ returns-in_err-capability_at c =
 
 pub loop-preserved : goal.loop-preserved
 loop-preserved c = (
-  c.loop.invariant.0 ++ owned_capability c.in_ok-capability_at.field-0 ∷ [],
-  goes_on c.loop.invariant.0 c.args.count c.loop.counter c.loop.fields.bytes.now (owned_capability c.in_ok-capability_at.field-0) c.capability_at.new.fields.bytes.now (capabilities_at c.args.count c.args.fields.now.bytes.now) c.loop-test.true c.in_ok-capability_at.ensures c.loop.invariant.1,
+  c.loop.invariant.0 ++ lent_capability c.in_ok-capability_at.field-0 ∷ [],
+  goes_on c.loop.invariant.0 c.args.count c.loop.counter c.loop.fields.bytes.now (lent_capability c.in_ok-capability_at.field-0) c.capability_at.new.fields.bytes.now (capabilities_at c.args.count c.args.fields.now.bytes.now) c.loop-test.true c.in_ok-capability_at.ensures c.loop.invariant.1,
 )
 
 pub invariant_of-result : goal.invariant_of-result

@@ -1,0 +1,67 @@
+//! Calls as they are lent to a plugin.
+ghost use Rattle.std.specs.Prelude.{◌≡◌};
+ghost use Rattle.csi_types.specs.Lent.{lent_call, HasFitTexts};
+ghost use Rattle.csi_types.specs.Limits.{IsCall};
+ghost use Rattle.csi_frames.specs.Borrowed.{owned_call};
+ghost use Rattle.csi_frames.specs.Lent.{capabilities_in};
+
+use crate::borrowed::BorrowedCall;
+use crate::owned::volume_id;
+use csi_types::{CallRef, CapabilityList};
+
+/// The call with these capabilities, if it is a CreateVolume.
+pub(crate) fn call<'b>(from: &'b BorrowedCall<'_>, capabilities: &'b CapabilityList) -> CallRef<'b>
+    requires { IsCall (owned_call from.now) }
+    ensures value { capabilities.now ≡ capabilities_in (owned_call from.now) → lent_call result ≡ owned_call from.now }
+    ensures texts { HasFitTexts (lent_call result) }
+{
+    match from {
+        BorrowedCall::CreateVolume {
+            name,
+            required,
+            limit,
+            ..
+        } => CallRef::CreateVolume {
+            name,
+            required: *required,
+            limit: *limit,
+            capabilities,
+        },
+        BorrowedCall::DeleteVolume { id } => CallRef::DeleteVolume { id: volume_id(*id) },
+        BorrowedCall::ControllerPublishVolume {
+            id,
+            node,
+            capability,
+            readonly,
+        } => CallRef::ControllerPublishVolume {
+            id: volume_id(*id),
+            node,
+            capability: *capability,
+            readonly: *readonly,
+        },
+        BorrowedCall::ControllerUnpublishVolume { id, node } => CallRef::ControllerUnpublishVolume {
+            id: volume_id(*id),
+            node,
+        },
+        BorrowedCall::NodeStageVolume { id, capability } => CallRef::NodeStageVolume {
+            id: volume_id(*id),
+            capability: *capability,
+        },
+        BorrowedCall::NodeUnstageVolume { id } => CallRef::NodeUnstageVolume { id: volume_id(*id) },
+        BorrowedCall::NodePublishVolume {
+            id,
+            target,
+            capability,
+            readonly,
+        } => CallRef::NodePublishVolume {
+            id: volume_id(*id),
+            target,
+            capability: *capability,
+            readonly: *readonly,
+        },
+        BorrowedCall::NodeUnpublishVolume { id, target } => CallRef::NodeUnpublishVolume {
+            id: volume_id(*id),
+            target,
+        },
+    }
+}
