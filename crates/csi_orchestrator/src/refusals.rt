@@ -73,7 +73,7 @@ pub(crate) fn use_fault(nodes: &[NodeId], usage: &Usage, row: &Row) -> Option<Or
     if !has_node(nodes, &usage.node) {
         return Some(OrchFault::NoSuchNode);
     }
-    if !has_capability(row.arguments.capabilities.as_slice(), &usage.capability) {
+    if !has_capability(row.arguments.capabilities.as_slice(), usage.capability.lend()) {
         return Some(OrchFault::NotCapable);
     }
     if is_held_elsewhere(&row.places, usage) {

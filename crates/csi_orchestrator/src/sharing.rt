@@ -95,9 +95,9 @@ fn is_so(usage: &Usage, place: &Place) -> bool
     ensures { not result ≡ is_other usage.now (Some (held_at (place_shown place.now))) }
 {
     same_way(
-        &place.capability,
+        place.capability.lend(),
         place.readonly,
-        &usage.capability,
+        usage.capability.lend(),
         usage.readonly,
     )
 }

@@ -1,7 +1,6 @@
 //! Whether what is staged is attached.
 ghost use Rattle.std.specs.Prelude.{◌≡◌, ◌==◌, ◌↔◌, find, IsTrue};
 ghost use Rattle.std.specs.List.{list_any, list_all};
-ghost use Rattle.csi_types.specs.Same.{same_capability as is_same_capability};
 ghost use Rattle.csi_controller.specs.Core.{IsRising};
 ghost use Rattle.csi_world.specs.World.{World};
 ghost use Rattle.csi_world.specs.Safe.{IsStagedWhereAttached};
@@ -11,20 +10,13 @@ use super::halving::find_row;
 use super::lists::NodeLists;
 use csi_controller::{ControllerRow, NodeHolding};
 use csi_node::Staged;
-use csi_types::{Capability, NodeId};
-
-// Whether the two are the same.
-fn same_capability(a: &Capability, b: &Capability) -> bool
-    ensures { result ≡ is_same_capability a.now b.now }
-{
-    a == b
-}
+use csi_types::{Capability, NodeId, same_capability};
 
 // Whether the holding is at this node, with this capability.
 fn is_held_as(node: &NodeId, capability: &Capability, held: &NodeHolding) -> bool
     ensures { result ≡ is_held_so node.now capability.now held.now }
 {
-    held.node == *node && same_capability(&held.capability, capability)
+    held.node == *node && same_capability(held.capability.lend(), capability.lend())
 }
 
 // Whether the row's volume is held so.
