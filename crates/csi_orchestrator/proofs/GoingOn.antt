@@ -27,9 +27,9 @@ use Rattle.csi_orchestrator.specs.RowChanges.{sent, dropped}
 use Rattle.csi_orchestrator.specs.RowMoves.{Told, put, with_row, sends_as, goes_on}
 use Rattle.csi_orchestrator.specs.Kept.{MayBeWanted, AreGuarded, Fits}
 use Rattle.csi_orchestrator.proofs.DueCalls.{due-told}
-use Rattle.csi_orchestrator.proofs.DueCases.{IsDueFor, due-cases, ToMake, ToRemove, ToAttach, ToStage, ToPublish, ToUnpublish, ToUnstage, ToDetach}
+use Rattle.csi_orchestrator.proofs.DueCases.{IsDueFor, due-cases, ToAttach, ToDetach}
 use Rattle.csi_orchestrator.proofs.Following.{sent-follows, noted-follows}
-use Rattle.csi_orchestrator.proofs.Form.{IsNextIfSome, the_next, is_next}
+use Rattle.csi_orchestrator.proofs.AddedItems.{IsNextIfSome, is_next}
 use Rattle.csi_orchestrator.proofs.Guarded.{due-guarded}
 use Rattle.csi_orchestrator.proofs.KeptEntries.{each-put}
 use Rattle.csi_orchestrator.proofs.KeptRows.{AreDistinct}
@@ -128,7 +128,7 @@ then-sent parts history name row view items due number ready e n =
     is_last = sym ((ready.agrees).same_last) ∙ sym ready.same_last
 
     next : IsNext (last_number (with_items history items)) number
-    next = subst (λ l. IsNext l number) (sym is_last) (the_next parts.last number (subst (IsNextIfSome parts.last) n (is_next parts.last)))
+    next = subst (λ l. IsNext l number) (sym is_last) (subst (IsNextIfSome parts.last) n (is_next parts.last))
 
     detaches : DetachesSomething (with_items history items) issued
     detaches node of undoes is =

@@ -1,4 +1,4 @@
-pub mod Form
+pub mod AddedItems
 pub mod Numbers
 pub mod Following
 pub mod Keyed

@@ -1,6 +1,6 @@
 -- Nothing was done at first, and each input keeps the form.
-use Rattle.csi_orchestrator.proofs.Form.{moves-keep, kept}
+use Rattle.csi_orchestrator.proofs.AddedItems.{moves-add, stays-formed}
 use Rattle.csi_orchestrator.proofs.laws.form_law.Goals as goal
 
 pub returns : goal.returns
-returns c = record { first = λ last. tt; then = λ nodes history input form. kept history _ (moves-keep nodes history input form) }
+returns c = record { first = λ last. tt; then = λ nodes history input form. stays-formed history input _ form (moves-add nodes history input form) }

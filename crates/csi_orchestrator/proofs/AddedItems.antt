@@ -1,0 +1,279 @@
+-- What each input adds to a history: at most three items that leave it well-formed, each reply among them came, and the answer has
+-- the frame of the call that is sent, if one is.
+use Rattle.std.proofs.Common.{◌≡◌, ◌+◌, ◌^◌, ◌≤◌, ℕ, List, [], ◌∷◌, length, map, Bool, true, false, cond, not, refl, sym, ◌∙◌, ap, subst, arith}
+use Rattle.std.specs.Prelude.{suc, Option, Some, None, nat_lt, is_none, ◌==◌, ◌&&◌, Result, Ok, Err, option_and_then}
+use Rattle.std.proofs.lemmas.Bool.{false≢true, and_parts, eq-eqb, lt-ltb, le-ltb}
+use Rattle.csi_types.specs.declared.call.Call.{Call}
+use Rattle.csi_types.specs.declared.call.Call.TheVariants as calls
+use Rattle.csi_types.specs.declared.call.Kind.{Kind}
+use Rattle.csi_types.specs.declared.frame.Body.{Body}
+use Rattle.csi_types.specs.declared.frame.Body.TheVariants as bodies
+use Rattle.csi_types.specs.declared.number.Number.{Number}
+use Rattle.csi_types.specs.declared.reply.Reply.{Reply}
+use Rattle.csi_types.specs.Call.{kind_of}
+use Rattle.csi_types.specs.Frame.{Frame}
+use Rattle.csi_types.specs.Number.{IsBefore}
+use Rattle.csi_types.specs.Reply.{is_ok_status}
+use Rattle.csi_types.specs.Replies.{reply_frame}
+use Rattle.csi_types.specs.Same.{same_number, same_party, same_kind}
+use Rattle.csi_types.proofs.Equality.{same_number-tells, same_party-tells, same_kind-tells}
+use Rattle.csi_lists.proofs.Members.{among-find}
+use Rattle.csi_lists.proofs.Searches.{find-passes}
+use Rattle.csi_orchestrator.specs.declared.fault.OrchFault.{OrchFault}
+use Rattle.csi_orchestrator.specs.declared.fault.OrchFault.TheVariants.{NumbersSpent}
+use Rattle.csi_orchestrator.specs.declared.thing.Thing.TheVariants.{Exists, Attached, Staged, Published}
+use Rattle.csi_orchestrator.specs.Thing.{Issued, is_yes, is_no}
+use Rattle.csi_orchestrator.specs.History.{Usage, Goal, Create, Use, Stop, Delete, Item, Started, Sent, Accepted, Closed, Noted, History, with_items}
+use Rattle.csi_orchestrator.specs.Readings.{known, id_of, goal_of, open_call, tries, last_number, issued_in}
+use Rattle.csi_orchestrator.specs.WellFormed.{IsOfName, IsNext, IsWellFormed}
+use Rattle.csi_orchestrator.specs.Commands.{next_number, create_fault, use_fault, use_room_fault, stop_fault, delete_fault, delete_busy_fault, timeout_fault}
+use Rattle.csi_orchestrator.specs.Due.{Due, due_use, due_leave, due_stop, due_delete, due_for, due_call, targets_in_use}
+use Rattle.csi_orchestrator.specs.Moves.{Input, ToCreate, ToUse, ToStop, ToDelete, TimesOut, Comes, Restarts, Answer, Sends, Moved, met, sent_as, go_on, command, use_when, delete_when, stopped, closing, is_forward_due, timeout, is_number_open, call_replied, hears, heard, heard_refusal, deliver, restart, moves, moved_to}
+use Rattle.csi_orchestrator.specs.Steps.{IsReplyTo, frame_of, frame_in, frames_in}
+use Rattle.csi_orchestrator.proofs.Numbers.{one-call, open-sent}
+
+-- what is so of both is so of either
+either : {X : Type 0} (P : X → Type 0) (b : Bool) (x y : X) → P x → P y → P (cond b x y)
+either P true x y p q = p
+either P false x y p q = q
+
+-- a due call is of the name
+abbrev IsNamed : List ℕ → Option Due → Type 0
+IsNamed name None = Unit {0}
+IsNamed name (Some due) = IsOfName name due.call
+
+-- the call that is due to leave a node, for a use, for a stop and for a delete
+named_leave : (history : History) (name node : List ℕ) (id : ℕ) (targets : List (List ℕ)) → IsNamed name (due_leave history name node id targets)
+named_leave history name node id (target ∷ targets) = tt
+named_leave history name node id [] =
+    either (IsNamed name) (not (is_no (known history (Staged name node)))) _ _ tt (either (IsNamed name) (not (is_no (known history (Attached name node)))) _ _ tt tt)
+
+named_use : (history : History) (name : List ℕ) (usage : Usage) (id : Option ℕ) → IsNamed name (option_and_then (due_use history name usage) id)
+named_use history name usage None = tt
+named_use history name usage (Some id) =
+    either (IsNamed name) (not (is_yes (known history (Attached name usage.node)))) _ _ tt
+    (either (IsNamed name) (not (is_yes (known history (Staged name usage.node)))) _ _ tt
+    (either (IsNamed name) (not (is_yes (known history (Published name usage.node usage.target)))) _ _ tt tt))
+
+named_stop : (history : History) (name node target : List ℕ) (id : Option ℕ) → IsNamed name (option_and_then (due_stop history name node target) id)
+named_stop history name node target None = tt
+named_stop history name node target (Some id) =
+    either (IsNamed name) (not (is_no (known history (Published name node target)))) _ _ tt (named_leave history name node id (targets_in_use history name node))
+
+named_delete : (history : History) (name : List ℕ) (id : Option ℕ) → IsNamed name (option_and_then (due_delete history name) id)
+named_delete history name None = tt
+named_delete history name (Some id) = either (IsNamed name) (is_no (known history (Exists name))) _ _ tt tt
+
+-- the call that is due for any goal
+named_for : (history : History) (name : List ℕ) (goal : Option Goal) → IsNamed name (due_for history name goal)
+named_for history name None = tt
+named_for history name (Some (Create arguments)) = either (IsNamed name) (is_yes (known history (Exists name))) _ _ tt refl
+named_for history name (Some (Use usage)) = named_use history name usage (id_of history name)
+named_for history name (Some (Stop node target)) = named_stop history name node target (id_of history name)
+named_for history name (Some Delete) = named_delete history name (id_of history name)
+
+-- the next number, where one is left
+abbrev pub IsNextIfSome : Number → Option Number → Type 0
+IsNextIfSome last None = Unit {0}
+IsNextIfSome last (Some number) = IsNext last number
+
+-- a call of a session is before the next one
+is_before_next : (session call : ℕ) → IsBefore (record { session = session; call = call }) (record { session = session; call = call + 1 })
+is_before_next session call =
+    let same : nat_lt session session ≡ false = le-ltb session session (omega arith) in
+    let equal : (session == session) ≡ true = eq-eqb session session refl in
+    let less : nat_lt call (call + 1) ≡ true = lt-ltb call (call + 1) (omega arith) in
+    simp (same, equal, less)
+
+-- the number that is given next is the next one, if one is left
+pub is_next : (last : Number) → IsNextIfSome last (next_number last)
+is_next last = either (IsNextIfSome last) (nat_lt (last.call + 1) (2 ^ 64)) (Some (record { session = last.session; call = last.call + 1 })) None (record { later = is_before_next last.session last.call; same_session = refl }) tt
+
+-- beside the form: the replies came, and were to open calls
+abbrev pub TakesReplies : History → Input → List Item → Type 0
+TakesReplies history input [] = Unit {0}
+TakesReplies history input (Accepted number status id ∷ older) = IsReplyTo (with_items history older) input number status id × TakesReplies history input older
+TakesReplies history input (Started session ∷ older) = TakesReplies history input older
+TakesReplies history input (Sent issued ∷ older) = TakesReplies history input older
+TakesReplies history input (Closed number ∷ older) = TakesReplies history input older
+TakesReplies history input (Noted name goal ∷ older) = TakesReplies history input older
+
+-- what is so of the items of an answer, and of a result: a refusal adds nothing
+pub record Adds (history : History) (input : Input) (moved : Moved) : Type 0 where
+  pub form : IsWellFormed (with_items history moved.items)
+  pub replies : TakesReplies history input moved.items
+  pub few : length moved.items ≤ 3
+  pub frames : map frame_of (issued_in moved.items) ≡ frames_in moved.answer
+
+abbrev pub AreAdded : History → Input → Result Moved OrchFault → Type 0
+AreAdded history input (Ok moved) = Adds history input moved
+AreAdded history input (Err fault) = Unit {0}
+
+-- at most two items without a call, after which the due call may be sent
+record AreQuiet (history : History) (input : Input) (items : List Item) : Type 0 where
+  form : IsWellFormed (with_items history items)
+  replies : TakesReplies history input items
+  few : length items ≤ 2
+  silent : issued_in items ≡ []
+  same_last : last_number (with_items history items) ≡ last_number history
+
+-- none, and a goal that is noted after one
+no-items : (history : History) (input : Input) → IsWellFormed history → AreQuiet history input []
+no-items history input form = record { form = form; replies = tt; few = omega arith; silent = refl; same_last = refl }
+
+noted-after : (history : History) (input : Input) (name : List ℕ) (goal : Option Goal) (items : List Item) → AreQuiet history input items → length items ≤ 1 → AreQuiet history input (Noted name goal ∷ items)
+noted-after history input name goal items quiet short =
+    record { form = (tt, quiet.form); replies = quiet.replies; few = omega (arith, short); silent = quiet.silent; same_last = quiet.same_last }
+
+-- nothing is sent after them
+rests : (history : History) (input : Input) (answer : Answer) (items : List Item) → frames_in answer ≡ [] → AreQuiet history input items → AreAdded history input (Ok (record { answer = answer; items = items }))
+rests history input answer items says quiet =
+    let few = quiet.few in
+    record { form = quiet.form; replies = quiet.replies; few = omega (arith, few); frames = ap (map frame_of) quiet.silent ∙ sym says }
+
+-- the due call is sent, or the goal dropped
+goes-on : (history : History) (input : Input) (name : List ℕ) (answer : Option Frame → Answer) (items : List Item) → ((o : Option Frame) → frames_in (answer o) ≡ frame_in o) → AreQuiet history input items
+    → AreAdded history input (go_on history name answer items)
+goes-on history input name answer items says quiet =
+    by (due_call (with_items history items) name) (next_number (last_number history)) (named_for (with_items history items) name (goal_of (with_items history items) name))
+    (subst (λ last. IsNextIfSome last (next_number (last_number history))) (sym quiet.same_last) (is_next (last_number history)))
+  where
+    longer : (n : ℕ) → n ≤ 2 → suc n ≤ 3
+    longer n h = omega arith
+
+    by : (d : Option Due) (n : Option Number) → IsNamed name d → IsNextIfSome (last_number (with_items history items)) n → AreAdded history input (sent_as name answer items d n)
+    by None n named next =
+        record { form = (tt, quiet.form); replies = quiet.replies; few = longer (length items) quiet.few; frames = ap (map frame_of) quiet.silent ∙ sym (says None) }
+    by (Some due) None named next = tt
+    by (Some due) (Some number) named next =
+        record {
+          form = ((next, named), quiet.form);
+          replies = quiet.replies;
+          few = longer (length items) quiet.few;
+          frames = ap (λ rest. frame_of (let i : Issued = record { name = name; number = number; party = due.party; call = due.call } in i) ∷ map frame_of rest) quiet.silent ∙ sym (says (Some _));
+        }
+
+-- a command in general, a use and a delete
+commanded : (history : History) (input : Input) (name : List ℕ) (goal : Goal) (fault : Option OrchFault) → IsWellFormed history → AreAdded history input (command history name goal fault)
+commanded history input name goal (Some fault) form = tt
+commanded history input name goal None form = goes-on history input name Sends _ (λ o. refl) (noted-after history input name (Some goal) [] (no-items history input form) (omega arith))
+
+used : (history : History) (input : Input) (name : List ℕ) (usage : Usage) (fault : Option OrchFault) → IsWellFormed history → AreAdded history input (use_when history name usage fault)
+used history input name usage (Some fault) form = tt
+used history input name usage None form =
+    either (AreAdded history input) (is_none (option_and_then (due_use history name usage) (id_of history name))) (Ok met) _ (rests history input _ [] refl (no-items history input form)) (commanded history input name (Use usage) (use_room_fault history name usage) form)
+
+deleted : (history : History) (input : Input) (name : List ℕ) (fault : Option OrchFault) → IsWellFormed history → AreAdded history input (delete_when history name fault)
+deleted history input name (Some fault) form = tt
+deleted history input name None form =
+    either (AreAdded history input) (is_no (known history (Exists name))) (Ok met) _ (rests history input _ [] refl (no-items history input form)) (commanded history input name Delete (delete_busy_fault history name) form)
+
+-- the open call, if there is one, is given up
+given-up : (history : History) (input : Input) (name : List ℕ) (o : Option Issued) → open_call history name ≡ o → IsWellFormed history → AreQuiet history input (closing o) × (length (closing o) ≤ 1)
+given-up history input name None is form = (no-items history input form, omega arith)
+given-up history input name (Some issued) is form =
+    (record { form = (record { name = name; issued = issued; is_open = is; has_number = refl }, form); replies = tt; few = omega arith; silent = refl; same_last = refl }, omega arith)
+
+-- a timeout
+timed-out : (history : History) (input : Input) (name : List ℕ) (fault : Option OrchFault) → IsWellFormed history → AreAdded history input (timeout history name fault)
+timed-out history input name (Some fault) form = tt
+timed-out history input name None form =
+    let closed = given-up history input name (open_call history name) refl form in
+    either (AreAdded history input) (is_forward_due (due_call history name) && (tries history name == 3)) _ _ (goes-on history input name Sends _ (λ o. refl) (noted-after history input name (stopped (goal_of history name)) _ closed.0 closed.1))
+    (goes-on history input name Sends _ (λ o. refl) closed.0)
+
+-- a reply that is taken
+taken : (history : History) (input : Input) (reply : Reply) (issued : Issued) → IsWellFormed history → open_call history issued.name ≡ Some issued → IsReplyTo history input issued.number reply.status reply.id
+    → AreAdded history input (heard history reply (Some issued))
+taken history input reply issued form now is =
+    either (AreAdded history input) (is_ok_status reply.status) _ _ (goes-on history input issued.name hears (item ∷ []) (λ o. refl) quiet) (refused issued.call)
+  where
+    item : Item
+    item = Accepted issued.number reply.status reply.id
+
+    quiet : AreQuiet history input (Accepted issued.number reply.status reply.id ∷ [])
+    quiet = record { form = (record { name = issued.name; issued = issued; is_open = now; has_number = refl }, form); replies = (is, tt); few = omega arith; silent = refl; same_last = refl }
+
+    noted : (goal : Option Goal) → AreQuiet history input (Noted issued.name goal ∷ Accepted issued.number reply.status reply.id ∷ [])
+    noted goal = noted-after history input issued.name goal _ quiet (omega arith)
+
+    refused : (call : Call) → AreAdded history input (heard_refusal history issued (Accepted issued.number reply.status reply.id) call)
+    refused (calls.CreateVolume name required limit capabilities) = rests history input _ _ refl (noted None)
+    refused (calls.ControllerPublishVolume id node capability readonly) = goes-on history input issued.name hears _ (λ o. refl) (noted (stopped (goal_of history issued.name)))
+    refused (calls.NodeStageVolume id capability) = goes-on history input issued.name hears _ (λ o. refl) (noted (stopped (goal_of history issued.name)))
+    refused (calls.NodePublishVolume id target capability readonly) = goes-on history input issued.name hears _ (λ o. refl) (noted (stopped (goal_of history issued.name)))
+    refused call = rests history input _ _ refl quiet
+
+-- the open call that has a call's number is that call
+own-open : (history : History) (issued : Issued) (number : Number) → issued.number ≡ number → is_number_open number (open_call history issued.name) ≡ true
+    → ((other : Issued) → open_call history issued.name ≡ Some other → other.number ≡ number → other ≡ issued) → open_call history issued.name ≡ Some issued
+own-open history issued number is now only = by (open_call history issued.name) refl now
+  where
+    by : (o : Option Issued) → open_call history issued.name ≡ o → is_number_open number o ≡ true → o ≡ Some issued
+    by None e f = absurd (false≢true f)
+    by (Some other) e f = ap Some (only other e ((same_number-tells other.number number).0 f))
+
+-- a frame with a call's number, party and kind that has a reply is the frame of that reply
+frame-is : (frame : Frame) (issued : Issued) (kind : Kind) (reply : Reply) → frame.number ≡ issued.number → frame.party ≡ issued.party → kind ≡ kind_of issued.call → frame.body ≡ bodies.Reply kind reply
+    → frame ≡ reply_frame issued.number issued.party (kind_of issued.call) reply
+frame-is frame issued kind reply number party same body = λ i. record { number = number i; party = party i; body = (body ∙ ap (λ k. bodies.Reply k reply) same) i }
+
+-- a reply, whether it is to an open call or not
+replied : (history : History) (frame : Frame) (kind : Kind) (reply : Reply) → IsWellFormed history → frame.body ≡ bodies.Reply kind reply → (found : Option Issued)
+    → call_replied history frame.number frame.party kind ≡ found → AreAdded history (Comes frame) (heard history reply found)
+replied history frame kind reply form body None e = rests history (Comes frame) _ [] refl (no-items history (Comes frame) form)
+replied history frame kind reply form body (Some issued) e =
+    taken history (Comes frame) reply issued form now (record {
+      issued = issued;
+      reply = reply;
+      is_open = now;
+      same_number = refl;
+      same_status = refl;
+      same_id = refl;
+      came = ap Comes (frame-is frame issued kind reply (sym is_number) (sym ((same_party-tells issued.party frame.party).0 second.1)) (sym ((same_kind-tells (kind_of issued.call) kind).0 third.1)) body);
+    })
+  where
+    test : Issued → Bool
+    test i = same_number i.number frame.number && same_party i.party frame.party && same_kind (kind_of i.call) kind && is_number_open frame.number (open_call history i.name)
+
+    parted : ((same_number issued.number frame.number && same_party issued.party frame.party && same_kind (kind_of issued.call) kind) ≡ true) × (is_number_open frame.number (open_call history issued.name) ≡ true)
+    parted = and_parts _ _ (find-passes test (issued_in history.items) issued e)
+
+    third : ((same_number issued.number frame.number && same_party issued.party frame.party) ≡ true) × (same_kind (kind_of issued.call) kind ≡ true)
+    third = and_parts _ _ parted.0
+
+    second : (same_number issued.number frame.number ≡ true) × (same_party issued.party frame.party ≡ true)
+    second = and_parts _ _ third.0
+
+    is_number : issued.number ≡ frame.number
+    is_number = (same_number-tells issued.number frame.number).0 second.0
+
+    now : open_call history issued.name ≡ Some issued
+    now =
+        own-open history issued frame.number is_number parted.1
+        (λ other is same. one-call history.began history.items other issued form (open-sent issued.name history.items other is).0 (among-find test (issued_in history.items) issued e) (same ∙ sym is_number))
+
+-- a frame that comes
+delivered : (history : History) (frame : Frame) → IsWellFormed history → (body : Body) → frame.body ≡ body → AreAdded history (Comes frame) (deliver history frame.number frame.party body)
+delivered history frame form (bodies.Call call) e = rests history (Comes frame) _ [] refl (no-items history (Comes frame) form)
+delivered history frame form (bodies.Reply kind reply) e = replied history frame kind reply form e (call_replied history frame.number frame.party kind) refl
+
+-- a restart
+restarted : (history : History) → IsWellFormed history → AreAdded history Restarts (restart (last_number history))
+restarted history form =
+    either (AreAdded history Restarts) (nat_lt ((last_number history).session + 1) (2 ^ 64)) _ (Err NumbersSpent) (record { form = (omega arith, form); replies = tt; few = omega arith; frames = refl }) tt
+
+-- whatever comes
+pub moves-add : (nodes : List (List ℕ)) (history : History) (input : Input) → IsWellFormed history → AreAdded history input (moves nodes history input)
+moves-add nodes history (ToCreate name arguments) form = commanded history (ToCreate name arguments) name (Create arguments) (create_fault history name) form
+moves-add nodes history (ToUse name usage) form = used history (ToUse name usage) name usage (use_fault nodes history name usage) form
+moves-add nodes history (ToStop name node target) form = commanded history (ToStop name node target) name (Stop node target) (stop_fault nodes history name node target) form
+moves-add nodes history (ToDelete name) form = deleted history (ToDelete name) name (delete_fault history name) form
+moves-add nodes history (TimesOut name) form = timed-out history (TimesOut name) name (timeout_fault history name) form
+moves-add nodes history (Comes frame) form = delivered history frame form frame.body refl
+moves-add nodes history Restarts form = restarted history form
+
+-- so the history stays well-formed
+pub stays-formed : (history : History) (input : Input) (result : Result Moved OrchFault) → IsWellFormed history → AreAdded history input result → IsWellFormed (moved_to history result)
+stays-formed history input (Ok moved) form added = added.form
+stays-formed history input (Err fault) form added = form
