@@ -29,16 +29,7 @@ use Rattle.csi_orchestrator.specs.WellFormed.{IsNext, AreWellFormed, IsWellForme
 use Rattle.csi_orchestrator.specs.Agrees.{View, Agrees}
 use Rattle.csi_orchestrator.specs.Following.{after_started, after_sent, after_accepted, after_closed, after_noted, told, id_brought, DetachesSomething}
 use Rattle.csi_orchestrator.proofs.Numbers.{other-number, sent-before, one-call, unless-some, open-sent, fresh-silent, open-silent}
-
--- texts are compared alike from both sides
-pub same_text-flip : (a b : List ℕ) → same_text a b ≡ same_text b a
-same_text-flip a b = by (same_text a b) (same_text b a) refl refl
-  where
-    by : (s t : Bool) → same_text a b ≡ s → same_text b a ≡ t → s ≡ t
-    by true true e f = refl
-    by false false e f = refl
-    by true false e f = sym ((same_text-tells b a).1 (sym ((same_text-tells a b).0 e))) ∙ f
-    by false true e f = sym e ∙ (same_text-tells a b).1 (sym ((same_text-tells b a).0 f))
+use Rattle.csi_orchestrator.proofs.Texts.{same_text-flip, any-distinct}
 
 -- where two tests pass together, the left one does
 left-true : (a b : Bool) → (a && b) ≡ true → a ≡ true
@@ -193,12 +184,9 @@ sent-follows view history issued form agrees next detaches =
     count true k n e = grind (arith, nat_tests, e)
     count false k n e = e
 
--- a number is the same as itself, and so is a text
+-- a number is the same as itself
 number-same : (number : Number) → same_number number number ≡ true
 number-same number = (same_number-tells number number).1 refl
-
-text-same : (name : List ℕ) → same_text name name ≡ true
-text-same name = (same_text-tells name name).1 refl
 
 -- the open call of a name is closed, and every other one stays open
 unless-follows : (history : History) (issued : Issued) (name : List ℕ) → IsWellFormed history → open_call history issued.name ≡ Some issued
@@ -243,21 +231,6 @@ closed-follows view history issued form agrees is_open =
   where
     quiet : (thing : Thing) → known (with_items history (Closed issued.number ∷ [])) thing ≡ known history thing
     quiet thing = known-quiet (Closed issued.number) history.items thing (find (touches thing) (issued_in history.items)) (λ number. refl)
-
--- the names for which something was noted, however often
-any-distinct : (name : List ℕ) (names : List (List ℕ)) → list_any (same_text name) (distinct names) ≡ list_any (same_text name) names
-any-distinct name [] = refl
-any-distinct name (other ∷ others) = by (list_any (same_text other) others) refl (any-distinct name others)
-  where
-    -- the name is there again
-    again : list_any (same_text other) others ≡ true → (b : Bool) → same_text name other ≡ b → list_any (same_text name) others ≡ (b || list_any (same_text name) others)
-    again there true e = subst (λ n. list_any (same_text n) others ≡ true) (sym ((same_text-tells name other).0 e)) there
-    again there false e = refl
-
-    by : (b : Bool) → list_any (same_text other) others ≡ b → list_any (same_text name) (distinct others) ≡ list_any (same_text name) others
-        → list_any (same_text name) (cond b (distinct others) (other ∷ distinct others)) ≡ (same_text name other || list_any (same_text name) others)
-    by true there rest = rest ∙ again there (same_text name other) refl
-    by false there rest = ap (λ b. same_text name other || b) rest
 
 -- something is noted
 pub noted-follows : (view : View) (history : History) (name : List ℕ) (goal : Option Goal) → Agrees view history → Agrees (after_noted name goal view) (with_items history (Noted name goal ∷ []))

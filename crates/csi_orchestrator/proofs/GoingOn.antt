@@ -26,7 +26,7 @@ use Rattle.csi_orchestrator.specs.Shown.{RowShown, Parts, row_of, place_of, mark
 use Rattle.csi_orchestrator.specs.RowChanges.{sent, dropped}
 use Rattle.csi_orchestrator.specs.RowMoves.{Told, put, with_row, sends_as, goes_on}
 use Rattle.csi_orchestrator.specs.Kept.{MayBeWanted, AreGuarded, Fits}
-use Rattle.csi_orchestrator.proofs.DueCalls.{due-told}
+use Rattle.csi_orchestrator.proofs.DueCalls.{due-of-row}
 use Rattle.csi_orchestrator.proofs.DueCases.{IsDueFor, due-cases, ToAttach, ToDetach}
 use Rattle.csi_orchestrator.proofs.Following.{sent-follows, noted-follows}
 use Rattle.csi_orchestrator.proofs.AddedItems.{IsNextIfSome, is_next}
@@ -36,8 +36,9 @@ use Rattle.csi_orchestrator.proofs.KeptRows.{AreDistinct}
 use Rattle.csi_orchestrator.proofs.Keyed.{find-put}
 use Rattle.csi_orchestrator.proofs.Marked.{GoalHasEntry}
 use Rattle.csi_orchestrator.proofs.NotedRow.{reads-dropped}
-use Rattle.csi_orchestrator.proofs.RowViews.{Reads, SameAt, same-then, same-sent, same-noted, put-agrees}
-use Rattle.csi_orchestrator.proofs.SentRow.{issued-by, reads-sent, no-is-not}
+use Rattle.csi_orchestrator.proofs.RowViews.{Reads, SameAt, same-then, same-sent, same-noted, put-agrees, IsRowOf, reads-history}
+use Rattle.csi_orchestrator.proofs.SentRow.{issued-by, reads-sent}
+use Rattle.csi_orchestrator.proofs.KnownTests.{not_no}
 
 -- each call that is sent may be sent
 abbrev pub Guards : History → Result Moved OrchFault → Type 0
@@ -75,37 +76,19 @@ detaching-something row _ name node number (ToDetach here target id goal own p o
     ap (λ n. is_no (mark_in (λ place. place.attached) (place_of row n))) ((same_text-tells node here).0 (and_parts (same_text name name) (same_text node here) of).1) ∙ a
 detaching-something row _ name node number other of undoes = absurd (false≢true of)
 
--- the row stands among the others
-shown : Parts → RowShown → Parts
-shown parts row = record { nodes = parts.nodes; last = parts.last; rows = put row parts.rows }
-
--- what is shown with it agrees with the history after the items
-in-place : (parts : Parts) (history : History) (name : List ℕ) (row : RowShown) (view : View) (items : List Item) → IsReady parts history name row view items → AgreesWith (shown parts row) (with_items history items)
-unfolding shown
-in-place parts history name row view items ready = put-agrees parts parts.last name row view (with_items history items) ready.reads ready.others ready.same_last ready.agrees
-
--- it is found under its name
-found-there : (parts : Parts) (row : RowShown) (name : List ℕ) → row.name ≡ name → row_of (shown parts row).rows name ≡ Some row
-unfolding shown
-found-there parts row name own =
-    find-put (λ (r : RowShown). r.name) row parts.rows name ∙ ap (λ b. cond b (Some row) (row_of parts.rows name)) ((same_text-tells row.name name).1 own)
-
 -- its due call is the one that is due by that history
 due-there : (parts : Parts) (history : History) (name : List ℕ) (row : RowShown) (view : View) (items : List Item) → IsReady parts history name row view items → due_call (with_items history items) name ≡ due_in row
-unfolding shown
 due-there parts history name row view items ready =
-    due-told (shown parts row) (with_items history items) name
-    (each-put (λ (r : RowShown). AllByRecursion AreTargetsApart r.places) (λ (r : RowShown). r.name) row parts.rows (ready.distinct).targets ready.aims)
-    (in-place parts history name row view items ready)
-    ∙ ap (option_and_then due_in) (found-there parts row name (ready.reads).own)
+    due-of-row row (with_items history items) name (reads-history row view (with_items history items) name ready.reads ready.agrees) (ready.distinct).targets
 
 -- the due call may be sent
 may-issue : (parts : Parts) (history : History) (name : List ℕ) (row : RowShown) (view : View) (items : List Item) (due : Due) → IsReady parts history name row view items → due_in row ≡ Some due
     → MayIssue (with_items history items) name due.party due.call
 may-issue parts history name row view items due ready e =
     let own = (ready.reads).own in
+    let its = reads-history row view (with_items history items) name ready.reads ready.agrees in
     subst (λ n. MayIssue (with_items history items) n due.party due.call) own
-    (due-guarded (shown parts row) (with_items history items) row due (in-place parts history name row view items ready) (found-there parts row row.name refl) (ready.distinct).nodes (ready.may due e)
+    (due-guarded row (with_items history items) due (subst (IsRowOf row (with_items history items)) (sym own) its) (ready.may due e)
     (ap (open_call (with_items history items)) own ∙ sym ((ready.agrees).same_open_calls name) ∙ ready.quiet) e)
 
 -- it was sent
@@ -132,7 +115,7 @@ then-sent parts history name row view items due number ready e n =
 
     detaches : DetachesSomething (with_items history items) issued
     detaches node of undoes is =
-        no-is-not (mark_in (λ place. place.attached) (place_of row node)) (detaching-something row due name node number case of undoes)
+        not_no (mark_in (λ place. place.attached) (place_of row node)) (detaching-something row due name node number case of undoes)
         ((ready.reads).marks (Attached name node) refl ∙ (ready.agrees).same_marks (Attached name node) ∙ is)
 
 -- none was due, and the goal was dropped

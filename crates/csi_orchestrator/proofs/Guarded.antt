@@ -2,7 +2,7 @@
 use Rattle.std.proofs.Common.{◌≡◌, ◌≢◌, ℕ, List, Bool, true, false, not, refl, sym, ◌∙◌, ap, subst, inr}
 use Rattle.std.specs.Prelude.{Option, Some, None, option_map, option_and_then, ◌&&◌, ◌||◌}
 use Rattle.std.specs.List.{AllByRecursion}
-use Rattle.std.proofs.lemmas.Bool.{false≢true}
+use Rattle.std.proofs.lemmas.Bool.{false≢true, or_parts}
 use Rattle.csi_types.specs.Holding.{CanHoldBoth}
 use Rattle.csi_lists.specs.Members.{IsAmong}
 use Rattle.csi_lists.proofs.Members.{among-find, each_of}
@@ -27,57 +27,9 @@ use Rattle.csi_orchestrator.specs.Shown.{PlaceShown, RowShown, Parts, row_of, pl
 use Rattle.csi_orchestrator.specs.RowMoves.{is_so_elsewhere, has_elsewhere}
 use Rattle.csi_orchestrator.specs.Kept.{ArePlacesApart, IsUsable, MayBeWanted}
 use Rattle.csi_orchestrator.proofs.DueCases.{IsDueFor, due-cases, ToMake, ToRemove, ToAttach, ToStage, ToPublish, ToUnpublish, ToUnstage, ToDetach}
-use Rattle.csi_orchestrator.proofs.DueCalls.{no_is_no}
-
--- what the tests tell of a mark
-yes_is_yes : (k : Known) → is_yes k ≡ true → k ≡ Yes
-yes_is_yes Yes e = refl
-yes_is_yes No e = absurd (false≢true e)
-yes_is_yes Maybe e = absurd (false≢true e)
-
-not_yes : (k : Known) → is_yes k ≡ false → k ≢ Yes
-not_yes k e is = false≢true (sym e ∙ ap is_yes is)
-
-not_no : (k : Known) → is_no k ≡ false → k ≢ No
-not_no k e is = false≢true (sym e ∙ ap is_no is)
-
-yes_not_no : (k : Known) → k ≡ Yes → k ≢ No
-yes_not_no k e = not_no k (ap is_no e)
-
-is_not_no : (k : Known) → k ≢ No → is_no k ≡ false
-is_not_no k other = by (is_no k) refl
-  where
-    by : (b : Bool) → is_no k ≡ b → b ≡ false
-    by true e = absurd (other (no_is_no k e))
-    by false e = refl
-
--- texts that differ
-texts_apart : (a b : List ℕ) → a ≢ b → same_text a b ≡ false
-texts_apart a b other = by (same_text a b) refl
-  where
-    by : (t : Bool) → same_text a b ≡ t → t ≡ false
-    by true e = absurd (other ((same_text-tells a b).0 e))
-    by false e = refl
-
--- neither of the two
-neither : (a b : Bool) → (a || b) ≡ false → (a ≡ false) × (b ≡ false)
-neither true b e = absurd (false≢true (sym e))
-neither false b e = (refl, e)
-
--- what a row and a history that agree tell alike
-pub record ToldBy (row : RowShown) (history : History) : Type 0 where
-  pub marks : (thing : Thing) → name_in thing ≡ row.name → mark_of thing row ≡ known history thing
-  pub own_id : row.id ≡ id_of history row.name
-  pub holdings : (node : List ℕ) → known history (Attached row.name node) ≢ No → held_in row node ≡ held history row.name node
-
--- a row that is found under its name is so
-pub told-by : (parts : Parts) (history : History) (row : RowShown) → AgreesWith parts history → row_of parts.rows row.name ≡ Some row → ToldBy row history
-told-by parts history row agrees there =
-    record {
-      marks = λ thing is. ap (mark_in (mark_of thing)) (sym (ap (row_of parts.rows) is ∙ there)) ∙ agrees.same_marks thing;
-      own_id = ap (option_and_then (λ (r : RowShown). r.id)) (sym there) ∙ agrees.same_ids row.name;
-      holdings = λ node maybe. ap (option_and_then (λ (r : RowShown). held_in r node)) (sym there) ∙ agrees.same_holdings row.name node maybe;
-    }
+use Rattle.csi_orchestrator.proofs.KnownTests.{yes_is_yes, no_is_no, not_yes, not_no, yes_not_no, is_not_no}
+use Rattle.csi_orchestrator.proofs.RowViews.{IsRowOf}
+use Rattle.csi_orchestrator.proofs.Texts.{texts-differ}
 
 -- what may be sent of this due call
 Guarded : History → List ℕ → Due → Type 0
@@ -96,7 +48,7 @@ not-so row so node other place none e apart maybe = by (so (held_at place)) refl
     there = place-there row other place e
 
     elsewhere : same_text place.node node ≡ false
-    elsewhere = ap (λ t. same_text t node) there.1 ∙ texts_apart other node apart
+    elsewhere = ap (λ t. same_text t node) there.1 ∙ texts-differ other node apart
 
     by : (b : Bool) → so (held_at place) ≡ b → b ≡ false
     by true f =
@@ -105,16 +57,16 @@ not-so row so node other place none e apart maybe = by (so (held_at place)) refl
     by false f = refl
 
 -- what is known of a thing of the row's name
-known-yes : (row : RowShown) (history : History) (thing : Thing) → ToldBy row history → name_in thing ≡ row.name → is_yes (mark_of thing row) ≡ true → known history thing ≡ Yes
+known-yes : (row : RowShown) (history : History) (thing : Thing) → IsRowOf row history row.name → name_in thing ≡ row.name → is_yes (mark_of thing row) ≡ true → known history thing ≡ Yes
 known-yes row history thing told own e = sym (told.marks thing own) ∙ yes_is_yes (mark_of thing row) e
 
-known-no : (row : RowShown) (history : History) (thing : Thing) → ToldBy row history → name_in thing ≡ row.name → is_no (mark_of thing row) ≡ true → known history thing ≡ No
+known-no : (row : RowShown) (history : History) (thing : Thing) → IsRowOf row history row.name → name_in thing ≡ row.name → is_no (mark_of thing row) ≡ true → known history thing ≡ No
 known-no row history thing told own e = sym (told.marks thing own) ∙ no_is_no (mark_of thing row) e
 
-known-not-yes : (row : RowShown) (history : History) (thing : Thing) → ToldBy row history → name_in thing ≡ row.name → is_yes (mark_of thing row) ≡ false → known history thing ≢ Yes
+known-not-yes : (row : RowShown) (history : History) (thing : Thing) → IsRowOf row history row.name → name_in thing ≡ row.name → is_yes (mark_of thing row) ≡ false → known history thing ≢ Yes
 known-not-yes row history thing told own e = not_yes (known history thing) (ap is_yes (sym (told.marks thing own)) ∙ e)
 
-known-not-no : (row : RowShown) (history : History) (thing : Thing) → ToldBy row history → name_in thing ≡ row.name → is_no (mark_of thing row) ≡ false → known history thing ≢ No
+known-not-no : (row : RowShown) (history : History) (thing : Thing) → IsRowOf row history row.name → name_in thing ≡ row.name → is_no (mark_of thing row) ≡ false → known history thing ≢ No
 known-not-no row history thing told own e = not_no (known history thing) (ap is_no (sym (told.marks thing own)) ∙ e)
 
 -- nowhere may it be attached
@@ -130,8 +82,8 @@ abbrev held-so : Usage → Held
 held-so usage = record { capability = usage.capability; readonly = usage.readonly }
 
 -- the volume can be held so beside its other holdings
-shared-so : (row : RowShown) (history : History) (usage : Usage) (id : ℕ) → ToldBy row history → IsUsable row usage → CanBeHeldToo history row.name id usage.node (held-so usage)
-shared-so row history usage id told usable other there apart maybe holds = by (place_of row other) refl (told.holdings other maybe ∙ holds)
+shared-so : (row : RowShown) (history : History) (usage : Usage) (id : ℕ) → IsRowOf row history row.name → IsUsable row usage → CanBeHeldToo history row.name id usage.node (held-so usage)
+shared-so row history usage id told usable other there apart maybe holds = by (place_of row other) refl (told.holdings other (λ no. maybe (sym (told.marks (Attached row.name other) refl) ∙ no)) ∙ holds)
   where
     not_none : None ≡ Some there → ⊥
     not_none e = none-some there e
@@ -141,7 +93,7 @@ shared-so row history usage id told usable other there apart maybe holds = by (p
 
     alike : (place : PlaceShown) → place_of row other ≡ Some place → held_at place ≡ there → CanHoldBoth (holding_by id other there) (holding_by id usage.node (held-so usage))
     alike place e same =
-        let modes = neither (is_single_node there.capability.mode) (is_single_node usage.capability.mode)
+        let modes = or_parts (is_single_node there.capability.mode) (is_single_node usage.capability.mode)
         (ap (is_for_one_node usage) (sym same) ∙ not-so row (is_for_one_node usage) usage.node other place usable.shared e apart (attached place e)) in
         let writers = ap (is_second_writer usage) (sym same) ∙ not-so row (is_second_writer usage) usage.node other place usable.one_writer e apart (attached place e) in
         inr (record { apart = apart; first_shared = ap not modes.0; second_shared = ap not modes.1; no_second_writer = ap not writers })
@@ -151,10 +103,10 @@ shared-so row history usage id told usable other there apart maybe holds = by (p
     by (Some place) e same = alike place e (same_Some (held_at place) there same)
 
 -- the volume is held at the node as the use asks
-held-there : (row : RowShown) (history : History) (usage : Usage) → ToldBy row history → IsUsable row usage → is_yes (mark_of (Attached row.name usage.node) row) ≡ true
+held-there : (row : RowShown) (history : History) (usage : Usage) → IsRowOf row history row.name → IsUsable row usage → is_yes (mark_of (Attached row.name usage.node) row) ≡ true
     → held history row.name usage.node ≡ Some (held-so usage)
 held-there row history usage told usable e =
-    sym (told.holdings usage.node (yes_not_no (known history (Attached row.name usage.node)) (known-yes row history (Attached row.name usage.node) told refl e)))
+    sym (told.holdings usage.node (yes_not_no (mark_of (Attached row.name usage.node) row) (yes_is_yes (mark_of (Attached row.name usage.node) row) e)))
     ∙ ap (option_map held_at) usable.entry.at_node
     ∙ (λ i. Some (record { capability = usable.entry.same_capability i; readonly = usable.entry.same_flag i }))
 
@@ -190,12 +142,12 @@ quiet-targets row node target other this others = by (place_of row node) this ot
     by (Some place) own rest = aimed place own rest (aim_of place other) refl
 
 -- call by call
-guarded : (row : RowShown) (history : History) (due : Due) → ToldBy row history → MayBeWanted row row.goal → IsDueFor row due → Guarded history row.name due
+guarded : (row : RowShown) (history : History) (due : Due) → IsRowOf row history row.name → MayBeWanted row row.goal → IsDueFor row due → Guarded history row.name due
 unfolding Guarded
 guarded row history _ told wanted (ToMake goal e) =
-    record { own_name = refl; not_made = known-not-yes row history (Exists row.name) told refl e; no_id = sym told.own_id ∙ subst (MayBeWanted row) goal wanted }
+    record { own_name = refl; not_made = known-not-yes row history (Exists row.name) told refl e; no_id = sym told.ids ∙ subst (MayBeWanted row) goal wanted }
 guarded row history _ told wanted (ToRemove id goal own e) = (
-  sym told.own_id ∙ own,
+  sym told.ids ∙ own,
   record {
     made = known-not-no row history (Exists row.name) told refl e;
     detached = λ node. sym (told.marks (Attached row.name node) refl) ∙ detached-there row node (subst (MayBeWanted row) goal wanted);
@@ -203,7 +155,7 @@ guarded row history _ told wanted (ToRemove id goal own e) = (
 )
 guarded row history _ told wanted (ToAttach usage id goal own a) =
     let usable : IsUsable row usage = subst (MayBeWanted row) goal wanted in (
-      sym told.own_id ∙ own,
+      sym told.ids ∙ own,
       record {
         made = sym (told.marks (Exists row.name) refl) ∙ usable.made;
         not_attached = known-not-yes row history (Attached row.name usage.node) told refl a;
@@ -211,7 +163,7 @@ guarded row history _ told wanted (ToAttach usage id goal own a) =
       },
     )
 guarded row history _ told wanted (ToStage usage id goal own a s) = (
-  sym told.own_id ∙ own,
+  sym told.ids ∙ own,
   record {
     attached = known-yes row history (Attached row.name usage.node) told refl a;
     not_staged = known-not-yes row history (Staged row.name usage.node) told refl s;
@@ -219,21 +171,20 @@ guarded row history _ told wanted (ToStage usage id goal own a s) = (
   },
 )
 guarded row history _ told wanted (ToPublish usage id goal own a s p) = (
-  sym told.own_id ∙ own,
+  sym told.ids ∙ own,
   record {
     staged = known-yes row history (Staged row.name usage.node) told refl s;
     not_published = known-not-yes row history (Published row.name usage.node usage.target) told refl p;
     as_held = held-there row history usage told (subst (MayBeWanted row) goal wanted) a;
   },
 )
-guarded row history _ told wanted (ToUnpublish node target id goal own p) = sym told.own_id ∙ own
+guarded row history _ told wanted (ToUnpublish node target id goal own p) = sym told.ids ∙ own
 guarded row history _ told wanted (ToUnstage node target id goal own p o s) =
-    (sym told.own_id ∙ own, record { not_published = λ other. sym (told.marks (Published row.name node other) refl) ∙ quiet-targets row node target other p o })
-guarded row history _ told wanted (ToDetach node target id goal own p o s a) = (sym told.own_id ∙ own, record { not_staged = known-no row history (Staged row.name node) told refl s })
+    (sym told.ids ∙ own, record { not_published = λ other. sym (told.marks (Published row.name node other) refl) ∙ quiet-targets row node target other p o })
+guarded row history _ told wanted (ToDetach node target id goal own p o s a) = (sym told.ids ∙ own, record { not_staged = known-no row history (Staged row.name node) told refl s })
 
 -- the call that is due for a row may be sent, where none is open
-pub due-guarded : (parts : Parts) (history : History) (row : RowShown) (due : Due) → AgreesWith parts history → row_of parts.rows row.name ≡ Some row → ArePlacesApart row.places
-    → MayBeWanted row row.goal → open_call history row.name ≡ None → due_in row ≡ Some due → MayIssue history row.name due.party due.call
+pub due-guarded : (row : RowShown) (history : History) (due : Due) → IsRowOf row history row.name → MayBeWanted row row.goal → open_call history row.name ≡ None → due_in row ≡ Some due
+    → MayIssue history row.name due.party due.call
 unfolding Guarded
-due-guarded parts history row due agrees there apart wanted none_open e =
-    record { none_open = none_open; guarded = guarded row history due (told-by parts history row agrees there) wanted (due-cases row due e) }
+due-guarded row history due told wanted none_open e = record { none_open = none_open; guarded = guarded row history due told wanted (due-cases row due e) }

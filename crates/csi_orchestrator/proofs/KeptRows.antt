@@ -25,7 +25,7 @@ use Rattle.csi_orchestrator.specs.RowChanges.{Aspect, Existence, Publication, as
 use Rattle.csi_orchestrator.specs.RowMoves.{is_so_elsewhere}
 use Rattle.csi_orchestrator.specs.Keyed.{change_by}
 use Rattle.csi_orchestrator.specs.Kept.{ArePlacesApart, IsUsable, MayBeWanted, IsKept}
-use Rattle.csi_orchestrator.proofs.DueCalls.{text-same}
+use Rattle.csi_orchestrator.proofs.Texts.{text-same}
 use Rattle.csi_orchestrator.proofs.DueCases.{IsDueFor, due-cases, ToMake, ToRemove, ToAttach, ToStage, ToPublish, ToUnpublish, ToUnstage, ToDetach}
 use Rattle.csi_orchestrator.proofs.Keyed.{find-change}
 use Rattle.csi_orchestrator.proofs.KeptEntries.{each-change, apart-change, any-change, apart-map}

@@ -15,7 +15,9 @@ pub mod KeptEntries
 pub mod Keeping
 pub mod KeptRows
 pub mod KeptUses
-pub mod Counts
+pub mod KnownTests
+pub mod Texts
+pub mod InUse
 pub mod Refused
 pub mod Guarded
 pub mod Replied

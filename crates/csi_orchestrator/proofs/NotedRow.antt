@@ -29,7 +29,8 @@ use Rattle.csi_orchestrator.specs.Following.{after_closed, after_noted}
 use Rattle.csi_orchestrator.specs.Kept.{ArePlacesApart}
 use Rattle.csi_orchestrator.specs.RowChanges.{wanted, wanted_anew, new_row, dropped, is_aim_kept, is_place_kept, has_aims, with_kept_aims, with_entry, entry_for, with_aim, new_aim, held_as}
 use Rattle.csi_orchestrator.specs.Shown.{PlaceShown, RowShown, Parts, row_of, place_of, aim_of, mark_in, published_in, mark_of, held_in, held_at, goal_in, goal_shown, open_in_row, issued_as, due_by, closed, view_of, AreTargetsApart}
-use Rattle.csi_orchestrator.proofs.DueCalls.{text-same, no_is_no}
+use Rattle.csi_orchestrator.proofs.Texts.{text-same}
+use Rattle.csi_orchestrator.proofs.KnownTests.{no_is_no}
 use Rattle.csi_orchestrator.proofs.Keyed.{find-put}
 use Rattle.csi_orchestrator.proofs.RowViews.{Reads}
 use Rattle.csi_orchestrator.proofs.SentRow.{goals-same}

@@ -2,6 +2,7 @@
 use Rattle.std.proofs.Common.{◌≡◌, ◌≢◌, ℕ, List, Bool, true, false, cond, refl, sym, ◌∙◌, ap, subst}
 use Rattle.std.specs.Prelude.{Option, Some, None, is_some, option_map, option_and_then, ◌&&◌}
 use Rattle.std.specs.Option.{option_or}
+use Rattle.csi_lists.proofs.Searches.{find-passes}
 use Rattle.csi_types.specs.declared.number.Number.{Number}
 use Rattle.csi_types.specs.declared.status.Status.{Status}
 use Rattle.csi_types.specs.Reply.{is_ok_status}
@@ -12,7 +13,7 @@ use Rattle.csi_orchestrator.specs.declared.thing.Thing.TheVariants.{Attached}
 use Rattle.csi_orchestrator.specs.declared.thing.Known.TheVariants.{No, Maybe}
 use Rattle.csi_orchestrator.specs.Thing.{Issued, name_in, touches}
 use Rattle.csi_orchestrator.specs.History.{Goal, History}
-use Rattle.csi_orchestrator.specs.Readings.{held_by, arguments_in_goal}
+use Rattle.csi_orchestrator.specs.Readings.{held_by, arguments_in_goal, known, id_of, goal_of, arguments_of, held, open_call, tries, last_number, has_row}
 use Rattle.csi_orchestrator.specs.Agrees.{View, Agrees}
 use Rattle.csi_orchestrator.specs.Following.{after_sent, after_accepted, after_closed, after_noted, told, id_brought}
 use Rattle.csi_orchestrator.specs.Shown.{RowShown, Parts, row_of, mark_in, mark_of, goal_in, held_in, open_in_row, tries_in, view_of, AgreesWith}
@@ -205,3 +206,43 @@ row-reads parts name row own found =
       open_calls = sym (ap (option_and_then open_in_row) found);
       counts = sym (ap tries_in found);
     }
+
+-- what a history tells, as it would be shown; and a row that tells what it tells of a name
+abbrev pub told_by : History → View
+told_by history =
+    record {
+      last = last_number history;
+      rows = has_row history;
+      marks = known history;
+      ids = id_of history;
+      goals = goal_of history;
+      arguments = arguments_of history;
+      holdings = held history;
+      open_calls = open_call history;
+      counts = tries history;
+    }
+
+abbrev pub IsRowOf : RowShown → History → List ℕ → Type 0
+IsRowOf row history name = Reads row (told_by history) name
+
+-- so does a row that tells what is shown, where that agrees with the history
+pub reads-history : (row : RowShown) (view : View) (history : History) (name : List ℕ) → Reads row view name → Agrees view history → IsRowOf row history name
+reads-history row view history name reads agrees =
+    record {
+      own = reads.own;
+      there = sym (agrees.same_rows name) ∙ reads.there;
+      marks = λ thing is. reads.marks thing is ∙ agrees.same_marks thing;
+      ids = reads.ids ∙ agrees.same_ids name;
+      goals = reads.goals ∙ agrees.same_goals name;
+      arguments = reads.arguments ∙ agrees.same_arguments name;
+      holdings = λ node maybe. reads.holdings node maybe ∙ agrees.same_holdings name node (λ e. maybe (reads.marks (Attached name node) refl ∙ agrees.same_marks (Attached name node) ∙ e));
+      open_calls = reads.open_calls ∙ agrees.same_open_calls name;
+      counts = reads.counts ∙ agrees.same_counts name;
+    }
+
+-- the row that is found for a name is of that name, and tells what the history tells of it
+pub own-name : (parts : Parts) (name : List ℕ) (row : RowShown) → row_of parts.rows name ≡ Some row → row.name ≡ name
+own-name parts name row e = (same_text-tells row.name name).0 (find-passes (λ (r : RowShown). same_text r.name name) parts.rows row e)
+
+pub is-row-of : (parts : Parts) (history : History) (name : List ℕ) (row : RowShown) → AgreesWith parts history → row_of parts.rows name ≡ Some row → IsRowOf row history name
+is-row-of parts history name row agrees e = reads-history row (view_of parts) history name (row-reads parts name row (own-name parts name row e) e) agrees

@@ -20,7 +20,7 @@ use Rattle.csi_orchestrator.specs.RowChanges.{wanted, with_entry, entry_for, wit
 use Rattle.csi_orchestrator.specs.RowMoves.{IsRefusal}
 use Rattle.csi_orchestrator.specs.Shown.{PlaceShown, RowShown, place_of, others_in, marks_at, marks_for, due_with, due_in}
 use Rattle.csi_orchestrator.specs.CoreMoves.{outgoing_by, gone_on, row_after, row_goes_on, with_entry_for}
-use Rattle.csi_orchestrator.proofs.DueCalls.{text-same}
+use Rattle.csi_orchestrator.proofs.Texts.{text-same}
 use Rattle.csi_orchestrator.proofs.NotedRow.{mark-with-entry, entry-there}
 
 -- a refusal that is passed on

@@ -33,11 +33,13 @@ use Rattle.csi_orchestrator.specs.Hearing.{marks_marked}
 use Rattle.csi_orchestrator.specs.Kept.{HasEntry}
 use Rattle.csi_orchestrator.specs.RowChanges.{aspect_of, marked, opened, sent, told_of, id_told, answered, succeeded}
 use Rattle.csi_orchestrator.specs.Shown.{RowShown, place_of, mark_in, mark_of, held_in, held_at, goal_in, goal_shown, marks_for, due_with, due_by, due_in, issued_as}
-use Rattle.csi_orchestrator.proofs.DueCalls.{text-same}
+use Rattle.csi_orchestrator.proofs.Texts.{text-same}
 use Rattle.csi_orchestrator.proofs.DueCases.{attaching, staging, publishing, unpublishing, unstaging, detaching, IsDueFor, ToMake, ToRemove, ToAttach, ToStage, ToPublish, ToUnpublish, ToUnstage, ToDetach}
-use Rattle.csi_orchestrator.proofs.Following.{same_text-flip, and-false}
+use Rattle.csi_orchestrator.proofs.Texts.{same_text-flip}
+use Rattle.csi_orchestrator.proofs.Following.{and-false}
 use Rattle.csi_orchestrator.proofs.Marked.{IsMarked, GoalHasEntry, at-work, is-marked, marks-then}
 use Rattle.csi_orchestrator.proofs.RowViews.{Reads}
+use Rattle.csi_orchestrator.proofs.KnownTests.{not_no}
 
 -- the call that was sent is still the one that is due
 due-again : (row : RowShown) (due : Due) → IsDueFor row due → (goal : Goal) → row.goal ≡ Some goal
@@ -71,10 +73,6 @@ due-stays row due number entry case =
     ap (due_by (sent number (kind_of due.call) row)) work.is
     ∙ ap (λ marks. due_with row.name row.arguments row.id marks work.goal) (marks-opened work.goal number (marked Maybe (kind_of due.call) row) ∙ marks-then row due work.goal Maybe entry case work.is)
     ∙ due-again row due case work.goal work.is
-
--- how the volume is held, where it may be attached once the call was sent
-pub no-is-not : (k : Known) → is_no k ≡ false → k ≢ No
-no-is-not k e is = false≢true (sym e ∙ ap is_no is)
 
 -- a call that publishes nothing by the controller, and whose mark isn't of an attachment
 quiet-held : (row after : RowShown) (view : View) (name node : List ℕ) → Reads row view name → mark_of (Attached name node) after ≡ mark_of (Attached name node) row → mark_of (Attached name node) after ≢ No
@@ -123,7 +121,7 @@ held-right row _ view name node entry (ToDetach here target id goal own p o s a)
         ∙ ap (λ b. cond b Maybe (mark_of (Attached name node) row)) (ap (λ b. same_text name row.name && b) (same_text-flip node here ∙ e) ∙ and-false (same_text name row.name))
 
     by : (b : Bool) → same_text here node ≡ b → held_in row node ≡ view.holdings name node
-    by true e = reads.holdings node (no-is-not (mark_in (λ place. place.attached) (place_of row node)) (ap (λ n. is_no (mark_in (λ place. place.attached) (place_of row n))) (sym ((same_text-tells here node).0 e)) ∙ a))
+    by true e = reads.holdings node (not_no (mark_in (λ place. place.attached) (place_of row node)) (ap (λ n. is_no (mark_in (λ place. place.attached) (place_of row n))) (sym ((same_text-tells here node).0 e)) ∙ a))
     by false e = quiet-held row (marked Maybe kinds.ControllerUnpublishVolume row) view name node reads (same e) maybe
 
 -- a row's other fields don't tell of marks and goals

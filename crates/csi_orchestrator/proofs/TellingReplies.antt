@@ -35,7 +35,8 @@ use Rattle.csi_orchestrator.specs.Shown.{RowShown, Parts, row_of, goal_in, goal_
 use Rattle.csi_orchestrator.specs.RowChanges.{told_of, succeeded, wanted, dropped, stopped_goal}
 use Rattle.csi_orchestrator.specs.RowMoves.{told, goes_on, times_out_with, times_out, row_replied, is_issued_as, takes_nothing_more, stops_after, hears_refusal, hears_reply, receives, starts_again, row_moves}
 use Rattle.csi_orchestrator.specs.Kept.{MayBeWanted, IsKept, AreKept, RowsTell, MovesAreGuarded}
-use Rattle.csi_orchestrator.proofs.DueCalls.{text-same, due-told}
+use Rattle.csi_orchestrator.proofs.Texts.{text-same}
+use Rattle.csi_orchestrator.proofs.DueCalls.{due-told}
 use Rattle.csi_orchestrator.proofs.DueCases.{IsDueFor, due-cases, ToAttach, ToStage, ToPublish}
 use Rattle.csi_orchestrator.proofs.Following.{accepted-follows, closed-follows, noted-follows, started-follows}
 use Rattle.csi_orchestrator.proofs.GoingOn.{Guards, Tells, IsReady, has-entry, goes-on-tells}
@@ -45,7 +46,7 @@ use Rattle.csi_orchestrator.proofs.NotedRow.{reads-wanted, reads-closed, reads-q
 use Rattle.csi_orchestrator.proofs.Refused.{timeout-unknown, timeout-refused}
 use Rattle.csi_orchestrator.proofs.Replied.{replied, replied-row}
 use Rattle.csi_orchestrator.proofs.Restarting.{session-agrees}
-use Rattle.csi_orchestrator.proofs.RowViews.{Reads, SameAt, same-self, same-then, same-accepted, same-closed, same-noted, put-agrees, row-reads}
+use Rattle.csi_orchestrator.proofs.RowViews.{Reads, SameAt, same-self, same-then, same-accepted, same-closed, same-noted, put-agrees, row-reads, is-row-of}
 use Rattle.csi_orchestrator.proofs.SentRow.{issued-by, reads-succeeded}
 use Rattle.csi_orchestrator.proofs.TellingCommands.{kept-aims, own-name, either-tells, creates-tell, uses-tell, stops-tell, deletes-tell}
 
@@ -217,9 +218,9 @@ timeout-tells parts history name row form kept agrees e (Some goal) g =
 timeouts-tell : (parts : Parts) (history : History) (name : List ℕ) → IsWellFormed history → AreKept parts.rows → AgreesWith parts history → (o : Option RowShown) → row_of parts.rows name ≡ o
     → Tells history (times_out parts o) (timeout history name (timeout_fault history name))
 timeouts-tell parts history name form kept agrees None e =
-    subst (λ f. Tells history (Err faults.NoSuchVolume) (timeout history name f)) (sym (timeout-unknown parts history name kept agrees e)) (refl, tt)
+    subst (λ f. Tells history (Err faults.NoSuchVolume) (timeout history name f)) (sym (timeout-unknown parts history name agrees e)) (refl, tt)
 timeouts-tell parts history name form kept agrees (Some row) e =
-    subst (λ f. Tells history (times_out parts (Some row)) (timeout history name f)) (sym (timeout-refused parts history name row kept agrees e))
+    subst (λ f. Tells history (times_out parts (Some row)) (timeout history name f)) (sym (timeout-refused history name row (is-row-of parts history name row agrees e)))
     (timeout-tells parts history name row form kept agrees e row.goal refl)
 
 -- a reply of another status changes nothing but that its call is closed

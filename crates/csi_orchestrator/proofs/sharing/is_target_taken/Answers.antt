@@ -2,7 +2,7 @@
 use Rattle.std.proofs.Common.{◌≡◌, ◌∙◌, ap}
 use Rattle.std.specs.Prelude.{nat_lt}
 use Rattle.csi_orchestrator.specs.Shown.{others_in, place_of, row_shown}
-use Rattle.csi_orchestrator.proofs.Counts.{others-counted}
+use Rattle.csi_orchestrator.proofs.InUse.{others-counted}
 use Rattle.csi_orchestrator.proofs.sharing.is_target_taken.Goals as goal
 
 pub returns-then-allows_one_target : goal.returns-then-allows_one_target

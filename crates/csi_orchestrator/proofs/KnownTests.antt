@@ -1,0 +1,28 @@
+-- What the tests tell of what is known of a thing.
+use Rattle.std.proofs.Common.{◌≡◌, ◌≢◌, true, false, not, sym, ◌∙◌, ap, refl}
+use Rattle.std.proofs.lemmas.Bool.{false≢true, false_from_ne_true}
+use Rattle.csi_orchestrator.specs.declared.thing.Known.{Known}
+use Rattle.csi_orchestrator.specs.declared.thing.Known.TheVariants.{Yes, No, Maybe}
+use Rattle.csi_orchestrator.specs.Thing.{is_yes, is_no}
+
+pub yes_is_yes : (k : Known) → is_yes k ≡ true → k ≡ Yes
+yes_is_yes Yes e = refl
+yes_is_yes No e = absurd (false≢true e)
+yes_is_yes Maybe e = absurd (false≢true e)
+
+pub no_is_no : (k : Known) → is_no k ≡ true → k ≡ No
+no_is_no Yes e = absurd (false≢true e)
+no_is_no No e = refl
+no_is_no Maybe e = absurd (false≢true e)
+
+pub not_yes : (k : Known) → is_yes k ≡ false → k ≢ Yes
+not_yes k e is = false≢true (sym e ∙ ap is_yes is)
+
+pub not_no : (k : Known) → is_no k ≡ false → k ≢ No
+not_no k e is = false≢true (sym e ∙ ap is_no is)
+
+pub yes_not_no : (k : Known) → k ≡ Yes → k ≢ No
+yes_not_no k e = not_no k (ap is_no e)
+
+pub is_not_no : (k : Known) → k ≢ No → is_no k ≡ false
+is_not_no k other = false_from_ne_true (is_no k) (λ e. other (no_is_no k e))
