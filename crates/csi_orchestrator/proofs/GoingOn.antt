@@ -119,7 +119,7 @@ then-sent parts history name row view items due number ready e n =
         ((ready.reads).marks (Attached name node) refl ∙ (ready.agrees).same_marks (Attached name node) ∙ is)
 
 -- none was due, and the goal was dropped
-then-dropped : (parts : Parts) (history : History) (name : List ℕ) (row : RowShown) (view : View) (items : List Item) → IsReady parts history name row view items
+pub then-dropped : (parts : Parts) (history : History) (name : List ℕ) (row : RowShown) (view : View) (items : List Item) → IsReady parts history name row view items
     → AgreesWith (with_row (dropped row) parts) (with_items history (Noted name None ∷ items))
 then-dropped parts history name row view items ready =
     put-agrees parts parts.last name (dropped row) (after_noted name None view) (with_items history (Noted name None ∷ items))

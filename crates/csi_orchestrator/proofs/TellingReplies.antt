@@ -2,6 +2,7 @@
 use Rattle.std.proofs.Common.{◌≡◌, ◌+◌, ◌^◌, ℕ, List, [], ◌∷◌, Bool, true, false, cond, refl, sym, ◌∙◌, ap, subst}
 use Rattle.std.specs.Prelude.{Option, Some, None, nat_lt, ◌==◌, ◌&&◌, is_none, option_map, option_and_then, Result, Ok, Err}
 use Rattle.std.proofs.lemmas.Bool.{false≢true, and_parts}
+use Rattle.std.proofs.lemmas.Option.{same_Some}
 use Rattle.csi_types.specs.declared.call.Call.{Call}
 use Rattle.csi_types.specs.declared.call.Call.TheVariants as calls
 use Rattle.csi_types.specs.declared.call.Kind.{Kind}
@@ -12,6 +13,7 @@ use Rattle.csi_types.specs.declared.number.Number.{Number}
 use Rattle.csi_types.specs.declared.reply.Reply.{Reply}
 use Rattle.csi_types.specs.declared.status.Status.{Status}
 use Rattle.csi_types.specs.Call.{kind_of}
+use Rattle.csi_types.specs.Frame.{Frame}
 use Rattle.csi_types.specs.Reply.{is_ok_status}
 use Rattle.csi_types.specs.Same.{same_text}
 use Rattle.csi_lists.proofs.Searches.{find-passes}
@@ -28,25 +30,25 @@ use Rattle.csi_orchestrator.specs.Readings.{goal_of, open_call, tries, last_numb
 use Rattle.csi_orchestrator.specs.WellFormed.{IsWellFormed}
 use Rattle.csi_orchestrator.specs.Commands.{timeout_fault}
 use Rattle.csi_orchestrator.specs.Due.{Due, due_call}
-use Rattle.csi_orchestrator.specs.Moves.{Input, ToCreate, ToUse, ToStop, ToDelete, TimesOut, Comes, Restarts, Sends, Hears, Restarted, Moved, go_on, is_forward, is_forward_due, stopped, closing, timeout, hears, call_replied, heard, heard_refusal, deliver, restart, moves}
+use Rattle.csi_orchestrator.specs.Moves.{Input, ToCreate, ToUse, ToStop, ToDelete, TimesOut, Comes, Restarts, Answer, Sends, Hears, Restarted, Moved, go_on, is_forward, is_forward_due, stopped, closing, timeout, hears, call_replied, heard, heard_refusal, deliver, restart, moves}
 use Rattle.csi_orchestrator.specs.Agrees.{View, Agrees}
 use Rattle.csi_orchestrator.specs.Following.{after_accepted, after_closed, after_noted}
 use Rattle.csi_orchestrator.specs.Shown.{RowShown, Parts, row_of, goal_in, goal_shown, held_in, due_in, open_in_row, issued_as, closed, in_session, view_of, AgreesWith}
 use Rattle.csi_orchestrator.specs.RowChanges.{told_of, succeeded, wanted, dropped, stopped_goal}
 use Rattle.csi_orchestrator.specs.RowMoves.{told, goes_on, times_out_with, times_out, row_replied, is_issued_as, takes_nothing_more, stops_after, hears_refusal, hears_reply, receives, starts_again, row_moves}
-use Rattle.csi_orchestrator.specs.Kept.{MayBeWanted, IsKept, AreKept, RowsTell, MovesAreGuarded}
+use Rattle.csi_orchestrator.specs.Kept.{MayBeWanted, IsKept, AreKept, AreGuarded, RowsTell, MovesAreGuarded}
 use Rattle.csi_orchestrator.proofs.Texts.{text-same}
-use Rattle.csi_orchestrator.proofs.DueCalls.{due-told}
+use Rattle.csi_orchestrator.proofs.DueCalls.{due-of-row}
 use Rattle.csi_orchestrator.proofs.DueCases.{IsDueFor, due-cases, ToAttach, ToStage, ToPublish}
 use Rattle.csi_orchestrator.proofs.Following.{accepted-follows, closed-follows, noted-follows, started-follows}
-use Rattle.csi_orchestrator.proofs.GoingOn.{Guards, Tells, IsReady, has-entry, goes-on-tells}
+use Rattle.csi_orchestrator.proofs.GoingOn.{Guards, Tells, IsReady, has-entry, then-dropped, goes-on-tells}
 use Rattle.csi_orchestrator.proofs.Keeping.{found-kept, replied-due}
 use Rattle.csi_orchestrator.proofs.KeptRows.{kept-distinct, FitsGoal, marked-distinct, kept-closed, wanted-stopped, wanted-succeeded}
 use Rattle.csi_orchestrator.proofs.NotedRow.{reads-wanted, reads-closed, reads-quiet, reads-dropped}
 use Rattle.csi_orchestrator.proofs.Refused.{timeout-unknown, timeout-refused}
 use Rattle.csi_orchestrator.proofs.Replied.{replied, replied-row}
 use Rattle.csi_orchestrator.proofs.Restarting.{session-agrees}
-use Rattle.csi_orchestrator.proofs.RowViews.{Reads, SameAt, same-self, same-then, same-accepted, same-closed, same-noted, put-agrees, row-reads, is-row-of}
+use Rattle.csi_orchestrator.proofs.RowViews.{Reads, SameAt, same-self, same-then, same-accepted, same-closed, same-noted, put-agrees, row-reads, IsRowOf, is-row-of}
 use Rattle.csi_orchestrator.proofs.SentRow.{issued-by, reads-succeeded}
 use Rattle.csi_orchestrator.proofs.TellingCommands.{kept-aims, own-name, either-tells, creates-tell, uses-tell, stops-tell, deletes-tell}
 
@@ -64,13 +66,6 @@ forward-due row forward = by (due_in row) refl forward
     by : (o : Option Due) → due_in row ≡ o → is_forward_due o ≡ true → (usage : Usage) × (row.goal ≡ Some (Use usage))
     by None e f = absurd (false≢true f)
     by (Some due) e f = forward-goal row due (due-cases row due e) f
-
--- the stop of a use that didn't come about
-stopped-use : (row : RowShown) (goal : Goal) (usage : Usage) → goal ≡ Use usage → stopped (Some (goal_shown row goal)) ≡ Some (goal_shown (closed row) (stopped_goal goal))
-stopped-use row goal usage is = ap (λ g. stopped (Some (goal_shown row g))) is ∙ sym (ap (λ g. Some (goal_shown (closed row) (stopped_goal g))) is)
-
-some-goal : (a b : Goal) → Some a ≡ Some b → a ≡ b
-some-goal a b e = cc
 
 -- a row's open call
 record HasCall (row : RowShown) (issued : Issued) : Type 0 where
@@ -94,68 +89,113 @@ has-call row issued e = by row.open_number (due_in row) refl e
     by (Some number) None f h = absurd (none h)
     by (Some number) (Some due) f h = record { number = number; due = due; is_due = f; is = the-one (issued-by row.name number due) h }
 
--- its call was given up, if it had one
-record IsGivenUp (parts : Parts) (history : History) (name : List ℕ) (row : RowShown) : Type 0 where
+-- the row of a name, in rows that are kept and that agree with a history
+record IsFound (parts : Parts) (history : History) (name : List ℕ) (row : RowShown) : Type 0 where
+  form : IsWellFormed history
+  kept : AreKept parts.rows
+  agrees : AgreesWith parts history
+  found : row_of parts.rows name ≡ Some row
+
+own-kept : (parts : Parts) (history : History) (name : List ℕ) (row : RowShown) → IsFound parts history name row → IsKept row
+own-kept parts history name row at = found-kept (λ (r : RowShown). same_text r.name name) parts.rows row at.kept at.found
+
+-- its call was closed, by a timeout or by a refusal: it tells what is shown after these items
+record IsClosed (parts : Parts) (history : History) (name : List ℕ) (row : RowShown) (items : List Item) : Type 0 where
   view : View
-  form : IsWellFormed (with_items history (closing (open_call history name)))
-  agrees : Agrees view (with_items history (closing (open_call history name)))
+  form : IsWellFormed (with_items history items)
+  agrees : Agrees view (with_items history items)
   reads : Reads (closed row) view name
   others : (other : List ℕ) → same_text name other ≡ false → SameAt view (view_of parts) other
   same_last : parts.last ≡ view.last
-  quiet : view.open_calls name ≡ None
+  guarded : AreGuarded history items
 
--- so it is of the row of a name, whether it has an open call or not
-given-up : (parts : Parts) (history : History) (name : List ℕ) (row : RowShown) → IsWellFormed history → AgreesWith parts history → row_of parts.rows name ≡ Some row → (o : Option Issued) → open_call history name ≡ o
-    → IsGivenUp parts history name row
-given-up parts history name row form agrees e None f =
+-- it goes on, or its use is stopped
+closed-ready : (parts : Parts) (history : History) (name : List ℕ) (row : RowShown) (items : List Item) → IsFound parts history name row → (c : IsClosed parts history name row items)
+    → IsReady parts history name (closed row) c.view items
+closed-ready parts history name row items at c =
+    let own = own-kept parts history name row at in
+    record {
+      form = c.form;
+      agrees = c.agrees;
+      reads = c.reads;
+      others = c.others;
+      same_last = c.same_last;
+      old_last = sym (at.agrees).same_last;
+      quiet = sym (c.reads).open_calls;
+      distinct = kept-distinct row own;
+      aims = kept-aims parts.rows (at.kept).each;
+      may = λ due f. (kept-closed row own).goal;
+      guarded = c.guarded;
+    }
+
+use-stops : (parts : Parts) (history : History) (name : List ℕ) (row : RowShown) (items : List Item) (usage : Usage) (answer : Option Frame → Answer) → IsFound parts history name row → IsClosed parts history name row items
+    → row.goal ≡ Some (Use usage) → Tells history (goes_on parts answer (wanted (Stop usage.node usage.target) row)) (go_on history name answer (Noted name (stopped (goal_of history name)) ∷ items))
+use-stops parts history name row items usage answer at c goal =
+    subst (λ g. Tells history (goes_on parts answer (wanted (Stop usage.node usage.target) row)) (go_on history name answer (Noted name (stopped g) ∷ items)))
+    (sym (ap (option_map (goal_shown row)) goal) ∙ (is-row-of parts history name row at.agrees at.found).goals)
+    (goes-on-tells parts history name (wanted (Stop usage.node usage.target) (closed row)) (after_noted name stop c.view) (Noted name stop ∷ items)
+    (record {
+      form = (tt, c.form);
+      agrees = noted-follows c.view (with_items history items) name stop c.agrees;
+      reads = reads-wanted (Stop usage.node usage.target) (closed row) c.view name c.reads (sym (c.reads).open_calls);
+      others = λ other differs. same-then (after_noted name stop c.view) c.view (view_of parts) other (same-noted name stop c.view other differs) (c.others other differs);
+      same_last = c.same_last;
+      old_last = sym (at.agrees).same_last;
+      quiet = sym (c.reads).open_calls;
+      distinct = kept-distinct row (own-kept parts history name row at);
+      aims = kept-aims parts.rows (at.kept).each;
+      may = λ due f. tt;
+      guarded = c.guarded;
+    }) answer)
+  where
+    stop : Option wishes.Goal
+    stop = Some (wishes.Stop usage.node usage.target)
+
+-- the call of a name is given up, if it has one
+given-up : (parts : Parts) (history : History) (name : List ℕ) (row : RowShown) → IsFound parts history name row → (o : Option Issued) → open_call history name ≡ o → IsClosed parts history name row (closing o)
+given-up parts history name row at None f =
     record {
       view = view_of parts;
-      form = subst (λ o. IsWellFormed (with_items history (closing o))) (sym f) form;
-      agrees = subst (λ o. Agrees (view_of parts) (with_items history (closing o))) (sym f) agrees;
-      reads = reads-quiet row (view_of parts) name (row-reads parts name row (own-name parts name row e) e) (agrees.same_open_calls name ∙ f);
+      form = at.form;
+      agrees = at.agrees;
+      reads = reads-quiet row (view_of parts) name (row-reads parts name row (own-name parts name row at.found) at.found) ((at.agrees).same_open_calls name ∙ f);
       others = λ other differs. same-self (view_of parts) other;
       same_last = refl;
-      quiet = agrees.same_open_calls name ∙ f;
+      guarded = tt;
     }
-given-up parts history name row form agrees e (Some issued) f =
+given-up parts history name row at (Some issued) f =
     record {
       view = after_closed issued (view_of parts);
-      form = subst (λ o. IsWellFormed (with_items history (closing o))) (sym f) (record { name = name; issued = issued; is_open = f; has_number = refl }, form);
-      agrees = subst (λ o. Agrees (after_closed issued (view_of parts)) (with_items history (closing o))) (sym f)
-          (closed-follows (view_of parts) history issued form agrees (ap (open_call history) its ∙ f));
-      reads = reads-closed row issued (view_of parts) name its (row-reads parts name row own e);
+      form = (record { name = name; issued = issued; is_open = f; has_number = refl }, at.form);
+      agrees = closed-follows (view_of parts) history issued at.form at.agrees (ap (open_call history) its ∙ f);
+      reads = reads-closed row issued (view_of parts) name its (row-reads parts name row own at.found);
       others = λ other differs. same-closed issued (view_of parts) other (ap (λ n. same_text n other) its ∙ differs);
       same_last = refl;
-      quiet = ap (λ n. cond (same_text n name) None ((view_of parts).open_calls name)) its ∙ ap (λ b. cond b None ((view_of parts).open_calls name)) (text-same name);
+      guarded = tt;
     }
   where
     own : row.name ≡ name
-    own = own-name parts name row e
+    own = own-name parts name row at.found
 
     its : issued.name ≡ name
-    its = ap (λ (i : Issued). i.name) (has-call row issued (sym (ap (option_and_then open_in_row) e) ∙ agrees.same_open_calls name ∙ f)).is ∙ own
-
--- giving up a call sends nothing, so there is nothing that must be allowed
-unguarded-closing : (history : History) (o : Option Issued) → Guards history (Ok (let m : Moved = record { answer = Restarted; items = closing o } in m))
-unguarded-closing history None = tt
-unguarded-closing history (Some issued) = tt
+    its = ap (λ (i : Issued). i.name) (has-call row issued (sym (ap (option_and_then open_in_row) at.found) ∙ (at.agrees).same_open_calls name ∙ f)).is ∙ own
 
 -- a timeout
-timeout-tells : (parts : Parts) (history : History) (name : List ℕ) (row : RowShown) → IsWellFormed history → AreKept parts.rows → AgreesWith parts history → row_of parts.rows name ≡ Some row
-    → (goal : Option Goal) → row.goal ≡ goal → Tells history (times_out_with parts row goal) (timeout history name (cond (is_none goal) (Some faults.Idle) None))
-timeout-tells parts history name row form kept agrees e None g = (refl, tt)
-timeout-tells parts history name row form kept agrees e (Some goal) g =
+timeout-tells : (parts : Parts) (history : History) (name : List ℕ) (row : RowShown) → IsFound parts history name row → (goal : Option Goal) → row.goal ≡ goal
+    → Tells history (times_out_with parts row goal) (timeout history name (cond (is_none goal) (Some faults.Idle) None))
+timeout-tells parts history name row at None g = (refl, tt)
+timeout-tells parts history name row at (Some goal) g =
     subst (λ d. Tells history (times_out_with parts row (Some goal)) (cond (is_forward_due d && (tries history name == 3)) stop more)) (sym due-is)
-    (subst (λ t. Tells history (times_out_with parts row (Some goal)) (cond (is_forward_due (due_in row) && (t == 3)) stop more)) tries-are
+    (subst (λ t. Tells history (times_out_with parts row (Some goal)) (cond (is_forward_due (due_in row) && (t == 3)) stop more)) own.counts
     (either-tells history (is_forward_due (due_in row) && (row.tries == 3)) (goes_on parts Sends (wanted (stopped_goal goal) row)) (goes_on parts Sends (closed row)) stop more
     (λ spent. stops (and_parts (is_forward_due (due_in row)) (row.tries == 3) spent).0)
-    (λ left. goes-on-tells parts history name (closed row) given.view (closing (open_call history name)) ready Sends)))
+    (λ left. goes-on-tells parts history name (closed row) given.view (closing (open_call history name)) (closed-ready parts history name row (closing (open_call history name)) at given) Sends)))
   where
-    given : IsGivenUp parts history name row
-    given = given-up parts history name row form agrees e (open_call history name) refl
+    given : IsClosed parts history name row (closing (open_call history name))
+    given = given-up parts history name row at (open_call history name) refl
 
-    own : IsKept row
-    own = found-kept (λ (r : RowShown). same_text r.name name) parts.rows row kept e
+    own : IsRowOf row history name
+    own = is-row-of parts history name row at.agrees at.found
 
     stop : Result Moved OrchFault
     stop = go_on history name Sends (Noted name (stopped (goal_of history name)) ∷ closing (open_call history name))
@@ -164,55 +204,13 @@ timeout-tells parts history name row form kept agrees e (Some goal) g =
     more = go_on history name Sends (closing (open_call history name))
 
     due-is : due_call history name ≡ due_in row
-    due-is = due-told parts history name (kept-aims parts.rows kept.each) agrees ∙ ap (option_and_then due_in) e
-
-    tries-are : row.tries ≡ tries history name
-    tries-are = (row-reads parts name row (own-name parts name row e) e).counts ∙ agrees.same_counts name
-
-    ready : IsReady parts history name (closed row) given.view (closing (open_call history name))
-    ready =
-        record {
-          form = given.form;
-          agrees = given.agrees;
-          reads = given.reads;
-          others = given.others;
-          same_last = given.same_last;
-          old_last = sym agrees.same_last;
-          quiet = given.quiet;
-          distinct = kept-distinct row own;
-          aims = kept-aims parts.rows kept.each;
-          may = λ due f. (kept-closed row own).goal;
-          guarded = unguarded-closing history (open_call history name);
-        }
-
-    goal-is : goal_of history name ≡ Some (goal_shown row goal)
-    goal-is = sym (agrees.same_goals name) ∙ ap (option_and_then goal_in) e ∙ ap (option_map (goal_shown row)) g
+    due-is = due-of-row row history name own (own-kept parts history name row at).aims
 
     stops : is_forward_due (due_in row) ≡ true → Tells history (goes_on parts Sends (wanted (stopped_goal goal) row)) stop
     stops forward =
-        subst (λ o. Tells history (goes_on parts Sends (wanted (stopped_goal goal) row)) (go_on history name Sends (Noted name o ∷ closing (open_call history name)))) (sym now)
-        (goes-on-tells parts history name (wanted (stopped_goal goal) (closed row)) (after_noted name (Some (goal_shown (closed row) (stopped_goal goal))) given.view)
-        (Noted name (Some (goal_shown (closed row) (stopped_goal goal))) ∷ closing (open_call history name))
-        (record {
-          form = (tt, given.form);
-          agrees = noted-follows given.view (with_items history (closing (open_call history name))) name (Some (goal_shown (closed row) (stopped_goal goal))) given.agrees;
-          reads = reads-wanted (stopped_goal goal) (closed row) given.view name given.reads given.quiet;
-          others = λ other differs.
-              same-then (after_noted name (Some (goal_shown (closed row) (stopped_goal goal))) given.view) given.view (view_of parts) other (same-noted name (Some (goal_shown (closed row) (stopped_goal goal))) given.view other differs) (given.others other differs);
-          same_last = given.same_last;
-          old_last = sym agrees.same_last;
-          quiet = given.quiet;
-          distinct = kept-distinct row own;
-          aims = kept-aims parts.rows kept.each;
-          may = λ due f. wanted-stopped row goal (subst (MayBeWanted row) g own.goal);
-          guarded = unguarded-closing history (open_call history name);
-        }) Sends)
-      where
-        wish : (usage : Usage) × (row.goal ≡ Some (Use usage))
-        wish = forward-due row forward
-
-        now : stopped (goal_of history name) ≡ Some (goal_shown (closed row) (stopped_goal goal))
-        now = ap stopped goal-is ∙ stopped-use row goal wish.0 (some-goal goal (Use wish.0) (sym g ∙ wish.1))
+        let wish = forward-due row forward in
+        subst (λ g. Tells history (goes_on parts Sends (wanted (stopped_goal g) row)) stop) (same_Some (Use wish.0) goal (sym wish.1 ∙ g))
+        (use-stops parts history name row (closing (open_call history name)) wish.0 Sends at given wish.1)
 
 -- the same, whether the name has a row or not
 timeouts-tell : (parts : Parts) (history : History) (name : List ℕ) → IsWellFormed history → AreKept parts.rows → AgreesWith parts history → (o : Option RowShown) → row_of parts.rows name ≡ o
@@ -221,7 +219,7 @@ timeouts-tell parts history name form kept agrees None e =
     subst (λ f. Tells history (Err faults.NoSuchVolume) (timeout history name f)) (sym (timeout-unknown parts history name agrees e)) (refl, tt)
 timeouts-tell parts history name form kept agrees (Some row) e =
     subst (λ f. Tells history (times_out parts (Some row)) (timeout history name f)) (sym (timeout-refused history name row (is-row-of parts history name row agrees e)))
-    (timeout-tells parts history name row form kept agrees e row.goal refl)
+    (timeout-tells parts history name row (record { form = form; kept = kept; agrees = agrees; found = e }) row.goal refl)
 
 -- a reply of another status changes nothing but that its call is closed
 and-left : (a b : Bool) → a ≡ false → (a && b) ≡ false
@@ -248,59 +246,43 @@ reads-refused row issued status id view name is bad reads =
     off : {X : Type 0} (b : Bool) (x y : X) → cond (is_ok_status status && b) x y ≡ y
     off b x y = ap (λ c. cond c x y) (and-left (is_ok_status status) b bad)
 
--- of a row, its due call, and a reply to it
+-- a reply comes to the due call of the row
 record IsHeardBy (parts : Parts) (history : History) (row : RowShown) (number : Number) (due : Due) : Type 0 where
-  form : IsWellFormed history
-  kept : AreKept parts.rows
-  agrees : AgreesWith parts history
-  found : row_of parts.rows row.name ≡ Some row
+  at : IsFound parts history row.name row
   is_due : due_in row ≡ Some due
   is_open : open_call history row.name ≡ Some (issued-by row.name number due)
 
--- the item of a reply that was taken
+-- the item of a reply that was taken, and what is shown after it
 taken : Number → Reply → Item
 taken number reply = Accepted number reply.status reply.id
 
--- what is shown after the reply
 heard-view : Parts → RowShown → Number → Due → Reply → View
 heard-view parts row number due reply = after_accepted (issued-by row.name number due) reply.status reply.id (view_of parts)
 
--- it agrees with the history after the reply
+-- the history is well-formed then, and agrees with what is shown
+heard-form : (parts : Parts) (history : History) (row : RowShown) (number : Number) (due : Due) (reply : Reply) → IsHeardBy parts history row number due → IsWellFormed (with_items history (taken number reply ∷ []))
+unfolding taken
+heard-form parts history row number due reply by = (record { name = row.name; issued = issued-by row.name number due; is_open = by.is_open; has_number = refl }, (by.at).form)
+
 heard-agrees : (parts : Parts) (history : History) (row : RowShown) (number : Number) (due : Due) (reply : Reply) → IsHeardBy parts history row number due
     → Agrees (heard-view parts row number due reply) (with_items history (taken number reply ∷ []))
 unfolding heard-view taken
-heard-agrees parts history row number due reply by = accepted-follows (view_of parts) history (issued-by row.name number due) reply.status reply.id by.form by.agrees by.is_open
+heard-agrees parts history row number due reply by = accepted-follows (view_of parts) history (issued-by row.name number due) reply.status reply.id (by.at).form (by.at).agrees by.is_open
 
--- that history is well-formed
-heard-form : (parts : Parts) (history : History) (row : RowShown) (number : Number) (due : Due) (reply : Reply) → IsHeardBy parts history row number due → IsWellFormed (with_items history (taken number reply ∷ []))
-unfolding taken
-heard-form parts history row number due reply by = (record { name = row.name; issued = issued-by row.name number due; is_open = by.is_open; has_number = refl }, by.form)
-
--- of the other names it shows what was shown before
-heard-others : (parts : Parts) (row : RowShown) (number : Number) (due : Due) (reply : Reply) (other : List ℕ) → same_text row.name other ≡ false → SameAt (heard-view parts row number due reply) (view_of parts) other
-unfolding heard-view
-heard-others parts row number due reply other differs = same-accepted (issued-by row.name number due) reply.status reply.id (view_of parts) other differs
-
--- no call of the row's name is open then
-heard-quiet : (parts : Parts) (row : RowShown) (number : Number) (due : Due) (reply : Reply) → (heard-view parts row number due reply).open_calls row.name ≡ None
-unfolding heard-view
-heard-quiet parts row number due reply = ap (λ b. cond b None ((view_of parts).open_calls row.name)) (text-same row.name)
-
--- the last number is as it was
-heard-last : (parts : Parts) (row : RowShown) (number : Number) (due : Due) (reply : Reply) → parts.last ≡ (heard-view parts row number due reply).last
-unfolding heard-view
-heard-last parts row number due reply = refl
-
--- the row that the reply is to is kept
-own-kept : (parts : Parts) (history : History) (row : RowShown) (number : Number) (due : Due) → IsHeardBy parts history row number due → IsKept row
-own-kept parts history row number due by = found-kept (λ (r : RowShown). same_text r.name row.name) parts.rows row (by.kept) by.found
-
--- after a status other than OK the row whose call is closed tells what is shown
-heard-reads : (parts : Parts) (history : History) (row : RowShown) (number : Number) (due : Due) (reply : Reply) → IsHeardBy parts history row number due → is_ok_status reply.status ≡ false
-    → Reads (closed row) (heard-view parts row number due reply) row.name
-unfolding heard-view
-heard-reads parts history row number due reply by bad =
-    reads-refused row (issued-by row.name number due) reply.status reply.id (view_of parts) row.name refl bad (row-reads parts row.name row refl by.found)
+-- a status other than OK
+heard-closed : (parts : Parts) (history : History) (row : RowShown) (number : Number) (due : Due) (reply : Reply) → IsHeardBy parts history row number due → is_ok_status reply.status ≡ false
+    → IsClosed parts history row.name row (taken number reply ∷ [])
+unfolding heard-view taken
+heard-closed parts history row number due reply by bad =
+    record {
+      view = heard-view parts row number due reply;
+      form = heard-form parts history row number due reply by;
+      agrees = heard-agrees parts history row number due reply by;
+      reads = reads-refused row (issued-by row.name number due) reply.status reply.id (view_of parts) row.name refl bad (row-reads parts row.name row refl (by.at).found);
+      others = λ other differs. same-accepted (issued-by row.name number due) reply.status reply.id (view_of parts) other differs;
+      same_last = refl;
+      guarded = tt;
+    }
 
 -- a success
 success-tells : (parts : Parts) (history : History) (row : RowShown) (number : Number) (due : Due) (reply : Reply) → IsHeardBy parts history row number due → is_ok_status reply.status ≡ true → FitsGoal row.goal (kind_of due.call)
@@ -311,91 +293,44 @@ success-tells parts history row number due reply by fine fits =
     (record {
       form = heard-form parts history row number due reply by;
       agrees = heard-agrees parts history row number due reply by;
-      reads = reads-succeeded row (view_of parts) row.name due number reply.status reply.id (row-reads parts row.name row refl by.found) (λ node. sym (ap (option_and_then (λ (r : RowShown). held_in r node)) by.found))
+      reads = reads-succeeded row (view_of parts) row.name due number reply.status reply.id (row-reads parts row.name row refl (by.at).found) (λ node. sym (ap (option_and_then (λ (r : RowShown). held_in r node)) (by.at).found))
           (has-entry row row.goal own.goal) (due-cases row due by.is_due) fine;
-      others = λ other differs. heard-others parts row number due reply other differs;
+      others = λ other differs. same-accepted (issued-by row.name number due) reply.status reply.id (view_of parts) other differs;
       same_last = refl;
-      old_last = sym ((by.agrees).same_last);
-      quiet = heard-quiet parts row number due reply;
+      old_last = sym ((by.at).agrees).same_last;
+      quiet = ap (λ b. cond b None ((view_of parts).open_calls row.name)) (text-same row.name);
       distinct = marked-distinct (told_of (kind_of due.call)) (kind_of due.call) row (kept-distinct row own);
-      aims = kept-aims parts.rows (by.kept).each;
+      aims = kept-aims parts.rows ((by.at).kept).each;
       may = λ next f. wanted-succeeded (kind_of due.call) reply.id row row.goal next refl fits own.goal f;
       guarded = tt;
     }) hears
   where
     own : IsKept row
-    own = own-kept parts history row number due by
+    own = own-kept parts history row.name row by.at
 
 -- a refusal after which nothing is sent
 waits-tell : (parts : Parts) (history : History) (row : RowShown) (number : Number) (due : Due) (reply : Reply) → IsHeardBy parts history row number due → is_ok_status reply.status ≡ false
     → Tells history (takes_nothing_more parts (closed row)) (Ok (let m : Moved = record { answer = hears None; items = taken number reply ∷ [] } in m))
 unfolding taken
-waits-tell parts history row number due reply by bad = (
-  (
-    refl,
-    put-agrees parts parts.last row.name (closed row) (heard-view parts row number due reply) (with_items history (taken number reply ∷ [])) (heard-reads parts history row number due reply by bad)
-        (λ other differs. heard-others parts row number due reply other differs) (heard-last parts row number due reply) (heard-agrees parts history row number due reply by),
-  ),
-  tt,
-)
+waits-tell parts history row number due reply by bad =
+    let c = heard-closed parts history row number due reply by bad in
+    ((refl, put-agrees parts parts.last row.name (closed row) c.view (with_items history (taken number reply ∷ [])) c.reads c.others c.same_last c.agrees), tt)
 
 -- a create that was refused
 drops-tell : (parts : Parts) (history : History) (row : RowShown) (number : Number) (due : Due) (reply : Reply) → IsHeardBy parts history row number due → is_ok_status reply.status ≡ false
     → Tells history (takes_nothing_more parts (dropped row)) (Ok (let m : Moved = record { answer = hears None; items = Noted row.name None ∷ taken number reply ∷ [] } in m))
 unfolding taken
-drops-tell parts history row number due reply by bad = (
-  (
-    refl,
-    put-agrees parts parts.last row.name (dropped row) (after_noted row.name None (heard-view parts row number due reply)) (with_items history (Noted row.name None ∷ taken number reply ∷ []))
-        (reads-dropped (closed row) (heard-view parts row number due reply) row.name (kept-distinct row own).nodes (kept-distinct row own).targets (heard-reads parts history row number due reply by bad) (heard-quiet parts row number due reply))
-        (λ other differs.
-        same-then (after_noted row.name None (heard-view parts row number due reply)) (heard-view parts row number due reply) (view_of parts) other (same-noted row.name None (heard-view parts row number due reply) other differs)
-        (heard-others parts row number due reply other differs))
-        (heard-last parts row number due reply)
-        (noted-follows (heard-view parts row number due reply) (with_items history (taken number reply ∷ [])) row.name None (heard-agrees parts history row number due reply by)),
-  ),
-  tt,
-)
-  where
-    own : IsKept row
-    own = own-kept parts history row number due by
+drops-tell parts history row number due reply by bad =
+    let c = heard-closed parts history row number due reply by bad in
+    ((refl, then-dropped parts history row.name (closed row) c.view (taken number reply ∷ []) (closed-ready parts history row.name row (taken number reply ∷ []) by.at c)), tt)
 
 -- a forward call that was refused: the use is stopped
 stops-tell-after : (parts : Parts) (history : History) (row : RowShown) (number : Number) (due : Due) (reply : Reply) → IsHeardBy parts history row number due → is_ok_status reply.status ≡ false → is_forward due.call ≡ true
     → Tells history (stops_after parts row row.goal) (go_on history row.name hears (Noted row.name (stopped (goal_of history row.name)) ∷ taken number reply ∷ []))
-unfolding taken
 stops-tell-after parts history row number due reply by bad forward =
+    let wish = forward-goal row due (due-cases row due by.is_due) forward in
     subst (λ g. Tells history (stops_after parts row g) (go_on history row.name hears (Noted row.name (stopped (goal_of history row.name)) ∷ taken number reply ∷ []))) (sym wish.1)
-    (subst (λ g. Tells history (goes_on parts hears (wanted (Stop usage.node usage.target) row)) (go_on history row.name hears (Noted row.name (stopped g) ∷ taken number reply ∷ []))) (sym goal-is)
-    (goes-on-tells parts history row.name (wanted (Stop usage.node usage.target) (closed row)) (after_noted row.name (Some (wishes.Stop usage.node usage.target)) (heard-view parts row number due reply))
-    (Noted row.name (Some (wishes.Stop usage.node usage.target)) ∷ taken number reply ∷ [])
-    (record {
-      form = (tt, heard-form parts history row number due reply by);
-      agrees = noted-follows (heard-view parts row number due reply) (with_items history (taken number reply ∷ [])) row.name (Some (wishes.Stop usage.node usage.target)) (heard-agrees parts history row number due reply by);
-      reads = reads-wanted (Stop usage.node usage.target) (closed row) (heard-view parts row number due reply) row.name (heard-reads parts history row number due reply by bad) (heard-quiet parts row number due reply);
-      others = λ other differs.
-          same-then (after_noted row.name (Some (wishes.Stop usage.node usage.target)) (heard-view parts row number due reply)) (heard-view parts row number due reply) (view_of parts) other
-          (same-noted row.name (Some (wishes.Stop usage.node usage.target)) (heard-view parts row number due reply) other differs) (heard-others parts row number due reply other differs);
-      same_last = heard-last parts row number due reply;
-      old_last = sym ((by.agrees).same_last);
-      quiet = heard-quiet parts row number due reply;
-      distinct = kept-distinct row own;
-      aims = kept-aims parts.rows (by.kept).each;
-      may = λ next f. tt;
-      guarded = tt;
-    }) hears))
-  where
-    own : IsKept row
-    own = own-kept parts history row number due by
-
-    wish : (usage : Usage) × (row.goal ≡ Some (Use usage))
-    wish = forward-goal row due (due-cases row due by.is_due) forward
-
-    usage : Usage
-    usage = wish.0
-
-    goal-is : goal_of history row.name ≡ Some (wishes.Use usage)
-    goal-is = sym ((by.agrees).same_goals row.name) ∙ ap (option_and_then goal_in) by.found ∙ ap (option_map (goal_shown row)) wish.1
+    (use-stops parts history row.name row (taken number reply ∷ []) wish.0 hears by.at (heard-closed parts history row number due reply by bad) wish.1)
 
 -- a status other than OK, call by call
 refusal-tells : (parts : Parts) (history : History) (row : RowShown) (number : Number) (party : Party) (call : Call) (reply : Reply) → IsHeardBy parts history row number (record { party = party; call = call }) → is_ok_status reply.status ≡ false
@@ -431,10 +366,7 @@ replies-tell parts history number party kind reply form kept agrees (Some row) e
     (subst (λ k. Tells history (hears_reply parts k reply (Some row)) (heard history reply (Some (issued-by row.name call.number call.due)))) is_kind
     (heard-tells parts history row call.number call.due reply
     (record {
-      form = form;
-      kept = kept;
-      agrees = agrees;
-      found = there.0;
+      at = record { form = form; kept = kept; agrees = agrees; found = there.0 };
       is_due = call.is_due;
       is_open = sym (agrees.same_open_calls row.name) ∙ ap (option_and_then open_in_row) there.0 ∙ there.1.1 ∙ ap Some call.is;
     }) (subst (FitsGoal row.goal) (sym is_kind) fits)))
