@@ -1,14 +1,14 @@
 -- Where rows note nothing, no part of them does.
 use Rattle.std.proofs.Common.{◌≡◌, ◌<◌, ℕ, zero, suc, List, [], ◌∷◌, ◌++◌, length, get_or, map, refl, sym, ◌∙◌, inl, arith}
 use Rattle.std.specs.List.{flat_map}
-use Rattle.csi_lists.specs.Members.{IsAmong}
+use Rattle.csi_lists.proofs.Members.{empty-where}
 use Rattle.csi_orchestrator.specs.declared.thing.Known.TheVariants.{No}
 use Rattle.csi_orchestrator.specs.declared.thing.Thing.{Thing}
 use Rattle.csi_orchestrator.specs.declared.thing.Known.{Known}
 use Rattle.csi_orchestrator.specs.Kept.{AreKept}
 use Rattle.csi_orchestrator.specs.Listing.{known_by_rows, noted_in}
 use Rattle.csi_orchestrator.specs.Shown.{RowShown}
-use Rattle.csi_orchestrator.proofs.ThingsNoted.{noted-is-known}
+use Rattle.csi_orchestrator.proofs.ThingsNoted.{rows-list}
 
 -- where lists that are joined have nothing, neither has
 pub no-left : {X : Type 0} (xs ys : List X) → xs ++ ys ≡ [] → xs ≡ []
@@ -31,11 +31,6 @@ no-flat_shown f view [] i d e inside = absurd (omega arith)
 no-flat_shown f view (w ∷ ws) zero d e inside = no-left (f (view w)) (flat_map f (map view ws)) e
 no-flat_shown f view (w ∷ ws) (suc i) d e inside = no-flat_shown f view ws i d (no-right (f (view w)) (flat_map f (map view ws)) e) (omega arith)
 
--- a list that has nothing among it is empty
-none-among : {X : Type 0} (xs : List X) → ((x : X) → IsAmong x xs → ⊥) → xs ≡ []
-none-among [] none = refl
-none-among (x ∷ xs) none = absurd (none x (inl refl))
-
 -- where each thing is known as No, nothing is noted
 pub nothing-noted : (rows : List RowShown) → AreKept rows → ((thing : Thing) → known_by_rows rows thing ≡ No) → noted_in rows ≡ []
-nothing-noted rows kept unknown = none-among (noted_in rows) (λ (entry : Thing × Known) among. let told = noted-is-known rows entry kept among in told.1 (sym told.0 ∙ unknown entry.0))
+nothing-noted rows kept unknown = empty-where (noted_in rows) (λ (entry : Thing × Known) among. let told = (rows-list rows kept).told entry among in told.2 (sym told.1 ∙ unknown entry.0))

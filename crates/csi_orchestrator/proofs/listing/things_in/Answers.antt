@@ -1,12 +1,12 @@
 -- The sorted list has what the rows note, which is what they know, each thing once.
-use Rattle.std.proofs.Common.{List, map, subst}
+use Rattle.std.proofs.Common.{List, map, subst, sym, ◌∙◌}
 use Rattle.std.specs.List.Sorted.{IsPermutation}
 use Rattle.csi_lists.proofs.Members.{among-moved, among-back}
 use Rattle.csi_orchestrator.specs.declared.thing.Thing.{Thing}
 use Rattle.csi_orchestrator.specs.declared.thing.Known.{Known}
 use Rattle.csi_orchestrator.specs.Shown.{row_shown}
 use Rattle.csi_orchestrator.specs.Listing.{noted_in}
-use Rattle.csi_orchestrator.proofs.ThingsNoted.{noted-is-known, known-is-noted, noted-once}
+use Rattle.csi_orchestrator.proofs.ThingsNoted.{rows-list, known-of}
 use Rattle.csi_orchestrator.proofs.ThingOrder.{sorted-in-order}
 use Rattle.csi_orchestrator.proofs.listing.things_in.Goals as goal
 
@@ -15,8 +15,8 @@ returns-clause-known c kept thing mark =
     let rows = map row_shown c.args.rows.now in
     let things = c.put_in_order.new.things.items in
     let moved : IsPermutation (noted_in rows) things = subst (λ (from : List (Thing × Known)). IsPermutation from things) c.in_ok-things.ensures.ok c.put_in_order.ensures.moved in (
-      λ among. noted-is-known rows (thing, mark) kept (among-moved (noted_in rows) things (thing, mark) moved among),
-      λ is. among-back (noted_in rows) things (thing, mark) moved (known-is-noted rows thing mark is.0 is.1),
+      λ among. let is = (rows-list rows kept).told (thing, mark) (among-moved (noted_in rows) things (thing, mark) moved among) in (is.1, is.2),
+      λ is. among-back (noted_in rows) things (thing, mark) moved ((rows-list rows kept).lists thing mark (known-of rows thing (λ no. is.1 (sym is.0 ∙ no))) is.0 is.1),
     )
 
 pub returns-clause-order : goal.returns-clause-order
@@ -24,4 +24,4 @@ returns-clause-order c kept =
     let rows = map row_shown c.args.rows.now in
     let things = c.put_in_order.new.things.items in
     let moved : IsPermutation (noted_in rows) things = subst (λ (from : List (Thing × Known)). IsPermutation from things) c.in_ok-things.ensures.ok c.put_in_order.ensures.moved in
-    sorted-in-order (noted_in rows) things (noted-once rows kept) moved c.put_in_order.ensures.order
+    sorted-in-order (noted_in rows) things (rows-list rows kept).once moved c.put_in_order.ensures.order
