@@ -11,6 +11,7 @@ use Rattle.csi_orchestrator.specs.Keyed.{put_by}
 use Rattle.csi_orchestrator.specs.Shown.{PlaceShown, place_shown}
 use Rattle.csi_orchestrator.specs.RowChanges.{held_as, entry_for}
 use Rattle.csi_orchestrator.proofs.ChangedEntries.{find-place, find-none_placed, put-place, put-none_placed}
+use Rattle.csi_orchestrator.proofs.NotedRow.{held-same}
 
 -- the entry of a use's node
 abbrev entry_of : Usage → List Place → Option PlaceShown
@@ -20,14 +21,6 @@ entry_of usage places = find (λ (place : PlaceShown). same_text place.node usag
 abbrev pub Added : Usage → List Place → List Place → Type 0
 Added usage old new = map place_shown new ≡ put_by (λ (place : PlaceShown). place.node) (entry_for usage (entry_of usage old)) (map place_shown old)
 
--- the node stays
-held_as-node : (usage : Usage) (place : PlaceShown) → (held_as usage place).node ≡ place.node
-held_as-node usage place = by (is_no place.attached)
-  where
-    by : (b : Bool) → (cond b (let held : PlaceShown = record place { capability = usage.capability; readonly = usage.readonly } in held) place).node ≡ place.node
-    by true = refl
-    by false = refl
-
 -- it stands in the place of the node's entry, and last where there is none
 pub added-there : (usage : Usage) (places : List Place) (i : ℕ) (place made : Place) → position (λ (p : Place). same_text p.node usage.node) places ≡ Some i → place ≡ get_or places i place
     → place_shown made ≡ entry_for usage (Some (place_shown place)) → Added usage places (set places i made)
@@ -35,7 +28,7 @@ added-there usage places i place made at there is =
     let found = find-place place_shown (λ (p : PlaceShown). same_text p.node usage.node) places i place at there in
     let facts = position-Some (λ (p : Place). same_text p.node usage.node) places i place at in
     let own = ap (λ (p : Place). same_text p.node usage.node) there ∙ facts.1 in
-    let node = held_as-node usage (place_shown place) ∙ (same_text-tells place.node usage.node).0 own in
+    let node = held-same (λ (p : PlaceShown). p.node) usage (place_shown place) refl ∙ (same_text-tells place.node usage.node).0 own in
     put-place place_shown (λ (p : PlaceShown). p.node) (entry_for usage (Some (place_shown place))) usage.node places i place made node at is
     ∙ ap (λ (o : Option PlaceShown). put_by (λ (p : PlaceShown). p.node) (entry_for usage o) (map place_shown places)) (sym found)
 

@@ -3,7 +3,7 @@ use Rattle.std.proofs.Common.{◌≡◌, ◌≢◌, ◌+◌, ℕ, List, [], ◌�
 use Rattle.std.specs.Prelude.{Option, Some, None, min, find, filter, filter_map, option_and_then, ◌&&◌, ◌||◌}
 use Rattle.std.specs.List.{list_any, cons_option}
 use Rattle.std.specs.Option.{option_or}
-use Rattle.std.proofs.lemmas.Bool.{false≢true}
+use Rattle.std.proofs.lemmas.Bool.{false≢true, false_from_ne_true}
 use Rattle.std.proofs.lemmas.Bool.Decides.{nat_tests}
 use Rattle.csi_types.specs.declared.call.Call.{Call}
 use Rattle.csi_types.specs.declared.call.Call.TheVariants as calls
@@ -13,8 +13,8 @@ use Rattle.csi_types.specs.declared.number.Number.{Number}
 use Rattle.csi_types.specs.declared.status.Status.{Status}
 use Rattle.csi_lists.specs.Members.{IsAmong}
 use Rattle.csi_lists.proofs.Members.{among-find, among-kept}
-use Rattle.csi_lists.proofs.Searches.{find-passes}
-use Rattle.csi_lists.proofs.Tests.{then-any, any-none}
+use Rattle.csi_lists.proofs.Searches.{find-passes, find-filter}
+use Rattle.csi_lists.proofs.Tests.{alike, then-any, any-none}
 use Rattle.std.proofs.lemmas.Option.{same_Some, none-some}
 use Rattle.csi_types.specs.Reply.{is_ok_status}
 use Rattle.csi_types.specs.Same.{same_text, same_number}
@@ -288,13 +288,7 @@ newest-cons (Some x) xs = refl
 
 -- numbers are compared alike from both sides
 same_number-flip : (a b : Number) → same_number a b ≡ same_number b a
-same_number-flip a b = by (same_number a b) (same_number b a) refl refl
-  where
-    by : (s t : Bool) → same_number a b ≡ s → same_number b a ≡ t → s ≡ t
-    by true true e f = refl
-    by false false e f = refl
-    by true false e f = sym ((same_number-tells b a).1 (sym ((same_number-tells a b).0 e))) ∙ f
-    by false true e f = sym e ∙ (same_number-tells a b).1 (sym ((same_number-tells b a).0 f))
+same_number-flip a b = alike (same_number a b) (same_number b a) (λ e. (same_number-tells b a).1 (sym ((same_number-tells a b).0 e))) (λ e. (same_number-tells a b).1 (sym ((same_number-tells b a).0 e)))
 
 -- the open call is the latest of its name
 record IsLatest (name : List ℕ) (items : List Item) (call : Issued) : Type 0 where
@@ -332,30 +326,13 @@ open-latest began name (Noted other goal ∷ older) call form e = let latest = o
 -- the open call is the latest of each thing that it touches
 latest-touching : (began : Number) (name : List ℕ) (items : List Item) (call : Issued) (thing : Thing) → AreWellFormed began items → open_in name items ≡ Some call → touches thing call ≡ true
     → find (touches thing) (issued_in items) ≡ Some call
-latest-touching began name [] call thing form e of = absurd (none-some call e)
-latest-touching began name (Started session ∷ older) call thing form e of = absurd (none-some call e)
-latest-touching began name (Sent issued ∷ older) call thing form e of = by (same_text issued.name name) refl e (latest-touching began name older call thing form.1)
+latest-touching began name items call thing form e of =
+    let latest = open-latest began name items call form e in
+    sym (find-filter (touches thing) (λ (i : Issued). same_text i.name name) (issued_in items) (λ i its. subst (λ n. same_text i.name n ≡ true) own (touches-name thing i its)))
+    ∙ ap (find (touches thing)) latest.first ∙ ap (λ b. cond b (Some call) (find (touches thing) latest.others)) of
   where
-    own : issued ≡ call → cond (touches thing issued) (Some issued) (find (touches thing) (issued_in older)) ≡ Some call
-    own is = ap (λ b. cond b (Some issued) (find (touches thing) (issued_in older))) (ap (touches thing) is ∙ of) ∙ ap Some is
-
-    -- another name's call doesn't touch it
-    other : same_text issued.name name ≡ false → open_in name older ≡ Some call → (b : Bool) → touches thing issued ≡ b → b ≡ false
-    other differs f true its =
-        let there : same_text call.name name ≡ true = (open-sent name older call f).1 in
-        let theirs : call.name ≡ name = (same_text-tells call.name name).0 there in
-        let ours : call.name ≡ name_in thing = (same_text-tells call.name (name_in thing)).0 (touches-name thing call of) in
-        absurd (false≢true (sym differs ∙ subst (λ n. same_text issued.name n ≡ true) (sym ours ∙ theirs) (touches-name thing issued its)))
-    other differs f false its = refl
-
-    by : (b : Bool) → same_text issued.name name ≡ b → cond b (Some issued) (open_in name older) ≡ Some call
-        → (open_in name older ≡ Some call → touches thing call ≡ true → find (touches thing) (issued_in older) ≡ Some call)
-        → cond (touches thing issued) (Some issued) (find (touches thing) (issued_in older)) ≡ Some call
-    by true s f rest = own (same_Some issued call f)
-    by false s f rest = ap (λ b. cond b (Some issued) (find (touches thing) (issued_in older))) (other s f (touches thing issued) refl) ∙ rest f of
-latest-touching began name (Accepted number status id ∷ older) call thing form e of = latest-touching began name older call thing form.1 (unless-some number (open_in name older) call e).0 of
-latest-touching began name (Closed number ∷ older) call thing form e of = latest-touching began name older call thing form.1 (unless-some number (open_in name older) call e).0 of
-latest-touching began name (Noted other goal ∷ older) call thing form e of = latest-touching began name older call thing form.1 e of
+    own : name_in thing ≡ name
+    own = sym ((same_text-tells call.name (name_in thing)).0 (touches-name thing call of)) ∙ (same_text-tells call.name name).0 (open-sent name items call e).1
 
 -- the id that a success brings
 id-brought : (items : List Item) (issued : Issued) (call : Call) (status : Status) (id : Option ℕ) → is_ok_status status ≡ true → filter_map (id_in issued.number) items ≡ []
@@ -399,11 +376,8 @@ accepted-follows view history issued status id form agrees is_open =
 
     -- another call has another number
     differs : (call : Issued) → IsAmong call (issued_in history.items) → ((call ≡ issued) → ⊥) → same_number issued.number call.number ≡ false
-    differs call among other = by (same_number issued.number call.number) refl
-      where
-        by : (b : Bool) → same_number issued.number call.number ≡ b → b ≡ false
-        by true e = absurd (other (one-call history.began history.items call issued form among sent (sym ((same_number-tells issued.number call.number).0 e))))
-        by false e = refl
+    differs call among other =
+        false_from_ne_true _ (λ e. other (one-call history.began history.items call issued form among sent (sym ((same_number-tells issued.number call.number).0 e))))
 
     -- a mark that the reply doesn't tell of
     untold : (thing : Thing) (o : Option Issued) → find (touches thing) (issued_in history.items) ≡ o → touches thing issued ≡ false → known_by (Accepted issued.number status id ∷ history.items) thing o ≡ known_by history.items thing o

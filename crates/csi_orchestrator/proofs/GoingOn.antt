@@ -88,7 +88,7 @@ may-issue parts history name row view items due ready e =
     let own = (ready.reads).own in
     let its = reads-history row view (with_items history items) name ready.reads ready.agrees in
     subst (λ n. MayIssue (with_items history items) n due.party due.call) own
-    (due-guarded row (with_items history items) due (subst (IsRowOf row (with_items history items)) (sym own) its) (ready.may due e)
+    (due-guarded row (with_items history items) due (subst (IsRowOf row (with_items history items)) (sym own) its) (ready.distinct).targets (ready.may due e)
     (ap (open_call (with_items history items)) own ∙ sym ((ready.agrees).same_open_calls name) ∙ ready.quiet) e)
 
 -- it was sent

@@ -2,10 +2,10 @@
 use Rattle.std.proofs.Common.{◌≡◌, ◌≢◌, ℕ, List, Bool, true, false, not, refl, sym, ◌∙◌, ap, subst, inr}
 use Rattle.std.specs.Prelude.{Option, Some, None, option_map, option_and_then, ◌&&◌, ◌||◌}
 use Rattle.std.specs.List.{AllByRecursion}
-use Rattle.std.proofs.lemmas.Bool.{false≢true, or_parts}
+use Rattle.std.proofs.lemmas.Bool.{false≢true, true_from_ne_false, or_parts}
 use Rattle.csi_types.specs.Holding.{CanHoldBoth}
 use Rattle.csi_lists.specs.Members.{IsAmong}
-use Rattle.csi_lists.proofs.Members.{among-find, each_of}
+use Rattle.csi_lists.proofs.Members.{among-find, each_of, some-has}
 use Rattle.csi_lists.proofs.Searches.{find-passes}
 use Rattle.std.proofs.lemmas.Option.{same_Some, none-some}
 use Rattle.csi_lists.proofs.Tests.{then-any}
@@ -23,10 +23,11 @@ use Rattle.csi_orchestrator.specs.Readings.{known, id_of, held, open_call}
 use Rattle.csi_orchestrator.specs.Due.{Due}
 use Rattle.csi_orchestrator.specs.Commands.{is_for_one_node, is_second_writer}
 use Rattle.csi_orchestrator.specs.Guards.{CanBeHeldToo, holding_by, IsGuarded, MayIssue}
-use Rattle.csi_orchestrator.specs.Shown.{PlaceShown, RowShown, Parts, row_of, place_of, aim_of, mark_in, published_in, mark_of, held_at, held_in, others_in, due_in, AgreesWith}
+use Rattle.csi_orchestrator.specs.Shown.{PlaceShown, RowShown, Parts, row_of, place_of, aim_of, mark_in, published_in, mark_of, held_at, held_in, others_in, due_in, AreTargetsApart}
 use Rattle.csi_orchestrator.specs.RowMoves.{is_so_elsewhere, has_elsewhere}
 use Rattle.csi_orchestrator.specs.Kept.{ArePlacesApart, IsUsable, MayBeWanted}
 use Rattle.csi_orchestrator.proofs.DueCases.{IsDueFor, due-cases, ToMake, ToRemove, ToAttach, ToStage, ToPublish, ToUnpublish, ToUnstage, ToDetach}
+use Rattle.csi_orchestrator.proofs.InUse.{in-use-alike, target-in-use}
 use Rattle.csi_orchestrator.proofs.KnownTests.{yes_is_yes, no_is_no, not_yes, not_no, yes_not_no, is_not_no}
 use Rattle.csi_orchestrator.proofs.RowViews.{IsRowOf}
 use Rattle.csi_orchestrator.proofs.Texts.{texts-differ}
@@ -111,49 +112,25 @@ held-there row history usage told usable e =
     ∙ (λ i. Some (record { capability = usable.entry.same_capability i; readonly = usable.entry.same_flag i }))
 
 -- no target of the node is published where the goal's own isn't, and no other is
-quiet-targets : (row : RowShown) (node target other : List ℕ) → is_no (mark_in (published_in target) (place_of row node)) ≡ true → others_in target (place_of row node) ≡ false → mark_in (published_in other) (place_of row node) ≡ No
-quiet-targets row node target other this others = by (place_of row node) this others
-  where
-    aimed : (place : PlaceShown) → is_no (published_in target place) ≡ true → others_in target (Some place) ≡ false → (o : Option Aim) → aim_of place other ≡ o → mark_in (λ (a : Aim). a.published) o ≡ No
-    aimed place own rest None f = refl
-    aimed place own rest (Some aim) f = pick (same_text aim.target target) refl
-      where
-        among : IsAmong aim place.aims
-        among = among-find (λ (a : Aim). same_text a.target other) place.aims aim f
-
-        is : aim.target ≡ other
-        is = (same_text-tells aim.target other).0 (find-passes (λ (a : Aim). same_text a.target other) place.aims aim f)
-
-        noted : (b : Bool) → is_no aim.published ≡ b → same_text aim.target target ≡ false → aim.published ≡ No
-        noted true g h = no_is_no aim.published g
-        noted false g h =
-            absurd (false≢true (sym rest ∙ then-any (λ (a : Aim). not (same_text a.target target) && not (is_no a.published)) place.aims aim among
-            (ap (λ b. not b && not (is_no aim.published)) h ∙ ap not g)))
-
-        pick : (b : Bool) → same_text aim.target target ≡ b → aim.published ≡ No
-        pick true h =
-            let same : other ≡ target = sym is ∙ (same_text-tells aim.target target).0 h in
-            let found : mark_in (λ (a : Aim). a.published) (aim_of place target) ≡ aim.published = ap (λ t. mark_in (λ (a : Aim). a.published) (aim_of place t)) (sym same) ∙ ap (mark_in (λ (a : Aim). a.published)) f in
-            sym found ∙ no_is_no (published_in target place) own
-        pick false h = noted (is_no aim.published) refl h
-
-    by : (o : Option PlaceShown) → is_no (mark_in (published_in target) o) ≡ true → others_in target o ≡ false → mark_in (published_in other) o ≡ No
-    by None own rest = refl
-    by (Some place) own rest = aimed place own rest (aim_of place other) refl
+quiet-targets : (row : RowShown) (history : History) (node target other : List ℕ) → IsRowOf row history row.name → AllByRecursion AreTargetsApart row.places
+    → is_no (mark_in (published_in target) (place_of row node)) ≡ true → others_in target (place_of row node) ≡ false → known history (Published row.name node other) ≡ No
+quiet-targets row history node target other told apart this others =
+    no_is_no _ (true_from_ne_false _ (λ maybe.
+    false≢true (sym (in-use-alike row history row.name node target told apart this ∙ others) ∙ some-has _ other (target-in-use history row.name node other maybe))))
 
 -- call by call
-guarded : (row : RowShown) (history : History) (due : Due) → IsRowOf row history row.name → MayBeWanted row row.goal → IsDueFor row due → Guarded history row.name due
+guarded : (row : RowShown) (history : History) (due : Due) → IsRowOf row history row.name → AllByRecursion AreTargetsApart row.places → MayBeWanted row row.goal → IsDueFor row due → Guarded history row.name due
 unfolding Guarded
-guarded row history _ told wanted (ToMake goal e) =
+guarded row history _ told apart wanted (ToMake goal e) =
     record { own_name = refl; not_made = known-not-yes row history (Exists row.name) told refl e; no_id = sym told.ids ∙ subst (MayBeWanted row) goal wanted }
-guarded row history _ told wanted (ToRemove id goal own e) = (
+guarded row history _ told apart wanted (ToRemove id goal own e) = (
   sym told.ids ∙ own,
   record {
     made = known-not-no row history (Exists row.name) told refl e;
     detached = λ node. sym (told.marks (Attached row.name node) refl) ∙ detached-there row node (subst (MayBeWanted row) goal wanted);
   },
 )
-guarded row history _ told wanted (ToAttach usage id goal own a) =
+guarded row history _ told apart wanted (ToAttach usage id goal own a) =
     let usable : IsUsable row usage = subst (MayBeWanted row) goal wanted in (
       sym told.ids ∙ own,
       record {
@@ -162,7 +139,7 @@ guarded row history _ told wanted (ToAttach usage id goal own a) =
         shared = shared-so row history usage id told usable;
       },
     )
-guarded row history _ told wanted (ToStage usage id goal own a s) = (
+guarded row history _ told apart wanted (ToStage usage id goal own a s) = (
   sym told.ids ∙ own,
   record {
     attached = known-yes row history (Attached row.name usage.node) told refl a;
@@ -170,7 +147,7 @@ guarded row history _ told wanted (ToStage usage id goal own a s) = (
     as_held = (held-so usage, held-there row history usage told (subst (MayBeWanted row) goal wanted) a, refl);
   },
 )
-guarded row history _ told wanted (ToPublish usage id goal own a s p) = (
+guarded row history _ told apart wanted (ToPublish usage id goal own a s p) = (
   sym told.ids ∙ own,
   record {
     staged = known-yes row history (Staged row.name usage.node) told refl s;
@@ -178,13 +155,13 @@ guarded row history _ told wanted (ToPublish usage id goal own a s p) = (
     as_held = held-there row history usage told (subst (MayBeWanted row) goal wanted) a;
   },
 )
-guarded row history _ told wanted (ToUnpublish node target id goal own p) = sym told.ids ∙ own
-guarded row history _ told wanted (ToUnstage node target id goal own p o s) =
-    (sym told.ids ∙ own, record { not_published = λ other. sym (told.marks (Published row.name node other) refl) ∙ quiet-targets row node target other p o })
-guarded row history _ told wanted (ToDetach node target id goal own p o s a) = (sym told.ids ∙ own, record { not_staged = known-no row history (Staged row.name node) told refl s })
+guarded row history _ told apart wanted (ToUnpublish node target id goal own p) = sym told.ids ∙ own
+guarded row history _ told apart wanted (ToUnstage node target id goal own p o s) =
+    (sym told.ids ∙ own, record { not_published = λ other. quiet-targets row history node target other told apart p o })
+guarded row history _ told apart wanted (ToDetach node target id goal own p o s a) = (sym told.ids ∙ own, record { not_staged = known-no row history (Staged row.name node) told refl s })
 
 -- the call that is due for a row may be sent, where none is open
-pub due-guarded : (row : RowShown) (history : History) (due : Due) → IsRowOf row history row.name → MayBeWanted row row.goal → open_call history row.name ≡ None → due_in row ≡ Some due
+pub due-guarded : (row : RowShown) (history : History) (due : Due) → IsRowOf row history row.name → AllByRecursion AreTargetsApart row.places → MayBeWanted row row.goal → open_call history row.name ≡ None → due_in row ≡ Some due
     → MayIssue history row.name due.party due.call
 unfolding Guarded
-due-guarded row history due told wanted none_open e = record { none_open = none_open; guarded = guarded row history due told wanted (due-cases row due e) }
+due-guarded row history due told apart wanted none_open e = record { none_open = none_open; guarded = guarded row history due told apart wanted (due-cases row due e) }

@@ -15,11 +15,7 @@ use Rattle.csi_orchestrator.specs.Shown.{RowShown, marks_for, due_with, due_by, 
 use Rattle.csi_orchestrator.proofs.DueCases.{due-cases}
 use Rattle.csi_orchestrator.proofs.GoingOn.{has-entry}
 use Rattle.csi_orchestrator.proofs.Marked.{marks-then}
-
--- the id and the open call tell nothing of what a goal names
-marks-answered : (goal : Goal) (kind : Kind) (id : Option ℕ) (row : RowShown) → marks_for (answered kind id row) goal ≡ marks_for row goal
-marks-answered Create kind id row = refl
-marks-answered goal kind id row = refl
+use Rattle.csi_orchestrator.proofs.SentRow.{marks-same}
 
 -- the call that is due once the due call succeeded, by what was known before; and the same by that call's kind
 due-heard : (row : RowShown) (id : Option ℕ) (goal : Goal) (due : Due) → IsKept row → due_in row ≡ Some due → row.goal ≡ Some goal
@@ -28,7 +24,7 @@ due-heard row id goal due kept e wanted =
     let kind = kind_of due.call in
     ap (due_by (succeeded kind id row)) wanted
     ∙ ap (λ marks. due_with row.name row.arguments (option_or (id_told kind id) row.id) marks goal)
-    (marks-answered goal kind id (marked (told_of kind) kind row) ∙ marks-then row due goal (told_of kind) (has-entry row row.goal kept.goal) (due-cases row due e) wanted)
+    (marks-same goal (succeeded kind id row) (marked (told_of kind) kind row) refl refl ∙ marks-then row due goal (told_of kind) (has-entry row row.goal kept.goal) (due-cases row due e) wanted)
 
 pub due-after : (row : RowShown) (kind : Kind) (id : Option ℕ) (goal : Goal) → IsKept row → kind_due (due_in row) ≡ Some kind → row.goal ≡ Some goal
     → due_in (succeeded kind id row) ≡ due_heard kind id row (Some goal)

@@ -1,13 +1,15 @@
 -- What a row tells once something was noted for it, or its call was given up.
-use Rattle.std.proofs.Common.{◌≡◌, ◌≢◌, ◌++◌, ℕ, List, [], ◌∷◌, map, Bool, true, false, cond, not, refl, sym, ◌∙◌, ap}
+use Rattle.std.proofs.Common.{◌≡◌, ◌≢◌, ◌++◌, ℕ, List, [], ◌∷◌, map, Bool, true, false, cond, not, refl, sym, ◌∙◌, ap, subst}
 use Rattle.std.specs.Prelude.{Option, Some, None, find, filter, is_some, option_map, option_and_then, ◌&&◌}
 use Rattle.std.specs.List.{AllByRecursion}
 use Rattle.std.specs.Option.{option_or}
-use Rattle.std.proofs.lemmas.Bool.{false≢true}
+use Rattle.std.proofs.lemmas.Bool.{false≢true, false_from_ne_true}
+use Rattle.std.proofs.lemmas.Option.{same_Some}
 use Rattle.csi_types.specs.declared.number.Number.{Number}
-use Rattle.csi_lists.specs.Members.{EachTwo}
-use Rattle.csi_lists.proofs.Members.{each_of, among-find}
-use Rattle.csi_lists.proofs.Searches.{find-map, find-append, find-passes}
+use Rattle.csi_lists.specs.Members.{IsAmong, EachTwo}
+use Rattle.csi_lists.proofs.Members.{each_of, among-find, among-kept, in_filter}
+use Rattle.csi_lists.proofs.Pairs.{two-filter}
+use Rattle.csi_lists.proofs.Searches.{find-map, find-append, find-passes, find-none, find-none_in_filter}
 use Rattle.csi_lists.proofs.Options.{option_or-some, option_or-none}
 use Rattle.std.specs.Option.{option_or}
 use Rattle.csi_types.specs.Same.{same_text}
@@ -33,7 +35,9 @@ use Rattle.csi_orchestrator.proofs.Texts.{text-same}
 use Rattle.csi_orchestrator.proofs.KnownTests.{no_is_no}
 use Rattle.csi_orchestrator.proofs.Keyed.{find-put}
 use Rattle.csi_orchestrator.proofs.RowViews.{Reads}
-use Rattle.csi_orchestrator.proofs.SentRow.{goals-same}
+use Rattle.csi_orchestrator.proofs.Joined.{own-entry}
+use Rattle.csi_orchestrator.proofs.KeptEntries.{by_if}
+use Rattle.csi_orchestrator.proofs.SentRow.{goals-same, mark-same}
 
 -- of its own name
 own : {X : Type 0} (name : List ℕ) (x y : X) → cond (same_text name name) x y ≡ x
@@ -46,11 +50,6 @@ no-call row e = ap (λ g. issued_as row.name row.open_number (due_by row g)) e �
     by : (o : Option Number) → issued_as row.name o None ≡ None
     by None = refl
     by (Some number) = refl
-
--- something is wanted of it
-mark-wanted : (goal : Goal) (row : RowShown) (thing : Thing) → mark_of thing (wanted goal row) ≡ mark_of thing row
-mark-wanted goal row (Exists name) = refl
-mark-wanted goal row thing = refl
 
 -- its goal is the one that is wanted now
 goal-wanted : (goal : Goal) (row : RowShown) → goal_in (wanted goal row) ≡ Some (goal_shown row goal)
@@ -69,7 +68,7 @@ reads-wanted goal row view name reads quiet =
     record {
       own = reads.own;
       there = own name true (view.rows name);
-      marks = λ thing is. mark-wanted goal row thing ∙ reads.marks thing is;
+      marks = λ thing is. mark-same thing (wanted goal row) row refl refl ∙ reads.marks thing is;
       ids = reads.ids;
       goals = goal-wanted goal row ∙ sym (own name (Some (goal_shown row goal)) (view.goals name));
       arguments = arguments-wanted goal row (view.arguments name) reads.arguments ∙ sym (own name (option_or (arguments_in_goal (Some (goal_shown row goal))) (view.arguments name)) (view.arguments name));
@@ -78,11 +77,6 @@ reads-wanted goal row view name reads quiet =
       counts = sym (own name 0 (view.counts name));
     }
 
--- a creation that is wanted again leaves the marks
-mark-anew : (arguments : Arguments) (row : RowShown) (thing : Thing) → mark_of thing (wanted_anew arguments row) ≡ mark_of thing row
-mark-anew arguments row (Exists name) = refl
-mark-anew arguments row thing = refl
-
 -- a row of which the creation is wanted again tells what is shown once that was noted
 pub reads-anew : (arguments : Arguments) (row : RowShown) (view : View) (name : List ℕ) → Reads row view name → view.open_calls name ≡ None
     → Reads (wanted_anew arguments row) (after_noted name (Some (history.Create arguments)) view) name
@@ -90,7 +84,7 @@ reads-anew arguments row view name reads quiet =
     record {
       own = reads.own;
       there = own name true (view.rows name);
-      marks = λ thing is. mark-anew arguments row thing ∙ reads.marks thing is;
+      marks = λ thing is. mark-same thing (wanted_anew arguments row) row refl refl ∙ reads.marks thing is;
       ids = reads.ids;
       goals = sym (own name (Some (history.Create arguments)) (view.goals name));
       arguments = sym (own name (Some arguments) (view.arguments name));
@@ -120,18 +114,13 @@ reads-new arguments parts name none =
       counts = sym (own name 0 ((view_of parts).counts name));
     }
 
--- its call was given up
-mark-closed : (row : RowShown) (thing : Thing) → mark_of thing (closed row) ≡ mark_of thing row
-mark-closed row (Exists name) = refl
-mark-closed row thing = refl
-
 -- it tells what is shown once its call was given up
 pub reads-closed : (row : RowShown) (issued : Issued) (view : View) (name : List ℕ) → issued.name ≡ name → Reads row view name → Reads (closed row) (after_closed issued view) name
 reads-closed row issued view name is reads =
     record {
       own = reads.own;
       there = reads.there;
-      marks = λ thing same. mark-closed row thing ∙ reads.marks thing same;
+      marks = λ thing same. mark-same thing (closed row) row refl refl ∙ reads.marks thing same;
       ids = reads.ids;
       goals = goals-same (closed row) row refl refl ∙ reads.goals;
       arguments = reads.arguments;
@@ -146,7 +135,7 @@ reads-quiet row view name reads quiet =
     record {
       own = reads.own;
       there = reads.there;
-      marks = λ thing same. mark-closed row thing ∙ reads.marks thing same;
+      marks = λ thing same. mark-same thing (closed row) row refl refl ∙ reads.marks thing same;
       ids = reads.ids;
       goals = goals-same (closed row) row refl refl ∙ reads.goals;
       arguments = reads.arguments;
@@ -160,37 +149,30 @@ kept-if : {X : Type 0} → (X → Bool) → Option X → Option X
 kept-if q None = None
 kept-if q (Some x) = cond (q x) (Some x) None
 
--- after the entry of a text there is no other one of that text, whichever are taken out
-none-after : {X : Type 0} (key : X → List ℕ) (q : X → Bool) (text : List ℕ) (x : X) (xs : List X) → same_text (key x) text ≡ true → AllByRecursion (λ y. same_text (key x) (key y) ≡ false) xs
-    → find (λ y. same_text (key y) text) (filter q xs) ≡ None
-none-after key q text x [] e apart = refl
-none-after key q text x (y ∷ ys) e apart = step (q y) (none-after key q text x ys e apart.1)
-  where
-    differs : same_text (key y) text ≡ false
-    differs = by (same_text (key y) text) refl
-      where
-        by : (b : Bool) → same_text (key y) text ≡ b → b ≡ false
-        by true f = sym ((same_text-tells (key x) (key y)).1 ((same_text-tells (key x) text).0 e ∙ sym ((same_text-tells (key y) text).0 f))) ∙ apart.0
-        by false f = refl
-
-    step : (b : Bool) → find (λ y. same_text (key y) text) (filter q ys) ≡ None → find (λ y. same_text (key y) text) (cond b (y ∷ filter q ys) (filter q ys)) ≡ None
-    step true rest = ap (λ b. cond b (Some y) (find (λ y. same_text (key y) text) (filter q ys))) differs ∙ rest
-    step false rest = rest
-
 -- a search finds the entry that it found before, unless that one was taken out
 find-kept : {X : Type 0} (key : X → List ℕ) (q : X → Bool) (text : List ℕ) (xs : List X) → EachTwo (λ a b. same_text (key a) (key b) ≡ false) xs
     → find (λ y. same_text (key y) text) (filter q xs) ≡ kept-if q (find (λ y. same_text (key y) text) xs)
 unfolding kept-if
-find-kept key q text [] two = refl
-find-kept key q text (x ∷ xs) two = step (q x) refl (same_text (key x) text) refl (find-kept key q text xs two.1)
+find-kept key q text xs two = by (find (λ y. same_text (key y) text) xs) refl
   where
-    step : (k : Bool) → q x ≡ k → (b : Bool) → same_text (key x) text ≡ b
-        → find (λ y. same_text (key y) text) (filter q xs) ≡ kept-if q (find (λ y. same_text (key y) text) xs)
-        → find (λ y. same_text (key y) text) (cond k (x ∷ filter q xs) (filter q xs)) ≡ kept-if q (cond b (Some x) (find (λ y. same_text (key y) text) xs))
-    step true f true e rest = ap (λ b. cond b (Some x) (find (λ y. same_text (key y) text) (filter q xs))) e ∙ sym (ap (λ k. cond k (Some x) None) f)
-    step true f false e rest = ap (λ b. cond b (Some x) (find (λ y. same_text (key y) text) (filter q xs))) e ∙ rest
-    step false f true e rest = none-after key q text x xs e two.0 ∙ sym (ap (λ k. cond k (Some x) None) f)
-    step false f false e rest = rest
+    by : (o : Option _) → find (λ y. same_text (key y) text) xs ≡ o → find (λ y. same_text (key y) text) (filter q xs) ≡ kept-if q o
+    by None e = find-none_in_filter (λ y. same_text (key y) text) q xs e
+    by (Some x) e = kept (q x) refl
+      where
+        among : IsAmong x xs
+        among = among-find (λ y. same_text (key y) text) xs x e
+
+        is : key x ≡ text
+        is = (same_text-tells (key x) text).0 (find-passes (λ y. same_text (key y) text) xs x e)
+
+        kept : (b : Bool) → q x ≡ b → find (λ y. same_text (key y) text) (filter q xs) ≡ cond b (Some x) None
+        kept true f = subst (λ t. find (λ y. same_text (key y) t) (filter q xs) ≡ Some x) is (own-entry key (filter q xs) x (two-filter _ q xs two) (in_filter q xs x among f))
+        kept false f =
+            find-none (λ y. same_text (key y) text) (filter q xs) (λ y there. false_from_ne_true (same_text (key y) text) (λ same.
+            let passes = among-kept q xs y there in
+            let found = own-entry key xs y two passes.0 in
+            let its = subst (λ t. find (λ z. same_text (key z) t) xs ≡ Some y) ((same_text-tells (key y) text).0 same) found in
+            false≢true (sym f ∙ ap q (same_Some x y (sym e ∙ its)) ∙ passes.1)))
 
 -- a target that is left out isn't published
 kept-mark : (o : Option Aim) → mark_in (λ (a : Aim). a.published) (kept-if is_aim_kept o) ≡ mark_in (λ (a : Aim). a.published) o
@@ -293,20 +275,18 @@ reads-dropped row view name apart aims reads quiet =
       counts = sym (own name 0 (view.counts name));
     }
 
+-- a use that an entry is held for leaves all but the capability and the flag
+pub held-same : {Y : Type 0} (read : PlaceShown → Y) (usage : Usage) (place : PlaceShown) → read (record place { capability = usage.capability; readonly = usage.readonly }) ≡ read place
+    → read (held_as usage place) ≡ read place
+held-same read usage place same = by_if (λ (p : PlaceShown). read p ≡ read place) (is_no place.attached) _ place (λ e. same) (λ e. refl)
+
 -- an entry for a use tells nothing new
 pub entry-there : (usage : Usage) (row : RowShown) (node : List ℕ) → place_of (with_entry usage row) node ≡ cond (same_text usage.node node) (Some (entry_for usage (place_of row usage.node))) (place_of row node)
 entry-there usage row node = find-put (λ (p : PlaceShown). p.node) (entry_for usage (place_of row usage.node)) row.places node ∙ ap (λ n. cond (same_text n node) (Some (entry_for usage (place_of row usage.node))) (place_of row node)) (node-is (place_of row usage.node) refl)
   where
-    held-node : (place : PlaceShown) → (held_as usage place).node ≡ place.node
-    held-node place = by (is_no place.attached)
-      where
-        by : (b : Bool) → (cond b (let p : PlaceShown = record place { capability = usage.capability; readonly = usage.readonly } in p) place).node ≡ place.node
-        by true = refl
-        by false = refl
-
     node-is : (o : Option PlaceShown) → place_of row usage.node ≡ o → (entry_for usage o).node ≡ usage.node
     node-is None e = refl
-    node-is (Some place) e = held-node place ∙ (same_text-tells place.node usage.node).0 (find-passes (λ (p : PlaceShown). same_text p.node usage.node) row.places place e)
+    node-is (Some place) e = held-same (λ (p : PlaceShown). p.node) usage place refl ∙ (same_text-tells place.node usage.node).0 (find-passes (λ (p : PlaceShown). same_text p.node usage.node) row.places place e)
 
 -- a reading of the entry is one of what was there
 entry-read : (read : PlaceShown → Known) (usage : Usage) (o : Option PlaceShown) → read (entry_for usage None) ≡ No → ((place : PlaceShown) → read (entry_for usage (Some place)) ≡ read place)
@@ -322,21 +302,6 @@ mark-entry read usage row node new kept = ap (mark_in read) (entry-there usage r
     by : (b : Bool) → same_text usage.node node ≡ b → mark_in read (cond b (Some (entry_for usage (place_of row usage.node))) (place_of row node)) ≡ mark_in read (place_of row node)
     by true e = entry-read read usage (place_of row usage.node) new kept ∙ ap (λ n. mark_in read (place_of row n)) ((same_text-tells usage.node node).0 e)
     by false e = refl
-
--- in an entry that is there a use leaves whether the volume is attached, and whether it is staged
-entry-attached : (usage : Usage) (place : PlaceShown) → (entry_for usage (Some place)).attached ≡ place.attached
-entry-attached usage place = by (is_no place.attached)
-  where
-    by : (b : Bool) → (cond b (let p : PlaceShown = record place { capability = usage.capability; readonly = usage.readonly } in p) place).attached ≡ place.attached
-    by true = refl
-    by false = refl
-
-entry-staged : (usage : Usage) (place : PlaceShown) → (entry_for usage (Some place)).staged ≡ place.staged
-entry-staged usage place = by (is_no place.attached)
-  where
-    by : (b : Bool) → (cond b (let p : PlaceShown = record place { capability = usage.capability; readonly = usage.readonly } in p) place).staged ≡ place.staged
-    by true = refl
-    by false = refl
 
 -- a target that was put in isn't published
 new-mark : (target other : List ℕ) → mark_in (λ (a : Aim). a.published) (cond (same_text target other) (Some (new_aim target)) None) ≡ No
@@ -361,8 +326,8 @@ aim-entry target other aims = by (is_some (find (λ (a : Aim). same_text a.targe
 -- a row with an entry for a use knows of each thing what it knew
 pub mark-with-entry : (usage : Usage) (row : RowShown) (thing : Thing) → mark_of thing (with_entry usage row) ≡ mark_of thing row
 mark-with-entry usage row (Exists name) = refl
-mark-with-entry usage row (Attached name node) = mark-entry (λ (p : PlaceShown). p.attached) usage row node refl (entry-attached usage)
-mark-with-entry usage row (Staged name node) = mark-entry (λ (p : PlaceShown). p.staged) usage row node refl (entry-staged usage)
+mark-with-entry usage row (Attached name node) = mark-entry (λ (p : PlaceShown). p.attached) usage row node refl (λ place. held-same (λ (p : PlaceShown). p.attached) usage place refl)
+mark-with-entry usage row (Staged name node) = mark-entry (λ (p : PlaceShown). p.staged) usage row node refl (λ place. held-same (λ (p : PlaceShown). p.staged) usage place refl)
 mark-with-entry usage row (Published name node target) = mark-entry (published_in target) usage row node (new-mark usage.target target) (λ place. aim-entry usage.target target place.aims)
 
 -- and, where the volume may be attached, keeps how it is held

@@ -61,17 +61,17 @@ due-again row due case goal is = by due case
     by _ (ToUnstage node target id own has p o s) = of _ (Stop node target) own (rw (has, p, o) refl)
     by _ (ToDetach node target id own has p o s a) = of _ (Stop node target) own (rw (has, p, o, s) refl)
 
--- the number of an open call tells nothing of what a goal names
-marks-opened : (goal : Goal) (number : Number) (row : RowShown) → marks_for (opened number row) goal ≡ marks_for row goal
-marks-opened Create number row = refl
-marks-opened goal number row = refl
+-- what is known of what a goal names goes by the marks alone
+pub marks-same : (goal : Goal) (a b : RowShown) → a.exists ≡ b.exists → a.places ≡ b.places → marks_for a goal ≡ marks_for b goal
+marks-same Create a b exists places = λ i. marks_for (record a { exists = exists i; places = places i }) Create
+marks-same goal a b exists places = λ i. marks_for (record a { exists = exists i; places = places i }) goal
 
 -- once the due call was sent, the same call is due still
 pub due-stays : (row : RowShown) (due : Due) (number : Number) → GoalHasEntry row row.goal → IsDueFor row due → due_in (sent number (kind_of due.call) row) ≡ Some due
 due-stays row due number entry case =
     let work = at-work row due entry case in
     ap (due_by (sent number (kind_of due.call) row)) work.is
-    ∙ ap (λ marks. due_with row.name row.arguments row.id marks work.goal) (marks-opened work.goal number (marked Maybe (kind_of due.call) row) ∙ marks-then row due work.goal Maybe entry case work.is)
+    ∙ ap (λ marks. due_with row.name row.arguments row.id marks work.goal) (marks-same work.goal (sent number (kind_of due.call) row) (marked Maybe (kind_of due.call) row) refl refl ∙ marks-then row due work.goal Maybe entry case work.is)
     ∙ due-again row due case work.goal work.is
 
 -- a call that publishes nothing by the controller, and whose mark isn't of an attachment
@@ -124,14 +124,10 @@ held-right row _ view name node entry (ToDetach here target id goal own p o s a)
     by true e = reads.holdings node (not_no (mark_in (λ place. place.attached) (place_of row node)) (ap (λ n. is_no (mark_in (λ place. place.attached) (place_of row n))) (sym ((same_text-tells here node).0 e)) ∙ a))
     by false e = quiet-held row (marked Maybe kinds.ControllerUnpublishVolume row) view name node reads (same e) maybe
 
--- a row's other fields don't tell of marks and goals
-mark-opened : (thing : Thing) (number : Number) (row : RowShown) → mark_of thing (opened number row) ≡ mark_of thing row
-mark-opened (Exists name) number row = refl
-mark-opened thing number row = refl
-
-mark-answered : (thing : Thing) (kind : Kind) (id : Option ℕ) (row : RowShown) → mark_of thing (answered kind id row) ≡ mark_of thing row
-mark-answered (Exists name) kind id row = refl
-mark-answered thing kind id row = refl
+-- what is known of a thing goes by the marks alone, and what is wanted by the goal and the arguments
+pub mark-same : (thing : Thing) (a b : RowShown) → a.exists ≡ b.exists → a.places ≡ b.places → mark_of thing a ≡ mark_of thing b
+mark-same (Exists name) a b exists places = exists
+mark-same thing a b exists places = ap (λ ps. mark_of thing (record a { places = ps })) places
 
 pub goals-same : (a b : RowShown) → a.arguments ≡ b.arguments → a.goal ≡ b.goal → goal_in a ≡ goal_in b
 goals-same a b arguments goal = ap (option_map (goal_shown a)) goal ∙ by b.goal
@@ -154,7 +150,7 @@ reads-sent row view name due number reads entry case =
     record {
       own = m.same_name ∙ reads.own;
       there = reads.there;
-      marks = λ thing is. mark-opened thing number (marked Maybe (kind_of due.call) row) ∙ m.marks thing (is ∙ sym reads.own)
+      marks = λ thing is. mark-same thing (sent number (kind_of due.call) row) (marked Maybe (kind_of due.call) row) refl refl ∙ m.marks thing (is ∙ sym reads.own)
           ∙ ap (λ n. cond (is_thing thing (thing_at n due.party due.call)) Maybe (mark_of thing row)) reads.own ∙ ap (cond (touches thing (issued-by name number due)) Maybe) (reads.marks thing is);
       ids = m.same_id ∙ reads.ids;
       goals = goals-same (sent number (kind_of due.call) row) row m.same_arguments m.same_goal ∙ reads.goals;
@@ -186,7 +182,7 @@ reads-succeeded row view name due number status id reads holds entry case fine =
     record {
       own = m.same_name ∙ reads.own;
       there = reads.there;
-      marks = λ thing is. mark-answered thing (kind_of due.call) id (marked (told_of (kind_of due.call)) (kind_of due.call) row) ∙ m.marks thing (is ∙ sym reads.own)
+      marks = λ thing is. mark-same thing (succeeded (kind_of due.call) id row) (marked (told_of (kind_of due.call)) (kind_of due.call) row) refl refl ∙ m.marks thing (is ∙ sym reads.own)
           ∙ ap (λ n. cond (is_thing thing (thing_at n due.party due.call)) (told_of (kind_of due.call)) (mark_of thing row)) reads.own
           ∙ ap (λ k. cond (touches thing (issued-by name number due)) k (mark_of thing row)) (sym (told-is due.call))
           ∙ ap (cond (touches thing (issued-by name number due)) (told due.call)) (reads.marks thing is)
