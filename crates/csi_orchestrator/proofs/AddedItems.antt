@@ -30,7 +30,7 @@ use Rattle.csi_orchestrator.specs.Commands.{next_number, create_fault, use_fault
 use Rattle.csi_orchestrator.specs.Due.{Due, due_use, due_leave, due_stop, due_delete, due_for, due_call, targets_in_use}
 use Rattle.csi_orchestrator.specs.Moves.{Input, ToCreate, ToUse, ToStop, ToDelete, TimesOut, Comes, Restarts, Answer, Sends, Moved, met, sent_as, go_on, command, use_when, delete_when, stopped, closing, is_forward_due, timeout, is_number_open, call_replied, hears, heard, heard_refusal, deliver, restart, moves, moved_to}
 use Rattle.csi_orchestrator.specs.Steps.{IsReplyTo, frame_of, frame_in, frames_in}
-use Rattle.csi_orchestrator.proofs.Numbers.{one-call, open-sent}
+use Rattle.csi_orchestrator.proofs.Replied.{IsCall, own-open}
 
 -- what is so of both is so of either
 either : {X : Type 0} (P : X → Type 0) (b : Bool) (x y : X) → P x → P y → P (cond b x y)
@@ -204,15 +204,6 @@ taken history input reply issued form now is =
     refused (calls.NodePublishVolume id target capability readonly) = goes-on history input issued.name hears _ (λ o. refl) (noted (stopped (goal_of history issued.name)))
     refused call = rests history input _ _ refl quiet
 
--- the open call that has a call's number is that call
-own-open : (history : History) (issued : Issued) (number : Number) → issued.number ≡ number → is_number_open number (open_call history issued.name) ≡ true
-    → ((other : Issued) → open_call history issued.name ≡ Some other → other.number ≡ number → other ≡ issued) → open_call history issued.name ≡ Some issued
-own-open history issued number is now only = by (open_call history issued.name) refl now
-  where
-    by : (o : Option Issued) → open_call history issued.name ≡ o → is_number_open number o ≡ true → o ≡ Some issued
-    by None e f = absurd (false≢true f)
-    by (Some other) e f = ap Some (only other e ((same_number-tells other.number number).0 f))
-
 -- a frame with a call's number, party and kind that has a reply is the frame of that reply
 frame-is : (frame : Frame) (issued : Issued) (kind : Kind) (reply : Reply) → frame.number ≡ issued.number → frame.party ≡ issued.party → kind ≡ kind_of issued.call → frame.body ≡ bodies.Reply kind reply
     → frame ≡ reply_frame issued.number issued.party (kind_of issued.call) reply
@@ -223,35 +214,20 @@ replied : (history : History) (frame : Frame) (kind : Kind) (reply : Reply) → 
     → call_replied history frame.number frame.party kind ≡ found → AreAdded history (Comes frame) (heard history reply found)
 replied history frame kind reply form body None e = rests history (Comes frame) _ [] refl (no-items history (Comes frame) form)
 replied history frame kind reply form body (Some issued) e =
-    taken history (Comes frame) reply issued form now (record {
+    let own = own-open history frame.number frame.party kind issued form (among-find test (issued_in history.items) issued e) (find-passes test (issued_in history.items) issued e) in
+    let such = own.1 in
+    taken history (Comes frame) reply issued form own.0 (record {
       issued = issued;
       reply = reply;
-      is_open = now;
+      is_open = own.0;
       same_number = refl;
       same_status = refl;
       same_id = refl;
-      came = ap Comes (frame-is frame issued kind reply (sym is_number) (sym ((same_party-tells issued.party frame.party).0 second.1)) (sym ((same_kind-tells (kind_of issued.call) kind).0 third.1)) body);
+      came = ap Comes (frame-is frame issued kind reply (sym such.has_number) (sym such.has_party) (sym such.has_kind) body);
     })
   where
     test : Issued → Bool
     test i = same_number i.number frame.number && same_party i.party frame.party && same_kind (kind_of i.call) kind && is_number_open frame.number (open_call history i.name)
-
-    parted : ((same_number issued.number frame.number && same_party issued.party frame.party && same_kind (kind_of issued.call) kind) ≡ true) × (is_number_open frame.number (open_call history issued.name) ≡ true)
-    parted = and_parts _ _ (find-passes test (issued_in history.items) issued e)
-
-    third : ((same_number issued.number frame.number && same_party issued.party frame.party) ≡ true) × (same_kind (kind_of issued.call) kind ≡ true)
-    third = and_parts _ _ parted.0
-
-    second : (same_number issued.number frame.number ≡ true) × (same_party issued.party frame.party ≡ true)
-    second = and_parts _ _ third.0
-
-    is_number : issued.number ≡ frame.number
-    is_number = (same_number-tells issued.number frame.number).0 second.0
-
-    now : open_call history issued.name ≡ Some issued
-    now =
-        own-open history issued frame.number is_number parted.1
-        (λ other is same. one-call history.began history.items other issued form (open-sent issued.name history.items other is).0 (among-find test (issued_in history.items) issued e) (same ∙ sym is_number))
 
 -- a frame that comes
 delivered : (history : History) (frame : Frame) → IsWellFormed history → (body : Body) → frame.body ≡ body → AreAdded history (Comes frame) (deliver history frame.number frame.party body)

@@ -3,7 +3,7 @@ use Rattle.std.proofs.Common.{◌≡◌, ℕ, List, get_or, Bool, true, false, r
 use Rattle.std.specs.Prelude.{Option, Some, None, position, slice_get, ◌&&◌}
 use Rattle.std.proofs.lemmas.Bool.{and_parts, false≢true, false_from_ne_true}
 use Rattle.std.proofs.lemmas.List.Quantifiers.{position-Some}
-use Rattle.std.proofs.lemmas.Option.{none-some}
+use Rattle.std.proofs.lemmas.Option.{none-some, same_Some}
 use Rattle.csi_lists.specs.Places.{IsAt}
 use Rattle.csi_lists.proofs.Places.{at-index, find-not_none, position-none}
 use Rattle.csi_lists.proofs.Searches.{find-no_place}
@@ -20,9 +20,6 @@ use Rattle.csi_orchestrator.specs.Due.{Due}
 use Rattle.csi_orchestrator.specs.RowMoves.{is_issued_as}
 use Rattle.csi_orchestrator.specs.Shown.{row_shown, due_in, issued_as, open_in_row}
 use Rattle.csi_orchestrator.proofs.Standing.{at-of_get, get-of_at}
-
-some-is : {X : Type 0} (a b : X) → Some a ≡ Some b → a ≡ b
-some-is a b h = cc
 
 -- the row that passes a test, if it is the only one, and that none passes
 unplaced : (p : Row → Bool) (rows : List Row) → ((j : ℕ) (row : Row) → IsAt rows j row → p row ≡ true → ⊥) → None ≡ position p rows
@@ -64,7 +61,7 @@ pub replied-nowhere : (catalog : Catalog) (number : Number) (party : Party) (kin
 replied-nowhere catalog number party kind place indexed noted none =
     unplaced (Replied number party kind) (rows_of catalog)
     (λ j row at passes.
-    let same : place ≡ j = some-is place j (sym noted ∙ noted-at catalog number party kind indexed j row at passes) in
+    let same : place ≡ j = same_Some place j (sym noted ∙ noted-at catalog number party kind indexed j row at passes) in
     none-some row (sym none ∙ ap (slice_get (rows_of catalog)) same ∙ get-of_at (rows_of catalog) j row at))
 
 -- the row there is not the one
@@ -73,8 +70,8 @@ pub replied-otherwise : (catalog : Catalog) (number : Number) (party : Party) (k
 replied-otherwise catalog number party kind place row indexed noted there fails =
     unplaced (Replied number party kind) (rows_of catalog)
     (λ j other at passes.
-    let same : place ≡ j = some-is place j (sym noted ∙ noted-at catalog number party kind indexed j other at passes) in
-    let own : row ≡ other = some-is row other (sym there ∙ ap (slice_get (rows_of catalog)) same ∙ get-of_at (rows_of catalog) j other at) in
+    let same : place ≡ j = same_Some place j (sym noted ∙ noted-at catalog number party kind indexed j other at passes) in
+    let own : row ≡ other = same_Some row other (sym there ∙ ap (slice_get (rows_of catalog)) same ∙ get-of_at (rows_of catalog) j other at) in
     false≢true (sym fails ∙ ap (Replied number party kind) own ∙ passes))
 
 -- it is
@@ -82,4 +79,4 @@ pub replied-there : (catalog : Catalog) (number : Number) (party : Party) (kind 
     → is_issued_as number party kind (open_in_row (row_shown row)) ≡ true → Some place ≡ position (λ (row : Row). is_issued_as number party kind (open_in_row (row_shown row))) (rows_of catalog)
 replied-there catalog number party kind place row indexed noted there passes =
     placed (Replied number party kind) (rows_of catalog) place row (at-of_get (rows_of catalog) place row there) passes
-    (λ j other at pass. sym (some-is place j (sym noted ∙ noted-at catalog number party kind indexed j other at pass)))
+    (λ j other at pass. sym (same_Some place j (sym noted ∙ noted-at catalog number party kind indexed j other at pass)))

@@ -216,27 +216,25 @@ refused-there parts rows i row number party kind reply fault at there is =
     (sym (ap (hears_reply parts kind reply) (found-there rows i row number party kind at there) ∙ reply-heard parts (row_shown row) kind reply (kind-there rows i row number party kind at there)))
     (refusal-heard parts (row_heard kind reply (row_shown row)) (next_heard kind reply (next_number parts.last) (row_shown row)) fault is)
 
--- what is ignored is no reply to an open call
-answer-in : Result Told OrchFault → Option Answer
-answer-in (Ok told) = Some told.answer
-answer-in (Err fault) = None
+-- what a row hears isn't ignored, so a reply that is told to be ignored is to no row's open call
+never-ignored : (parts : Parts) (row : Option Outgoing → RowShown) (next : Result (Option Outgoing) OrchFault) → IsToldAs (Hears Ignored) (heard_by parts row next) → ⊥
+never-ignored parts row (Ok next) e = cc
+never-ignored parts row (Err fault) e = e
 
--- where a row hears a reply, the reply isn't ignored
-answer-taken : (parts : Parts) (row : Option Outgoing → RowShown) (next : Result (Option Outgoing) OrchFault) (ignored : Parts) → heard_by parts row next ≡ told ignored (Hears Ignored) → ⊥
-unfolding answer-in
-answer-taken parts row (Ok next) ignored e = let same : Some (hears (frame_in next)) ≡ Some (Hears Ignored) = ap answer-in e in cc
-answer-taken parts row (Err fault) ignored e = let same : None ≡ Some (Hears Ignored) = ap answer-in e in cc
-
--- where a reply is told to be ignored, it is to no row's open call
-pub ignored-none : (parts ignored : Parts) (number : Number) (party : Party) (kind : Kind) (reply : Reply) → hears_reply parts kind reply (row_replied parts.rows number party kind) ≡ told ignored (Hears Ignored)
+pub none-replied : (parts : Parts) (number : Number) (party : Party) (kind : Kind) (reply : Reply) → IsToldAs (Hears Ignored) (hears_reply parts kind reply (row_replied parts.rows number party kind))
     → row_replied parts.rows number party kind ≡ None
-ignored-none parts ignored number party kind reply e = by (row_replied parts.rows number party kind) refl e
+none-replied parts number party kind reply e = by (row_replied parts.rows number party kind) refl e
   where
-    by : (o : Option RowShown) → row_replied parts.rows number party kind ≡ o → hears_reply parts kind reply o ≡ told ignored (Hears Ignored) → o ≡ None
+    by : (o : Option RowShown) → row_replied parts.rows number party kind ≡ o → IsToldAs (Hears Ignored) (hears_reply parts kind reply o) → o ≡ None
     by None found e = refl
     by (Some row) found e =
         let passes = find-passes (λ (r : RowShown). is_issued_as number party kind (open_in_row r)) parts.rows row found in
-        absurd (answer-taken parts (row_heard kind reply row) (next_heard kind reply (next_number parts.last) row) ignored (sym (reply-heard parts row kind reply (replied-kind row number party kind passes)) ∙ e))
+        absurd (never-ignored parts (row_heard kind reply row) (next_heard kind reply (next_number parts.last) row)
+        (subst (IsToldAs (Hears Ignored)) (reply-heard parts row kind reply (replied-kind row number party kind passes)) e))
+
+pub ignored-none : (parts ignored : Parts) (number : Number) (party : Party) (kind : Kind) (reply : Reply) → hears_reply parts kind reply (row_replied parts.rows number party kind) ≡ told ignored (Hears Ignored)
+    → row_replied parts.rows number party kind ≡ None
+ignored-none parts ignored number party kind reply e = none-replied parts number party kind reply (subst (IsToldAs (Hears Ignored)) (sym e) refl)
 
 -- where a reply is told to send nothing, nothing is due
 taken-quiet : (parts : Parts) (row : Option Outgoing → RowShown) (next : Result (Option Outgoing) OrchFault) → IsToldAs (hears None) (heard_by parts row next) → next ≡ Ok None

@@ -22,6 +22,7 @@ use Rattle.csi_orchestrator.specs.declared.catalog.Catalog.{Catalog}
 use Rattle.csi_orchestrator.specs.Catalog.{rows_of, by_name, place_noted, HasRoom, IsIndexed, IsReady, IsNextFor, IsClosedAt, AreUpTo, AreNotedBefore, call_in, IsAfter}
 use Rattle.csi_orchestrator.specs.Shown.{RowShown, Parts, row_shown, without_call}
 use Rattle.csi_orchestrator.proofs.Standing.{at-of_get, at-within, at-set, at-set_same, at-set_other, at-push}
+use Rattle.csi_orchestrator.proofs.Texts.{same_text-flip}
 
 -- ---- searches of a list that is seen through a function
 
@@ -58,16 +59,6 @@ lookup-map f p q (x ∷ xs) same =
     by : (b : Bool) → lookup p (map f xs) ≡ option_map (λ x. (f x).1) (find q xs) → cond b (Some (f x).1) (lookup p (map f xs)) ≡ option_map (λ x. (f x).1) (cond b (Some x) (find q xs))
     by true h = refl
     by false h = h
-
--- a test of texts, turned
-pub text-turned : (a b : List ℕ) → same_text a b ≡ same_text b a
-text-turned a b = by (same_text a b) (same_text b a) refl refl
-  where
-    by : (s t : Bool) → same_text a b ≡ s → same_text b a ≡ t → s ≡ t
-    by true true e h = refl
-    by false false e h = refl
-    by true false e h = absurd (false≢true (sym h ∙ (same_text-tells b a).1 (sym ((same_text-tells a b).0 e))))
-    by false true e h = absurd (false≢true (sym e ∙ (same_text-tells a b).1 (sym ((same_text-tells b a).0 h))))
 
 -- what stands at a place, as it is read there
 pub read-at : (rows : List Row) (place : ℕ) (row : Row) → slice_get rows place ≡ Some row → row ≡ get_or rows place row
@@ -185,7 +176,7 @@ new-entries eq catalog name row indexed same none =
 pub put-last : (old made : Catalog) (row : Row) → made.rows ≡ old.rows → IsIndexed made → position (λ (other : Row). same_text other.name row.name) (rows_of old) ≡ None
     → insert_entry (pointwise nat_eq) made.rows.entries row.name row ≡ made.rows.entries ++ by_name row ∷ []
 put-last old made row same indexed none =
-    new-entries (pointwise nat_eq) made row.name row indexed (λ other. text-turned row.name other.name)
+    new-entries (pointwise nat_eq) made row.name row indexed (λ other. same_text-flip row.name other.name)
     (subst (λ (m : IndexMap (List ℕ) Row _). position (λ (other : Row). same_text other.name row.name) (values m) ≡ None) (sym same) none)
 
 -- the rows then are those that were there, and the new one last

@@ -5,7 +5,7 @@ use Rattle.std.specs.Map.{values_of, lookup}
 use Rattle.std.proofs.lemmas.Bool.{false≢true}
 use Rattle.std.proofs.lemmas.Bool.Decides.{eqb_tells}
 use Rattle.std.proofs.lemmas.List.{length-map}
-use Rattle.std.proofs.lemmas.Option.{none-some, slice_get_cases}
+use Rattle.std.proofs.lemmas.Option.{none-some, slice_get_cases, same_Some}
 use Rattle.indexmap.specs.IndexMap.{IndexMap, values, get, spare, index_map_len, Updates}
 use Rattle.csi_lists.specs.Places.{IsAt}
 use Rattle.csi_lists.proofs.Places.{same-at}
@@ -16,9 +16,6 @@ use Rattle.csi_orchestrator.specs.Catalog.{rows_of, by_name, place_noted, HasRoo
 use Rattle.csi_orchestrator.specs.Shown.{without_call}
 use Rattle.csi_orchestrator.proofs.Indexed.{rows-within}
 use Rattle.csi_orchestrator.proofs.Standing.{at-of_get, get-of_at, at-within, all-mapped}
-
-some-is : {X : Type 0} (a b : X) → Some a ≡ Some b → a ≡ b
-some-is a b h = cc
 
 -- the result of what can't be refused
 pub held-ok : {T E P : Type 0} (r : Result T E) → IsOk r → OnOk r P → P
@@ -76,7 +73,7 @@ unnoted old now k row number noted renewed at is_open = by (place_noted now numb
     by None e = refl
     by (Some place) e =
         let before = renewed.only number.call place e in
-        let same : place ≡ k = some-is place k (sym before.1 ∙ noted.found k row number at is_open) in
+        let same : place ≡ k = same_Some place k (sym before.1 ∙ noted.found k row number at is_open) in
         let below = before.0 in
         absurd (omega (arith, same, below))
 
@@ -135,7 +132,7 @@ renewed-more old now then k row noted renewed at rows more = by row.open_number 
         step place other own_number there is_open (inr at_k) = pick (noted-cases now.calls then.calls number.call k own_number.call more.0)
           where
             same : number ≡ own_number
-            same = some-is number own_number (sym is ∙ sym (ap (λ (r : Row). r.open_number) (own place other there at_k)) ∙ is_open)
+            same = same_Some number own_number (sym is ∙ sym (ap (λ (r : Row). r.open_number) (own place other there at_k)) ∙ is_open)
 
             pick : ((number.call ≡ own_number.call) × (place_noted then own_number.call ≡ Some k)) ⊎ ((number.call ≡ own_number.call → ⊥) × (place_noted then own_number.call ≡ place_noted now own_number.call)) → place_noted then own_number.call ≡ Some place
             pick (inl p) = p.1 ∙ ap Some (sym at_k)
@@ -143,7 +140,7 @@ renewed-more old now then k row noted renewed at rows more = by row.open_number 
 
         before : (call place : ℕ) → place_noted then call ≡ Some place → ((number.call ≡ call) × (place_noted then call ≡ Some k)) ⊎ ((number.call ≡ call → ⊥) × (place_noted then call ≡ place_noted now call)) → (place < k + 1) × (place_noted old call ≡ Some place)
         before call place noted_then (inl p) =
-            let same : k ≡ place = some-is k place (sym p.1 ∙ noted_then) in
+            let same : k ≡ place = same_Some k place (sym p.1 ∙ noted_then) in
             (omega (arith, same), ap (place_noted old) (sym p.0) ∙ noted.found k row number at is ∙ ap Some same)
         before call place noted_then (inr p) = let earlier = renewed.only call place (sym p.1 ∙ noted_then) in let inside = earlier.0 in (omega (arith, inside), earlier.1)
 
@@ -184,7 +181,7 @@ noted-more old now place call ready rows updates used long =
     by other number (inl noted) (inl p) = absurd (none-some other (sym (ready.new call refl) ∙ ap (place_noted old) p.0 ∙ noted))
     by other number (inl noted) (inr p) = p.1 ∙ noted
     by other number (inr own) (inl p) = p.1 ∙ ap Some (sym own.0)
-    by other number (inr own) (inr p) = absurd (p.0 (some-is call number.call own.1))
+    by other number (inr own) (inr p) = absurd (p.0 (same_Some call number.call own.1))
 
 -- once a later call is noted, no call after that one is
 pub up-to-more : (old now : Catalog) (place call last : ℕ) → Updates nat_eq old.calls now.calls call (Some place) → AreUpTo last old → last < call → AreUpTo call now
@@ -232,7 +229,7 @@ closed-more old now then turn place closed noted changed calls names =
     none_before other differs none i below is = split (eqb_tells i turn)
       where
         split : ((nat_eq i turn ≡ true) × (i ≡ turn)) ⊎ ((nat_eq i turn ≡ false) × (i ≡ turn → ⊥)) → ⊥
-        split (inl p) = differs (some-is other place (sym is ∙ ap (slice_get (values old.calls)) p.1 ∙ noted_old))
+        split (inl p) = differs (same_Some other place (sym is ∙ ap (slice_get (values old.calls)) p.1 ∙ noted_old))
         split (inr p) = let apart = p.1 in none i (omega (arith, below, apart)) is
 
     by : (other : ℕ) (row : Row) → IsAt (rows_of now) other (without_call row) ⊎ (IsAt (rows_of now) other row × ((i : ℕ) → i < turn → slice_get (values old.calls) i ≡ Some other → ⊥))
@@ -293,7 +290,7 @@ emptied-indexed rows now then closed names same empty room free =
 
 -- the open call of the row at a place
 pub open-there : (rows : List Row) (place : ℕ) (read row : Row) → slice_get rows place ≡ Some read → IsAt rows place row → read.open_number ≡ row.open_number
-open-there rows place read row at is = ap (λ (r : Row). r.open_number) (some-is read row (sym at ∙ get-of_at rows place row is))
+open-there rows place read row at is = ap (λ (r : Row). r.open_number) (same_Some read row (sym at ∙ get-of_at rows place row is))
 
 -- a turn that notes the call of the row at its place, if it has one
 pub renewed-step : (old now then : Catalog) (k last : ℕ) → IsNoted old → Renewed old k now → last ≡ length old.rows.entries → k < last → then.rows ≡ now.rows

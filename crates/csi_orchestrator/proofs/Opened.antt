@@ -1,7 +1,7 @@
 -- What becomes of a row's open call: it stays open, is closed, or gives way to the next one, which has the next number.
 use Rattle.std.proofs.Common.{◌≡◌, ◌+◌, ◌^◌, ◌⊎◌, inl, inr, ℕ, List, Bool, true, false, cond, refl, sym, ◌∙◌, ap, subst}
 use Rattle.std.specs.Prelude.{Option, Some, None, option_map, is_none, nat_lt, slice_get, Result, Ok, Err}
-use Rattle.std.proofs.lemmas.Option.{none-some}
+use Rattle.std.proofs.lemmas.Option.{none-some, same_Some}
 use Rattle.csi_types.specs.declared.call.Kind.{Kind}
 use Rattle.csi_types.specs.declared.number.Number.{Number}
 use Rattle.csi_types.specs.declared.reply.Reply.{Reply}
@@ -27,9 +27,6 @@ use Rattle.csi_orchestrator.proofs.Indexed.{IsOpened, catalog_with, next-unnoted
 use Rattle.csi_orchestrator.proofs.KeptEntries.{by_if}
 use Rattle.csi_orchestrator.proofs.PlacedRows.{KeepsName}
 
-some-is : {X : Type 0} (a b : X) → Some a ≡ Some b → a ≡ b
-some-is a b h = cc
-
 ok-is : (a b : Option Outgoing) → ◌≡◌ {A = Result (Option Outgoing) OrchFault} (Ok a) (Ok b) → a ≡ b
 ok-is a b h = cc
 
@@ -42,7 +39,7 @@ numbered : (last number : Number) → next_number last ≡ Some number → numbe
 numbered last number is = by (nat_lt (last.call + 1) (2 ^ 64)) is
   where
     by : (b : Bool) → cond b (Some (let n : Number = record { session = last.session; call = last.call + 1 } in n)) None ≡ Some number → number.call ≡ last.call + 1
-    by true e = sym (ap (λ (n : Number). n.call) (some-is _ number e))
+    by true e = sym (ap (λ (n : Number). n.call) (same_Some _ number e))
     by false e = absurd (none-some number e)
 
 -- a call that is sent comes right after the last one
@@ -53,7 +50,7 @@ after-sent last due next is = by due (next_number last) refl is
     by None number own e = subst (IsAfter last.call) (ok-is None next e) (none-after last.call)
     by (Some due) None own e = cc
     by (Some due) (Some number) own e =
-        λ call named. sym (some-is number.call call (ap call_in (ok-is _ next e) ∙ named)) ∙ numbered last number own
+        λ call named. sym (same_Some number.call call (ap call_in (ok-is _ next e) ∙ named)) ∙ numbered last number own
 
 -- a row that goes on
 gone-opened : (old : Option Number) (next : Option Outgoing) (row : RowShown) → IsOpened old next (gone_on next row).open_number

@@ -24,50 +24,42 @@ use Rattle.csi_orchestrator.proofs.Numbers.{one-call, open-sent}
 use Rattle.csi_orchestrator.proofs.Joined.{own-entry}
 
 -- the call has this number, party and kind
-is-call : Number → Party → Kind → Issued → Bool
+abbrev is-call : Number → Party → Kind → Issued → Bool
 is-call number party kind issued = same_number issued.number number && same_party issued.party party && same_kind (kind_of issued.call) kind
 
--- an open call that passes the test
-record Passes (number : Number) (party : Party) (kind : Kind) (o : Option Issued) : Type 0 where
-  issued : Issued
-  is_open : o ≡ Some issued
-  passes : is-call number party kind issued ≡ true
-  has_number : issued.number ≡ number
-  has_party : issued.party ≡ party
-  has_kind : kind_of issued.call ≡ kind
+pub record IsCall (number : Number) (party : Party) (kind : Kind) (issued : Issued) : Type 0 where
+  pub has_number : issued.number ≡ number
+  pub has_party : issued.party ≡ party
+  pub has_kind : kind_of issued.call ≡ kind
 
--- what passes the test is an open call
-that-passes : (number : Number) (party : Party) (kind : Kind) (o : Option Issued) → is_issued_as number party kind o ≡ true → Passes number party kind o
-unfolding is-call
-that-passes number party kind None e = absurd (false≢true e)
-that-passes number party kind (Some issued) e =
+such-call : (number : Number) (party : Party) (kind : Kind) (issued : Issued) → is-call number party kind issued ≡ true → IsCall number party kind issued
+such-call number party kind issued e =
     let last = and_parts (same_number issued.number number && same_party issued.party party) (same_kind (kind_of issued.call) kind) e in
     let first = and_parts (same_number issued.number number) (same_party issued.party party) last.0 in
     record {
-      issued = issued;
-      is_open = refl;
-      passes = e;
       has_number = (same_number-tells issued.number number).0 first.0;
       has_party = (same_party-tells issued.party party).0 first.1;
       has_kind = (same_kind-tells (kind_of issued.call) kind).0 last.1;
     }
 
--- such a call has this number
-its-number : (number : Number) (party : Party) (kind : Kind) (issued : Issued) → is-call number party kind issued ≡ true → issued.number ≡ number
-unfolding is-call
-its-number number party kind issued e =
-    let last = and_parts (same_number issued.number number && same_party issued.party party) (same_kind (kind_of issued.call) kind) e in
-    (same_number-tells issued.number number).0 (and_parts (same_number issued.number number) (same_party issued.party party) last.0).0
+-- what passes the test is an open call
+that-passes : (number : Number) (party : Party) (kind : Kind) (o : Option Issued) → is_issued_as number party kind o ≡ true → (issued : Issued) × (o ≡ Some issued) × (is-call number party kind issued ≡ true)
+that-passes number party kind None e = absurd (false≢true e)
+that-passes number party kind (Some issued) e = (issued, refl, e)
 
--- the number of an open call
-number-open : (number : Number) (o : Option Issued) → is_number_open number o ≡ true → (issued : Issued) × (o ≡ Some issued) × (issued.number ≡ number)
-number-open number None e = absurd (false≢true e)
-number-open number (Some issued) e = (issued, refl, (same_number-tells issued.number number).0 e)
+-- a call that a reply is to, by the history, is the open call of its name
+pub own-open : (history : History) (number : Number) (party : Party) (kind : Kind) (issued : Issued) → IsWellFormed history → IsAmong issued (issued_in history.items)
+    → (is-call number party kind issued && is_number_open number (open_call history issued.name)) ≡ true → (open_call history issued.name ≡ Some issued) × IsCall number party kind issued
+own-open history number party kind issued form among e = (by (open_call history issued.name) refl parted.1, such-call number party kind issued parted.0)
+  where
+    parted : (is-call number party kind issued ≡ true) × (is_number_open number (open_call history issued.name) ≡ true)
+    parted = and_parts (is-call number party kind issued) (is_number_open number (open_call history issued.name)) e
 
--- the row that is found has such a call
-row-passes : (parts : Parts) (number : Number) (party : Party) (kind : Kind) (row : RowShown) → row_replied parts.rows number party kind ≡ Some row → Passes number party kind (open_in_row row)
-row-passes parts number party kind row e =
-    that-passes number party kind (open_in_row row) (find-passes (λ (r : RowShown). is_issued_as number party kind (open_in_row r)) parts.rows row e)
+    by : (o : Option Issued) → open_call history issued.name ≡ o → is_number_open number o ≡ true → o ≡ Some issued
+    by None is f = absurd (false≢true f)
+    by (Some other) is f =
+        ap Some (one-call history.began history.items other issued form (open-sent issued.name history.items other is).0 among
+        ((same_number-tells other.number number).0 f ∙ sym (such-call number party kind issued parted.0).has_number))
 
 -- it is also the row that is found for its name
 pub row-replied-own : (parts : Parts) (number : Number) (party : Party) (kind : Kind) (row : RowShown) → AreKept parts.rows → row_replied parts.rows number party kind ≡ Some row → row_of parts.rows row.name ≡ Some row
@@ -78,13 +70,13 @@ row-replied-own parts number party kind row kept e =
 pub replied-row : (parts : Parts) (number : Number) (party : Party) (kind : Kind) (row : RowShown) → AreKept parts.rows → row_replied parts.rows number party kind ≡ Some row
     → (row_of parts.rows row.name ≡ Some row) × ((issued : Issued) × (open_in_row row ≡ Some issued) × (issued.number ≡ number) × (issued.party ≡ party) × (kind_of issued.call ≡ kind))
 replied-row parts number party kind row kept e =
-    let found = row-passes parts number party kind row e in
-    (row-replied-own parts number party kind row kept e, (found.issued, found.is_open, found.has_number, found.has_party, found.has_kind))
+    let found = that-passes number party kind (open_in_row row) (find-passes (λ (r : RowShown). is_issued_as number party kind (open_in_row r)) parts.rows row e) in
+    let such = such-call number party kind found.0 found.2 in
+    (row-replied-own parts number party kind row kept e, (found.0, found.1, such.has_number, such.has_party, such.has_kind))
 
 -- the open call that a reply is to is that of the row found by it
 pub replied : (parts : Parts) (history : History) (number : Number) (party : Party) (kind : Kind) → IsWellFormed history → AreKept parts.rows → AgreesWith parts history
     → call_replied history number party kind ≡ option_and_then open_in_row (row_replied parts.rows number party kind)
-unfolding is-call
 replied parts history number party kind form kept agrees = by (row_replied parts.rows number party kind) refl
   where
     test : Issued → Bool
@@ -93,35 +85,23 @@ replied parts history number party kind form kept agrees = by (row_replied parts
     row_test : RowShown → Bool
     row_test row = is_issued_as number party kind (open_in_row row)
 
-    -- a call that passes is the open call of its name
-    own_open : (issued : Issued) → IsAmong issued (issued_in history.items) → test issued ≡ true → (open_call history issued.name ≡ Some issued) × (is-call number party kind issued ≡ true)
-    own_open issued among e =
-        let parted = and_parts (is-call number party kind issued) (is_number_open number (open_call history issued.name)) e in
-        let now = number-open number (open_call history issued.name) parted.1 in
-        let sent = (open-sent issued.name history.items now.0 now.1).0 in
-        let is = one-call history.began history.items now.0 issued form sent among (now.2 ∙ sym (its-number number party kind issued parted.0)) in
-        (now.1 ∙ ap Some is, parted.0)
-
-    found : (row : RowShown) → row_replied parts.rows number party kind ≡ Some row → Passes number party kind (open_in_row row) → find test (issued_in history.items) ≡ open_in_row row
-    found row e call =
-        find-one test (issued_in history.items) call.issued there.0 passes only ∙ sym call.is_open
+    found : (row : RowShown) → row_replied parts.rows number party kind ≡ Some row → (call : Issued) → open_in_row row ≡ Some call → is-call number party kind call ≡ true → find test (issued_in history.items) ≡ open_in_row row
+    found row e call own_call is = find-one test (issued_in history.items) call there.0 passes only ∙ sym own_call
       where
-        is_open : open_call history row.name ≡ Some call.issued
-        is_open = sym (agrees.same_open_calls row.name) ∙ ap (option_and_then open_in_row) (row-replied-own parts number party kind row kept e) ∙ call.is_open
+        is_open : open_call history row.name ≡ Some call
+        is_open = sym (agrees.same_open_calls row.name) ∙ ap (option_and_then open_in_row) (row-replied-own parts number party kind row kept e) ∙ own_call
 
-        there : IsAmong call.issued (issued_in history.items) × (same_text call.issued.name row.name ≡ true)
-        there = open-sent row.name history.items call.issued is_open
+        there : IsAmong call (issued_in history.items) × (same_text call.name row.name ≡ true)
+        there = open-sent row.name history.items call is_open
 
-        own : open_call history call.issued.name ≡ Some call.issued
-        own = ap (open_call history) ((same_text-tells call.issued.name row.name).0 there.1) ∙ is_open
+        passes : test call ≡ true
+        passes = and_from (is-call number party kind call) (is_number_open number (open_call history call.name)) is
+            (ap (is_number_open number) (ap (open_call history) ((same_text-tells call.name row.name).0 there.1) ∙ is_open) ∙ (same_number-tells call.number number).1 (such-call number party kind call is).has_number)
 
-        passes : test call.issued ≡ true
-        passes = and_from (is-call number party kind call.issued) (is_number_open number (open_call history call.issued.name)) call.passes
-            (ap (is_number_open number) own ∙ (same_number-tells call.issued.number number).1 call.has_number)
-
-        only : (other : Issued) → IsAmong other (issued_in history.items) → test other ≡ true → other ≡ call.issued
+        only : (other : Issued) → IsAmong other (issued_in history.items) → test other ≡ true → other ≡ call
         only other among e =
-            one-call history.began history.items other call.issued form among there.0 (its-number number party kind other (own_open other among e).1 ∙ sym call.has_number)
+            one-call history.began history.items other call form among there.0
+            ((own-open history number party kind other form among e).1.has_number ∙ sym (such-call number party kind call is).has_number)
 
     unheard : (issued : Issued) → row_replied parts.rows number party kind ≡ None → is-call number party kind issued ≡ true → (o : Option RowShown) → row_of parts.rows issued.name ≡ o → option_and_then open_in_row o ≡ Some issued → ⊥
     unheard issued none passes None e f = none-some issued f
@@ -130,9 +110,11 @@ replied parts history number party kind form kept agrees = by (row_replied parts
         false≢true (sym (none_passes row_test parts.rows row none among) ∙ ap (is_issued_as number party kind) f ∙ passes)
 
     by : (o : Option RowShown) → row_replied parts.rows number party kind ≡ o → find test (issued_in history.items) ≡ option_and_then open_in_row o
-    by (Some row) e = found row e (row-passes parts number party kind row e)
+    by (Some row) e =
+        let call = that-passes number party kind (open_in_row row) (find-passes row_test parts.rows row e) in
+        found row e call.0 call.1 call.2
     by None e =
         find-none test (issued_in history.items)
         (λ issued among. false_from_ne_true (test issued) (λ passes.
-        let own = own_open issued among passes in
-        unheard issued e own.1 (row_of parts.rows issued.name) refl (agrees.same_open_calls issued.name ∙ own.0)))
+        let own = own-open history number party kind issued form among passes in
+        unheard issued e (and_parts (is-call number party kind issued) _ passes).0 (row_of parts.rows issued.name) refl (agrees.same_open_calls issued.name ∙ own.0)))

@@ -20,60 +20,34 @@ use Rattle.csi_orchestrator.specs.Catalog.{rows_of}
 use Rattle.csi_orchestrator.specs.Core.{parts_of}
 use Rattle.csi_orchestrator.specs.RowMoves.{Told, told, row_moves, IsRefusal}
 use Rattle.csi_orchestrator.proofs.Entries.{shown-closed}
+use Rattle.csi_orchestrator.proofs.SentRow.{goals-same, mark-same}
 
--- where every open call is given up, a name has the row that it had, closed
-closed-row : (rows : List RowShown) (name : List ℕ) → row_of (map closed rows) name ≡ option_map closed (row_of rows name)
-closed-row rows name = find-map (λ (row : RowShown). same_text row.name name) closed rows (λ row. refl)
-
--- what a row shows but for its open call is as it was
-closed-mark : (thing : Thing) (row : RowShown) → mark_of thing (closed row) ≡ mark_of thing row
-closed-mark (Exists name) row = refl
-closed-mark thing row = refl
-
-closed-goal : (row : RowShown) (goal : Option KeptGoal) → option_map (goal_shown (closed row)) goal ≡ option_map (goal_shown row) goal
-closed-goal row None = refl
-closed-goal row goal = refl
-
--- a reading of a row, if there is one
-read-closed : {X : Type 0} (read : RowShown → X) (o : Option RowShown) → ((row : RowShown) → read (closed row) ≡ read row) → option_map read (option_map closed o) ≡ option_map read o
-read-closed read None same = refl
-read-closed read (Some row) same = ap Some (same row)
-
-read-closed_option : {X : Type 0} (read : RowShown → Option X) (o : Option RowShown) → ((row : RowShown) → read (closed row) ≡ read row) → option_and_then read (option_map closed o) ≡ option_and_then read o
-read-closed_option read None same = refl
-read-closed_option read (Some row) same = same row
-
--- its marks, whether it is there, and its tries are read as before, and no call is open
-marks-closed : (thing : Thing) (o : Option RowShown) → mark_in (mark_of thing) (option_map closed o) ≡ mark_in (mark_of thing) o
-marks-closed thing None = refl
-marks-closed thing (Some row) = closed-mark thing row
-
-some-closed : (o : Option RowShown) → is_some (option_map closed o) ≡ is_some o
-some-closed None = refl
-some-closed (Some row) = refl
-
-tries-closed : (o : Option RowShown) → tries_in (option_map closed o) ≡ tries_in o
-tries-closed None = refl
-tries-closed (Some row) = refl
-
-none-open : (o : Option RowShown) → option_and_then open_in_row (option_map closed o) ≡ None
-none-open None = refl
-none-open (Some row) = refl
+-- where every open call is given up, what is read of a name's row, if it has one, is what the row with its call closed tells
+closed-row : {Y : Type 0} (read told : Option RowShown → Y) (rows : List RowShown) → read None ≡ told None → ((row : RowShown) → read (Some (closed row)) ≡ told (Some row)) → (name : List ℕ)
+    → read (row_of (map closed rows) name) ≡ told (row_of rows name)
+closed-row read told rows none some name = ap read (find-map (λ (row : RowShown). same_text row.name name) closed rows (λ row. refl)) ∙ by (row_of rows name)
+  where
+    by : (o : Option RowShown) → read (option_map closed o) ≡ told o
+    by None = none
+    by (Some row) = some row
 
 -- every call is given up
 pub session-agrees : (parts : Parts) (history : History) (session : ℕ) → Agrees (after_started session (view_of parts)) history → AgreesWith (in_session session parts) history
 session-agrees parts history session agrees =
     record {
       same_last = agrees.same_last;
-      same_rows = λ name. ap is_some (closed-row parts.rows name) ∙ some-closed (row_of parts.rows name) ∙ agrees.same_rows name;
-      same_marks = λ thing. ap (mark_in (mark_of thing)) (closed-row parts.rows (name_in thing)) ∙ marks-closed thing (row_of parts.rows (name_in thing)) ∙ agrees.same_marks thing;
-      same_ids = λ name. ap (option_and_then (λ (row : RowShown). row.id)) (closed-row parts.rows name) ∙ read-closed_option (λ (row : RowShown). row.id) (row_of parts.rows name) (λ row. refl) ∙ agrees.same_ids name;
-      same_goals = λ name. ap (option_and_then goal_in) (closed-row parts.rows name) ∙ read-closed_option goal_in (row_of parts.rows name) (λ row. closed-goal row row.goal) ∙ agrees.same_goals name;
-      same_arguments = λ name. ap (option_map (λ (row : RowShown). row.arguments)) (closed-row parts.rows name) ∙ read-closed (λ (row : RowShown). row.arguments) (row_of parts.rows name) (λ row. refl) ∙ agrees.same_arguments name;
-      same_holdings = λ name node there. ap (option_and_then (λ (row : RowShown). held_in row node)) (closed-row parts.rows name) ∙ read-closed_option (λ (row : RowShown). held_in row node) (row_of parts.rows name) (λ row. refl) ∙ agrees.same_holdings name node there;
-      same_open_calls = λ name. ap (option_and_then open_in_row) (closed-row parts.rows name) ∙ none-open (row_of parts.rows name) ∙ agrees.same_open_calls name;
-      same_counts = λ name. ap tries_in (closed-row parts.rows name) ∙ tries-closed (row_of parts.rows name) ∙ agrees.same_counts name;
+      same_rows = λ name. same is_some (λ row. refl) name ∙ agrees.same_rows name;
+      same_marks = λ thing. same (mark_in (mark_of thing)) (λ row. mark-same thing (closed row) row refl refl) (name_in thing) ∙ agrees.same_marks thing;
+      same_ids = λ name. same (option_and_then (λ (row : RowShown). row.id)) (λ row. refl) name ∙ agrees.same_ids name;
+      same_goals = λ name. same (option_and_then goal_in) (λ row. goals-same (closed row) row refl refl) name ∙ agrees.same_goals name;
+      same_arguments = λ name. same (option_map (λ (row : RowShown). row.arguments)) (λ row. refl) name ∙ agrees.same_arguments name;
+      same_holdings = λ name node there. same (option_and_then (λ (row : RowShown). held_in row node)) (λ row. refl) name ∙ agrees.same_holdings name node there;
+      same_open_calls = λ name. closed-row (option_and_then open_in_row) (λ o. None) parts.rows refl (λ row. refl) name ∙ agrees.same_open_calls name;
+      same_counts = λ name. same tries_in (λ row. refl) name ∙ agrees.same_counts name;
     }
+  where
+    same : {Y : Type 0} (read : Option RowShown → Y) → ((row : RowShown) → read (Some (closed row)) ≡ read (Some row)) → (name : List ℕ) → read (row_of (map closed parts.rows) name) ≡ read (row_of parts.rows name)
+    same read = closed-row read read parts.rows refl
 
 -- parts of the same nodes, last number and rows are the same
 same-parts : (a b : Parts) → a.nodes ≡ b.nodes → a.last ≡ b.last → a.rows ≡ b.rows → a ≡ b

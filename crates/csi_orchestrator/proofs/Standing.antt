@@ -1,16 +1,13 @@
 -- What stands at a place of a list, once another value was put at a place or at the end.
 use Rattle.std.proofs.Common.{◌≡◌, ◌<◌, ◌⊎◌, inl, inr, ℕ, zero, suc, List, [], ◌∷◌, ◌++◌, length, map, set, refl, ap, arith}
 use Rattle.std.specs.Prelude.{Some, slice_get}
-use Rattle.std.proofs.lemmas.Option.{none-some}
+use Rattle.std.proofs.lemmas.Option.{none-some, same_Some}
 use Rattle.csi_lists.specs.Places.{IsAt}
-
-some-is : {X : Type 0} (a b : X) → Some a ≡ Some b → a ≡ b
-some-is a b h = cc
 
 -- what stands at a place is what is read there, and the place is within the list
 pub at-of_get : {X : Type 0} (xs : List X) (i : ℕ) (x : X) → slice_get xs i ≡ Some x → IsAt xs i x
 at-of_get [] i x h = none-some x h
-at-of_get (y ∷ ys) zero x h = some-is y x h
+at-of_get (y ∷ ys) zero x h = same_Some y x h
 at-of_get (y ∷ ys) (suc i) x h = at-of_get ys i x h
 
 pub get-of_at : {X : Type 0} (xs : List X) (i : ℕ) (x : X) → IsAt xs i x → slice_get xs i ≡ Some x

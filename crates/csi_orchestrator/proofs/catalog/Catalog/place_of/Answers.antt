@@ -3,10 +3,11 @@ use Rattle.std.proofs.Common.{◌∙◌}
 use Rattle.csi_types.specs.Same.{same_text}
 use Rattle.csi_orchestrator.specs.declared.row.Row.{Row}
 use Rattle.csi_orchestrator.specs.Catalog.{rows_of, by_name}
-use Rattle.csi_orchestrator.proofs.Indexed.{position-keys, text-turned}
+use Rattle.csi_orchestrator.proofs.Indexed.{position-keys}
+use Rattle.csi_orchestrator.proofs.Texts.{same_text-flip}
 use Rattle.csi_orchestrator.proofs.catalog.Catalog.place_of.Goals as goal
 
 pub returns-clause-place : goal.returns-clause-place
 returns-clause-place c =
     c.get_index_of.ensures.index
-    ∙ position-keys by_name _ (λ (row : Row). same_text row.name c.args.name.now) c.args.self.now.rows.entries (rows_of c.args.self.now) c.requires.rows (λ row. text-turned c.args.name.now row.name)
+    ∙ position-keys by_name _ (λ (row : Row). same_text row.name c.args.name.now) c.args.self.now.rows.entries (rows_of c.args.self.now) c.requires.rows (λ row. same_text-flip c.args.name.now row.name)
