@@ -1,5 +1,5 @@
 -- A world after a plugin got a frame that was sent.
-use Rattle.std.proofs.Common.{◌≡◌, ◌⊎◌, ℕ, List, [], ◌∷◌, ◌++◌, Bool, true, false, refl, sym, ◌∙◌, ap, subst, inl, inr}
+use Rattle.std.proofs.Common.{◌≡◌, ◌⊎◌, ℕ, List, [], ◌∷◌, ◌++◌, Bool, true, false, refl, sym, ◌∙◌, ap, subst, inl, inr, ⊎_elim}
 use Rattle.std.specs.Prelude.{Option, Some, None, option_map}
 use Rattle.std.proofs.lemmas.Bool.{false≢true}
 use Rattle.std.proofs.lemmas.Option.{none-some, same_Some}
@@ -13,7 +13,6 @@ use Rattle.csi_types.specs.declared.call.Party.TheVariants.{Controller, Node}
 use Rattle.csi_types.specs.declared.frame.Body.{Body}
 use Rattle.csi_types.specs.declared.frame.Body.TheVariants as bodies
 use Rattle.csi_types.specs.declared.reply.Reply.{Reply}
-use Rattle.csi_types.specs.declared.status.Status.TheVariants.{Ok}
 use Rattle.csi_types.specs.Config.{Config}
 use Rattle.csi_types.specs.Delivery.{View, Acts, Rests, Becomes, IsClosed, kept_of}
 use Rattle.csi_types.specs.Fence.{Kept}
@@ -37,11 +36,11 @@ use Rattle.csi_orchestrator.specs.Readings.{issued_in}
 use Rattle.csi_world.specs.World.{World, node_state, with_node, with_frame}
 use Rattle.csi_world.specs.Step.{frame_of, answered_by_node, answered_by, answered}
 use Rattle.csi_world.proofs.WorldView.{party_of, node_view, plugin_view, view_of, ChangesOnly, acts-all, rests-all, closed-all}
-use Rattle.csi_world.proofs.Issued.{HasName, IsAnsweredOk, key_at, is_key, is_of, keyed}
+use Rattle.csi_world.proofs.Issued.{HasName, key_at, is_key, is_of, keyed}
 use Rattle.csi_world.proofs.Named.{KeepsIds, own-kept}
 use Rattle.csi_world.proofs.Heard.{sent-more}
-use Rattle.csi_world.proofs.Truth.{answer_to, delivery_of, ok-either, ok-before, truth-acts, truth-rests}
-use Rattle.csi_world.proofs.Standing.{stands-acts, stands-rests}
+use Rattle.csi_world.proofs.Truth.{answer_to, delivery_of, IsEffect, effect-acts, effect-rests, ok-either, truth-answered}
+use Rattle.csi_world.proofs.Standing.{Stands, stands-acts, stands-rests}
 use Rattle.csi_world.proofs.Guarded.{IsSoFar}
 use Rattle.csi_world.proofs.Recorded.{IsWell}
 use Rattle.csi_world.proofs.Reached.{IsReached, controller-next, node-next, node-of-frames, node_state-same, node_state-other, with_node-same}
@@ -67,10 +66,6 @@ pub record IsAnswer (old new : World) (call : Issued) (key : Key) (kind : Kind) 
   pub only : ChangesOnly (party_of key) old new
   pub keeps_ids : KeepsIds old.controller new.controller
   pub names : controllers.AreNamed new.controller
-
--- the call is of its key
-its_key : (call : Issued) (key : Key) → key_at call.name call.party call.call ≡ Some key → is_of key call ≡ true
-its_key call key e = ap (is_key key) e ∙ (same_key-tells key key).1 refl
 
 -- what is kept was kept, or is the answer
 kept-either : (old new : World) (call : Issued) (key : Key) (kind : Kind) (reply : Reply) → party_of key ≡ call.party → ChangesOnly (party_of key) old new
@@ -104,61 +99,50 @@ made-id controller name id names h = by (controllers.live_named name controller)
     by (Some volume) e h = ap (option_map (λ (v : Volume). v.id)) (names.live name volume e) ∙ ap Some (same volume.id h)
 
 -- where CreateVolume was carried out and answered OK, the name has the id that the reply has
-made-now : (old new : World) (call : Issued) (key : Key) (kind : Kind) (reply : Reply) (id : ℕ) (create : List ℕ) (required limit : ℕ) (capabilities : List Capability) → key_at call.name call.party call.call ≡ Some key
-    → controllers.AreNamed new.controller → Acts key (delivery_of call kind reply) (plugin_view old (party_of key)) (plugin_view new (party_of key))
-    → call.call ≡ calls.CreateVolume create required limit capabilities → reply.status ≡ Ok → reply.id ≡ Some id → HasName new.controller call.name id
-made-now old new call key kind reply id create required limit capabilities of_key names acts is ok given =
+made-now : (new : World) (call : Issued) (key : Key) (reply : Reply) (id : ℕ) (create : List ℕ) (required limit : ℕ) (capabilities : List Capability) → key_at call.name call.party call.call ≡ Some key
+    → controllers.AreNamed new.controller → (view_of new).held key ≡ asked call.call reply → call.call ≡ calls.CreateVolume create required limit capabilities → reply.id ≡ Some id → HasName new.controller call.name id
+made-now new call key reply id create required limit capabilities of_key names done is given =
     let exists : key ≡ Exists call.name = same_Some key (Exists call.name) (sym of_key ∙ ap (key_at call.name call.party) is) in
-    let held : (plugin_view new (party_of key)).held key ≡ Some (HasId id) = acts.done ok ∙ ap (λ c. asked c reply) is ∙ ap (option_map HasId) given in
+    let held : (plugin_view new (party_of key)).held key ≡ Some (HasId id) = done ∙ ap (λ c. asked c reply) is ∙ ap (option_map HasId) given in
     made-id new.controller call.name id names (subst (λ k. (plugin_view new (party_of k)).held k ≡ Some (HasId id)) exists held)
 
 -- all that is so of a world stays so
 pub well-answered : (old new : World) (call : Issued) (key : Key) (kind : Kind) (reply : Reply) → IsWell old → IsClosed (view_of new) → IsAnswer old new call key kind reply
     → IsSoFar old.history (old.frames ++ answer_to call kind reply ∷ []) (view_of new) new.controller
-well-answered old new call key kind reply well closed answer = by answer.becomes
+well-answered old new call key kind reply well closed answer =
+    record {
+      truth = truth-answered issued old.frames (view_of old) (view_of new) call key kind reply well.truth effect.0;
+      closed = closed;
+      named = record {
+        own = λ other among. own-kept old.controller new.controller other.name other.party other.call answer.keeps_ids (well.named.own other among);
+        made = λ other r id create required limit capabilities among is ok given.
+            ⊎_elim (λ was. answer.keeps_ids other.name id (well.named.made other r id create required limit capabilities among is was given))
+            (λ now. subst (λ (x : Issued). HasName new.controller x.name id) (sym now.0)
+            (made-now new call key reply id create required limit capabilities answer.of_key answer.names now.2 (ap (λ (x : Issued). x.call) (sym now.0) ∙ is) (ap (λ (x : Reply). x.id) (sym now.1) ∙ given)))
+            (ok-either issued old.frames (view_of old) (view_of new) call key kind reply well.truth effect.0 other r among ok);
+      };
+      names = answer.names;
+      heard = λ number status id among. sent-more issued issued old.frames (answer_to call kind reply) number status id (λ c there. there) (well.heard number status id among);
+      stands = effect.1;
+    }
   where
     issued : List Issued
     issued = issued_in old.history.items
 
     of : is_of key call ≡ true
-    of = its_key call key answer.of_key
+    of = ap (is_key key) answer.of_key ∙ (same_key-tells key key).1 refl
 
-    by : Acts key (delivery_of call kind reply) (plugin_view old (party_of key)) (plugin_view new (party_of key)) ⊎ Rests key (delivery_of call kind reply) (plugin_view old (party_of key)) (plugin_view new (party_of key))
-        → IsSoFar old.history (old.frames ++ answer_to call kind reply ∷ []) (view_of new) new.controller
-    by (inl acts) =
-        let all = acts-all old new key (delivery_of call kind reply) answer.only acts in
-        record {
-          truth = truth-acts issued old.frames (view_of old) (view_of new) call key kind reply well.truth well.closed answer.among of (kept-either old new call key kind reply answer.of_party answer.only acts) all;
-          closed = closed;
-          named = record {
-            own = λ other among. own-kept old.controller new.controller other.name other.party other.call answer.keeps_ids (well.named.own other among);
-            made = λ other r id create required limit capabilities among is ok given. made other r id create required limit capabilities among is given (ok-either issued old.frames call kind reply well.truth.numbers answer.among other r among ok);
-          };
-          names = answer.names;
-          heard = λ number status id among. sent-more issued issued old.frames (answer_to call kind reply) number status id (λ c there. there) (well.heard number status id among);
-          stands = stands-acts old.history.items (view_of old) (view_of new) call key kind reply answer.among of all well.stands;
-        }
-      where
-        made : (other : Issued) (r : Reply) (id : ℕ) (create : List ℕ) (required limit : ℕ) (capabilities : List Capability) → IsAmong other issued → other.call ≡ calls.CreateVolume create required limit capabilities → r.id ≡ Some id
-            → IsAnsweredOk old.frames other r ⊎ ((other ≡ call) × (r ≡ reply) × (r.status ≡ Ok)) → HasName new.controller other.name id
-        made other r id create required limit capabilities among is given (inl ok) = answer.keeps_ids other.name id (well.named.made other r id create required limit capabilities among is ok given)
-        made other r id create required limit capabilities among is given (inr e) =
-            subst (λ (x : Issued). HasName new.controller x.name id) (sym e.0)
-            (made-now old new call key kind reply id create required limit capabilities answer.of_key answer.names acts (sym (ap (λ (x : Issued). x.call) e.0) ∙ is) (subst (λ (x : Reply). x.status ≡ Ok) e.1 e.2) (ap (λ (x : Reply). x.id) (sym e.1) ∙ given))
-    by (inr rests) =
-        let all = rests-all old new key (delivery_of call kind reply) answer.only rests in
-        record {
-          truth = truth-rests issued old.frames (view_of old) (view_of new) call key kind reply well.truth answer.among answer.of_party all;
-          closed = closed;
-          named = record {
-            own = λ other among. own-kept old.controller new.controller other.name other.party other.call answer.keeps_ids (well.named.own other among);
-            made = λ other r id create required limit capabilities among is ok given. answer.keeps_ids other.name id
-                (well.named.made other r id create required limit capabilities among is (ok-before issued old.frames (view_of old) (view_of new) call key kind reply well.truth answer.of_party all other r ok) given);
-          };
-          names = answer.names;
-          heard = λ number status id among. sent-more issued issued old.frames (answer_to call kind reply) number status id (λ c there. there) (well.heard number status id among);
-          stands = stands-rests old.history.items (view_of old) (view_of new) call key kind reply all well.stands;
-        }
+    effect : IsEffect issued old.frames (view_of old) (view_of new) call key kind reply × Stands old.history.items (view_of new)
+    effect =
+        ⊎_elim (λ acts.
+        let all = acts-all old new key (delivery_of call kind reply) answer.only acts in (
+          effect-acts issued old.frames (view_of old) (view_of new) call key kind reply well.truth well.closed answer.among of (kept-either old new call key kind reply answer.of_party answer.only acts) all,
+          stands-acts old.history.items (view_of old) (view_of new) call key kind reply answer.among of all well.stands,
+        )) (λ rests.
+        let all = rests-all old new key (delivery_of call kind reply) answer.only rests in (
+          effect-rests issued old.frames (view_of old) (view_of new) call key kind reply well.truth answer.among of answer.of_party all,
+          stands-rests old.history.items (view_of old) (view_of new) call key kind reply all well.stands,
+        )) answer.becomes
 
 -- what is kept of every world
 pub record IsGood (config : Config) (world : World) : Type 0 where

@@ -1,8 +1,8 @@
 -- What the replies that were sent tell of the things: the latest call of a thing, if it was answered OK, left the thing
 -- as it asks, and its number is spent. It is kept by a call that is sent, and by one that a plugin gets.
-use Rattle.std.proofs.Common.{◌≡◌, ◌⊎◌, List, [], ◌∷◌, ◌++◌, Bool, true, false, cond, refl, sym, ◌∙◌, ap, subst, inl, inr}
+use Rattle.std.proofs.Common.{◌≡◌, ◌⊎◌, List, [], ◌∷◌, ◌++◌, Bool, true, false, cond, refl, sym, ◌∙◌, ap, subst, inl, inr, ⊎_elim}
 use Rattle.std.specs.Prelude.{Option, Some, None, find, IsTrue}
-use Rattle.std.proofs.lemmas.Bool.{false≢true}
+use Rattle.std.proofs.lemmas.Bool.{false≢true, false_from_ne_true}
 use Rattle.std.proofs.lemmas.Option.{same_Some}
 use Rattle.csi_lists.proofs.Options.{some_is_not_none}
 use Rattle.csi_types.specs.declared.number.Number.{Number}
@@ -64,11 +64,7 @@ reply_is_call number party kind reply call e = clash (ap (λ (f : Frame). f.body
 
 -- a reply among frames to which a call was added stood there before
 pub before_call : (frames : List Frame) (call : Issued) (number : Number) (party : Party) (kind : Kind) (reply : Reply) → IsAmong (reply_frame number party kind reply) (frames ++ frame_of call ∷ []) → IsAmong (reply_frame number party kind reply) frames
-before_call frames call number party kind reply among = by (among-either frames (frame_of call) (reply_frame number party kind reply) among)
-  where
-    by : IsAmong (reply_frame number party kind reply) frames ⊎ (reply_frame number party kind reply ≡ frame_of call) → IsAmong (reply_frame number party kind reply) frames
-    by (inl there) = there
-    by (inr e) = absurd (reply_is_call number party kind reply call e)
+before_call frames call number party kind reply among = ⊎_elim (λ there. there) (λ e. absurd (reply_is_call number party kind reply call e)) (among-either frames (frame_of call) _ among)
 
 -- a new number has no reply
 pub unanswered : (issued : List Issued) (frames : List Frame) (view : View) (call : Issued) (reply : Reply) → Truth issued frames view → ((older : Issued) → IsAmong older issued → IsBefore older.number call.number)
@@ -83,7 +79,9 @@ pub truth-sent : (issued : List Issued) (frames : List Frame) (view : View) (cal
 truth-sent issued frames view call truth later =
     let nobody = unanswered issued frames view call in
     record {
-      calls = λ frame c among is. calls frame c (among-either frames (frame_of call) frame among) is;
+      calls = λ frame c among is.
+          ⊎_elim (λ there. let old = truth.calls frame c there is in record { call = old.call; among = inr old.among; is = old.is }) (λ e. record { call = call; among = inl refl; is = e })
+          (among-either frames (frame_of call) frame among);
       replies = λ number party kind reply among.
           let sent = truth.replies number party kind reply (before_call frames call number party kind reply among) in
           record { call = sent.call; among = inr sent.among; has_number = sent.has_number };
@@ -95,10 +93,6 @@ truth-sent issued frames view call truth later =
       untouched = λ key none. untouched key (is_of key call) refl none;
     }
   where
-    calls : (frame : Frame) (c : Call) → IsAmong frame frames ⊎ (frame ≡ frame_of call) → frame.body ≡ bodies.Call c → IsFrameOf (call ∷ issued) frame
-    calls frame c (inl there) is = let old = truth.calls frame c there is in record { call = old.call; among = inr old.among; is = old.is }
-    calls frame c (inr e) is = record { call = call; among = inl refl; is = e }
-
     older_ok : (other : Issued) (reply : Reply) → IsAnsweredOk (frames ++ frame_of call ∷ []) other reply → IsAnsweredOk frames other reply
     older_ok other reply ok = (before_call frames call other.number other.party (kind_of other.call) reply ok.0, ok.1)
 
@@ -123,163 +117,111 @@ answer_to call kind reply = reply_frame call.number call.party kind reply
 abbrev pub delivery_of : Issued → Kind → Reply → Delivery
 delivery_of call kind reply = record { number = call.number; call = call.call; kind = kind; reply = reply }
 
--- the parts of the truth that hold of whatever a plugin answers to a sent call
-answered-calls : (issued : List Issued) (frames : List Frame) (view : View) (call : Issued) (kind : Kind) (reply : Reply) → Truth issued frames view
-    → (frame : Frame) (c : Call) → IsAmong frame (frames ++ answer_to call kind reply ∷ []) → frame.body ≡ bodies.Call c → IsFrameOf issued frame
-answered-calls issued frames view call kind reply truth frame c among is = by (among-either frames (answer_to call kind reply) frame among)
-  where
-    clash : bodies.Reply kind reply ≡ bodies.Call c → ⊥
-    clash h = cc
-
-    by : IsAmong frame frames ⊎ (frame ≡ answer_to call kind reply) → IsFrameOf issued frame
-    by (inl there) = truth.calls frame c there is
-    by (inr e) = absurd (clash (sym (ap (λ (f : Frame). f.body) e) ∙ is))
-
-answered-replies : (issued : List Issued) (frames : List Frame) (view : View) (call : Issued) (kind : Kind) (reply : Reply) → Truth issued frames view → IsAmong call issued
-    → (number : Number) (party : Party) (k : Kind) (r : Reply) → IsAmong (reply_frame number party k r) (frames ++ answer_to call kind reply ∷ []) → IsSent issued number
-answered-replies issued frames view call kind reply truth there number party k r among = by (among-either frames (answer_to call kind reply) (reply_frame number party k r) among)
-  where
-    by : IsAmong (reply_frame number party k r) frames ⊎ (reply_frame number party k r ≡ answer_to call kind reply) → IsSent issued number
-    by (inl old) = truth.replies number party k r old
-    by (inr e) = record { call = call; among = there; has_number = sym (ap (λ (f : Frame). f.number) e) }
-
-answered-ids : (issued : List Issued) (frames : List Frame) (view : View) (call : Issued) (kind : Kind) (reply : Reply) → Truth issued frames view → (reply.status ≡ Ok → IsTrue (has_id_by_rule kind reply))
-    → (number : Number) (party : Party) (k : Kind) (r : Reply) → IsAmong (reply_frame number party k r) (frames ++ answer_to call kind reply ∷ []) → r.status ≡ Ok → IsTrue (has_id_by_rule k r)
-answered-ids issued frames view call kind reply truth rule number party k r among ok = by (among-either frames (answer_to call kind reply) (reply_frame number party k r) among)
-  where
-    same_kind : bodies.Reply k r ≡ bodies.Reply kind reply → k ≡ kind
-    same_kind e = cc
-
-    same_reply : bodies.Reply k r ≡ bodies.Reply kind reply → r ≡ reply
-    same_reply e = cc
-
-    by : IsAmong (reply_frame number party k r) frames ⊎ (reply_frame number party k r ≡ answer_to call kind reply) → IsTrue (has_id_by_rule k r)
-    by (inl old) = truth.ids number party k r old ok
-    by (inr e) =
-        let body : bodies.Reply k r ≡ bodies.Reply kind reply = ap (λ (f : Frame). f.body) e in
-        let is : r ≡ reply = same_reply body in
-        subst (λ x. IsTrue (has_id_by_rule x r)) (sym (same_kind body)) (subst (λ (x : Reply). IsTrue (has_id_by_rule kind x)) (sym is) (rule (subst (λ (x : Reply). x.status ≡ Ok) is ok)))
-
--- an OK is an old one, or the answer
-pub ok-either : (issued : List Issued) (frames : List Frame) (call : Issued) (kind : Kind) (reply : Reply) → EachTwo ComesAfter issued → IsAmong call issued → (other : Issued) (r : Reply) → IsAmong other issued
-    → IsAnsweredOk (frames ++ answer_to call kind reply ∷ []) other r → IsAnsweredOk frames other r ⊎ ((other ≡ call) × (r ≡ reply) × (r.status ≡ Ok))
-ok-either issued frames call kind reply numbers there other r among ok = by (among-either frames (answer_to call kind reply) (reply_frame other.number other.party (kind_of other.call) r) ok.0)
-  where
-    same : bodies.Reply (kind_of other.call) r ≡ bodies.Reply kind reply → r ≡ reply
-    same e = cc
-
-    by : IsAmong (reply_frame other.number other.party (kind_of other.call) r) frames ⊎ (reply_frame other.number other.party (kind_of other.call) r ≡ answer_to call kind reply)
-        → IsAnsweredOk frames other r ⊎ ((other ≡ call) × (r ≡ reply) × (r.status ≡ Ok))
-    by (inl old) = inl (old, ok.1)
-    by (inr e) = inr (one-number issued numbers other call among there (ap (λ (f : Frame). f.number) e), same (ap (λ (f : Frame). f.body) e), ok.1)
-
 -- a call is of one thing
-pub one-key : (call : Issued) (a b : Key) → is_of a call ≡ true → is_of b call ≡ true → a ≡ b
+one-key : (call : Issued) (a b : Key) → is_of a call ≡ true → is_of b call ≡ true → a ≡ b
 one-key call a b p q = by (key_at call.name call.party call.call) p q
   where
     by : (o : Option Key) → is_key a o ≡ true → is_key b o ≡ true → a ≡ b
     by None p q = absurd (false≢true p)
     by (Some k) p q = (same_key-tells a k).0 p ∙ sym ((same_key-tells b k).0 q)
 
--- a plugin carried a sent call out
-pub truth-acts : (issued : List Issued) (frames : List Frame) (old new : View) (call : Issued) (key : Key) (kind : Kind) (reply : Reply) → Truth issued frames old → IsClosed old → IsAmong call issued → is_of key call ≡ true
-    → ((other : Key) (k : Kept) → new.kept other ≡ Some k → (old.kept other ≡ Some k) ⊎ (IsAmong (reply_frame k.number (party_of other) k.kind k.reply) (frames ++ answer_to call kind reply ∷ [])))
-    → Acts key (delivery_of call kind reply) old new → Truth issued (frames ++ answer_to call kind reply ∷ []) new
-truth-acts issued frames old new call key kind reply truth closed there of keeps acts =
-    record {
-      calls = answered-calls issued frames old call kind reply truth;
-      replies = answered-replies issued frames old call kind reply truth there;
-      ids = answered-ids issued frames old call kind reply truth acts.with_id;
-      kept = λ other k is. kept other k (keeps other k is);
-      numbers = truth.numbers;
-      spent = λ other k r among its ok. spent other k r among its (ok-either issued frames call kind reply truth.numbers there other r among ok);
-      told = λ other k r found ok. told other k r found (ok-either issued frames call kind reply truth.numbers there other r (among-find (is_of k) issued other found) ok);
-      untouched = λ k none. untouched k none (same_key k key) refl;
-    }
-  where
-    kept : (other : Key) (k : Kept) → (old.kept other ≡ Some k) ⊎ (IsAmong (reply_frame k.number (party_of other) k.kind k.reply) (frames ++ answer_to call kind reply ∷ []))
-        → IsAmong (reply_frame k.number (party_of other) k.kind k.reply) (frames ++ answer_to call kind reply ∷ [])
-    kept other k (inl e) = among-append frames (answer_to call kind reply ∷ []) _ (truth.kept other k e)
-    kept other k (inr now) = now
+-- the frame of a reply tells its kind and what it says
+reply-parts : (a b : Number) (p q : Party) (k l : Kind) (r s : Reply) → reply_frame a p k r ≡ reply_frame b q l s → (k ≡ l) × (r ≡ s)
+reply-parts a b p q k l r s e = let body : bodies.Reply k r ≡ bodies.Reply l s = ap (λ (f : Frame). f.body) e in (cc, cc)
 
-    ok_now : (r : Reply) → r ≡ reply → r.status ≡ Ok → reply.status ≡ Ok
-    ok_now r e ok = subst (λ (x : Reply). x.status ≡ Ok) e ok
+-- a sent call that a plugin answered, and the things before and after it
+module _ (issued : List Issued) (frames : List Frame) (old new : View) (call : Issued) (key : Key) (kind : Kind) (reply : Reply) where
+  -- what became of the things by a sent call that a plugin answered: an OK was sent before, or its thing is as it asks; and
+  -- a thing stays where no call of it was sent, or an OK to the latest one was
+  pub record IsEffect : Type 0 where
+    pub among : IsAmong call issued
+    pub of : is_of key call ≡ true
+    pub rule : reply.status ≡ Ok → IsTrue (has_id_by_rule kind reply)
+    pub kept : (other : Key) (k : Kept) → new.kept other ≡ Some k → IsAmong (reply_frame k.number (party_of other) k.kind k.reply) (frames ++ answer_to call kind reply ∷ [])
+    pub spent : (other : Key) (number : Number) → IsTrue (old.is_spent other number) → IsTrue (new.is_spent other number)
+    pub ok : reply.status ≡ Ok → IsAmong (answer_to call kind reply) frames ⊎ ((new.held key ≡ asked call.call reply) × IsTrue (new.is_spent key call.number))
+    pub untouched : (k : Key) → find (is_of k) issued ≡ None → new.held k ≡ old.held k
+    pub latest : (other : Issued) (k : Key) (r : Reply) → find (is_of k) issued ≡ Some other → IsAnsweredOk frames other r → new.held k ≡ old.held k
 
-    spent : (other : Issued) (k : Key) (r : Reply) → IsAmong other issued → is_of k other ≡ true → IsAnsweredOk frames other r ⊎ ((other ≡ call) × (r ≡ reply) × (r.status ≡ Ok)) → IsTrue (new.is_spent k other.number)
-    spent other k r among its (inl ok) = acts.stays_spent k other.number (truth.spent other k r among its ok)
-    spent other k r among its (inr e) =
-        let same : k ≡ key = one-key call k key (subst (λ (x : Issued). is_of k x ≡ true) e.0 its) of in
-        let now : IsTrue (new.is_spent key call.number) = acts.spent (ok_now r e.1 e.2) in
-        subst (λ (x : Issued). IsTrue (new.is_spent k x.number)) (sym e.0) (subst (λ x. IsTrue (new.is_spent x call.number)) (sym same) now)
+  -- a plugin carried the call out
+  pub effect-acts : Truth issued frames old → IsClosed old → IsAmong call issued → is_of key call ≡ true
+      → ((other : Key) (k : Kept) → new.kept other ≡ Some k → (old.kept other ≡ Some k) ⊎ (IsAmong (reply_frame k.number (party_of other) k.kind k.reply) (frames ++ answer_to call kind reply ∷ [])))
+      → Acts key (delivery_of call kind reply) old new → IsEffect
+  effect-acts truth closed there of keeps acts =
+      record {
+        among = there;
+        of = of;
+        rule = acts.with_id;
+        kept = λ other k is. ⊎_elim (λ was. among-append frames (answer_to call kind reply ∷ []) _ (truth.kept other k was)) (λ now. now) (keeps other k is);
+        spent = acts.stays_spent;
+        ok = λ ok. inr (acts.done ok, acts.spent ok);
+        untouched = λ k none. stays k (λ same. false≢true (sym (none_passes (is_of k) issued call none there) ∙ ap (λ x. is_of x call) same ∙ of));
+        latest = λ other k r found ok. stays k (λ same. overtaken other r (subst (λ x. find (is_of x) issued ≡ Some other) same found) ok);
+      }
+    where
+      stays : (k : Key) → (k ≡ key → ⊥) → new.held k ≡ old.held k
+      stays k differs = acts.others k (false_from_ne_true (same_key k key) (λ e. differs ((same_key-tells k key).0 e)))
 
-    -- the latest call of a thing was answered OK, so an earlier one wasn't carried out
-    overtaken : (other : Issued) (r : Reply) → find (is_of key) issued ≡ Some other → IsAnsweredOk frames other r → ⊥
-    overtaken other r found ok = by (latest-last key issued other call truth.numbers found there of)
-      where
-        latest : IsTrue (old.is_spent key other.number)
-        latest = truth.spent other key r (among-find (is_of key) issued other found) (find-passes (is_of key) issued other found) ok
+      -- the latest call of a thing was answered OK, so an earlier one wasn't carried out
+      overtaken : (other : Issued) (r : Reply) → find (is_of key) issued ≡ Some other → IsAnsweredOk frames other r → ⊥
+      overtaken other r found ok =
+          let latest : IsTrue (old.is_spent key other.number) = truth.spent other key r (among-find (is_of key) issued other found) (find-passes (is_of key) issued other found) ok in
+          false≢true (sym acts.was_fresh ∙ ⊎_elim (λ e. ap (λ (x : Issued). old.is_spent key x.number) e ∙ latest) (λ before. closed key call.number other.number before latest)
+          (latest-last key issued other call truth.numbers found there of))
 
-        clash : IsTrue (old.is_spent key call.number) → ⊥
-        clash h = false≢true (sym acts.was_fresh ∙ h)
+  -- a plugin didn't carry it out: an OK was kept, so it was sent before
+  pub effect-rests : Truth issued frames old → IsAmong call issued → is_of key call ≡ true → party_of key ≡ call.party → Rests key (delivery_of call kind reply) old new → IsEffect
+  effect-rests truth there of party rests =
+      record {
+        among = there;
+        of = of;
+        rule = λ ok. truth.ids call.number call.party kind reply (sent ok) ok;
+        kept = λ other k is. among-append frames (answer_to call kind reply ∷ []) _ (truth.kept other k (sym (rests.same.kept other) ∙ is));
+        spent = λ other number spent. rests.same.is_spent other number ∙ spent;
+        ok = λ ok. inl (sent ok);
+        untouched = λ k none. rests.same.held k;
+        latest = λ other k r found ok. rests.same.held k;
+      }
+    where
+      sent : reply.status ≡ Ok → IsAmong (answer_to call kind reply) frames
+      sent ok = subst (λ p. IsAmong (reply_frame call.number p kind reply) frames) party (truth.kept key (kept_of (delivery_of call kind reply)) (rests.was_kept ok))
 
-        by : (call ≡ other) ⊎ IsBefore call.number other.number → ⊥
-        by (inl e) = clash (subst (λ (x : Issued). IsTrue (old.is_spent key x.number)) (sym e) latest)
-        by (inr before) = clash (closed key call.number other.number before latest)
+  -- an OK is an old one, or the answer, and then the call's thing is as it asks
+  pub ok-either : Truth issued frames old → IsEffect → (other : Issued) (r : Reply) → IsAmong other issued → IsAnsweredOk (frames ++ answer_to call kind reply ∷ []) other r
+      → IsAnsweredOk frames other r ⊎ ((other ≡ call) × (r ≡ reply) × (new.held key ≡ asked call.call reply) × IsTrue (new.is_spent key call.number))
+  ok-either truth effect other r among ok =
+      ⊎_elim (λ there. inl (there, ok.1)) (λ e.
+      let says : r ≡ reply = (reply-parts _ _ _ _ (kind_of other.call) kind r reply e).1 in
+      let one : other ≡ call = one-number issued truth.numbers other call among effect.among (ap (λ (f : Frame). f.number) e) in
+      ⊎_elim (λ sent. inl (subst (λ (f : Frame). IsAmong f frames) (sym e) sent, ok.1)) (λ done. inr (one, says, done.0, done.1))
+      (effect.ok (subst (λ (x : Reply). x.status ≡ Ok) says ok.1)))
+      (among-either frames (answer_to call kind reply) (reply_frame other.number other.party (kind_of other.call) r) ok.0)
 
-    told_before : (other : Issued) (k : Key) (r : Reply) → find (is_of k) issued ≡ Some other → IsAnsweredOk frames other r → (b : Bool) → same_key k key ≡ b → new.held k ≡ asked other.call r
-    told_before other k r found ok true e =
-        let same : k ≡ key = (same_key-tells k key).0 e in
-        absurd (overtaken other r (subst (λ x. find (is_of x) issued ≡ Some other) same found) ok)
-    told_before other k r found ok false e = acts.others k e ∙ truth.told other k r found ok
+  -- after a plugin answered a sent call
+  pub truth-answered : Truth issued frames old → IsEffect → Truth issued (frames ++ answer_to call kind reply ∷ []) new
+  truth-answered truth effect =
+      record {
+        calls = λ frame c among is. ⊎_elim (λ there. truth.calls frame c there is) (λ e. absurd (no_call c (sym (ap (λ (f : Frame). f.body) e) ∙ is))) (among-either frames _ frame among);
+        replies = λ number party k r among.
+            ⊎_elim (truth.replies number party k r) (λ e. record { call = call; among = effect.among; has_number = sym (ap (λ (f : Frame). f.number) e) }) (among-either frames _ _ among);
+        ids = λ number party k r among ok. ⊎_elim (λ there. truth.ids number party k r there ok) (λ e. rule k r (reply-parts number call.number party call.party k kind r reply e) ok) (among-either frames _ _ among);
+        kept = effect.kept;
+        numbers = truth.numbers;
+        spent = λ other k r among of ok.
+            ⊎_elim (λ was. effect.spent k other.number (truth.spent other k r among of was))
+            (λ now. ap (λ (x : Issued). new.is_spent k x.number) now.0 ∙ ap (λ x. new.is_spent x call.number) (its_key k other now.0 of) ∙ now.3) (ok-either truth effect other r among ok);
+        told = λ other k r found ok.
+            ⊎_elim (λ was. effect.latest other k r found was ∙ truth.told other k r found was)
+            (λ now. ap new.held (its_key k other now.0 (find-passes (is_of k) issued other found)) ∙ now.2 ∙ ap (asked call.call) (sym now.1) ∙ ap (λ (x : Issued). asked x.call r) (sym now.0))
+            (ok-either truth effect other r (among-find (is_of k) issued other found) ok);
+        untouched = λ k none. effect.untouched k none ∙ truth.untouched k none;
+      }
+    where
+      no_call : (c : Call) → bodies.Reply kind reply ≡ bodies.Call c → ⊥
+      no_call c h = cc
 
-    told : (other : Issued) (k : Key) (r : Reply) → find (is_of k) issued ≡ Some other → IsAnsweredOk frames other r ⊎ ((other ≡ call) × (r ≡ reply) × (r.status ≡ Ok)) → new.held k ≡ asked other.call r
-    told other k r found (inl ok) = told_before other k r found ok (same_key k key) refl
-    told other k r found (inr e) =
-        let same : k ≡ key = one-key call k key (subst (λ (x : Issued). is_of k x ≡ true) e.0 (find-passes (is_of k) issued other found)) of in
-        ap new.held same ∙ acts.done (ok_now r e.1 e.2) ∙ ap (asked call.call) (sym e.1) ∙ ap (λ (x : Issued). asked x.call r) (sym e.0)
+      rule : (k : Kind) (r : Reply) → (k ≡ kind) × (r ≡ reply) → r.status ≡ Ok → IsTrue (has_id_by_rule k r)
+      rule k r same ok = ap (λ x. has_id_by_rule x r) same.0 ∙ ap (has_id_by_rule kind) same.1 ∙ effect.rule (subst (λ (x : Reply). x.status ≡ Ok) same.1 ok)
 
-    untouched : (k : Key) → find (is_of k) issued ≡ None → (b : Bool) → same_key k key ≡ b → new.held k ≡ None
-    untouched k none true e =
-        let same : k ≡ key = (same_key-tells k key).0 e in
-        absurd (false≢true (sym (none_passes (is_of k) issued call none there) ∙ subst (λ x. is_of x call ≡ true) (sym same) of))
-    untouched k none false e = acts.others k e ∙ truth.untouched k none
-
--- an OK to a call that wasn't carried out was kept, so it was sent before
-sent_before : (issued : List Issued) (frames : List Frame) (old new : View) (call : Issued) (key : Key) (kind : Kind) (reply : Reply) → Truth issued frames old → party_of key ≡ call.party
-    → Rests key (delivery_of call kind reply) old new → reply.status ≡ Ok → IsAmong (answer_to call kind reply) frames
-sent_before issued frames old new call key kind reply truth party rests ok =
-    subst (λ p. IsAmong (reply_frame call.number p kind reply) frames) party (truth.kept key (kept_of (delivery_of call kind reply)) (rests.was_kept ok))
-
--- where a call wasn't carried out, each OK among the frames with its answer was sent before
-pub ok-before : (issued : List Issued) (frames : List Frame) (old new : View) (call : Issued) (key : Key) (kind : Kind) (reply : Reply) → Truth issued frames old → party_of key ≡ call.party
-    → Rests key (delivery_of call kind reply) old new → (other : Issued) (r : Reply) → IsAnsweredOk (frames ++ answer_to call kind reply ∷ []) other r → IsAnsweredOk frames other r
-ok-before issued frames old new call key kind reply truth party rests other r ok =
-    by (among-either frames (answer_to call kind reply) (reply_frame other.number other.party (kind_of other.call) r) ok.0)
-  where
-    same_reply : bodies.Reply (kind_of other.call) r ≡ bodies.Reply kind reply → r ≡ reply
-    same_reply e = cc
-
-    by : IsAmong (reply_frame other.number other.party (kind_of other.call) r) frames ⊎ (reply_frame other.number other.party (kind_of other.call) r ≡ answer_to call kind reply) → IsAnsweredOk frames other r
-    by (inl old_one) = (old_one, ok.1)
-    by (inr e) =
-        let is : r ≡ reply = same_reply (ap (λ (f : Frame). f.body) e) in
-        let sent = sent_before issued frames old new call key kind reply truth party rests (subst (λ (x : Reply). x.status ≡ Ok) is ok.1) in
-        (subst (λ (f : Frame). IsAmong f frames) (sym e) sent, ok.1)
-
--- a plugin didn't carry a sent call out
-pub truth-rests : (issued : List Issued) (frames : List Frame) (old new : View) (call : Issued) (key : Key) (kind : Kind) (reply : Reply) → Truth issued frames old → IsAmong call issued → party_of key ≡ call.party
-    → Rests key (delivery_of call kind reply) old new → Truth issued (frames ++ answer_to call kind reply ∷ []) new
-truth-rests issued frames old new call key kind reply truth there party rests =
-    let same = rests.same in
-    let before = ok-before issued frames old new call key kind reply truth party rests in
-    record {
-      calls = answered-calls issued frames old call kind reply truth;
-      replies = answered-replies issued frames old call kind reply truth there;
-      ids = answered-ids issued frames old call kind reply truth
-          (λ ok. truth.ids call.number call.party kind reply (sent_before issued frames old new call key kind reply truth party rests ok) ok);
-      kept = λ other k is. among-append frames (answer_to call kind reply ∷ []) _ (truth.kept other k (sym (same.kept other) ∙ is));
-      numbers = truth.numbers;
-      spent = λ other k r among its ok. same.is_spent k other.number ∙ truth.spent other k r among its (before other r ok);
-      told = λ other k r found ok. same.held k ∙ truth.told other k r found (before other r ok);
-      untouched = λ k none. same.held k ∙ truth.untouched k none;
-    }
+      its_key : (k : Key) (other : Issued) → other ≡ call → is_of k other ≡ true → k ≡ key
+      its_key k other same of = one-key call k key (subst (λ (x : Issued). is_of k x ≡ true) same of) effect.of
