@@ -40,7 +40,7 @@ use Rattle.csi_world.proofs.Issued.{HasName, key_at, is_key, is_of, keyed}
 use Rattle.csi_world.proofs.Named.{KeepsIds, own-kept}
 use Rattle.csi_world.proofs.Heard.{sent-more}
 use Rattle.csi_world.proofs.Truth.{answer_to, delivery_of, IsEffect, effect-acts, effect-rests, ok-either, truth-answered}
-use Rattle.csi_world.proofs.Standing.{Stands, stands-acts, stands-rests}
+use Rattle.csi_world.proofs.Standing.{stands-answered}
 use Rattle.csi_world.proofs.Guarded.{IsSoFar}
 use Rattle.csi_world.proofs.Recorded.{IsWell}
 use Rattle.csi_world.proofs.Reached.{IsReached, controller-next, node-next, node-of-frames, node_state-same, node_state-other, with_node-same}
@@ -111,7 +111,7 @@ pub well-answered : (old new : World) (call : Issued) (key : Key) (kind : Kind) 
     → IsSoFar old.history (old.frames ++ answer_to call kind reply ∷ []) (view_of new) new.controller
 well-answered old new call key kind reply well closed answer =
     record {
-      truth = truth-answered issued old.frames (view_of old) (view_of new) call key kind reply well.truth effect.0;
+      truth = truth-answered issued old.frames (view_of old) (view_of new) call key kind reply well.truth well.closed effect;
       closed = closed;
       named = record {
         own = λ other among. own-kept old.controller new.controller other.name other.party other.call answer.keeps_ids (well.named.own other among);
@@ -119,11 +119,11 @@ well-answered old new call key kind reply well closed answer =
             ⊎_elim (λ was. answer.keeps_ids other.name id (well.named.made other r id create required limit capabilities among is was given))
             (λ now. subst (λ (x : Issued). HasName new.controller x.name id) (sym now.0)
             (made-now new call key reply id create required limit capabilities answer.of_key answer.names now.2 (ap (λ (x : Issued). x.call) (sym now.0) ∙ is) (ap (λ (x : Reply). x.id) (sym now.1) ∙ given)))
-            (ok-either issued old.frames (view_of old) (view_of new) call key kind reply well.truth effect.0 other r among ok);
+            (ok-either issued old.frames (view_of old) (view_of new) call key kind reply well.truth effect other r among ok);
       };
       names = answer.names;
       heard = λ number status id among. sent-more issued issued old.frames (answer_to call kind reply) number status id (λ c there. there) (well.heard number status id among);
-      stands = effect.1;
+      stands = stands-answered old.history.items old.frames (view_of old) (view_of new) call key kind reply effect well.stands;
     }
   where
     issued : List Issued
@@ -132,17 +132,12 @@ well-answered old new call key kind reply well closed answer =
     of : is_of key call ≡ true
     of = ap (is_key key) answer.of_key ∙ (same_key-tells key key).1 refl
 
-    effect : IsEffect issued old.frames (view_of old) (view_of new) call key kind reply × Stands old.history.items (view_of new)
+    effect : IsEffect issued old.frames (view_of old) (view_of new) call key kind reply
     effect =
         ⊎_elim (λ acts.
-        let all = acts-all old new key (delivery_of call kind reply) answer.only acts in (
-          effect-acts issued old.frames (view_of old) (view_of new) call key kind reply well.truth well.closed answer.among of (kept-either old new call key kind reply answer.of_party answer.only acts) all,
-          stands-acts old.history.items (view_of old) (view_of new) call key kind reply answer.among of all well.stands,
-        )) (λ rests.
-        let all = rests-all old new key (delivery_of call kind reply) answer.only rests in (
-          effect-rests issued old.frames (view_of old) (view_of new) call key kind reply well.truth answer.among of answer.of_party all,
-          stands-rests old.history.items (view_of old) (view_of new) call key kind reply all well.stands,
-        )) answer.becomes
+        effect-acts issued old.frames (view_of old) (view_of new) call key kind reply well.truth answer.among of (kept-either old new call key kind reply answer.of_party answer.only acts)
+        (acts-all old new key (delivery_of call kind reply) answer.only acts)) (λ rests.
+        effect-rests issued old.frames (view_of old) (view_of new) call key kind reply well.truth answer.among of answer.of_party (rests-all old new key (delivery_of call kind reply) answer.only rests)) answer.becomes
 
 -- what is kept of every world
 pub record IsGood (config : Config) (world : World) : Type 0 where

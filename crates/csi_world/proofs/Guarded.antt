@@ -1,7 +1,7 @@
 -- Why a call that keeps the guards leaves what stands: it is for its own volume, it is of no attachment below which
 -- something stands, and it stages only what is attached so.
-use Rattle.std.proofs.Common.{◌≡◌, ◌⊎◌, ℕ, List, [], ◌∷◌, Bool, true, false, cond, refl, sym, ◌∙◌, ap, subst, inl, inr}
-use Rattle.std.specs.Prelude.{Some, None, find, filter, filter_map, ◌==◌, ◌&&◌, IsTrue}
+use Rattle.std.proofs.Common.{◌≡◌, ℕ, List, [], ◌∷◌, Bool, true, false, cond, refl, sym, ◌∙◌, ap, subst, inl, inr, ⊎_elim}
+use Rattle.std.specs.Prelude.{Some, None, find, filter, filter_map, ◌==◌, ◌&&◌}
 use Rattle.std.proofs.lemmas.Bool.{and_parts, and_from, eqb-true, eq-eqb, false≢true, false_from_ne_true}
 use Rattle.csi_types.specs.declared.capability.Capability.{Capability}
 use Rattle.csi_types.specs.declared.call.Call.{Call}
@@ -12,11 +12,9 @@ use Rattle.csi_types.specs.declared.reply.Reply.{Reply}
 use Rattle.csi_types.specs.Delivery.{View, IsClosed}
 use Rattle.csi_types.specs.Frame.{Frame}
 use Rattle.csi_types.specs.Key.{Key, Attached, Staged, StagedAs, asked}
-use Rattle.csi_lists.specs.Members.{IsAmong}
 use Rattle.csi_lists.proofs.Members.{among-find, none_passes}
 use Rattle.csi_lists.proofs.Searches.{find-passes, find-same_among}
 use Rattle.std.proofs.lemmas.Option.{none-some, same_Some}
-use Rattle.csi_types.specs.Number.{IsBefore}
 use Rattle.csi_types.specs.Same.{same_text}
 use Rattle.csi_types.proofs.Equality.{same_text-tells}
 use Rattle.csi_controller.specs.State.{ControllerState}
@@ -26,13 +24,13 @@ use Rattle.csi_orchestrator.specs.declared.thing.Thing.TheVariants as things
 use Rattle.csi_orchestrator.specs.declared.thing.Known.TheVariants.{Yes, No}
 use Rattle.csi_orchestrator.specs.Thing.{Issued, touches, is_thing, thing_at, is_doing}
 use Rattle.csi_orchestrator.specs.History.{Held, History}
-use Rattle.csi_orchestrator.specs.Readings.{newest, issued_in, has_success, known, held_by, held}
+use Rattle.csi_orchestrator.specs.Readings.{newest, issued_in, known, held_by, held}
 use Rattle.csi_orchestrator.specs.Guards.{IsGuarded, HasId}
-use Rattle.csi_world.proofs.Issued.{HasName, IsOwn, IsOne, Attachment, Staging, key_at, is_key, is_of, latest-last}
+use Rattle.csi_world.proofs.Issued.{HasName, IsAnsweredOk, IsOwn, IsOne, Attachment, Staging, key_at, is_key, is_of, latest-last}
 use Rattle.csi_world.proofs.Named.{Named, touches-key}
 use Rattle.csi_world.proofs.Heard.{IsHeard, IsLatest, success-ok, id-given, known-yes, known-no, latest-known}
 use Rattle.csi_world.proofs.Truth.{Truth}
-use Rattle.csi_world.proofs.Standing.{MayStage, IsStanding, IsAttachedSo, Stands}
+use Rattle.csi_world.proofs.Standing.{staging, IsStanding, IsAttachedSo, Stands}
 
 -- what is so of a history, the frames that were sent, the things, and the controller
 pub record IsSoFar (history : History) (frames : List Frame) (view : View) (controller : ControllerState) : Type 0 where
@@ -81,63 +79,52 @@ asked-undoing (calls.NodeUnstageVolume id) reply h = refl
 asked-undoing (calls.NodeUnpublishVolume id target) reply h = refl
 asked-undoing c reply h = absurd (false≢true (sym h))
 
--- nothing stands where staging is known to be undone
-stages-of : (issued : List Issued) (view : View) (id : ℕ) (node : List ℕ) (capability : Capability) (may : MayStage issued view id node capability) → is_of (Staged id node) may.call ≡ true
-stages-of issued view id node capability may =
-    ap (λ party. is_key (Staged id node) (key_at may.call.name party may.call.call)) may.of_node
-    ∙ ap (λ c. is_key (Staged id node) (key_at may.call.name (Node node) c)) may.stages
-    ∙ and_from (id == id) (same_text node node) (eq-eqb id id refl) ((same_text-tells node node).1 refl)
+-- the latest call of a thing, where its success was heard, was answered OK and left the thing as it asks
+pub latest-told : (history : History) (frames : List Frame) (view : View) (controller : ControllerState) (thing : Thing) (key : Key) (call : Issued) (doing : Bool) → IsSoFar history frames view controller
+    → IsOne controller thing key → IsLatest history.items thing call doing
+    → (reply : Reply) × IsAnsweredOk frames call reply × (find (is_of key) (issued_in history.items) ≡ Some call) × (view.held key ≡ asked call.call reply)
+latest-told history frames view controller thing key call doing so one latest =
+    let found = sym (found-one history frames view controller thing key so one) ∙ latest.found in
+    let ok = success-ok history.items (issued_in history.items) frames call so.heard so.truth.numbers (among-find (is_of key) (issued_in history.items) call found) latest.success in
+    (ok.0, ok.1, found, so.truth.told call key ok.0 found ok.1)
 
 -- what is known not to be so isn't there
 pub not-there : (history : History) (frames : List Frame) (view : View) (controller : ControllerState) (thing : Thing) (key : Key) → IsSoFar history frames view controller → IsOne controller thing key
     → known history thing ≡ No → view.held key ≡ None
-not-there history frames view controller thing key so one is_no = by (known-no history thing is_no)
-  where
-    same : find (touches thing) (issued_in history.items) ≡ find (is_of key) (issued_in history.items)
-    same = found-one history frames view controller thing key so one
-
-    by : (find (touches thing) (issued_in history.items) ≡ None) ⊎ ((call : Issued) × IsLatest history.items thing call false) → view.held key ≡ None
-    by (inl none) = so.truth.untouched key (sym same ∙ none)
-    by (inr latest) =
-        let found : find (is_of key) (issued_in history.items) ≡ Some latest.0 = sym same ∙ latest.1.found in
-        let ok = success-ok history.items (issued_in history.items) frames latest.0 so.heard so.truth.numbers (among-find (is_of key) (issued_in history.items) latest.0 found) latest.1.success in
-        so.truth.told latest.0 key ok.0 found ok.1 ∙ asked-undoing (latest.0).call ok.0 latest.1.is_so
+not-there history frames view controller thing key so one is_no =
+    ⊎_elim (λ none. so.truth.untouched key (sym (found-one history frames view controller thing key so one) ∙ none)) (λ latest.
+    let told = latest-told history frames view controller thing key latest.0 false so one latest.1 in
+    told.3 ∙ asked-undoing (latest.0).call told.0 latest.1.is_so) (known-no history thing is_no)
 
 -- where a volume is known not to be staged at a node, nothing stands there
 none-stands : (history : History) (frames : List Frame) (view : View) (controller : ControllerState) (name node : List ℕ) (id : ℕ) (capability : Capability) → IsSoFar history frames view controller → HasName controller name id
     → known history (things.Staged name node) ≡ No → IsStanding (issued_in history.items) view id node capability → ⊥
 none-stands history frames view controller name node id capability so has is_no (inl held) =
     none-some (StagedAs capability) (sym (not-there history frames view controller (things.Staged name node) (Staged id node) so (Staging name node id has) is_no) ∙ held)
-none-stands history frames view controller name node id capability so has is_no (inr may) = by (known-no history (things.Staged name node) is_no)
+none-stands history frames view controller name node id capability so has is_no (inr may) =
+    ⊎_elim (λ none. false≢true (sym (none_passes p issued call (sym (found-one history frames view controller thing (Staged id node) so one) ∙ none) may.among) ∙ of)) (λ latest.
+    let told = latest-told history frames view controller thing (Staged id node) latest.0 false so one latest.1 in
+    let spent = so.truth.spent latest.0 (Staged id node) told.0 (among-find p issued latest.0 told.2) (find-passes p issued latest.0 told.2) told.1 in
+    ⊎_elim (λ e. false≢true (sym latest.1.is_so ∙ ap (λ (x : Issued). is_doing x.call) (sym e))) (λ before. false≢true (sym may.unspent ∙ so.closed (Staged id node) may.number (latest.0).number before spent))
+    (latest-last (Staged id node) issued latest.0 call so.truth.numbers told.2 may.among of)) (known-no history thing is_no)
   where
     issued : List Issued
     issued = issued_in history.items
 
+    thing : Thing
+    thing = things.Staged name node
+
+    one : IsOne controller thing (Staged id node)
+    one = Staging name node id has
+
+    call : Issued
+    call = staging may.name may.number id node capability
+
     p : Issued → Bool
     p = is_of (Staged id node)
 
-    same : find (touches (things.Staged name node)) issued ≡ find p issued
-    same = found-one history frames view controller (things.Staged name node) (Staged id node) so (Staging name node id has)
-
-    of : p may.call ≡ true
-    of = stages-of issued view id node capability may
-
-    undone : (call : Issued) → find p issued ≡ Some call → has_success history.items call.number ≡ true → is_doing call.call ≡ false → ⊥
-    undone call found success ends = last (latest-last (Staged id node) issued call may.call so.truth.numbers found may.among of)
-      where
-        spent : IsTrue (view.is_spent (Staged id node) call.number)
-        spent =
-            let there : IsAmong call issued = among-find p issued call found in
-            let ok = success-ok history.items issued frames call so.heard so.truth.numbers there success in
-            so.truth.spent call (Staged id node) ok.0 there (find-passes p issued call found) ok.1
-
-        last : (may.call ≡ call) ⊎ IsBefore may.call.number call.number → ⊥
-        last (inl e) = false≢true (sym ends ∙ ap (λ (x : Issued). is_doing x.call) (sym e) ∙ ap is_doing may.stages)
-        last (inr before) = false≢true (sym may.unspent ∙ so.closed (Staged id node) may.call.number call.number before spent)
-
-    by : (find (touches (things.Staged name node)) issued ≡ None) ⊎ ((call : Issued) × IsLatest history.items (things.Staged name node) call false) → ⊥
-    by (inl none) = false≢true (sym (none_passes p issued may.call (sym same ∙ none) may.among) ∙ of)
-    by (inr latest) = undone latest.0 (sym same ∙ latest.1.found) latest.1.success latest.1.is_so
+    of : p call ≡ true
+    of = and_from (id == id) (same_text node node) (eq-eqb id id refl) ((same_text-tells node node).1 refl)
 
 -- a guarded call is of no attachment below which something stands
 pub leaves-guarded : (history : History) (frames : List Frame) (view : View) (controller : ControllerState) (call : Issued) → IsSoFar history frames view controller → IsGuarded history call.name call.party call.call

@@ -1,6 +1,6 @@
 -- What is known of a thing is so.
 use Rattle.std.proofs.Common.{◌≡◌, ◌⊎◌, ℕ, List, true, false, cond, refl, sym, ◌∙◌, ap, subst, inl, inr}
-use Rattle.std.specs.Prelude.{Option, Some, None, option_map, is_some, find, IsTrue}
+use Rattle.std.specs.Prelude.{Option, Some, None, option_map, is_some, IsTrue}
 use Rattle.std.proofs.lemmas.Bool.{false≢true}
 use Rattle.csi_types.specs.declared.call.Call.{Call}
 use Rattle.csi_types.specs.declared.call.Call.TheVariants as calls
@@ -8,7 +8,6 @@ use Rattle.csi_types.specs.declared.reply.Reply.{Reply}
 use Rattle.csi_types.specs.declared.status.Status.TheVariants.{Ok}
 use Rattle.csi_types.specs.Call.{kind_of}
 use Rattle.csi_types.specs.Key.{Key, Exists, Attached, Staged, Published, Form, HasId, StagedAs, PublishedAs, asked}
-use Rattle.csi_lists.specs.Members.{IsAmong}
 use Rattle.csi_lists.proofs.Members.{among-find}
 use Rattle.csi_lists.proofs.Searches.{find-passes}
 use Rattle.csi_lists.proofs.Options.{is_some-map}
@@ -26,10 +25,10 @@ use Rattle.csi_orchestrator.specs.Readings.{issued_in, known}
 use Rattle.csi_world.specs.World.{World, node_state}
 use Rattle.csi_world.specs.Safe.{holds_attached, holds_staged, holds_published, holds, IsRecordedRight}
 use Rattle.csi_world.proofs.WorldView.{node_view, view_of}
-use Rattle.csi_world.proofs.Issued.{HasName, IsOne, Existence, Attachment, Staging, Publication, is_of, named-found, keyed}
+use Rattle.csi_world.proofs.Issued.{HasName, IsOne, Existence, Attachment, Staging, Publication, named-found, keyed}
 use Rattle.csi_world.proofs.MarksTold.{same-tells}
-use Rattle.csi_world.proofs.Heard.{success-ok, known-yes}
-use Rattle.csi_world.proofs.Guarded.{IsSoFar, found-one, not-there}
+use Rattle.csi_world.proofs.Heard.{known-yes}
+use Rattle.csi_world.proofs.Guarded.{IsSoFar, latest-told, not-there}
 
 -- what is so of a world
 abbrev pub IsWell : World → Type 0
@@ -51,14 +50,9 @@ asked-doing c reply doing ok rule = absurd (false≢true doing)
 is_there : (world : World) (thing : Thing) (key : Key) → IsWell world → IsOne world.controller thing key → known world.history thing ≡ Yes → is_some ((view_of world).held key) ≡ true
 is_there world thing key well one h =
     let latest = known-yes world.history thing h in
-    let call : Issued = latest.0 in
-    let found : find (is_of key) (issued_in world.history.items) ≡ Some call
-    = sym (found-one world.history world.frames (view_of world) world.controller thing key well one) ∙ latest.1.found
-    in
-    let among : IsAmong call (issued_in world.history.items) = among-find (is_of key) (issued_in world.history.items) call found in
-    let ok = success-ok world.history.items (issued_in world.history.items) world.frames call well.heard well.truth.numbers among latest.1.success in
-    let rule = well.truth.ids call.number call.party (kind_of call.call) ok.0 ok.1.0 ok.1.1 in
-    ap is_some (well.truth.told call key ok.0 found ok.1) ∙ asked-doing call.call ok.0 latest.1.is_so ok.1.1 rule
+    let told = latest-told world.history world.frames (view_of world) world.controller thing key latest.0 true well one latest.1 in
+    let rule = well.truth.ids (latest.0).number (latest.0).party (kind_of (latest.0).call) told.0 told.1.0 told.1.1 in
+    ap is_some told.3 ∙ asked-doing (latest.0).call told.0 latest.1.is_so told.1.1 rule
 
 -- the name of a known thing has an id
 known-one : (world : World) (thing : Thing) → IsWell world → known world.history thing ≡ Yes → (key : Key) × IsOne world.controller thing key

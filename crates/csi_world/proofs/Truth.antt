@@ -2,7 +2,7 @@
 -- as it asks, and its number is spent. It is kept by a call that is sent, and by one that a plugin gets.
 use Rattle.std.proofs.Common.{◌≡◌, ◌⊎◌, List, [], ◌∷◌, ◌++◌, Bool, true, false, cond, refl, sym, ◌∙◌, ap, subst, inl, inr, ⊎_elim}
 use Rattle.std.specs.Prelude.{Option, Some, None, find, IsTrue}
-use Rattle.std.proofs.lemmas.Bool.{false≢true, false_from_ne_true}
+use Rattle.std.proofs.lemmas.Bool.{false≢true}
 use Rattle.std.proofs.lemmas.Option.{same_Some}
 use Rattle.csi_lists.proofs.Options.{some_is_not_none}
 use Rattle.csi_types.specs.declared.number.Number.{Number}
@@ -21,12 +21,13 @@ use Rattle.csi_lists.specs.Members.{IsAmong, EachTwo}
 use Rattle.csi_lists.proofs.Members.{all_of, among-append, among-either, among-find, none_passes}
 use Rattle.csi_lists.proofs.Searches.{find-passes}
 use Rattle.csi_types.specs.Number.{IsBefore}
-use Rattle.csi_types.specs.Reply.{has_id_by_rule}
+use Rattle.csi_types.specs.Reply.{is_ok_status, has_id_by_rule}
 use Rattle.csi_types.specs.Replies.{reply_frame}
 use Rattle.csi_types.proofs.Equality.{same_key-tells}
 use Rattle.csi_orchestrator.specs.Thing.{Issued}
 use Rattle.csi_world.specs.Step.{frame_of}
 use Rattle.csi_world.proofs.WorldView.{party_of}
+use Rattle.csi_world.proofs.Heard.{is_ok-then}
 use Rattle.csi_world.proofs.Issued.{is_of, is_key, key_at, IsAnsweredOk, ComesAfter, before-irreflexive, one-number, latest-last}
 
 -- a call with this number was sent
@@ -131,8 +132,8 @@ reply-parts a b p q k l r s e = let body : bodies.Reply k r ≡ bodies.Reply l s
 
 -- a sent call that a plugin answered, and the things before and after it
 module _ (issued : List Issued) (frames : List Frame) (old new : View) (call : Issued) (key : Key) (kind : Kind) (reply : Reply) where
-  -- what became of the things by a sent call that a plugin answered: an OK was sent before, or its thing is as it asks; and
-  -- a thing stays where no call of it was sent, or an OK to the latest one was
+  -- what became of the things: the call's own is as it asks, where it was carried out; what is kept was sent; and an OK was
+  -- sent before, or the call was carried out
   pub record IsEffect : Type 0 where
     pub among : IsAmong call issued
     pub of : is_of key call ≡ true
@@ -140,14 +141,13 @@ module _ (issued : List Issued) (frames : List Frame) (old new : View) (call : I
     pub kept : (other : Key) (k : Kept) → new.kept other ≡ Some k → IsAmong (reply_frame k.number (party_of other) k.kind k.reply) (frames ++ answer_to call kind reply ∷ [])
     pub spent : (other : Key) (number : Number) → IsTrue (old.is_spent other number) → IsTrue (new.is_spent other number)
     pub ok : reply.status ≡ Ok → IsAmong (answer_to call kind reply) frames ⊎ ((new.held key ≡ asked call.call reply) × IsTrue (new.is_spent key call.number))
-    pub untouched : (k : Key) → find (is_of k) issued ≡ None → new.held k ≡ old.held k
-    pub latest : (other : Issued) (k : Key) (r : Reply) → find (is_of k) issued ≡ Some other → IsAnsweredOk frames other r → new.held k ≡ old.held k
+    pub held : (k : Key) → (new.held k ≡ old.held k) ⊎ ((k ≡ key) × (old.is_spent key call.number ≡ false) × (new.held k ≡ asked call.call reply))
 
   -- a plugin carried the call out
-  pub effect-acts : Truth issued frames old → IsClosed old → IsAmong call issued → is_of key call ≡ true
+  pub effect-acts : Truth issued frames old → IsAmong call issued → is_of key call ≡ true
       → ((other : Key) (k : Kept) → new.kept other ≡ Some k → (old.kept other ≡ Some k) ⊎ (IsAmong (reply_frame k.number (party_of other) k.kind k.reply) (frames ++ answer_to call kind reply ∷ [])))
       → Acts key (delivery_of call kind reply) old new → IsEffect
-  effect-acts truth closed there of keeps acts =
+  effect-acts truth there of keeps acts =
       record {
         among = there;
         of = of;
@@ -155,19 +155,15 @@ module _ (issued : List Issued) (frames : List Frame) (old new : View) (call : I
         kept = λ other k is. ⊎_elim (λ was. among-append frames (answer_to call kind reply ∷ []) _ (truth.kept other k was)) (λ now. now) (keeps other k is);
         spent = acts.stays_spent;
         ok = λ ok. inr (acts.done ok, acts.spent ok);
-        untouched = λ k none. stays k (λ same. false≢true (sym (none_passes (is_of k) issued call none there) ∙ ap (λ x. is_of x call) same ∙ of));
-        latest = λ other k r found ok. stays k (λ same. overtaken other r (subst (λ x. find (is_of x) issued ≡ Some other) same found) ok);
+        held = λ k. held k (same_key k key) refl (is_ok_status reply.status) refl;
       }
     where
-      stays : (k : Key) → (k ≡ key → ⊥) → new.held k ≡ old.held k
-      stays k differs = acts.others k (false_from_ne_true (same_key k key) (λ e. differs ((same_key-tells k key).0 e)))
-
-      -- the latest call of a thing was answered OK, so an earlier one wasn't carried out
-      overtaken : (other : Issued) (r : Reply) → find (is_of key) issued ≡ Some other → IsAnsweredOk frames other r → ⊥
-      overtaken other r found ok =
-          let latest : IsTrue (old.is_spent key other.number) = truth.spent other key r (among-find (is_of key) issued other found) (find-passes (is_of key) issued other found) ok in
-          false≢true (sym acts.was_fresh ∙ ⊎_elim (λ e. ap (λ (x : Issued). old.is_spent key x.number) e ∙ latest) (λ before. closed key call.number other.number before latest)
-          (latest-last key issued other call truth.numbers found there of))
+      held : (k : Key) (b : Bool) → same_key k key ≡ b → (s : Bool) → is_ok_status reply.status ≡ s → (new.held k ≡ old.held k) ⊎ ((k ≡ key) × (old.is_spent key call.number ≡ false) × (new.held k ≡ asked call.call reply))
+      held k false e s t = inl (acts.others k e)
+      held k true e false t =
+          let same : k ≡ key = (same_key-tells k key).0 e in
+          inl (ap new.held same ∙ acts.refused (λ ok. false≢true (sym t ∙ ap is_ok_status ok)) ∙ ap old.held (sym same))
+      held k true e true t = let same : k ≡ key = (same_key-tells k key).0 e in inr (same, acts.was_fresh, ap new.held same ∙ acts.done (is_ok-then reply.status t))
 
   -- a plugin didn't carry it out: an OK was kept, so it was sent before
   pub effect-rests : Truth issued frames old → IsAmong call issued → is_of key call ≡ true → party_of key ≡ call.party → Rests key (delivery_of call kind reply) old new → IsEffect
@@ -179,8 +175,7 @@ module _ (issued : List Issued) (frames : List Frame) (old new : View) (call : I
         kept = λ other k is. among-append frames (answer_to call kind reply ∷ []) _ (truth.kept other k (sym (rests.same.kept other) ∙ is));
         spent = λ other number spent. rests.same.is_spent other number ∙ spent;
         ok = λ ok. inl (sent ok);
-        untouched = λ k none. rests.same.held k;
-        latest = λ other k r found ok. rests.same.held k;
+        held = λ k. inl (rests.same.held k);
       }
     where
       sent : reply.status ≡ Ok → IsAmong (answer_to call kind reply) frames
@@ -198,8 +193,8 @@ module _ (issued : List Issued) (frames : List Frame) (old new : View) (call : I
       (among-either frames (answer_to call kind reply) (reply_frame other.number other.party (kind_of other.call) r) ok.0)
 
   -- after a plugin answered a sent call
-  pub truth-answered : Truth issued frames old → IsEffect → Truth issued (frames ++ answer_to call kind reply ∷ []) new
-  truth-answered truth effect =
+  pub truth-answered : Truth issued frames old → IsClosed old → IsEffect → Truth issued (frames ++ answer_to call kind reply ∷ []) new
+  truth-answered truth closed effect =
       record {
         calls = λ frame c among is. ⊎_elim (λ there. truth.calls frame c there is) (λ e. absurd (no_call c (sym (ap (λ (f : Frame). f.body) e) ∙ is))) (among-either frames _ frame among);
         replies = λ number party k r among.
@@ -211,12 +206,22 @@ module _ (issued : List Issued) (frames : List Frame) (old new : View) (call : I
             ⊎_elim (λ was. effect.spent k other.number (truth.spent other k r among of was))
             (λ now. ap (λ (x : Issued). new.is_spent k x.number) now.0 ∙ ap (λ x. new.is_spent x call.number) (its_key k other now.0 of) ∙ now.3) (ok-either truth effect other r among ok);
         told = λ other k r found ok.
-            ⊎_elim (λ was. effect.latest other k r found was ∙ truth.told other k r found was)
+            ⊎_elim (λ was. stays k (λ same fresh. overtaken other r (subst (λ x. find (is_of x) issued ≡ Some other) same found) was fresh) ∙ truth.told other k r found was)
             (λ now. ap new.held (its_key k other now.0 (find-passes (is_of k) issued other found)) ∙ now.2 ∙ ap (asked call.call) (sym now.1) ∙ ap (λ (x : Issued). asked x.call r) (sym now.0))
             (ok-either truth effect other r (among-find (is_of k) issued other found) ok);
-        untouched = λ k none. effect.untouched k none ∙ truth.untouched k none;
+        untouched = λ k none. stays k (λ same fresh. false≢true (sym (none_passes (is_of k) issued call none effect.among) ∙ ap (λ x. is_of x call) same ∙ effect.of)) ∙ truth.untouched k none;
       }
     where
+      -- the latest call of a thing was answered OK, so an earlier one wasn't carried out
+      overtaken : (other : Issued) (r : Reply) → find (is_of key) issued ≡ Some other → IsAnsweredOk frames other r → old.is_spent key call.number ≡ false → ⊥
+      overtaken other r found ok fresh =
+          let latest : IsTrue (old.is_spent key other.number) = truth.spent other key r (among-find (is_of key) issued other found) (find-passes (is_of key) issued other found) ok in
+          false≢true (sym fresh ∙ ⊎_elim (λ e. ap (λ (x : Issued). old.is_spent key x.number) e ∙ latest) (λ before. closed key call.number other.number before latest)
+          (latest-last key issued other call truth.numbers found effect.among effect.of))
+
+      stays : (k : Key) → (k ≡ key → old.is_spent key call.number ≡ false → ⊥) → new.held k ≡ old.held k
+      stays k differs = ⊎_elim (λ same. same) (λ now. absurd (differs now.0 now.1)) (effect.held k)
+
       no_call : (c : Call) → bodies.Reply kind reply ≡ bodies.Call c → ⊥
       no_call c h = cc
 
