@@ -14,7 +14,7 @@ use Rattle.csi_types.specs.declared.frame.Body.{Body}
 use Rattle.csi_types.specs.declared.frame.Body.TheVariants as bodies
 use Rattle.csi_types.specs.declared.reply.Reply.{Reply}
 use Rattle.csi_types.specs.Config.{Config}
-use Rattle.csi_types.specs.Delivery.{View, Acts, Rests, Becomes, IsClosed, kept_of}
+use Rattle.csi_types.specs.Delivery.{View, Acts, Rests, Becomes, IsClosed, IsDelivered, kept_of}
 use Rattle.csi_types.specs.Fence.{Kept}
 use Rattle.csi_types.specs.Frame.{Frame}
 use Rattle.csi_types.specs.Key.{Key, Exists, HasId, asked}
@@ -33,15 +33,14 @@ use Rattle.csi_node.specs.Safe.{NodeSafetyLaw}
 use Rattle.csi_node.specs.View as nodes
 use Rattle.csi_orchestrator.specs.Thing.{Issued}
 use Rattle.csi_orchestrator.specs.Readings.{issued_in}
-use Rattle.csi_world.specs.World.{World, node_state, with_node, with_frame}
+use Rattle.csi_world.specs.World.{NodeAt, World, node_state, with_node, with_frame}
 use Rattle.csi_world.specs.Step.{frame_of, answered_by_node, answered_by, answered}
 use Rattle.csi_world.proofs.WorldView.{party_of, node_view, plugin_view, view_of, ChangesOnly, acts-all, rests-all, closed-all}
-use Rattle.csi_world.proofs.Issued.{HasName, key_at, is_key, is_of, keyed}
+use Rattle.csi_world.proofs.Issued.{HasName, IsKeyed, key_at, is_key, is_of, keyed}
 use Rattle.csi_world.proofs.Named.{KeepsIds, own-kept}
 use Rattle.csi_world.proofs.Heard.{sent-more}
 use Rattle.csi_world.proofs.Truth.{answer_to, delivery_of, IsEffect, effect-acts, effect-rests, ok-either, truth-answered}
 use Rattle.csi_world.proofs.Standing.{stands-answered}
-use Rattle.csi_world.proofs.Guarded.{IsSoFar}
 use Rattle.csi_world.proofs.Recorded.{IsWell}
 use Rattle.csi_world.proofs.Reached.{IsReached, controller-next, node-next, node-of-frames, node_state-same, node_state-other, with_node-same}
 
@@ -56,16 +55,6 @@ pub record PluginLaws : Type 0 where
 -- in every world what came before a spent number is spent
 pub all-closed : PluginLaws → (world : World) → IsClosed (view_of world)
 all-closed laws world = closed-all (λ w. laws.controller.closed w.controller) laws.node.closed world
-
--- a plugin's answer to a sent call, and the plugins before and after it
-pub record IsAnswer (old new : World) (call : Issued) (key : Key) (kind : Kind) (reply : Reply) : Type 0 where
-  pub among : IsAmong call (issued_in old.history.items)
-  pub of_key : key_at call.name call.party call.call ≡ Some key
-  pub of_party : party_of key ≡ call.party
-  pub becomes : Acts key (delivery_of call kind reply) (plugin_view old (party_of key)) (plugin_view new (party_of key)) ⊎ Rests key (delivery_of call kind reply) (plugin_view old (party_of key)) (plugin_view new (party_of key))
-  pub only : ChangesOnly (party_of key) old new
-  pub keeps_ids : KeepsIds old.controller new.controller
-  pub names : controllers.AreNamed new.controller
 
 -- what is kept was kept, or is the answer
 kept-either : (old new : World) (call : Issued) (key : Key) (kind : Kind) (reply : Reply) → party_of key ≡ call.party → ChangesOnly (party_of key) old new
@@ -106,48 +95,71 @@ made-now new call key reply id create required limit capabilities of_key names d
     let held : (plugin_view new (party_of key)).held key ≡ Some (HasId id) = done ∙ ap (λ c. asked c reply) is ∙ ap (option_map HasId) given in
     made-id new.controller call.name id names (subst (λ k. (plugin_view new (party_of k)).held k ≡ Some (HasId id)) exists held)
 
--- all that is so of a world stays so
-pub well-answered : (old new : World) (call : Issued) (key : Key) (kind : Kind) (reply : Reply) → IsWell old → IsClosed (view_of new) → IsAnswer old new call key kind reply
-    → IsSoFar old.history (old.frames ++ answer_to call kind reply ∷ []) (view_of new) new.controller
-well-answered old new call key kind reply well closed answer =
-    record {
-      truth = truth-answered issued old.frames (view_of old) (view_of new) call key kind reply well.truth well.closed effect;
-      closed = closed;
-      named = record {
-        own = λ other among. own-kept old.controller new.controller other.name other.party other.call answer.keeps_ids (well.named.own other among);
-        made = λ other r id create required limit capabilities among is ok given.
-            ⊎_elim (λ was. answer.keeps_ids other.name id (well.named.made other r id create required limit capabilities among is was given))
-            (λ now. subst (λ (x : Issued). HasName new.controller x.name id) (sym now.0)
-            (made-now new call key reply id create required limit capabilities answer.of_key answer.names now.2 (ap (λ (x : Issued). x.call) (sym now.0) ∙ is) (ap (λ (x : Reply). x.id) (sym now.1) ∙ given)))
-            (ok-either issued old.frames (view_of old) (view_of new) call key kind reply well.truth effect other r among ok);
-      };
-      names = answer.names;
-      heard = λ number status id among. sent-more issued issued old.frames (answer_to call kind reply) number status id (λ c there. there) (well.heard number status id among);
-      stands = stands-answered old.history.items old.frames (view_of old) (view_of new) call key kind reply effect well.stands;
-    }
-  where
-    issued : List Issued
-    issued = issued_in old.history.items
-
-    of : is_of key call ≡ true
-    of = ap (is_key key) answer.of_key ∙ (same_key-tells key key).1 refl
-
-    effect : IsEffect issued old.frames (view_of old) (view_of new) call key kind reply
-    effect =
-        ⊎_elim (λ acts.
-        effect-acts issued old.frames (view_of old) (view_of new) call key kind reply well.truth answer.among of (kept-either old new call key kind reply answer.of_party answer.only acts)
-        (acts-all old new key (delivery_of call kind reply) answer.only acts)) (λ rests.
-        effect-rests issued old.frames (view_of old) (view_of new) call key kind reply well.truth answer.among of answer.of_party (rests-all old new key (delivery_of call kind reply) answer.only rests)) answer.becomes
-
 -- what is kept of every world
 pub record IsGood (config : Config) (world : World) : Type 0 where
   pub reached : IsReached config world
   pub well : IsWell world
 
--- a call of this thing acts on it or rests
-with_key : (o : Option Key) (key : Key) (call : Issued) (kind : Kind) (reply : Reply) (old new : View) → o ≡ Some key → Becomes o (delivery_of call kind reply) old new
-    → Acts key (delivery_of call kind reply) old new ⊎ Rests key (delivery_of call kind reply) old new
-with_key o key call kind reply old new e becomes = subst (λ x. Becomes x (delivery_of call kind reply) old new) e becomes
+-- a sent call that came to its plugin, and what the plugins know then
+module _ (laws : PluginLaws) (config : Config) (world : World) (controller : ControllerState) (nodes : List NodeAt) (call : Issued) where
+  abbrev next : World
+  next = record world { controller = controller; nodes = nodes }
+
+  -- all that is so of a world stays so, where the plugin goes on as its laws say, and the others are as they were
+  good-delivered : IsGood config world → IsAmong call (issued_in world.history.items) → IsReached config next → KeepsIds world.controller controller → controllers.AreNamed controller
+      → (keyed_call : IsKeyed world.controller call.name call.party call.call) → ChangesOnly call.party world next → (answer : Option Frame)
+      → IsDelivered call.party call.number call.call (Some keyed_call.key) (plugin_view world call.party) (plugin_view next call.party) answer → IsGood config (with_frame answer next)
+  good-delivered good among reached keeps_ids names keyed_call only answer delivered =
+      subst (λ (f : Option Frame). IsGood config (with_frame f next)) (sym delivered.is_answer)
+      (record {
+        reached = record { controller = reached.controller; nodes = reached.nodes; alike = reached.alike };
+        well = record {
+          truth = truth-answered issued world.frames (view_of world) (view_of next) call key kind reply well.truth well.closed effect;
+          closed = all-closed laws next;
+          named = record {
+            own = λ other among. own-kept world.controller controller other.name other.party other.call keeps_ids (well.named.own other among);
+            made = λ other r id create required limit capabilities among is ok given.
+                ⊎_elim (λ was. keeps_ids other.name id (well.named.made other r id create required limit capabilities among is was given))
+                (λ now. subst (λ (x : Issued). HasName controller x.name id) (sym now.0)
+                (made-now next call key reply id create required limit capabilities keyed_call.by_name names now.2 (ap (λ (x : Issued). x.call) (sym now.0) ∙ is) (ap (λ (x : Reply). x.id) (sym now.1) ∙ given)))
+                (ok-either issued world.frames (view_of world) (view_of next) call key kind reply well.truth effect other r among ok);
+          };
+          names = names;
+          heard = λ number status id among. sent-more issued issued world.frames (answer_to call kind reply) number status id (λ c there. there) (well.heard number status id among);
+          stands = stands-answered world.history.items world.frames (view_of world) (view_of next) call key kind reply effect well.stands;
+        };
+      })
+    where
+      well : IsWell world
+      well = good.well
+
+      issued : List Issued
+      issued = issued_in world.history.items
+
+      key : Key
+      key = keyed_call.key
+
+      kind : Kind
+      kind = delivered.kind
+
+      reply : Reply
+      reply = delivered.reply
+
+      of : is_of key call ≡ true
+      of = ap (is_key key) keyed_call.by_name ∙ (same_key-tells key key).1 refl
+
+      others : ChangesOnly (party_of key) world next
+      others = subst (λ p. ChangesOnly p world next) (sym keyed_call.of_party) only
+
+      becomes : Acts key (delivery_of call kind reply) (plugin_view world (party_of key)) (plugin_view next (party_of key)) ⊎ Rests key (delivery_of call kind reply) (plugin_view world (party_of key)) (plugin_view next (party_of key))
+      becomes = subst (λ p. Becomes (Some key) (delivery_of call kind reply) (plugin_view world p) (plugin_view next p)) (sym keyed_call.of_party) delivered.becomes
+
+      effect : IsEffect issued world.frames (view_of world) (view_of next) call key kind reply
+      effect =
+          ⊎_elim (λ acts.
+          effect-acts issued world.frames (view_of world) (view_of next) call key kind reply well.truth among of (kept-either world next call key kind reply keyed_call.of_party others acts)
+          (acts-all world next key (delivery_of call kind reply) others acts)) (λ rests.
+          effect-rests issued world.frames (view_of world) (view_of next) call key kind reply well.truth among of keyed_call.of_party (rests-all world next key (delivery_of call kind reply) others rests)) becomes
 
 -- the controller got a call
 controller-got : PluginLaws → (config : Config) (world : World) (number : Number) (name : List ℕ) (c : Call) → IsGood config world
@@ -159,31 +171,15 @@ controller-got laws config world number name c good among =
     let after : controller.Fenced = controller.fenced config world.controller frame in
     let frames = good.reached.controller in
     let key = keyed world.controller name Controller c good.well.names (good.well.named.own call among) in
-    let delivered : controllers.IsDeliveredTo config world.controller number c
-    = subst (λ (s : ControllerState). controllers.IsDeliveredTo config s number c) (sym frames.1) (laws.controller.delivered config frames.0 number c key.of_kind) in
+    let delivered = subst (λ (s : ControllerState). controllers.IsDeliveredTo config s number c) (sym frames.1) (laws.controller.delivered config frames.0 number c key.of_kind) in
     let next = controller-next config world.controller frame frames in
-    let named : controllers.AreNamed after.state = subst controllers.AreNamed (sym next.1) (laws.names.named config next.0) in
-    let new : World = with_frame (Some (reply_frame number Controller delivered.kind delivered.reply)) (record world { controller = after.state }) in
-    let answer : IsAnswer world new call key.key delivered.kind delivered.reply
-    = record {
-      among = among;
-      of_key = key.by_name;
-      of_party = key.of_party;
-      becomes = subst (λ p. Acts key.key (delivery_of call delivered.kind delivered.reply) (plugin_view world p) (plugin_view new p) ⊎ Rests key.key (delivery_of call delivered.kind delivered.reply) (plugin_view world p) (plugin_view new p)) (sym key.of_party)
-          (with_key (controllers.key_of world.controller c) key.key call delivered.kind delivered.reply (controllers.view_of world.controller) (controllers.view_of after.state) key.seen delivered.becomes);
-      only = subst (λ p. ChangesOnly p world new) (sym key.of_party) (others new (λ id. refl));
-      keeps_ids = λ n id. laws.names.keeps_ids config world.controller frame n id;
-      names = named;
-    } in
-    subst (λ (o : Option Frame). IsGood config (with_frame o (record world { controller = after.state }))) (sym delivered.is_answer)
-    (record {
-      reached = record { controller = next; nodes = good.reached.nodes; alike = good.reached.alike };
-      well = well-answered world new call key.key delivered.kind delivered.reply good.well (all-closed laws new) answer;
-    })
+    good-delivered laws config world after.state world.nodes call good among (record { controller = next; nodes = good.reached.nodes; alike = good.reached.alike })
+    (λ n id. laws.names.keeps_ids config world.controller frame n id) (subst controllers.AreNamed (sym next.1) (laws.names.named config next.0)) key (others after.state) after.reply
+    (subst (λ k. IsDelivered Controller number c k (controllers.view_of world.controller) (controllers.view_of after.state) after.reply) key.seen delivered)
   where
-    others : (new : World) → ((id : List ℕ) → plugin_view new (Node id) ≡ plugin_view world (Node id)) → ChangesOnly Controller world new
-    others new same Controller e = absurd (false≢true (sym e))
-    others new same (Node id) e = same id
+    others : (s : ControllerState) → ChangesOnly Controller world (record world { controller = s })
+    others s Controller e = absurd (false≢true (sym e))
+    others s (Node id) e = refl
 
 -- a node got a call
 node-got : PluginLaws → (config : Config) (world : World) (number : Number) (name id : List ℕ) (c : Call) → IsGood config world
@@ -192,38 +188,20 @@ node-got : PluginLaws → (config : Config) (world : World) (number : Number) (n
 node-got laws config world number name id c good among None is = good
 node-got laws config world number name id c good among (Some state) is =
     let call : Issued = record { name = name; number = number; party = Node id; call = c } in
-    let frame : Frame = call_frame number (Node id) c in
-    let after : node.Fenced = node.fenced id state frame in
+    let after : node.Fenced = node.fenced id state (call_frame number (Node id) c) in
+    let changed : World = with_node id after.state world in
     let frames = node-of-frames config world id state good.reached is in
     let key = keyed world.controller name (Node id) c good.well.names (good.well.named.own call among) in
-    let delivered : nodes.IsDeliveredTo id state number c
-    = subst (λ (s : NodeState). nodes.IsDeliveredTo id s number c) (sym frames.1) (laws.node.delivered id frames.0 number c key.of_kind) in
-    let new : World = with_frame (Some (reply_frame number (Node id) delivered.kind delivered.reply)) (with_node id after.state world) in
-    let old_view : plugin_view world (Node id) ≡ nodes.view_of id state = ap (node_view id) is in
-    let new_view : plugin_view new (Node id) ≡ nodes.view_of id after.state = ap (node_view id) (node_state-same id state after.state world is) in
-    let at_views = with_key (nodes.key_of id c) key.key call delivered.kind delivered.reply (nodes.view_of id state) (nodes.view_of id after.state) key.seen delivered.becomes in
-    let at_worlds : Acts key.key (delivery_of call delivered.kind delivered.reply) (plugin_view world (Node id)) (plugin_view new (Node id)) ⊎ Rests key.key (delivery_of call delivered.kind delivered.reply) (plugin_view world (Node id)) (plugin_view new (Node id))
-    = subst (λ v. Acts key.key (delivery_of call delivered.kind delivered.reply) v (plugin_view new (Node id)) ⊎ Rests key.key (delivery_of call delivered.kind delivered.reply) v (plugin_view new (Node id))) (sym old_view)
-    (subst (λ v. Acts key.key (delivery_of call delivered.kind delivered.reply) (nodes.view_of id state) v ⊎ Rests key.key (delivery_of call delivered.kind delivered.reply) (nodes.view_of id state) v) (sym new_view) at_views) in
-    let answer : IsAnswer world new call key.key delivered.kind delivered.reply
-    = record {
-      among = among;
-      of_key = key.by_name;
-      of_party = key.of_party;
-      becomes = subst (λ p. Acts key.key (delivery_of call delivered.kind delivered.reply) (plugin_view world p) (plugin_view new p) ⊎ Rests key.key (delivery_of call delivered.kind delivered.reply) (plugin_view world p) (plugin_view new p)) (sym key.of_party) at_worlds;
-      only = subst (λ p. ChangesOnly p world new) (sym key.of_party) (others after.state);
-      keeps_ids = λ n i h. h;
-      names = good.well.names;
-    } in
-    subst (λ (f : Option Frame). IsGood config (with_frame f (with_node id after.state world))) (sym delivered.is_answer)
-    (record {
-      reached = let next = node-next config world id state frame good.reached is in record { controller = next.controller; nodes = next.nodes; alike = next.alike };
-      well = well-answered world new call key.key delivered.kind delivered.reply good.well (all-closed laws new) answer;
-    })
+    let delivered = subst (λ (s : NodeState). nodes.IsDeliveredTo id s number c) (sym frames.1) (laws.node.delivered id frames.0 number c key.of_kind) in
+    let at_key = subst (λ k. IsDelivered (Node id) number c k (nodes.view_of id state) (nodes.view_of id after.state) after.reply) key.seen delivered in
+    let now = subst (λ v. IsDelivered (Node id) number c (Some key.key) (nodes.view_of id state) v after.reply) (ap (node_view id) (sym (node_state-same id state after.state world is))) at_key in
+    good-delivered laws config world world.controller changed.nodes call good among (node-next config world id state (call_frame number (Node id) c) good.reached is)
+    (λ n i h. h) good.well.names key (others after.state) after.reply
+    (subst (λ v. IsDelivered (Node id) number c (Some key.key) v (plugin_view changed (Node id)) after.reply) (ap (node_view id) (sym is)) now)
   where
-    others : (next : NodeState) → (other : Party) → same_party other (Node id) ≡ false → plugin_view (with_node id next world) other ≡ plugin_view world other
-    others next Controller e = refl
-    others next (Node there) e = ap (node_view there) (node_state-other id there next world e)
+    others : (s : NodeState) → ChangesOnly (Node id) world (with_node id s world)
+    others s Controller e = refl
+    others s (Node there) e = ap (node_view there) (node_state-other id there s world e)
 
 -- a sent call came
 call-got : PluginLaws → (config : Config) (world : World) (call : Issued) (party : Party) → IsGood config world → IsAmong call (issued_in world.history.items) → call.party ≡ party

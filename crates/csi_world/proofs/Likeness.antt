@@ -9,23 +9,24 @@ use Rattle.csi_lists.proofs.Tests.{then-any}
 use Rattle.csi_types.specs.Same.{same_text}
 use Rattle.csi_types.proofs.Equality.{same_text-tells}
 use Rattle.csi_world.specs.World.{NodeAt}
-use Rattle.csi_world.specs.Listed.{AreDistinct, IsNodeAlike, AreNodesAlike}
+use Rattle.csi_world.specs.declared.auditing.lists.NodeLists.{NodeLists}
+use Rattle.csi_world.specs.Listed.{AreDistinct, node_listed, IsNodeAlike, AreNodesAlike}
 
 -- ---- node by node
 
 -- each node has one that is listed and like it
-pub listed-of : (ls ns : List NodeAt) → AreNodesAlike ls ns → (n : NodeAt) → IsAmong n ns → (l : NodeAt) × IsAmong l ls × IsNodeAlike l n
+pub listed-of : (ls : List NodeLists) (ns : List NodeAt) → AreNodesAlike (map node_listed ls) ns → (n : NodeAt) → IsAmong n ns → (l : NodeLists) × IsAmong l ls × IsNodeAlike (node_listed l) n
 listed-of [] [] alike n among = absurd among
 listed-of [] (m ∷ ms) alike n among = absurd alike
 listed-of (l ∷ ls) [] alike n among = absurd among
-listed-of (l ∷ ls) (m ∷ ms) alike n (inl e) = (l, inl refl, subst (IsNodeAlike l) (sym e) alike.0)
+listed-of (l ∷ ls) (m ∷ ms) alike n (inl e) = (l, inl refl, subst (IsNodeAlike (node_listed l)) (sym e) alike.0)
 listed-of (l ∷ ls) (m ∷ ms) alike n (inr there) = let found = listed-of ls ms alike.1 n there in (found.0, inr found.1, found.2)
 
 -- each that is listed is like a node
-pub node-of : (ls ns : List NodeAt) → AreNodesAlike ls ns → (l : NodeAt) → IsAmong l ls → (n : NodeAt) × IsAmong n ns × IsNodeAlike l n
+pub node-of : (ls : List NodeLists) (ns : List NodeAt) → AreNodesAlike (map node_listed ls) ns → (l : NodeLists) → IsAmong l ls → (n : NodeAt) × IsAmong n ns × IsNodeAlike (node_listed l) n
 node-of [] ns alike l among = absurd among
 node-of (k ∷ ks) [] alike l among = absurd alike
-node-of (k ∷ ks) (m ∷ ms) alike l (inl e) = (m, inl refl, subst (λ j. IsNodeAlike j m) (sym e) alike.0)
+node-of (k ∷ ks) (m ∷ ms) alike l (inl e) = (m, inl refl, subst (λ j. IsNodeAlike (node_listed j) m) (sym e) alike.0)
 node-of (k ∷ ks) (m ∷ ms) alike l (inr there) = let found = node-of ks ms alike.1 l there in (found.0, inr found.1, found.2)
 
 -- where the ids differ, the node of an id is the one that has it
