@@ -1,28 +1,27 @@
 -- The world after a call came to its plugin, and after a plugin restarted.
-use Rattle.std.proofs.Common.{◌≡◌, ◌+◌, ℕ, true, false, cond, List, [], ◌++◌, length, get_or, map, set, refl, sym, ◌∙◌, ap, subst}
+use Rattle.std.proofs.Common.{◌≡◌, ◌+◌, ℕ, true, false, cond, List, [], ◌++◌, length, get_or, map, set, Option, Some, None, is_some, position, refl, sym, ◌∙◌, ap, subst}
 use Rattle.std.proofs.lemmas.List.{append-nil}
-use Rattle.std.specs.Prelude.{Option, Some, None, position, option_map}
-use Rattle.std.specs.List.{list_any}
 use Rattle.std.specs.Option.{option_to_list}
-use Rattle.csi_lists.proofs.Places.{FirstAt-position, FirstAt-passes}
+use Rattle.csi_lists.specs.Places.{FirstAt}
+use Rattle.csi_lists.proofs.Places.{FirstAt-position, FirstAt-passes, FirstAt-find}
+use Rattle.csi_node.specs.State.{NodeState}
 use Rattle.csi_lists.proofs.Searches.{find-no_place}
 use Rattle.csi_types.specs.declared.call.Party.TheVariants.{Node}
 use Rattle.csi_types.specs.Config.{has_node}
 use Rattle.csi_types.specs.Frame.{Frame}
-use Rattle.csi_types.specs.Same.{same_text}
 use Rattle.csi_types.proofs.Equality.{same_text-tells}
 use Rattle.csi_node.specs.Record.{NodeParts}
 use Rattle.csi_node.specs.Shown.{Shows}
 use Rattle.csi_node.specs.Fenced as node
 use Rattle.csi_world.specs.declared.event.Outcome.{Outcome}
 use Rattle.csi_world.specs.declared.event.Outcome.TheVariants as outcomes
-use Rattle.csi_world.specs.World.{NodeAt, World, node_state, with_frame, with_node}
+use Rattle.csi_world.specs.World.{World, with_frame, with_node}
 use Rattle.csi_world.specs.Step.{answered, answered_by, answered_by_node}
 use Rattle.csi_world.specs.After.{Occurred, node_id, next_frame, called}
 use Rattle.csi_world.specs.Simulated.{WorldShown, ShowsWorld}
 use Rattle.csi_world.specs.Simulating.{IsAnswered, NodeDoes, IsSameNode, HasOwnNodes, Becomes}
 use Rattle.csi_world.specs.Listed.{AreDistinct}
-use Rattle.csi_world.proofs.SystemNodes.{is_shown_node, IsFound, node-found, same-put, ids-put, any-ids, fit-apart, state-put, none-at, some-at}
+use Rattle.csi_world.proofs.SystemNodes.{is_shown_node, state-shown, same-put, ids-put, fit-apart, state-put, node-there}
 
 -- a frame that is sent, if there is one, is appended
 with_frame-is : (reply : Option Frame) (world : World) → with_frame reply world ≡ record world { frames = world.frames ++ option_to_list reply }
@@ -35,13 +34,13 @@ pub at-world : (old new : WorldShown) (outcome : Outcome) (occurred : Occurred) 
 at-world old new outcome occurred world config outcomes own shows is =
     record { config = config; outcomes = outcomes; own = own; world = subst (λ (o : Occurred). ShowsWorld new o.world) (sym is) shows; came = ap (λ (o : Occurred). o.outcome) (sym is) }
 
--- whether a node is configured is whether it is shown
-is-there : (shown : WorldShown) (id : List ℕ) → HasOwnNodes shown → has_node id (shown.config).nodes ≡ list_any (same_text id) (map (λ (m : NodeParts). m.id) shown.nodes)
-is-there shown id own = any-ids id (shown.config).nodes ∙ ap (list_any (same_text id)) (sym own.ids)
-
 -- a node that isn't shown isn't configured
 isnt-there : (shown : WorldShown) (id : List ℕ) → HasOwnNodes shown → position (is_shown_node id) shown.nodes ≡ None → has_node id (shown.config).nodes ≡ false
-isnt-there shown id own none = is-there shown id own ∙ none-at id shown.nodes (find-no_place (is_shown_node id) shown.nodes none)
+isnt-there shown id own none = node-there id shown.nodes (shown.config).nodes own.ids ∙ ap is_some (find-no_place (is_shown_node id) shown.nodes none)
+
+-- one that is shown is
+is-there : (shown : WorldShown) (id : List ℕ) (place : ℕ) (old : NodeParts) → HasOwnNodes shown → FirstAt (is_shown_node id) shown.nodes place old → has_node id (shown.config).nodes ≡ true
+is-there shown id place old own first = node-there id shown.nodes (shown.config).nodes own.ids ∙ ap is_some (FirstAt-find (is_shown_node id) shown.nodes place old first)
 
 -- a call to a node
 pub node-becomes : (shown : WorldShown) (id : List ℕ) (place : ℕ) (old new : NodeParts) (posted : List Frame) (frame : Frame) (reply : Option Frame) (outcome : Outcome) (world : World)
@@ -50,19 +49,19 @@ pub node-becomes : (shown : WorldShown) (id : List ℕ) (place : ℕ) (old new :
     → Becomes shown (record shown { nodes = set shown.nodes place new; frames = posted }) outcome (called shown.config world frame frame.party)
 node-becomes shown id place old new posted frame reply outcome world own shows party at is does sent =
     let first = FirstAt-position (is_shown_node id) shown.nodes place old at is in
-    let found : IsFound id old world.nodes = node-found id shown.nodes world.nodes place old shows.nodes first in
+    let found = state-shown id shown.nodes world.nodes place old shows.nodes first in
+    let state : NodeState = found.0 in
     let own_id : old.id ≡ id = (same_text-tells old.id id).0 (FirstAt-passes (is_shown_node id) shown.nodes place old first) in
-    let fenced : node.Fenced = node.fenced id found.node.state frame in
+    let fenced : node.Fenced = node.fenced id state frame in
     let changed : World = with_node id fenced.state world in
     let after : World = record changed { frames = world.frames ++ option_to_list fenced.reply } in
-    let replied : reply ≡ fenced.reply = subst (λ n. reply ≡ (node.fenced n found.node.state frame).reply) own_id (does.replies found.node.state found.shows) in
-    let state : Shows new.rows fenced.state = subst (λ n. Shows new.rows (node.fenced n found.node.state frame).state) own_id (does.state found.node.state found.shows) in
+    let replied : reply ≡ fenced.reply = subst (λ n. reply ≡ (node.fenced n state frame).reply) own_id (does.replies state found.2) in
+    let now : Shows new.rows fenced.state = subst (λ n. Shows new.rows (node.fenced n state frame).state) own_id (does.state state found.2) in
     let frames : posted ≡ world.frames ++ option_to_list fenced.reply = sent.frames ∙ (λ i. shows.frames i ++ option_to_list (replied i)) in
     let ids : map (λ (m : NodeParts). m.id) shown.nodes ≡ map node_id (shown.config).nodes = own.ids in
-    let there : has_node id (shown.config).nodes ≡ true = is-there shown id own ∙ some-at id shown.nodes place old first in
+    let there : has_node id (shown.config).nodes ≡ true = is-there shown id place old own first in
     let apart : AreDistinct (map (λ (m : NodeParts). m.id) shown.nodes) = subst AreDistinct (sym ids) (fit-apart shown.config own.fit) in
-    let known : node_state id world ≡ Some found.node.state = ap (option_map (λ (n : NodeAt). n.state)) found.found in
-    let world_is : answered shown.config world frame ≡ after = ap (answered_by shown.config world frame) party ∙ ap (answered_by_node id world frame) known ∙ with_frame-is fenced.reply changed in
+    let world_is : answered shown.config world frame ≡ after = ap (answered_by shown.config world frame) party ∙ ap (answered_by_node id world frame) found.1 ∙ with_frame-is fenced.reply changed in
     let outcome_is : outcomes.Answered (next_frame world) ≡ outcome = ap (λ (fs : List Frame). outcomes.Answered (length fs + 1)) (sym shows.frames) ∙ sym sent.came in
     let put : map (λ (m : NodeParts). m.id) (set shown.nodes place new) ≡ map (λ (m : NodeParts). m.id) shown.nodes = ids-put (is_shown_node id) shown.nodes place old new first does.id in
     let answers : Occurred = record { world = answered shown.config world frame; outcome = outcomes.Answered (next_frame world) } in
@@ -72,7 +71,7 @@ node-becomes shown id place old new posted frame reply outcome world own shows p
     (record {
       frames = frames;
       controller = shows.controller;
-      nodes = state-put id fenced.state shown.nodes world.nodes place old new shows.nodes apart first does.id state;
+      nodes = state-put id fenced.state shown.nodes world.nodes place old new shows.nodes apart first does.id now;
       orchestrator = shows.orchestrator;
       form = shows.form;
       own_config = shows.own_config;
@@ -95,7 +94,7 @@ pub node-restarts : (shown : WorldShown) (id : List ℕ) (place : ℕ) (old new 
 node-restarts shown id place old new world own shows at is same =
     let first = FirstAt-position (is_shown_node id) shown.nodes place old at is in
     let ids : map (λ (m : NodeParts). m.id) shown.nodes ≡ map node_id (shown.config).nodes = own.ids in
-    let there : has_node id (shown.config).nodes ≡ true = is-there shown id own ∙ some-at id shown.nodes place old first in
+    let there : has_node id (shown.config).nodes ≡ true = is-there shown id place old own first in
     let put : map (λ (m : NodeParts). m.id) (set shown.nodes place new) ≡ map (λ (m : NodeParts). m.id) shown.nodes = ids-put (is_shown_node id) shown.nodes place old new first same.id in
     record {
       config = refl;

@@ -1,6 +1,5 @@
 -- The world after an input of the orchestrator, by what its calls promise.
-use Rattle.std.proofs.Common.{◌≡◌, List, map, refl, sym, ◌∙◌, ap, subst}
-use Rattle.std.specs.Prelude.{Result, Ok, Err, IfOk, IfErr, OnErr}
+use Rattle.std.proofs.Common.{◌≡◌, List, map, Result, Ok, Err, IfOk, IfErr, OnErr, refl, sym, ◌∙◌, ap, subst}
 use Rattle.std.proofs.lemmas.Result.{IfOk-weaker}
 use Rattle.csi_types.specs.Frame.{Frame}
 use Rattle.csi_orchestrator.specs.declared.fault.OrchFault.{OrchFault}

@@ -1,7 +1,6 @@
 -- What the plugins' own contracts keep, in every world that their parts show; and what is staged there is attached, where it is
 -- so of what is listed.
-use Rattle.std.proofs.Common.{◌≡◌, ◌↔◌, ℕ, List, [], ◌∷◌, map, Bool, true, refl, sym, ◌∙◌, ap, subst, inl, inr}
-use Rattle.std.specs.Prelude.{Option, Some, None, IsSome, is_some, IsTrue, option_map, find, ◌==◌, ◌&&◌}
+use Rattle.std.proofs.Common.{◌≡◌, ◌↔◌, ℕ, List, [], ◌∷◌, map, Bool, true, Option, Some, None, IsSome, is_some, IsTrue, option_map, find, ◌==◌, ◌&&◌, refl, sym, ◌∙◌, ap, subst, inl, inr}
 use Rattle.std.specs.List.{AllByRecursion, list_all}
 use Rattle.std.proofs.lemmas.Bool.{and_parts, and_from, eqb-true, eq-eqb, false≢true, true_from_ne_false}
 use Rattle.csi_types.specs.declared.capability.Capability.{Capability}

@@ -1,6 +1,5 @@
 -- What the plugins keep by themselves, in every world of which they are in states that frames lead to.
-use Rattle.std.proofs.Common.{◌≡◌, ℕ, true, sym, subst}
-use Rattle.std.specs.Prelude.{Some, find, ◌==◌}
+use Rattle.std.proofs.Common.{◌≡◌, ℕ, true, Some, find, ◌==◌, sym, subst}
 use Rattle.std.proofs.lemmas.Bool.{eqb-true}
 use Rattle.csi_types.specs.declared.capability.Capability.{Capability}
 use Rattle.csi_types.specs.Config.{Config}

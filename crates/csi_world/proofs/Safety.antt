@@ -1,6 +1,5 @@
 -- Every world to which guarded choices lead is safe.
-use Rattle.std.proofs.Common.{◌≡◌, ℕ, List, Bool, cond, refl, sym, ◌∙◌, ap, subst, inl}
-use Rattle.std.specs.Prelude.{Some, None, option_map, ◌==◌}
+use Rattle.std.proofs.Common.{◌≡◌, ℕ, List, Bool, cond, Some, None, option_map, ◌==◌, refl, sym, ◌∙◌, ap, subst, inl}
 use Rattle.std.proofs.lemmas.Bool.{and_parts, eqb-true}
 use Rattle.csi_types.specs.declared.capability.Capability.{Capability}
 use Rattle.csi_types.specs.declared.holding.Holding.{Holding}

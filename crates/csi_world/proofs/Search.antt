@@ -1,6 +1,5 @@
 -- A binary search among rows by rising id gives the place of the row that has the id.
-use Rattle.std.proofs.Common.{◌≡◌, ℕ, zero, suc, ◌<◌, ◌≤◌, List, [], ◌∷◌, length, get_or, false, refl, sym, arith, Result, Ok, Err}
-use Rattle.std.specs.Prelude.{position, ◌==◌}
+use Rattle.std.proofs.Common.{◌≡◌, ℕ, zero, suc, ◌<◌, ◌≤◌, List, [], ◌∷◌, length, get_or, false, Result, Ok, Err, position, ◌==◌, refl, sym, arith}
 use Rattle.std.specs.List.Sorted.{IsSearchInRange, IsBinarySearchResult, IsNonDecreasingBy}
 use Rattle.std.specs.Ordering.{nat_cmp, ordering_index}
 use Rattle.std.specs.Result.{result_ok}

@@ -1,6 +1,5 @@
 -- Runs, event by event.
-use Rattle.std.proofs.Common.{◌≡◌, List, [], ◌∷◌, ◌++◌, map, refl, sym, ◌∙◌, ap, subst}
-use Rattle.std.specs.Prelude.{None}
+use Rattle.std.proofs.Common.{◌≡◌, List, [], ◌∷◌, ◌++◌, map, None, refl, sym, ◌∙◌, ap, subst}
 use Rattle.csi_types.specs.Config.{Config, config_fault}
 use Rattle.csi_controller.specs.Core.{IsShown}
 use Rattle.csi_controller.specs.State.{empty_controller}

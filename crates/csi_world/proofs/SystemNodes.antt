@@ -1,11 +1,11 @@
 -- The nodes of a world: the one of an id, where it stands, and what follows where another is put there.
-use Rattle.std.proofs.Common.{◌≡◌, ℕ, zero, suc, Bool, true, false, cond, List, [], ◌∷◌, length, map, set, refl, sym, ◌∙◌, ap, subst}
-use Rattle.std.specs.Prelude.{Some, None, find, option_map, ◌||◌, nat_lt}
+use Rattle.std.proofs.Common.{◌≡◌, ℕ, zero, suc, Bool, true, false, cond, List, [], ◌∷◌, length, map, set, Option, Some, None, is_some, find, option_map, ◌||◌, nat_lt, refl, sym, ◌∙◌, ap, subst}
 use Rattle.std.specs.List.{list_any}
 use Rattle.std.proofs.lemmas.Bool.{or_parts, false≢true}
 use Rattle.csi_lists.specs.Places.{FirstAt}
 use Rattle.csi_lists.proofs.Options.{some_is_not_none}
-use Rattle.csi_lists.proofs.Tests.{alike}
+use Rattle.csi_lists.proofs.Places.{FirstAt-find}
+use Rattle.csi_lists.proofs.Tests.{alike, any-of_map, any-find}
 use Rattle.csi_types.specs.declared.config.NodeSlots.{NodeSlots}
 use Rattle.csi_types.specs.declared.config.ConfigFault.TheVariants.{BadGreatest, TooManyNodes, SameNode, BadSlots}
 use Rattle.csi_types.specs.Config.{Config, is_bad_greatest, has_node, has_same_node, has_bad_slots, config_fault}
@@ -27,27 +27,6 @@ is_shown_node id node = same_text node.id id
 abbrev pub is_node : List ℕ → NodeAt → Bool
 is_node id node = same_text node.id id
 
--- the node of a world that stands where the first one of the id is shown
-pub record IsFound (id : List ℕ) (shown : NodeParts) (nodes : List NodeAt) : Type 0 where
-  pub node : NodeAt
-  pub found : find (is_node id) nodes ≡ Some node
-  pub same_id : shown.id ≡ node.id
-  pub shows : Shows shown.rows node.state
-
--- where the first node of an id is shown, the world's node of the id is found, and shown so
-pub node-found : (id : List ℕ) (shown : List NodeParts) (nodes : List NodeAt) (i : ℕ) (one : NodeParts) → AreNodesShown shown nodes → FirstAt (is_shown_node id) shown i one → IsFound id one nodes
-node-found id [] nodes i one are first = absurd first
-node-found id (x ∷ xs) [] i one are first = absurd are
-node-found id (x ∷ xs) (n ∷ ns) zero one are first =
-    let passes : same_text n.id id ≡ true = ap (λ t. same_text t id) (sym (are.0)) ∙ first.0 in
-    let found : cond (same_text n.id id) (Some n) (find (is_node id) ns) ≡ Some n = rw passes refl in
-    record { node = n; found = found; same_id = ap (λ (m : NodeParts). m.id) (sym (first.1)) ∙ are.0; shows = subst (λ (m : NodeParts). Shows m.rows n.state) (first.1) (are.1) }
-node-found id (x ∷ xs) (n ∷ ns) (suc i) one are first =
-    let rest : IsFound id one ns = node-found id xs ns i one (are.2) (first.1) in
-    let passes : same_text n.id id ≡ false = ap (λ t. same_text t id) (sym (are.0)) ∙ first.0 in
-    let found : cond (same_text n.id id) (Some n) (find (is_node id) ns) ≡ Some rest.node = rw passes rest.found in
-    record { node = rest.node; found = found; same_id = rest.same_id; shows = rest.shows }
-
 -- what is shown of the node of an id
 pub node-shown : (id : List ℕ) (shown : List NodeParts) (nodes : List NodeAt) → AreNodesShown shown nodes → ShowsNode (find (is_shown_node id) shown) (option_map (λ (n : NodeAt). n.state) (find (is_node id) nodes))
 node-shown id [] [] are = tt
@@ -62,6 +41,17 @@ node-shown id (x ∷ xs) (n ∷ ns) are =
     by false false e here rest = rest
     by true false e here rest = absurd (false≢true (sym e))
     by false true e here rest = absurd (false≢true e)
+
+-- where the first node of an id is shown, the world's node of the id is shown so
+pub state-shown : (id : List ℕ) (shown : List NodeParts) (nodes : List NodeAt) (i : ℕ) (one : NodeParts) → AreNodesShown shown nodes → FirstAt (is_shown_node id) shown i one
+    → (state : NodeState) × (option_map (λ (n : NodeAt). n.state) (find (is_node id) nodes) ≡ Some state) × Shows one.rows state
+state-shown id shown nodes i one are first =
+    let known : Option NodeState = option_map (λ (n : NodeAt). n.state) (find (is_node id) nodes) in
+    by known (subst (λ (o : Option NodeParts). ShowsNode o known) (FirstAt-find (is_shown_node id) shown i one first) (node-shown id shown nodes are))
+  where
+    by : (o : Option NodeState) → ShowsNode (Some one) o → (state : NodeState) × (o ≡ Some state) × Shows one.rows state
+    by None shows = absurd shows
+    by (Some state) shows = (state, refl, shows)
 
 -- where a node is put that shows the same
 pub same-put : (p : NodeParts → Bool) (shown : List NodeParts) (nodes : List NodeAt) (i : ℕ) (old new : NodeParts) → AreNodesShown shown nodes → FirstAt p shown i old → IsSameNode old new → AreNodesShown (set shown i new) nodes
@@ -134,21 +124,11 @@ state-put id state (x ∷ xs) (n ∷ ns) (suc i) old new are apart first same sh
     let rest = state-put id state xs ns i old new (are.2) (apart.1) (first.1) same shows in
     subst (λ (m : NodeAt). AreNodesShown (x ∷ set xs i new) (m ∷ map (with_state id state) ns)) (sym here) (are.0, are.1, rest)
 
--- which ids there are
-pub none-at : (id : List ℕ) (shown : List NodeParts) → find (is_shown_node id) shown ≡ None → list_any (same_text id) (map (λ (m : NodeParts). m.id) shown) ≡ false
-none-at id [] none = refl
-none-at id (x ∷ xs) none = by (same_text x.id id) refl (none-at id xs) none
-  where
-    by : (b : Bool) → same_text x.id id ≡ b → (find (is_shown_node id) xs ≡ None → list_any (same_text id) (map (λ (m : NodeParts). m.id) xs) ≡ false) → cond b (Some x) (find (is_shown_node id) xs) ≡ None
-        → list_any (same_text id) (x.id ∷ map (λ (m : NodeParts). m.id) xs) ≡ false
-    by true e rest h = absurd (some_is_not_none x h)
-    by false e rest h = rw (same-symmetric id x.id ∙ e) (rest h)
-
--- an id that is found among what is shown is one of the ids
-pub some-at : (id : List ℕ) (shown : List NodeParts) (i : ℕ) (x : NodeParts) → FirstAt (is_shown_node id) shown i x → list_any (same_text id) (map (λ (m : NodeParts). m.id) shown) ≡ true
-some-at id [] i x first = absurd first
-some-at id (y ∷ ys) zero x first = rw (same-symmetric id y.id ∙ first.0) refl
-some-at id (y ∷ ys) (suc i) x first = rw (same-symmetric id y.id ∙ first.0) (some-at id ys i x (first.1))
+-- a node is configured where one of its id is shown, which has the ids of the configuration
+pub node-there : (id : List ℕ) (shown : List NodeParts) (nodes : List NodeSlots) → map (λ (m : NodeParts). m.id) shown ≡ map node_id nodes → has_node id nodes ≡ is_some (find (is_shown_node id) shown)
+node-there id shown nodes ids =
+    any-ids id nodes ∙ ap (list_any (same_text id)) (sym ids) ∙ any-of_map (same_text id) (λ (m : NodeParts). m.id) shown
+    ∙ (λ i. list_any (λ (m : NodeParts). same-symmetric id m.id i) shown) ∙ any-find (is_shown_node id) shown
 
 -- nodes that answered nothing
 pub new-shown : (nodes : List NodeSlots) → AreNodesShown (map new_node_parts nodes) (map new_node nodes)

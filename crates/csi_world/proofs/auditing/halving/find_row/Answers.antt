@@ -1,6 +1,5 @@
 -- By where the row is.
-use Rattle.std.proofs.Common.{sym, ◌∙◌}
-use Rattle.std.specs.Prelude.{Bool, ◌==◌}
+use Rattle.std.proofs.Common.{Bool, ◌==◌, sym, ◌∙◌}
 use Rattle.csi_controller.specs.declared.row.ControllerRow.{ControllerRow}
 use Rattle.csi_lists.proofs.Places.{FirstAt-position, FirstAt-find}
 use Rattle.csi_lists.proofs.Searches.{find-no_place}

@@ -1,6 +1,5 @@
 -- By both lists.
-use Rattle.std.proofs.Common.{◌∙◌}
-use Rattle.std.specs.Prelude.{◌&&◌}
+use Rattle.std.proofs.Common.{◌&&◌, ◌∙◌}
 use Rattle.std.specs.List.{list_all}
 use Rattle.csi_orchestrator.specs.Shown.{view_of}
 use Rattle.csi_world.specs.Listed.{is_affirmed, is_noted}

@@ -1,6 +1,5 @@
 -- The records are of the configuration's nodes, and so are the parts.
-use Rattle.std.proofs.Common.{rules, ◌≡◌, sym, subst}
-use Rattle.std.specs.Prelude.{None}
+use Rattle.std.proofs.Common.{◌≡◌, None, rules, sym, subst}
 use Rattle.csi_types.specs.Config.{config_fault}
 use Rattle.csi_world.specs.Assembled.{AreOfNodes}
 use Rattle.csi_world.specs.Simulating.{HasOwnNodes}

@@ -1,6 +1,5 @@
 -- The node of an id shows what the node of that id in the world knows.
-use Rattle.std.proofs.Common.{◌≡◌, find, sym, ◌∙◌, ap, subst}
-use Rattle.std.specs.Prelude.{Option}
+use Rattle.std.proofs.Common.{◌≡◌, find, Option, sym, ◌∙◌, ap, subst}
 use Rattle.std.specs.Option.{option_copied}
 use Rattle.csi_node.specs.Record.{NodeParts}
 use Rattle.csi_world.specs.World.{node_state}
