@@ -1,4 +1,4 @@
-pub mod Loop
+pub mod ReadingLists
 pub mod Readers
 pub mod FieldReaders
 pub mod ValueReaders

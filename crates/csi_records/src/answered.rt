@@ -11,7 +11,7 @@ ghost use Rattle.csi_records.specs.Reading.{answered_in, node_head_in, whole};
 
 use crate::fault::Stop;
 use crate::fields::Fields;
-use crate::lists::targets;
+use crate::items::list;
 use crate::part::Part;
 use crate::texts::node_id;
 use crate::values::{reply, staged};
@@ -26,7 +26,7 @@ fn row_at(fields: &mut Fields<'_>, alloc: Global, id: VolumeId) -> Result<NodeRo
     ensures bad { IsErrOf result Stop.Bad → answered_in id fields.old.bytes.now ≡ None }
 {
     let staged = staged(fields, alloc)?;
-    let targets = targets(fields, alloc)?;
+    let targets = list(fields, alloc, 16)?;
     let last = fields.number()?;
     let kind = fields.kind()?;
     let reply = reply(fields, alloc)?;

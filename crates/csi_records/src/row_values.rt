@@ -8,50 +8,12 @@ ghost use Rattle.csi_records.specs.Spelling.{volume_row, counted, holding_bytes,
 ghost use Rattle.csi_records.specs.Writing.{AreHeldFew, ArePublishedFew};
 ghost use Rattle.csi_records.specs.Records.{IsHolding, IsVolumeRow, IsTargetRow, IsStagedSo, IsAnsweredRow};
 
-use crate::writing::{
-    put_byte, put_capabilities, put_capability, put_flag, put_kept, put_text, put_word,
-};
-use csi_controller::{ControllerRow, NodeHolding};
-use csi_node::{NodeRow, NodeTarget};
+use crate::items::{Item, put_list};
+use crate::writing::{put_byte, put_kept, put_text, put_word};
+use csi_controller::ControllerRow;
+use csi_node::NodeRow;
 use csi_types::{Capability, NoMemory, NodeId};
 use std::alloc::Global;
-
-fn put_holding(out: &mut Vec<u8>, from: &NodeHolding) -> Result<(), NoMemory>
-    ensures written { OnOk result (out.new.items ≡ out.old.items ++ holding_bytes from.now) }
-    ensures fits { OnOk result (IsHolding from.now) }
-{
-    put_text(out, from.node.as_str())?;
-    put_capability(out, &from.capability)?;
-    put_flag(out, from.readonly)
-}
-
-fn put_each_holding(out: &mut Vec<u8>, from: &[NodeHolding]) -> Result<(), NoMemory>
-    ensures written { OnOk result (out.new.items ≡ out.old.items ++ flat_map holding_bytes from.now) }
-    ensures fits { OnOk result (AllByRecursion IsHolding from.now) }
-{
-    for one in from {
-        put_holding(out, one)?;
-    }
-    Ok(())
-}
-
-fn put_target(out: &mut Vec<u8>, from: &NodeTarget) -> Result<(), NoMemory>
-    ensures written { OnOk result (out.new.items ≡ out.old.items ++ target_bytes from.now) }
-    ensures fits { OnOk result (IsTargetRow from.now) }
-{
-    put_text(out, from.target.as_str())?;
-    put_flag(out, from.readonly)
-}
-
-fn put_each_target(out: &mut Vec<u8>, from: &[NodeTarget]) -> Result<(), NoMemory>
-    ensures written { OnOk result (out.new.items ≡ out.old.items ++ flat_map target_bytes from.now) }
-    ensures fits { OnOk result (AllByRecursion IsTargetRow from.now) }
-{
-    for one in from {
-        put_target(out, one)?;
-    }
-    Ok(())
-}
 
 fn put_staged(out: &mut Vec<u8>, from: &Option<Capability>) -> Result<(), NoMemory>
     ensures written { OnOk result (out.new.items ≡ out.old.items ++ staged_bytes from.now) }
@@ -61,7 +23,7 @@ fn put_staged(out: &mut Vec<u8>, from: &Option<Capability>) -> Result<(), NoMemo
         None => put_byte(out, 0),
         Some(capability) => {
             put_byte(out, 1)?;
-            put_capability(out, capability)
+            capability.put(out)
         }
     }
 }
@@ -79,9 +41,8 @@ pub fn volume_value(alloc: Global, row: &ControllerRow) -> Result<Vec<u8>, NoMem
     put_byte(&mut out, if row.live { 1 } else { 2 })?;
     put_text(&mut out, row.name.as_str())?;
     put_word(&mut out, row.capacity)?;
-    put_capabilities(&mut out, &row.capabilities)?;
-    put_byte(&mut out, row.holdings.len() as u8)?;
-    put_each_holding(&mut out, &row.holdings)?;
+    put_list(&mut out, row.capabilities.as_slice())?;
+    put_list(&mut out, &row.holdings)?;
     put_kept(&mut out, row.last, row.kind, &row.reply)?;
     Ok(out)
 }
@@ -97,8 +58,7 @@ pub fn answered_value(alloc: Global, row: &NodeRow) -> Result<Vec<u8>, NoMemory>
     let mut out = Vec::new(alloc);
     put_byte(&mut out, 1)?;
     put_staged(&mut out, &row.staged)?;
-    put_byte(&mut out, row.targets.len() as u8)?;
-    put_each_target(&mut out, &row.targets)?;
+    put_list(&mut out, &row.targets)?;
     put_kept(&mut out, row.last, row.kind, &row.reply)?;
     Ok(out)
 }

@@ -1,17 +1,16 @@
-//! Capabilities, holdings, targets and replies, read from the bytes of a value.
+//! Accesses, replies and how a volume is staged, read from the bytes of a value.
 ghost use Rattle.std.specs.Prelude.{◌≡◌, Some, None, IfOk, OnErr, IsErrOf};
-ghost use Rattle.csi_records.specs.Reading.{access_in, capability_in, holding_in, target_in, reply_id_in, reply_in, staged_in, id_from};
+ghost use Rattle.csi_records.specs.Reading.{access_in, reply_id_in, reply_in, staged_in, id_from};
 
 use crate::fault::Stop;
 use crate::fields::Fields;
-use crate::texts::{detail, fs_type, node_id, target};
-use csi_controller::NodeHolding;
-use csi_node::NodeTarget;
+use crate::items::Item;
+use crate::texts::{detail, fs_type};
 use csi_types::{Access, Capability, Reply, VolumeId};
 use std::alloc::Global;
 
 #[tactic(auto, unfolding(crate::specs::Reading::access_in))]
-fn access(fields: &mut Fields<'_>, alloc: Global) -> Result<Access, Stop>
+pub(crate) fn access(fields: &mut Fields<'_>, alloc: Global) -> Result<Access, Stop>
     ensures read { IfOk result (λ access. access_in fields.old.bytes.now ≡ Some (access, fields.new.bytes.now)) }
     ensures bad { IsErrOf result Stop.Bad → access_in fields.old.bytes.now ≡ None }
 {
@@ -20,41 +19,6 @@ fn access(fields: &mut Fields<'_>, alloc: Global) -> Result<Access, Stop>
     }
     let fs_type = fs_type(fields, alloc)?;
     Ok(Access::Mount(fs_type))
-}
-
-#[tactic(auto, unfolding(crate::specs::Reading::capability_in))]
-pub(crate) fn capability(fields: &mut Fields<'_>, alloc: Global) -> Result<Capability, Stop>
-    ensures read { IfOk result (λ capability. capability_in fields.old.bytes.now ≡ Some (capability, fields.new.bytes.now)) }
-    ensures bad { IsErrOf result Stop.Bad → capability_in fields.old.bytes.now ≡ None }
-{
-    let access = access(fields, alloc)?;
-    let mode = fields.mode()?;
-    Ok(Capability { access, mode })
-}
-
-#[tactic(auto, unfolding(crate::specs::Reading::holding_in))]
-pub(crate) fn holding(fields: &mut Fields<'_>, alloc: Global) -> Result<NodeHolding, Stop>
-    ensures read { IfOk result (λ holding. holding_in fields.old.bytes.now ≡ Some (holding, fields.new.bytes.now)) }
-    ensures bad { IsErrOf result Stop.Bad → holding_in fields.old.bytes.now ≡ None }
-{
-    let node = node_id(fields, alloc)?;
-    let capability = capability(fields, alloc)?;
-    let readonly = fields.flag()?;
-    Ok(NodeHolding {
-        node,
-        capability,
-        readonly,
-    })
-}
-
-#[tactic(auto, unfolding(crate::specs::Reading::target_in))]
-pub(crate) fn node_target(fields: &mut Fields<'_>, alloc: Global) -> Result<NodeTarget, Stop>
-    ensures read { IfOk result (λ target. target_in fields.old.bytes.now ≡ Some (target, fields.new.bytes.now)) }
-    ensures bad { IsErrOf result Stop.Bad → target_in fields.old.bytes.now ≡ None }
-{
-    let target = target(fields, alloc)?;
-    let readonly = fields.flag()?;
-    Ok(NodeTarget { target, readonly })
 }
 
 /// How a volume is staged, if it is.
@@ -66,7 +30,7 @@ pub(crate) fn staged(fields: &mut Fields<'_>, alloc: Global) -> Result<Option<Ca
     if !fields.flag()? {
         return Ok(None);
     }
-    let capability = capability(fields, alloc)?;
+    let capability = Capability::read(fields, alloc)?;
     Ok(Some(capability))
 }
 

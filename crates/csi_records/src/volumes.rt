@@ -10,7 +10,7 @@ ghost use Rattle.csi_records.specs.Reading.{volume_in, controller_head_in, whole
 
 use crate::fault::Stop;
 use crate::fields::Fields;
-use crate::lists::{capabilities, holdings};
+use crate::items::{capabilities, list};
 use crate::part::Part;
 use crate::texts::name;
 use crate::values::reply;
@@ -28,7 +28,7 @@ fn row_at(fields: &mut Fields<'_>, alloc: Global, id: VolumeId) -> Result<Contro
     let name = name(fields, alloc)?;
     let capacity = fields.word()?;
     let capabilities = capabilities(fields, alloc)?;
-    let holdings = holdings(fields, alloc)?;
+    let holdings = list(fields, alloc, 64)?;
     let last = fields.number()?;
     let kind = fields.kind()?;
     let reply = reply(fields, alloc)?;

@@ -58,7 +58,7 @@ pub(crate) fn put_flag(out: &mut Vec<u8>, readonly: bool) -> Result<(), NoMemory
     put_byte(out, if readonly { 1 } else { 0 })
 }
 
-fn put_access(out: &mut Vec<u8>, from: &Access) -> Result<(), NoMemory>
+pub(crate) fn put_access(out: &mut Vec<u8>, from: &Access) -> Result<(), NoMemory>
     ensures written { OnOk result (out.new.items ≡ out.old.items ++ access from.now) }
     ensures fits { OnOk result (IsAccess from.now) }
 {
@@ -69,33 +69,6 @@ fn put_access(out: &mut Vec<u8>, from: &Access) -> Result<(), NoMemory>
             put_text(out, fs_type.as_str())
         }
     }
-}
-
-pub(crate) fn put_capability(out: &mut Vec<u8>, from: &Capability) -> Result<(), NoMemory>
-    ensures written { OnOk result (out.new.items ≡ out.old.items ++ capability from.now) }
-    ensures fits { OnOk result (IsCapability from.now) }
-{
-    put_access(out, &from.access)?;
-    put_byte(out, from.mode.number())
-}
-
-fn put_each(out: &mut Vec<u8>, from: &[Capability]) -> Result<(), NoMemory>
-    ensures written { OnOk result (out.new.items ≡ out.old.items ++ flat_map capability from.now) }
-    ensures fits { OnOk result (AllByRecursion IsCapability from.now) }
-{
-    for one in from {
-        put_capability(out, one)?;
-    }
-    Ok(())
-}
-
-pub(crate) fn put_capabilities(out: &mut Vec<u8>, from: &CapabilityList) -> Result<(), NoMemory>
-    ensures written { OnOk result (out.new.items ≡ out.old.items ++ counted capability from.now) }
-    ensures fits { OnOk result (IsCapabilityList from.now) }
-{
-    let capabilities = from.as_slice();
-    put_byte(out, capabilities.len() as u8)?;
-    put_each(out, capabilities)
 }
 
 fn put_reply(out: &mut Vec<u8>, from: &Reply) -> Result<(), NoMemory>
