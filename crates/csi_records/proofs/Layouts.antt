@@ -128,15 +128,15 @@ row-refused {H} {R} layout one first (r ∷ rs) (suc k) more parts fits each fro
 -- ---- reading row after row
 
 -- the part at this place is the first that is no row
-pub stops-here : {H R P : Type 0} (layout : Layout H R) (stored : P → StoredPart) (parts : List P) (i : ℕ) (part : P) (rows : List R) → i < length parts → part ≡ get_or parts i part → AllByRecursion layout.is_row rows
-    → map layout.row rows ≡ map stored (take i parts) → ((row : R) → layout.is_row row → layout.row row ≡ stored part → ⊥) → AreRead layout (map stored parts) rows false
-stops-here layout stored parts i part rows inside is each are none =
+pub stops-here : {R P : Type 0} (row_part : R → StoredPart) (IsRow : R → Type 0) (stored : P → StoredPart) (parts : List P) (i : ℕ) (part : P) (rows : List R) → i < length parts → part ≡ get_or parts i part → AllByRecursion IsRow rows
+    → map row_part rows ≡ map stored (take i parts) → ((row : R) → IsRow row → row_part row ≡ stored part → ⊥) → AreRead row_part IsRow (map stored parts) rows false
+stops-here row_part IsRow stored parts i part rows inside is each are none =
     record {
       fit = each;
       stops = (stored part, map stored (drop (i + 1) parts), split, none);
     }
   where
-    split : map stored parts ≡ map layout.row rows ++ stored part ∷ map stored (drop (i + 1) parts)
+    split : map stored parts ≡ map row_part rows ++ stored part ∷ map stored (drop (i + 1) parts)
     split =
         ap (map stored) (sym (take-append-drop i parts) ∙ ap (λ ps. take i parts ++ ps) (drop_more parts i part inside ∙ ap (λ p. p ∷ drop (i + 1) parts) (sym is)))
         ∙ map-append stored (take i parts) (part ∷ drop (i + 1) parts) ∙ ap (λ ps. ps ++ stored part ∷ map stored (drop (i + 1) parts)) (sym are)

@@ -15,7 +15,7 @@ use Rattle.csi_node.specs.OneRow.{RowShown}
 use Rattle.std.specs.Global.{Vec}
 use Rattle.csi_records.specs.declared.part.Part.{Part}
 use Rattle.csi_records.specs.Part.{StoredPart, stored_in, value_in}
-use Rattle.csi_records.specs.Reading.{Reader, go_on, ended, whole, tag_in, volume_in, answered_in, controller_head_in, node_head_in}
+use Rattle.csi_records.specs.Reading.{Reader, go_on, ended, whole, IsReadWhole, byte_in, tag_in, volume_in, answered_in, controller_head_in, node_head_in}
 use Rattle.csi_records.specs.Spelling.{VolumeRow, state_byte, counted, holding_bytes, target_bytes, kept_bytes, staged_bytes, volume_bytes, answered_bytes, volume_part, answered_part, controller_head, node_head}
 use Rattle.csi_records.specs.Records.{IsKept, IsHolding, IsVolumeRow, IsTargetRow, IsStagedSo, IsAnsweredRow}
 use Rattle.csi_records.proofs.Readers.{Reads, then, in_words, Spelled, After, Made, after, makes, Always}
@@ -237,128 +237,79 @@ whole-again {A} {read} Fits spell one value fits =
     let again : go_on (tag_in 1 (1 ∷ spell value ++ [])) (λ _. read) ≡ Some (value, []) = (tagged 1 Fits spell one).again value (1 ∷ spell value) [] (record { fits = fits; are = refl }) in
     ap (λ (t : List ℕ). ended (go_on (tag_in 1 (1 ∷ t)) (λ _. read))) (sym (append-nil (spell value))) ∙ ap ended again
 
--- a volume's row that is read is a row of this id, and the bytes are its spelling
-pub volume-read : (id : ℕ) → IsVolumeId id → (bytes : List ℕ) → AreBytes bytes → (row : VolumeRow) → whole (volume_in id) bytes ≡ Some row → IsVolumeOf id row × (bytes ≡ volume_bytes row)
-volume-read id is_id bytes fits row e = whole-takes (IsVolumeOf id) volume_body (volume_reads id is_id) bytes fits row e
-
--- a volume's row is read from its spelling
-pub volume-again : (row : VolumeRow) → IsVolumeRow row → whole (volume_in row.volume.id) (volume_bytes row) ≡ Some row
-volume-again row fits = whole-again (IsVolumeOf row.volume.id) volume_body (volume_reads row.volume.id fits.id) row (record { has_id = refl; fits = fits })
-
--- a node's row that is read is a row of this id, and the bytes are its spelling
-pub answered-read : (id : ℕ) → IsVolumeId id → (bytes : List ℕ) → AreBytes bytes → (row : RowShown) → whole (answered_in id) bytes ≡ Some row → IsAnsweredOf id row × (bytes ≡ answered_bytes row)
-answered-read id is_id bytes fits row e = whole-takes (IsAnsweredOf id) answered_body (answered_reads id is_id) bytes fits row e
-
--- a node's row is read from its spelling
-pub answered-again : (row : RowShown) → IsAnsweredRow row → whole (answered_in row.id) (answered_bytes row) ≡ Some row
-answered-again row fits = whole-again (IsAnsweredOf row.id) answered_body (answered_reads row.id fits.id) row (record { has_id = refl; fits = fits })
-
--- a next id that is read is a number of 64 bits, and the bytes are a controller's head with it
-pub controller_head-read : (bytes : List ℕ) → AreBytes bytes → (next_id : ℕ) → whole controller_head_in bytes ≡ Some next_id → IsWord next_id × (bytes ≡ 1 ∷ 0 ∷ spelling.word next_id)
-controller_head-read bytes fits next_id e = whole-takes IsWord (λ n. 0 ∷ spelling.word n) controller_head_reads bytes fits next_id e
-
--- the next id is read from the value of a controller's head
-pub controller_head-again : (next_id : ℕ) → IsWord next_id → whole controller_head_in (1 ∷ 0 ∷ spelling.word next_id) ≡ Some next_id
-controller_head-again next_id fits = whole-again IsWord (λ n. 0 ∷ spelling.word n) controller_head_reads next_id fits
-
--- a node id that is read is one, and the bytes are a node's head with it
-pub node_head-read : (bytes : List ℕ) → AreBytes bytes → (node : List ℕ) → whole node_head_in bytes ≡ Some node → IsNodeId node × (bytes ≡ 1 ∷ 1 ∷ spelling.text node)
-node_head-read bytes fits node e = whole-takes IsNodeId (λ n. 1 ∷ spelling.text n) node_head_reads bytes fits node e
-
--- the node id is read from the value of a node's head
-pub node_head-again : (node : List ℕ) → IsNodeId node → whole node_head_in (1 ∷ 1 ∷ spelling.text node) ≡ Some node
-node_head-again node fits = whole-again IsNodeId (λ n. 1 ∷ spelling.text n) node_head_reads node fits
+-- no byte is no value
+pub nothing_read : {A : Type 0} (read : Reader A) → whole read [] ≡ None
+unfolding whole tag_in byte_in
+nothing_read read = refl
 
 -- ---- the rows and heads of parts
 
+-- a part is equal to one with its key and its value
 abbrev pub make_part : ℕ → List ℕ → StoredPart
 make_part key value = record { key = key; value = value }
 
--- what is there isn't missing
-some_is_none : {A : Type 0} (x : A) → Some x ≡ None → ⊥
-some_is_none x e = cc
+-- the values of parts are read as what spells them: of a volume's row
+pub volume_read : IsReadWhole volume_in IsVolumeId IsVolumeRow volume_part
+volume_read = record {
+  takes = λ id value row is_id fits e.
+      let read = whole-takes (IsVolumeOf id) volume_body (volume_reads id is_id) value fits row e in
+      (read.0.fits, ap (λ k. make_part k (volume_bytes row)) read.0.has_id ∙ ap (make_part id) (sym read.1));
+  has_key = λ row fits. fits.id;
+  again = λ row fits. whole-again (IsVolumeOf row.volume.id) volume_body (volume_reads row.volume.id fits.id) row (record { has_id = refl; fits = fits });
+}
 
--- a volume's row that is read from a part's value has that part
-pub volume-spelled : (id : ℕ) (value : List ℕ) (row : VolumeRow) → IsVolumeId id → AreBytes value → whole (volume_in id) value ≡ Some row → IsVolumeRow row × (volume_part row ≡ record { key = id; value = value })
-volume-spelled id value row is_id fits e =
-    let read = volume-read id is_id value fits row e in
-    (read.0.fits, ap (λ (k : ℕ). make_part k (volume_bytes row)) read.0.has_id ∙ ap (λ (v : List ℕ). make_part id v) (sym read.1))
+-- of a node's row
+pub answered_read : IsReadWhole answered_in IsVolumeId IsAnsweredRow answered_part
+answered_read = record {
+  takes = λ id value row is_id fits e.
+      let read = whole-takes (IsAnsweredOf id) answered_body (answered_reads id is_id) value fits row e in
+      (read.0.fits, ap (λ k. make_part k (answered_bytes row)) read.0.has_id ∙ ap (make_part id) (sym read.1));
+  has_key = λ row fits. fits.id;
+  again = λ row fits. whole-again (IsAnsweredOf row.id) answered_body (answered_reads row.id fits.id) row (record { has_id = refl; fits = fits });
+}
 
--- where no volume's row is read from a part's value, none has that part
-pub volume-none : (id : ℕ) (value : List ℕ) → whole (volume_in id) value ≡ None → (row : VolumeRow) → IsVolumeRow row → volume_part row ≡ record { key = id; value = value } → ⊥
-volume-none id value none row fits e =
-    let ids : row.volume.id ≡ id = ap (λ (p : StoredPart). p.key) e in
-    let values : volume_bytes row ≡ value = ap (λ (p : StoredPart). p.value) e in
-    let again : whole (volume_in id) value ≡ Some row = subst (λ (k : ℕ). whole (volume_in k) value ≡ Some row) ids (subst (λ (v : List ℕ). whole (volume_in row.volume.id) v ≡ Some row) values (volume-again row fits)) in
-    some_is_none row (sym again ∙ none)
+-- the key of a head
+abbrev pub IsHeadKey : ℕ → Type 0
+IsHeadKey key = 0 ≡ key
 
--- volumes' rows with equal parts are equal
-pub volume-same : (a b : VolumeRow) → IsVolumeRow a → IsVolumeRow b → volume_part a ≡ volume_part b → a ≡ b
-volume-same a b fits fit e =
-    let ids : a.volume.id ≡ b.volume.id = ap (λ (p : StoredPart). p.key) e in
-    let values : volume_bytes a ≡ volume_bytes b = ap (λ (p : StoredPart). p.value) e in
-    let again : whole (volume_in b.volume.id) (volume_bytes b) ≡ Some a = subst (λ (k : ℕ). whole (volume_in k) (volume_bytes b) ≡ Some a) ids (subst (λ (v : List ℕ). whole (volume_in a.volume.id) v ≡ Some a) values (volume-again a fits)) in
-    same_some a b (sym again ∙ volume-again b fit)
-  where
-    same_some : (x y : VolumeRow) → Some x ≡ Some y → x ≡ y
-    same_some x y h = cc
+-- of a controller's head
+pub controller_head_read : IsReadWhole (λ key. controller_head_in) IsHeadKey IsWord controller_head
+controller_head_read = record {
+  takes = λ key value next_id is fits e.
+      let read = whole-takes IsWord (λ n. 0 ∷ spelling.word n) controller_head_reads value fits next_id e in
+      (read.0, ap (make_part 0) (sym read.1) ∙ ap (λ k. make_part k value) is);
+  has_key = λ next_id fits. refl;
+  again = λ next_id fits. whole-again IsWord (λ n. 0 ∷ spelling.word n) controller_head_reads next_id fits;
+}
 
--- a node's row that is read from a part's value has that part
-pub answered-spelled : (id : ℕ) (value : List ℕ) (row : RowShown) → IsVolumeId id → AreBytes value → whole (answered_in id) value ≡ Some row → IsAnsweredRow row × (answered_part row ≡ record { key = id; value = value })
-answered-spelled id value row is_id fits e =
-    let read = answered-read id is_id value fits row e in
-    (read.0.fits, ap (λ (k : ℕ). make_part k (answered_bytes row)) read.0.has_id ∙ ap (λ (v : List ℕ). make_part id v) (sym read.1))
+-- of a node's head
+pub node_head_read : IsReadWhole (λ key. node_head_in) IsHeadKey IsNodeId node_head
+node_head_read = record {
+  takes = λ key value node is fits e.
+      let read = whole-takes IsNodeId (λ n. 1 ∷ spelling.text n) node_head_reads value fits node e in
+      (read.0, ap (make_part 0) (sym read.1) ∙ ap (λ k. make_part k value) is);
+  has_key = λ node fits. refl;
+  again = λ node fits. whole-again IsNodeId (λ n. 1 ∷ spelling.text n) node_head_reads node fits;
+}
 
--- where no node's row is read from a part's value, none has that part
-pub answered-none : (id : ℕ) (value : List ℕ) → whole (answered_in id) value ≡ None → (row : RowShown) → IsAnsweredRow row → answered_part row ≡ record { key = id; value = value } → ⊥
-answered-none id value none row fits e =
-    let ids : row.id ≡ id = ap (λ (p : StoredPart). p.key) e in
-    let values : answered_bytes row ≡ value = ap (λ (p : StoredPart). p.value) e in
-    let again : whole (answered_in id) value ≡ Some row = subst (λ (k : ℕ). whole (answered_in k) value ≡ Some row) ids (subst (λ (v : List ℕ). whole (answered_in row.id) v ≡ Some row) values (answered-again row fits)) in
-    some_is_none row (sym again ∙ none)
+module _ {R : Type 0} {row_in : ℕ → Reader R} {IsKey : ℕ → Type 0} {IsRow : R → Type 0} {row_part : R → StoredPart} (is_read : IsReadWhole row_in IsKey IsRow row_part) where
+  -- what is read of a part's value, as a part tells it
+  abbrev value_of : StoredPart → Option R
+  value_of part = whole (row_in part.key) part.value
 
--- a node's rows with equal parts are equal
-pub answered-same : (a b : RowShown) → IsAnsweredRow a → IsAnsweredRow b → answered_part a ≡ answered_part b → a ≡ b
-answered-same a b fits fit e =
-    let ids : a.id ≡ b.id = ap (λ (p : StoredPart). p.key) e in
-    let values : answered_bytes a ≡ answered_bytes b = ap (λ (p : StoredPart). p.value) e in
-    let again : whole (answered_in b.id) (answered_bytes b) ≡ Some a = subst (λ (k : ℕ). whole (answered_in k) (answered_bytes b) ≡ Some a) ids (subst (λ (v : List ℕ). whole (answered_in a.id) v ≡ Some a) values (answered-again a fits)) in
-    same_some a b (sym again ∙ answered-again b fit)
-  where
-    same_some : (x y : RowShown) → Some x ≡ Some y → x ≡ y
-    same_some x y h = cc
+  -- where nothing is read of a part, nothing has that part
+  pub unread : (part : StoredPart) → whole (row_in part.key) part.value ≡ None → (row : R) → IsRow row → row_part row ≡ part → ⊥
+  unread part none row fits e = clash (sym (is_read.again row fits) ∙ ap value_of e ∙ none)
+    where
+      clash : Some row ≡ None → ⊥
+      clash h = cc
 
--- where no next id is read from the value of a head, no controller has that head
-pub controller_head-none : (value : List ℕ) → whole controller_head_in value ≡ None → (next_id : ℕ) → IsWord next_id → controller_head next_id ≡ record { key = 0; value = value } → ⊥
-controller_head-none value none next_id fits e =
-    let values : 1 ∷ 0 ∷ spelling.word next_id ≡ value = ap (λ (p : StoredPart). p.value) e in
-    some_is_none next_id (sym (subst (λ (v : List ℕ). whole controller_head_in v ≡ Some next_id) values (controller_head-again next_id fits)) ∙ none)
-
--- controllers' heads that are equal have the same next id
-pub controller_head-same : (a b : ℕ) → IsWord a → IsWord b → controller_head a ≡ controller_head b → a ≡ b
-controller_head-same a b fits fit e =
-    let values : 1 ∷ 0 ∷ spelling.word a ≡ 1 ∷ 0 ∷ spelling.word b = ap (λ (p : StoredPart). p.value) e in
-    let again : whole controller_head_in (1 ∷ 0 ∷ spelling.word b) ≡ Some a = subst (λ (v : List ℕ). whole controller_head_in v ≡ Some a) values (controller_head-again a fits) in
-    same_some a b (sym again ∙ controller_head-again b fit)
-  where
-    same_some : (x y : ℕ) → Some x ≡ Some y → x ≡ y
-    same_some x y h = cc
-
--- where no node id is read from the value of a head, no node has that head
-pub node_head-none : (value : List ℕ) → whole node_head_in value ≡ None → (node : List ℕ) → IsNodeId node → node_head node ≡ record { key = 0; value = value } → ⊥
-node_head-none value none node fits e =
-    let values : 1 ∷ 1 ∷ spelling.text node ≡ value = ap (λ (p : StoredPart). p.value) e in
-    some_is_none node (sym (subst (λ (v : List ℕ). whole node_head_in v ≡ Some node) values (node_head-again node fits)) ∙ none)
-
--- nodes' heads that are equal have the same node id
-pub node_head-same : (a b : List ℕ) → IsNodeId a → IsNodeId b → node_head a ≡ node_head b → a ≡ b
-node_head-same a b fits fit e =
-    let values : 1 ∷ 1 ∷ spelling.text a ≡ 1 ∷ 1 ∷ spelling.text b = ap (λ (p : StoredPart). p.value) e in
-    let again : whole node_head_in (1 ∷ 1 ∷ spelling.text b) ≡ Some a = subst (λ (v : List ℕ). whole node_head_in v ≡ Some a) values (node_head-again a fits) in
-    same_some a b (sym again ∙ node_head-again b fit)
-  where
-    same_some : (x y : List ℕ) → Some x ≡ Some y → x ≡ y
-    same_some x y h = cc
+  -- what has equal parts is equal
+  pub same_part : (a b : R) → IsRow a → IsRow b → row_part a ≡ row_part b → a ≡ b
+  same_part a b fits fit e = same (sym (is_read.again a fits) ∙ ap value_of e ∙ is_read.again b fit)
+    where
+      same : Some a ≡ Some b → a ≡ b
+      same h = cc
 
 -- a part with this value
 pub stored-is : (part : Part) (value : Vec ℕ) (key : ℕ) (bytes : List ℕ) → part.value ≡ Some value → key ≡ part.key → bytes ≡ value.items → stored_in part ≡ make_part key bytes

@@ -1,6 +1,6 @@
 -- The records of both plugins by their layouts.
 use Rattle.std.proofs.Common.{◌≡◌, ℕ, ◌+◌, ◌-◌, ◌≤◌, ◌<◌, ◌^◌, List, [], ◌∷◌, ◌++◌, length, take, drop, map, get_or, refl, sym, ap, subst, ◌∙◌, arith}
-use Rattle.std.specs.Prelude.{Option, None, Bool, true, false, IfSome}
+use Rattle.std.specs.Prelude.{Option, Bool, true, false, IfSome}
 use Rattle.std.specs.List.{AllByRecursion}
 use Rattle.std.proofs.lemmas.List.{append-nil, take_rest, take-map, length-take, length-map, get_or-take}
 use Rattle.std.proofs.lemmas.List.Elements.{All-take, recursion_from_All}
@@ -19,11 +19,11 @@ use Rattle.csi_records.specs.declared.part.Part.{Part}
 use Rattle.csi_records.specs.Part.{StoredPart, stored_in, all_stored_in}
 use Rattle.csi_records.specs.Stopping.{AreRead}
 use Rattle.csi_records.specs.Writing.{ArePublishedFew}
-use Rattle.csi_records.specs.Spelling.{VolumeRow, volume_row, volume_part, controller_head, node_head}
-use Rattle.csi_records.specs.Records.{Layout, controller_layout, node_layout, IsNodeHead, AreVolumeRows, IsRecordOf, IsRefusedAt}
-use Rattle.csi_records.proofs.PartReaders.{volume-same, answered-same, controller_head-same, node_head-same}
+use Rattle.csi_records.specs.Spelling.{VolumeRow, volume_row, volume_part, controller_head, answered_part, node_head}
+use Rattle.csi_records.specs.Records.{controller_layout, node_layout, IsNodeHead, AreVolumeRows, IsVolumeRow, IsAnsweredRow, IsRecordOf, IsRefusedAt}
+use Rattle.csi_records.proofs.PartReaders.{volume_read, answered_read, controller_head_read, node_head_read, same_part}
 use Rattle.csi_frames.specs.Spelling as spelling
-use Rattle.csi_records.proofs.Sizes.{volume-size, answered-size}
+use Rattle.csi_records.proofs.Sizes.{volume_size, answered_size}
 use Rattle.csi_records.proofs.OneReading.{ArePlain}
 use Rattle.csi_records.proofs.Layouts.{IsOneToOne, head-refused, row-unread, row-refused}
 
@@ -46,8 +46,8 @@ sound-shown next_id rows are = sound-copies next_id are.0 rows (same-rows are.0 
 -- the parts of a controller's record are spelled by one value each, and a front of its rows keeps the rules
 pub controller_one : IsOneToOne controller_layout
 controller_one = record {
-  heads = controller_head-same;
-  rows = volume-same;
+  heads = same_part controller_head_read;
+  rows = same_part volume_read;
   fronts = λ next_id shown k are. (take k are.0, sym (take-map volume_row k are.0) ∙ ap (take k) are.1, sound-take next_id are.0 k are.2);
 }
 
@@ -62,22 +62,22 @@ controller-refused next_id rows place more parts fits each from to before refuse
     are
 
 -- what was read before the first part that is no row
-abbrev rest_of : {H R : Type 0} → (layout : Layout H R) → (parts : List StoredPart) (rows : List R) (all : Bool) → AreRead layout parts rows all → (more : List StoredPart) × (parts ≡ map layout.row rows ++ more)
-rest_of layout parts rows true read = ([], read.stops ∙ sym (append-nil (map layout.row rows)))
-rest_of layout parts rows false read = (read.stops.0 ∷ read.stops.1, read.stops.2)
+abbrev rest_of : {R : Type 0} → (row_part : R → StoredPart) (IsRow : R → Type 0) (parts : List StoredPart) (rows : List R) (all : Bool) → AreRead row_part IsRow parts rows all → (more : List StoredPart) × (parts ≡ map row_part rows ++ more)
+rest_of row_part IsRow parts rows true read = ([], read.stops ∙ sym (append-nil (map row_part rows)))
+rest_of row_part IsRow parts rows false read = (read.stops.0 ∷ read.stops.1, read.stops.2)
 
 -- where a controller's rows so far are sound and the next part is no row, that part is refused
-pub controller-unread : (next_id : ℕ) (rows : List ControllerRow) (parts : List StoredPart) → next_id < 2 ^ 64 → AreRead controller_layout parts (map volume_row rows) false → IsSound next_id rows
+pub controller-unread : (next_id : ℕ) (rows : List ControllerRow) (parts : List StoredPart) → next_id < 2 ^ 64 → AreRead volume_part IsVolumeRow parts (map volume_row rows) false → IsSound next_id rows
     → IsRefusedAt (IsRecordOf controller_layout) (controller_head next_id ∷ parts) (length rows + 1)
 controller-unread next_id rows parts fits read sound =
     subst (λ (n : ℕ). IsRefusedAt (IsRecordOf controller_layout) (controller_head next_id ∷ parts) (n + 1)) (length-map rows volume_row)
     (row-unread controller_layout next_id (map volume_row rows) read.stops.0 read.stops.1 parts fits read.fit (rows, refl, sound) read.stops.2 read.stops.3)
 
 -- where a row is the first that a controller refuses, its part is the first that is refused
-pub controller-badrow : (next_id : ℕ) (rows : List ControllerRow) (parts : List StoredPart) (all : Bool) (place : ℕ) → next_id < 2 ^ 64 → AreRead controller_layout parts (map volume_row rows) all → IsFirstRefused next_id rows place
+pub controller-badrow : (next_id : ℕ) (rows : List ControllerRow) (parts : List StoredPart) (all : Bool) (place : ℕ) → next_id < 2 ^ 64 → AreRead volume_part IsVolumeRow parts (map volume_row rows) all → IsFirstRefused next_id rows place
     → IsRefusedAt (IsRecordOf controller_layout) (controller_head next_id ∷ parts) place
 controller-badrow next_id rows parts all place fits read first =
-    let rest = rest_of controller_layout parts (map volume_row rows) all read in
+    let rest = rest_of volume_part IsVolumeRow parts (map volume_row rows) all read in
     controller-refused next_id rows place rest.0 parts fits read.fit first.from first.to first.before first.refused rest.1
 
 -- parts, the first apart
@@ -106,31 +106,24 @@ record-take rows k is = record {
 -- the parts of a node's record are spelled by one value each, and a front of its rows keeps the rules
 pub node_one : (wanted : Option (List ℕ)) → IsOneToOne (node_layout wanted)
 node_one wanted = record {
-  heads = λ a b fits fit e. node_head-same a b fits.0 fit.0 e;
-  rows = answered-same;
+  heads = λ a b fits fit e. same_part node_head_read a b fits.0 fit.0 e;
+  rows = same_part answered_read;
   fronts = λ node rows k are. record-take rows k are;
 }
 
--- the head that is asked for changes nothing of the rows
-asked : (wanted : Option (List ℕ)) (parts : List StoredPart) (rows : List RowShown) (all : Bool) → AreRead (node_layout None) parts rows all → AreRead (node_layout wanted) parts rows all
-asked wanted parts rows true read = record { fit = read.fit; stops = read.stops }
-asked wanted parts rows false read = record { fit = read.fit; stops = read.stops }
-
 -- where a node's rows so far keep the rules and the next part is no row, that part is refused
-pub node-unread : (wanted : Option (List ℕ)) (node : List ℕ) (rows : List NodeRow) (parts : List StoredPart) → IsNodeHead wanted node → AreRead (node_layout None) parts (map shown rows) false → IsRecord (map shown rows)
+pub node-unread : (wanted : Option (List ℕ)) (node : List ℕ) (rows : List NodeRow) (parts : List StoredPart) → IsNodeHead wanted node → AreRead answered_part IsAnsweredRow parts (map shown rows) false → IsRecord (map shown rows)
     → IsRefusedAt (IsRecordOf (node_layout wanted)) (node_head node ∷ parts) (length rows + 1)
 node-unread wanted node rows parts fits read rules =
-    let now = asked wanted parts (map shown rows) false read in
     subst (λ (n : ℕ). IsRefusedAt (IsRecordOf (node_layout wanted)) (node_head node ∷ parts) (n + 1)) (length-map rows shown)
-    (row-unread (node_layout wanted) node (map shown rows) now.stops.0 now.stops.1 parts fits now.fit rules now.stops.2 now.stops.3)
+    (row-unread (node_layout wanted) node (map shown rows) read.stops.0 read.stops.1 parts fits read.fit rules read.stops.2 read.stops.3)
 
 -- where a row is the first that a node refuses, its part is the first that is refused
-pub node-badrow : (wanted : Option (List ℕ)) (node : List ℕ) (rows : List NodeRow) (parts : List StoredPart) (all : Bool) (place : ℕ) → IsNodeHead wanted node → AreRead (node_layout None) parts (map shown rows) all → IsFirstRefusedRow rows place
+pub node-badrow : (wanted : Option (List ℕ)) (node : List ℕ) (rows : List NodeRow) (parts : List StoredPart) (all : Bool) (place : ℕ) → IsNodeHead wanted node → AreRead answered_part IsAnsweredRow parts (map shown rows) all → IsFirstRefusedRow rows place
     → IsRefusedAt (IsRecordOf (node_layout wanted)) (node_head node ∷ parts) place
 node-badrow wanted node rows parts all place fits read first =
-    let now = asked wanted parts (map shown rows) all read in
-    let rest = rest_of (node_layout wanted) parts (map shown rows) all now in
-    row-refused (node_layout wanted) (node_one wanted) node (map shown rows) place rest.0 parts fits now.fit first.from (omega (arith, first.to, length-map rows shown))
+    let rest = rest_of answered_part IsAnsweredRow parts (map shown rows) all read in
+    row-refused (node_layout wanted) (node_one wanted) node (map shown rows) place rest.0 parts fits read.fit first.from (omega (arith, first.to, length-map rows shown))
     (subst IsRecord (sym (take-map shown (place - 1) rows)) first.before)
     (λ is. first.refused (subst IsRecord (take-map shown place rows) is))
     rest.1
@@ -139,7 +132,7 @@ node-badrow wanted node rows parts all place fits read first =
 pub node-unasked : (wanted : Option (List ℕ)) (node : List ℕ) (parts : List StoredPart) → IsNodeId node → (IfSome wanted (λ id. node ≡ id) → ⊥) → IsRefusedAt (IsRecordOf (node_layout wanted)) (node_head node ∷ parts) 0
 node-unasked wanted node parts fits other =
     head-refused (node_layout wanted) (node_head node) parts
-    (λ first head same. let is : first ≡ node = node_head-same first node head.0 fits same in other (subst (λ (n : List ℕ). IfSome wanted (λ id. n ≡ id)) is head.1))
+    (λ first head same. let is : first ≡ node = same_part node_head_read first node head.0 fits same in other (subst (λ (n : List ℕ). IfSome wanted (λ id. n ≡ id)) is head.1))
 
 -- what keeps the rules can be written
 few-each : (rows : List NodeRow) → AllByRecursion IsRow (map shown rows) → AllByRecursion ArePublishedFew rows
@@ -160,7 +153,7 @@ word-size n = refl
 pub controller_plain : ArePlain controller_layout
 controller_plain = record {
   heads = λ next_id fits. record { key = omega arith; value = omega arith };
-  rows = λ row fits. record { key = fits.id.in_range; value = volume-size row fits };
+  rows = λ row fits. record { key = fits.id.in_range; value = volume_size row fits };
   few = λ next_id rows are. omega (arith, are.2.limit, length-map are.0 volume_row, ap length are.1);
 }
 
@@ -168,6 +161,6 @@ controller_plain = record {
 pub node_plain : (wanted : Option (List ℕ)) → ArePlain (node_layout wanted)
 node_plain wanted = record {
   heads = λ node fits. record { key = omega arith; value = omega (arith, (fits.0).no_longer) };
-  rows = λ row fits. record { key = fits.id.in_range; value = answered-size row fits };
+  rows = λ row fits. record { key = fits.id.in_range; value = answered_size row fits };
   few = λ node rows are. are.limit;
 }

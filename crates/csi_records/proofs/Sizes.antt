@@ -73,8 +73,8 @@ small : (n a b c d e f : ℕ) → n ≡ a + b + c + d + e + f → a ≤ 200 → 
 small n a b c d e f is ha hb hc hd he hf = omega arith
 
 -- the value of a volume's part, and below of a node's row, is shorter than 2^32 bytes
-pub volume-size : (row : VolumeRow) → IsVolumeRow row → length (volume_bytes row) < 2 ^ 32
-volume-size row fits =
+pub volume_size : (row : VolumeRow) → IsVolumeRow row → length (volume_bytes row) < 2 ^ 32
+volume_size row fits =
     let a : List ℕ = 1 ∷ state_byte row.volume.is_live ∷ [] in
     let b : List ℕ = spelling.text row.volume.name in
     let c : List ℕ = spelling.word row.volume.capacity in
@@ -87,8 +87,8 @@ volume-size row fits =
     fewer : (n : ℕ) → n ≤ 282 → n ≤ 300
     fewer n h = omega arith
 
-pub answered-size : (row : RowShown) → IsAnsweredRow row → length (answered_bytes row) < 2 ^ 32
-answered-size row fits =
+pub answered_size : (row : RowShown) → IsAnsweredRow row → length (answered_bytes row) < 2 ^ 32
+answered_size row fits =
     let a : List ℕ = 1 ∷ staged_bytes row.staged in
     let b : List ℕ = counted target_bytes row.targets in
     small (length (answered_bytes row)) (length a) 0 0 0 (length b) (length (kept_bytes row.kept)) (ordered (length a) (length b) (length (kept_bytes row.kept)) (length3 a b (kept_bytes row.kept)))

@@ -1,6 +1,6 @@
 -- How a value is read, from left to right: what the private functions that read answer. Who reads the public contracts need not
 -- read this; it is joined to the spelling in proofs/.
-use Rattle.std.specs.Prelude.{ℕ, zero, suc, ◌-◌, ◌==◌, ◌&&◌, nat_lt, nat_le, Bool, true, false, not, if◌then◌else◌, List, [], ◌∷◌, length, take, drop, Option, Some, None}
+use Rattle.std.specs.Prelude.{◌≡◌, ℕ, zero, suc, ◌-◌, ◌==◌, ◌&&◌, nat_lt, nat_le, Bool, true, false, not, if◌then◌else◌, List, [], ◌∷◌, length, take, drop, Option, Some, None}
 use Rattle.std.specs.Str.{is_utf8}
 use Rattle.byteorder.specs.Endian.{big_number}
 use Rattle.csi_types.specs.declared.number.Number.{Number}
@@ -12,6 +12,7 @@ use Rattle.csi_types.specs.declared.reply.Reply.{Reply}
 use Rattle.csi_types.specs.Fence.{Kept}
 use Rattle.csi_types.specs.Mode.{mode_from_number}
 use Rattle.csi_types.specs.Status.{status_from_code}
+use Rattle.csi_frames.specs.Bytes.{AreBytes}
 use Rattle.csi_frames.specs.Codes.{kind_from_number}
 use Rattle.csi_controller.specs.declared.row.NodeHolding.{NodeHolding}
 use Rattle.csi_node.specs.declared.row.NodeTarget.{NodeTarget}
@@ -232,3 +233,10 @@ ended None = None
 
 unfoldable pub whole : {A : Type 0} → Reader A → List ℕ → Option A
 whole read bytes = ended (go_on (tag_in 1 bytes) (λ _. read))
+
+-- The values of parts under such keys are read as what spells them: what is read of bytes is within its limits and has that part,
+-- and what is within its limits has such a key and is read of its part.
+pub record IsReadWhole {R : Type 0} (row_in : ℕ → Reader R) (IsKey : ℕ → Type 0) (IsRow : R → Type 0) (row_part : R → StoredPart) : Type 0 where
+  pub takes : (key : ℕ) (value : List ℕ) (row : R) → IsKey key → AreBytes value → whole (row_in key) value ≡ Some row → IsRow row × (row_part row ≡ record { key = key; value = value })
+  pub has_key : (row : R) → IsRow row → IsKey (row_part row).key
+  pub again : (row : R) → IsRow row → whole (row_in (row_part row).key) (row_part row).value ≡ Some row

@@ -3,17 +3,17 @@ use Rattle.std.specs.Prelude.{◌≡◌, ◌≢◌, ◌⊎◌, ◌<◌, ◌≤�
 use Rattle.std.specs.List.{flat_map, AllByRecursion}
 use Rattle.csi_records.specs.Part.{StoredPart, IsPart}
 use Rattle.csi_records.specs.Spelling.{part_bytes, record_head}
-use Rattle.csi_records.specs.Records.{Layout}
 
 -- all parts are rows; or the first that is none stands behind those that are
-abbrev pub StopsAt : {H R : Type 0} → Layout H R → List StoredPart → List R → Bool → Type 0
-StopsAt layout parts rows true = parts ≡ map layout.row rows
-StopsAt {H} {R} layout parts rows false =
-    (part : StoredPart) × (rest : List StoredPart) × (parts ≡ map layout.row rows ++ part ∷ rest) × ((row : R) → layout.is_row row → layout.row row ≡ part → ⊥)
+abbrev pub StopsAt : {R : Type 0} → (R → StoredPart) → (R → Type 0) → List StoredPart → List R → Bool → Type 0
+StopsAt row_part IsRow parts rows true = parts ≡ map row_part rows
+StopsAt {R} row_part IsRow parts rows false =
+    (part : StoredPart) × (rest : List StoredPart) × (parts ≡ map row_part rows ++ part ∷ rest) × ((row : R) → IsRow row → row_part row ≡ part → ⊥)
 
-pub record AreRead {H R : Type 0} (layout : Layout H R) (parts : List StoredPart) (rows : List R) (all : Bool) : Type 0 where
-  pub fit : AllByRecursion layout.is_row rows
-  pub stops : StopsAt layout parts rows all
+-- rows within their limits, of parts that these functions tell
+pub record AreRead {R : Type 0} (row_part : R → StoredPart) (IsRow : R → Type 0) (parts : List StoredPart) (rows : List R) (all : Bool) : Type 0 where
+  pub fit : AllByRecursion IsRow rows
+  pub stops : StopsAt row_part IsRow parts rows all
 
 -- all bytes are taken by as many parts; or bytes are left behind them; or what comes next is no part
 abbrev pub SplitStops : ℕ → List StoredPart → List ℕ → Bool → Type 0

@@ -9,6 +9,7 @@ mod items;
 mod laws;
 mod node_record;
 mod part;
+mod plugin_rows;
 mod record;
 mod row_values;
 mod rows;

@@ -1,81 +1,72 @@
-//! The parts of a controller's record, read: its head and its rows.
-ghost use Rattle.std.specs.Prelude.{◌≡◌, ℕ, Some, None, IfOk, IfSome, OnErr, IsErrOf};
+//! The parts of a controller's record: its head, read, and its rows.
+ghost use Rattle.std.specs.Prelude.{◌≡◌, ℕ, Some, None, IfOk, IfSome, OnErr};
 ghost use Rattle.csi_types.specs.Limits.{IsWord};
-ghost use Rattle.csi_types.specs.VolumeId.{IsVolumeId};
 ghost use Rattle.csi_frames.specs.Bytes.{AreBytes};
 ghost use Rattle.csi_records.specs.Part.{stored_in};
-ghost use Rattle.csi_records.specs.Spelling.{VolumeRow, volume_row, volume_part, controller_head};
-ghost use Rattle.csi_records.specs.Records.{IsVolumeRow};
-ghost use Rattle.csi_records.specs.Reading.{volume_in, controller_head_in, whole};
+ghost use Rattle.csi_records.specs.Spelling.{controller_head};
+ghost use Rattle.csi_records.specs.Reading.{controller_head_in, whole};
 
 use crate::fault::Stop;
 use crate::fields::Fields;
 use crate::items::{capabilities, list};
 use crate::part::Part;
+use crate::plugin_rows::Row;
+use crate::row_values::volume_value;
 use crate::texts::name;
 use crate::values::reply;
+use crate::writing::put_part;
 use csi_controller::ControllerRow;
-use csi_types::VolumeId;
+use csi_types::{NoMemory, VolumeId};
 use std::alloc::Global;
 
-// A row's fields, behind the version.
-#[tactic(auto, unfolding(crate::specs::Reading::volume_in, crate::specs::Reading::kept_in))]
-fn row_at(fields: &mut Fields<'_>, alloc: Global, id: VolumeId) -> Result<ControllerRow, Stop>
-    ensures read { IfOk result (λ row. volume_in id fields.old.bytes.now ≡ Some (volume_row row, fields.new.bytes.now)) }
-    ensures bad { IsErrOf result Stop.Bad → volume_in id fields.old.bytes.now ≡ None }
-{
-    let live = fields.live()?;
-    let name = name(fields, alloc)?;
-    let capacity = fields.word()?;
-    let capabilities = capabilities(fields, alloc)?;
-    let holdings = list(fields, alloc, 64)?;
-    let last = fields.number()?;
-    let kind = fields.kind()?;
-    let reply = reply(fields, alloc)?;
-    Ok(ControllerRow {
-        id,
-        live,
-        name,
-        capacity,
-        capabilities,
-        holdings,
-        last,
-        kind,
-        reply,
-    })
-}
+impl Row for ControllerRow {
+    ghost use Rattle.csi_records.specs.Reading.{volume_in};
+    ghost use Rattle.csi_records.specs.Records.{IsVolumeRow};
+    ghost use Rattle.csi_records.specs.Spelling.{VolumeRow, volume_row, volume_part};
+    ghost use Rattle.csi_records.specs.Writing.{AreHeldFew};
 
-// The row of which this is the whole value.
-#[tactic(auto, unfolding(crate::specs::Reading::whole))]
-fn row_in(alloc: Global, id: VolumeId, value: &[u8]) -> Result<ControllerRow, Stop>
-    ensures read { IfOk result (λ row. whole (volume_in id) value.now ≡ Some (volume_row row)) }
-    ensures bad { IsErrOf result Stop.Bad → whole (volume_in id) value.now ≡ None }
-    ensures bytes { AreBytes value.now }
-    ensures id { IsVolumeId id }
-{
-    let _number = id.number();
-    let mut fields = Fields { bytes: value };
-    fields.tag(1)?;
-    let row = row_at(&mut fields, alloc, id)?;
-    if fields.bytes.is_empty() {
-        Ok(row)
-    } else {
-        Err(Stop::Bad)
+    ghost Shown = { VolumeRow };
+
+    ghost shown = { volume_row };
+
+    ghost row_in = { volume_in };
+
+    ghost row_part = { volume_part };
+
+    ghost is_row = { IsVolumeRow };
+
+    ghost is_small = { AreHeldFew };
+
+    #[tactic(auto, unfolding(crate::specs::Reading::volume_in, crate::specs::Reading::kept_in))]
+    fn read(fields: &mut Fields<'_>, alloc: Global, id: VolumeId) -> Result<ControllerRow, Stop> {
+        let live = fields.live()?;
+        let name = name(fields, alloc)?;
+        let capacity = fields.word()?;
+        let capabilities = capabilities(fields, alloc)?;
+        let holdings = list(fields, alloc, 64)?;
+        let last = fields.number()?;
+        let kind = fields.kind()?;
+        let reply = reply(fields, alloc)?;
+        Ok(ControllerRow {
+            id,
+            live,
+            name,
+            capacity,
+            capabilities,
+            holdings,
+            last,
+            kind,
+            reply,
+        })
     }
-}
 
-/// The row that this part spells.
-pub(crate) fn volume_of(alloc: Global, part: &Part) -> Result<ControllerRow, Stop>
-    ensures row { IfOk result (λ row. IsVolumeRow (volume_row row) × (volume_part (volume_row row) ≡ stored_in part.now)) }
-    ensures bad { IsErrOf result Stop.Bad → (row : VolumeRow) → IsVolumeRow row → volume_part row ≡ stored_in part.now → ⊥ }
-{
-    let Some(id) = VolumeId::try_new(part.key) else {
-        return Err(Stop::Bad);
-    };
-    let Some(value) = &part.value else {
-        return Err(Stop::Bad);
-    };
-    row_in(alloc, id, value)
+    fn put(&self, alloc: Global, out: &mut Vec<u8>) -> Result<(), NoMemory> {
+        let value = volume_value(alloc, self)?;
+        put_part(out, self.id.number(), &value)
+    }
+
+    #[tactic(auto, using(crate::proofs::PartReaders::volume_read))]
+    fn reading_law() {}
 }
 
 // The next id of which this is the whole value of a head.

@@ -1,9 +1,9 @@
 use Rattle.std.proofs.Common.{◌≡◌, ◌∙◌, ◌∷◌, ◌+◌, ◌-◌, ap, inr, sym, subst, List, ℕ, take, drop, length, arith}
 use Rattle.csi_controller.specs.Judging.{IsFirstRefused, IsRefusal}
 use Rattle.csi_records.specs.Part.{StoredPart, all_stored_in}
-use Rattle.csi_records.specs.Spelling.{controller_head}
+use Rattle.csi_records.specs.Spelling.{controller_head, volume_part}
 use Rattle.csi_records.specs.Stopping.{AreRead}
-use Rattle.csi_records.specs.Records.{controller_layout, IsRecordOf, IsRefusedAt}
+use Rattle.csi_records.specs.Records.{controller_layout, IsVolumeRow, IsRecordOf, IsRefusedAt}
 use Rattle.csi_records.proofs.Plugins.{controller-unread, controller-badrow, stored-split}
 use Rattle.csi_records.proofs.controller_record.controller_record.Goals as goal
 
@@ -22,8 +22,8 @@ returns-in-Ok-2 c =
     let rows = c.in_ok-rows.field-0.rows.items in
     let split = stored-split c.args.parts.now c.head-item.result c.in-len1-up.len_at_least c.head-item.is in
     let is : all_stored_in c.args.parts.now ≡ controller_head c.in-Some.next_id ∷ others = split ∙ ap (λ (h : StoredPart). h ∷ others) (sym c.in-Some.ensures.head) in
-    let read : AreRead controller_layout others _ _ = c.in_ok-rows.ensures in
+    let read : AreRead volume_part IsVolumeRow others _ _ = c.in_ok-rows.ensures in
     let place : length rows + 1 ≡ c.len.result + 1 = omega (arith, c.len.ensures) in
     inr (subst (λ (ps : List StoredPart). IsRefusedAt (IsRecordOf controller_layout) ps (c.len.result + 1)) (sym is)
     (subst (λ (n : ℕ). IsRefusedAt (IsRecordOf controller_layout) (controller_head c.in-Some.next_id ∷ others) n) place
-    (controller-unread c.in-Some.next_id rows others c.in-Some.ensures.fits (subst (AreRead controller_layout others _) c.if-all.false read) c.in-Ok-2.ensures.sound)))
+    (controller-unread c.in-Some.next_id rows others c.in-Some.ensures.fits (subst (AreRead volume_part IsVolumeRow others _) c.if-all.false read) c.in-Ok-2.ensures.sound)))

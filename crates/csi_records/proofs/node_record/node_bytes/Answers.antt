@@ -5,5 +5,5 @@ use Rattle.csi_node.specs.Record.{IsRecord}
 use Rattle.csi_records.proofs.Plugins.{few-targets}
 use Rattle.csi_records.proofs.node_record.node_bytes.Goals as goal
 
-pub put_rows-requires : goal.put_rows-requires
-put_rows-requires c = few-targets c.rows-rows.result.now (subst (λ (rows : List NodeRow). IsRecord (map shown rows)) (sym c.rows-rows.ensures.value) c.rows-rows.ensures.rules)
+pub bytes_of-requires-clause-small : goal.bytes_of-requires-clause-small
+bytes_of-requires-clause-small c = few-targets c.rows.result.now (subst (λ (rows : List NodeRow). IsRecord (map shown rows)) (sym c.rows.ensures.value) c.rows.ensures.rules)

@@ -1,11 +1,10 @@
 use Rattle.std.proofs.Common.{◌≡◌, ◌∙◌, ◌∷◌, ◌+◌, ◌-◌, ap, inr, sym, subst, List, ℕ, take, drop, length, arith}
-use Rattle.std.specs.Prelude.{None}
 use Rattle.std.specs.Option.{option_copied}
 use Rattle.csi_node.specs.Judging.{IsFirstRefused, IsRefusal}
 use Rattle.csi_records.specs.Part.{StoredPart, all_stored_in}
-use Rattle.csi_records.specs.Spelling.{node_head}
+use Rattle.csi_records.specs.Spelling.{node_head, answered_part}
 use Rattle.csi_records.specs.Stopping.{AreRead}
-use Rattle.csi_records.specs.Records.{node_layout, IsNodeHead, IsRecordOf, IsRefusedAt}
+use Rattle.csi_records.specs.Records.{node_layout, IsNodeHead, IsAnsweredRow, IsRecordOf, IsRefusedAt}
 use Rattle.csi_records.proofs.Plugins.{node-unread, node-badrow, stored-split}
 use Rattle.csi_records.proofs.node_record.node_record.Goals as goal
 
@@ -28,8 +27,8 @@ returns-in-Ok-2 c =
     let rows = c.in_ok-rows.field-0.rows.items in
     let split = stored-split c.args.parts.now c.head-item.result c.in-len1-up.len_at_least c.head-item.is in
     let is : all_stored_in c.args.parts.now ≡ node_head c.in-Ok.node ∷ others = split ∙ ap (λ (h : StoredPart). h ∷ others) (sym c.in-Ok.ensures.head.1) in
-    let read : AreRead (node_layout None) others _ _ = c.in_ok-rows.ensures in
+    let read : AreRead answered_part IsAnsweredRow others _ _ = c.in_ok-rows.ensures in
     let place : length rows + 1 ≡ c.len.result + 1 = omega (arith, c.len.ensures) in
     inr (subst (λ (ps : List StoredPart). IsRefusedAt (IsRecordOf (node_layout wanted)) ps (c.len.result + 1)) (sym is)
     (subst (λ (n : ℕ). IsRefusedAt (IsRecordOf (node_layout wanted)) (node_head c.in-Ok.node ∷ others) n) place
-    (node-unread wanted c.in-Ok.node rows others head (subst (AreRead (node_layout None) others _) c.if-all.false read) c.in-Ok-2.ensures.rules)))
+    (node-unread wanted c.in-Ok.node rows others head (subst (AreRead answered_part IsAnsweredRow others _) c.if-all.false read) c.in-Ok-2.ensures.rules)))

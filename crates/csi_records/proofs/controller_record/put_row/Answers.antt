@@ -1,8 +1,0 @@
-use Rattle.std.proofs.Common.{◌∙◌, ◌<◌, ◌^◌, List, ℕ, length, sym, subst}
-use Rattle.csi_records.specs.Spelling.{volume_row}
-use Rattle.csi_records.proofs.Sizes.{volume-size}
-use Rattle.csi_records.proofs.controller_record.put_row.Goals as goal
-
-pub put_part-requires : goal.put_part-requires
-put_part-requires c =
-    subst (λ (bytes : List ℕ). length bytes < 2 ^ 32) (sym (c.deref.ensures.value ∙ c.in_ok-value.ensures.value)) (volume-size (volume_row c.args.row.now) c.in_ok-value.ensures.fits)

@@ -1,9 +1,0 @@
-use Rattle.csi_records.specs.Part.{stored_in}
-use Rattle.csi_records.specs.Records.{controller_layout}
-use Rattle.csi_records.proofs.Layouts.{stops-here}
-use Rattle.csi_records.proofs.controller_record.rows_of.Goals as goal
-
-pub returns-in-Err-Bad : goal.returns-in-Err-Bad
-returns-in-Err-Bad c =
-    stops-here controller_layout stored_in c.args.parts.now c.loop-part.part-index c.part-item.result _ c.loop-part-test.true c.part-item.is c.loop-part.invariant.fit c.loop-part.invariant.are
-    (λ row fits same. c.in-Err-Bad.ensures.bad (cc) row fits same)
