@@ -17,7 +17,7 @@ use Rattle.sqlite_rules.proofs.RuleLemmas.{keeps_at}
 use Rattle.sqlite_rules.proofs.PlaceLemmas.{tied_same}
 use Rattle.sqlite_catalog.specs.Listing.{IsSound}
 use Rattle.csi_tables.specs.Declared.{parts_table, parts_schema}
-use Rattle.csi_tables.proofs.Stored.{AreInts, id_of, keyed}
+use Rattle.csi_tables.proofs.StoredRows.{AreInts, id_of, keyed}
 
 -- a list of two values
 abbrev pub IsPair : Row → Type 0

@@ -1,8 +1,8 @@
 use Rattle.sqlite.specs.Held.{state}
 use Rattle.sqlite.proofs.StateLemmas.{survives_weaker}
 use Rattle.std.proofs.Common.{Result, Ok, Err, IfOk, IfErr, OnOk}
-use Rattle.csi_tables.proofs.Answers.{reading_commits_nothing}
-use Rattle.csi_tables.proofs.Read.{reads, reads_any, leaves, understands}
+use Rattle.csi_tables.proofs.QueryAnswers.{reading_commits_nothing}
+use Rattle.csi_tables.proofs.ReadingRows.{reads, reads_any, leaves, understands}
 use Rattle.csi_tables.proofs.rows.all_rows.Goals as goal
 
 -- what follows from a fact of an OK's value is so of the OK, and below of an error's

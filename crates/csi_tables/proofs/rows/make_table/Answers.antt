@@ -1,6 +1,6 @@
 use Rattle.std.proofs.Common.{inl, inr, Ok}
 use Rattle.sqlite.specs.Held.{state}
-use Rattle.csi_tables.proofs.Made.{makes, finds, may_make, may_find}
+use Rattle.csi_tables.proofs.MakingTable.{makes, finds, may_make, may_find}
 use Rattle.csi_tables.proofs.rows.make_table.Goals as goal
 
 pub returns-clause-made : goal.returns-clause-made

@@ -1,7 +1,7 @@
 use Rattle.std.proofs.Common.{inl, inr}
 use Rattle.std.proofs.lemmas.Bool.{cases_Bool}
 use Rattle.sqlite.specs.Held.{state}
-use Rattle.csi_tables.proofs.Put.{puts}
+use Rattle.csi_tables.proofs.PuttingRow.{puts}
 use Rattle.csi_tables.proofs.rows.put_row.Goals as goal
 
 pub returns-clause-put : goal.returns-clause-put

@@ -1,7 +1,7 @@
 use Rattle.std.proofs.Common.{inl, inr}
 use Rattle.std.proofs.lemmas.Bool.{cases_Bool}
 use Rattle.sqlite.specs.Held.{state}
-use Rattle.csi_tables.proofs.Removed.{removes}
+use Rattle.csi_tables.proofs.RemovingRow.{removes}
 use Rattle.csi_tables.proofs.rows.remove_row.Goals as goal
 
 pub returns-clause-removed : goal.returns-clause-removed

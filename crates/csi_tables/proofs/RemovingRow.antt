@@ -14,10 +14,10 @@ use Rattle.sqlite.specs.State.{State, mode_of, Executes}
 use Rattle.sqlite.proofs.Callers.{statement_of, runs_as, one_step}
 use Rattle.csi_tables.specs.Declared.{parts_table, parts_schema}
 use Rattle.csi_tables.specs.Rows.{KeyedRow, HasRows, without}
-use Rattle.csi_tables.proofs.Texts.{remove_text, remove_query, remove_is, remove_plain}
-use Rattle.csi_tables.proofs.Stored.{has_key, taken_out, are_kept}
-use Rattle.csi_tables.proofs.Answers.{removed_ids}
-use Rattle.csi_tables.proofs.Made.{went, same_value, now_has}
+use Rattle.csi_tables.proofs.TextMeanings.{remove_text, remove_query, remove_is, remove_plain}
+use Rattle.csi_tables.proofs.StoredRows.{has_key, taken_out, are_kept}
+use Rattle.csi_tables.proofs.QueryAnswers.{removed_ids}
+use Rattle.csi_tables.proofs.MakingTable.{went, same_value, now_has}
 
 -- the statement that takes a row out leaves the rows of other keys
 pub removes : (old new : State) (key : List ℕ) (rows : List KeyedRow) (count : ℕ) → HasRows old rows → Executes remove_text (Blob key ∷ []) old new (Ok count) → HasRows new (without key rows)

@@ -26,8 +26,8 @@ use Rattle.sqlite_schema.specs.declared.program.Program.{Program}
 use Rattle.sqlite.proofs.Callers.{IsPlain, command_of, reads_as}
 use Rattle.csi_tables.specs.Declared.{parts_schema}
 use Rattle.csi_tables.specs.Rows.{KeyedRow, cells, AreRows, AreByKey, HasColumns, HasRows, AreRising, IsInputError}
-use Rattle.csi_tables.proofs.Texts.{read_text, read_query, read_is, read_plain}
-use Rattle.csi_tables.proofs.Answers.{all_match, has_permuted, unmapped}
+use Rattle.csi_tables.proofs.TextMeanings.{read_text, read_query, read_is, read_plain}
+use Rattle.csi_tables.proofs.QueryAnswers.{all_match, has_permuted, unmapped}
 use Rattle.csi_tables.proofs.Keys.{IsPair, first_column, pairs, keys_apart}
 use Rattle.csi_tables.proofs.Sorted.{pairwise-permutation, untied_back, rising_from}
 

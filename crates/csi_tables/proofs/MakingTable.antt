@@ -18,7 +18,7 @@ use Rattle.sqlite.proofs.Callers.{IsPlain, command_of, statement_of, runs_as}
 use Rattle.csi_tables.specs.Declared.{parts_table, parts_schema, no_schema}
 use Rattle.csi_tables.specs.Rows.{KeyedRow, cells, AreRows, StoresRows, HasRows, IsBlank, IsAtRest}
 use Rattle.csi_tables.proofs.Schemas.{nothing_listed, parts_listed}
-use Rattle.csi_tables.proofs.Texts.{make_text, make_is, make_plain, created_is, found_is, found_plain}
+use Rattle.csi_tables.proofs.TextMeanings.{make_text, make_is, make_plain, created_is, found_is, found_plain}
 
 -- a part that gave a value did not stop on the way
 pub went : {B E R : Type 0} {b : B} {Stops : E → Type 0} → ((stop : E) × Stops stop × (Ok b ≡ Err stop)) ⊎ R → R

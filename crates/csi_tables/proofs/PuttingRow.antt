@@ -37,12 +37,12 @@ use Rattle.sqlite.specs.State.{State, mode_of, Executes}
 use Rattle.sqlite.proofs.Callers.{statement_of, runs_as, one_step}
 use Rattle.csi_tables.specs.Declared.{parts_table, parts_schema}
 use Rattle.csi_tables.specs.Rows.{KeyedRow, cells, AreRows, StoresRows, HasRows, without}
-use Rattle.csi_tables.proofs.Texts.{put_text, put_terms, put_clause, update_query, put_is, put_plain}
-use Rattle.csi_tables.proofs.Stored.{has_key, has_key-row, has_key-cells, id_of, AreIdsOf, keyed, one_row, taken_out, are_kept, are_more}
-use Rattle.csi_tables.proofs.Lists.{permuted_one, filter_one}
+use Rattle.csi_tables.proofs.TextMeanings.{put_text, put_terms, put_clause, update_query, put_is, put_plain}
+use Rattle.csi_tables.proofs.StoredRows.{has_key, has_key-row, has_key-cells, id_of, AreIdsOf, keyed, one_row, taken_out, are_kept, are_more}
+use Rattle.csi_tables.proofs.ListFacts.{permuted_one, filter_one}
 use Rattle.csi_tables.proofs.Keys.{first_column, one_key}
-use Rattle.csi_tables.proofs.Answers.{unmapped, has_permuted, updated, is_numbered, updated_rows}
-use Rattle.csi_tables.proofs.Made.{went, same_value, now_has}
+use Rattle.csi_tables.proofs.QueryAnswers.{unmapped, has_permuted, updated, is_numbered, updated_rows}
+use Rattle.csi_tables.proofs.MakingTable.{went, same_value, now_has}
 
 -- a choice between a value and itself is that value
 either : (b : Bool) (x : Value) → cond b x x ≡ x

@@ -26,7 +26,7 @@ use Rattle.sqlite_rules.proofs.PlaceLemmas.{Tied, tied_same}
 use Rattle.sqlite_rules.proofs.TableLemmas.{int_is}
 use Rattle.sqlite_keyed.proofs.ListLemmas.{all_of, filter_all, filter_same, filter-map, all-filter, ascending-filter, IsPermutation-filter}
 use Rattle.csi_tables.specs.Rows.{KeyedRow, cells, AreRows, without}
-use Rattle.csi_tables.proofs.Lists.{filter_on, filter_again, not_or}
+use Rattle.csi_tables.proofs.ListFacts.{filter_on, filter_again, not_or}
 
 -- each row's rowid is an integer
 abbrev pub AreInts : List Row → Type 0

@@ -27,8 +27,8 @@ use Rattle.sqlite_keyed.proofs.ListLemmas.{map-map, filter_same, along_permutati
 use Rattle.sqlite.specs.Listing.{understood, reads_listing, listing_schema, if_select, is_select}
 use Rattle.sqlite.specs.State.{State, CommitsShowing}
 use Rattle.sqlite_tied.specs.Compute.{everything}
-use Rattle.csi_tables.proofs.Texts.{read_text, remove_query, update_query}
-use Rattle.csi_tables.proofs.Stored.{has_key, has_key-row, AreIdsOf}
+use Rattle.csi_tables.proofs.TextMeanings.{read_text, remove_query, update_query}
+use Rattle.csi_tables.proofs.StoredRows.{has_key, has_key-row, AreIdsOf}
 
 -- ---- members
 
