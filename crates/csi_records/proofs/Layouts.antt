@@ -1,8 +1,8 @@
 -- Records by their layout: how far the parts of one were read, and which is the first that is refused.
 use Rattle.std.proofs.Common.{◌≡◌, ℕ, zero, suc, ◌+◌, ◌-◌, ◌≤◌, ◌<◌, List, [], ◌∷◌, ◌++◌, length, take, drop, map, get_or, refl, sym, ap, subst, ◌∙◌, inl, inr, append_assoc, arith}
-use Rattle.std.specs.Prelude.{false}
+use Rattle.std.specs.Prelude.{Bool, true, false}
 use Rattle.std.specs.List.{AllByRecursion}
-use Rattle.std.proofs.lemmas.List.{length-map, length-take, take-append-drop, take-map, drop_more, map-append}
+use Rattle.std.proofs.lemmas.List.{append-nil, length-map, length-take, take-append-drop, take-map, drop_more, map-append}
 use Rattle.csi_records.specs.Part.{StoredPart}
 use Rattle.csi_records.specs.Records.{Layout, AreParts, IsRecordOf, IsRefusedAt}
 use Rattle.csi_records.specs.Stopping.{AreRead}
@@ -14,7 +14,7 @@ pub record IsOneToOne {H R : Type 0} (layout : Layout H R) : Type 0 where
   pub fronts : (first : H) (rs : List R) (k : ℕ) → layout.are_rows first rs → layout.are_rows first (take k rs)
 
 -- what is so of each of a list is so of each of a front of it
-each-take : {X : Type 0} (P : X → Type 0) (xs : List X) (k : ℕ) → AllByRecursion P xs → AllByRecursion P (take k xs)
+pub each-take : {X : Type 0} (P : X → Type 0) (xs : List X) (k : ℕ) → AllByRecursion P xs → AllByRecursion P (take k xs)
 each-take P xs zero all = tt
 each-take P [] (suc k) all = tt
 each-take P (x ∷ xs) (suc k) all = (all.0, each-take P xs k all.1)
@@ -124,6 +124,26 @@ row-refused {H} {R} layout one first (r ∷ rs) (suc k) more parts fits each fro
         let h : first ≡ f = one.heads first f fits spelled.head_fits heads in
         let ts : take (suc k) (r ∷ rs) ≡ ss = rows-same layout one (take (suc k) (r ∷ rs)) ss (each-take layout.is_row (r ∷ rs) (suc k) each) spelled.rows_fit rest in
         subst (λ (x : H). layout.are_rows x (take (suc k) (r ∷ rs))) (sym h) (subst (layout.are_rows f) (sym ts) spelled.rules)
+
+-- what was read before the first part that is no row
+abbrev rest_of : {R : Type 0} → (row_part : R → StoredPart) (IsRow : R → Type 0) (parts : List StoredPart) (rows : List R) (all : Bool) → AreRead row_part IsRow parts rows all → (more : List StoredPart) × (parts ≡ map row_part rows ++ more)
+rest_of row_part IsRow parts rows true read = ([], read.stops ∙ sym (append-nil (map row_part rows)))
+rest_of row_part IsRow parts rows false read = (read.stops.0 ∷ read.stops.1, read.stops.2)
+
+-- where a plugin's rows so far keep the rules and the next part is no row, that part is refused
+pub rows-unread : {X H R : Type 0} (layout : Layout H R) (shown : X → R) (first : H) (rows : List X) (parts : List StoredPart) → layout.is_head first → AreRead layout.row layout.is_row parts (map shown rows) false
+    → layout.are_rows first (map shown rows) → IsRefusedAt (IsRecordOf layout) (layout.head first ∷ parts) (length rows + 1)
+rows-unread layout shown first rows parts fits read rules =
+    subst (λ (n : ℕ). IsRefusedAt (IsRecordOf layout) (layout.head first ∷ parts) (n + 1)) (length-map rows shown)
+    (row-unread layout first (map shown rows) read.stops.0 read.stops.1 parts fits read.fit rules read.stops.2 read.stops.3)
+
+-- where a row is the first with which a plugin's rows break the rules, its part is the first that is refused
+pub rows-refused : {X H R : Type 0} (layout : Layout H R) → IsOneToOne layout → (shown : X → R) (first : H) (rows : List X) (parts : List StoredPart) (all : Bool) (place : ℕ) → layout.is_head first → AreRead layout.row layout.is_row parts (map shown rows) all
+    → 1 ≤ place → place ≤ length rows → layout.are_rows first (map shown (take (place - 1) rows)) → (layout.are_rows first (map shown (take place rows)) → ⊥) → IsRefusedAt (IsRecordOf layout) (layout.head first ∷ parts) place
+rows-refused layout one shown first rows parts all place fits read from to before refused =
+    let rest = rest_of layout.row layout.is_row parts (map shown rows) all read in
+    row-refused layout one first (map shown rows) place rest.0 parts fits read.fit from (omega (arith, to, length-map rows shown))
+    (subst (layout.are_rows first) (sym (take-map shown (place - 1) rows)) before) (λ is. refused (subst (layout.are_rows first) (take-map shown place rows) is)) rest.1
 
 -- ---- reading row after row
 

@@ -4,8 +4,8 @@ pub mod FieldReaders
 pub mod ValueReaders
 pub mod PartReaders
 pub mod Layouts
-pub mod Wholes
-pub mod OneReading
-pub mod Plugins
-pub mod Sizes
-pub mod Written
+pub mod SplittingBytes
+pub mod LayoutLaws
+pub mod PluginLayouts
+pub mod ValueSizes
+pub mod WritingPieces

@@ -2,6 +2,7 @@
 use Rattle.std.proofs.Common.{◌≡◌, ℕ, Bool, List, [], ◌∷◌, ◌++◌, Some, None, refl, sym, ap, subst, ◌∙◌, append_assoc}
 use Rattle.std.specs.Prelude.{Option}
 use Rattle.std.proofs.lemmas.List.{append-nil}
+use Rattle.csi_lists.proofs.Options.{some_is_not_none}
 use Rattle.csi_types.specs.declared.capability.Capability.{Capability}
 use Rattle.csi_types.specs.Fence.{Kept}
 use Rattle.csi_types.specs.Text.{IsName, IsNodeId}
@@ -299,10 +300,7 @@ module _ {R : Type 0} {row_in : ℕ → Reader R} {IsKey : ℕ → Type 0} {IsRo
 
   -- where nothing is read of a part, nothing has that part
   pub unread : (part : StoredPart) → whole (row_in part.key) part.value ≡ None → (row : R) → IsRow row → row_part row ≡ part → ⊥
-  unread part none row fits e = clash (sym (is_read.again row fits) ∙ ap value_of e ∙ none)
-    where
-      clash : Some row ≡ None → ⊥
-      clash h = cc
+  unread part none row fits e = some_is_not_none row (sym (is_read.again row fits) ∙ ap value_of e ∙ none)
 
   -- what has equal parts is equal
   pub same_part : (a b : R) → IsRow a → IsRow b → row_part a ≡ row_part b → a ≡ b

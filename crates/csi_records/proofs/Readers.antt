@@ -2,6 +2,7 @@
 use Rattle.std.proofs.Common.{◌≡◌, ℕ, Bool, true, false, cond, List, [], ◌++◌, Some, None, refl, sym, ap, subst, ◌∙◌, append_assoc}
 use Rattle.std.specs.Prelude.{Option, MatchBool}
 use Rattle.std.proofs.lemmas.List.{append-nil}
+use Rattle.csi_lists.proofs.Options.{some_is_not_none}
 use Rattle.csi_frames.specs.Bytes.{AreBytes}
 use Rattle.csi_frames.proofs.Bytes.{AreBytes-back}
 use Rattle.csi_records.specs.Reading.{Reader, go_on, ◌>>=◌, give}
@@ -97,6 +98,22 @@ either false one two = two
 pub record Spelled {A : Type 0} (Fits : A → Type 0) (spell : A → List ℕ) (value : A) (bytes : List ℕ) : Type 0 where
   pub fits : Fits value
   pub are : bytes ≡ spell value
+
+-- equal answers have equal values and equal rests
+same_answer : {A : Type 0} (x y : A) (xs ys : List ℕ) → done x xs ≡ done y ys → (x ≡ y) × (xs ≡ ys)
+same_answer x y xs ys e = let same = some_is x xs (y, ys) e in (ap (λ p. p.0) same, ap (λ p. p.1) same)
+
+-- one value stands in front of bytes
+pub spelled-same : {A : Type 0} {read : Reader A} {Fits : A → Type 0} {spell : A → List ℕ} → Reads read (Spelled Fits spell) → (a b : A) (first second : List ℕ) → Fits a → Fits b
+    → spell a ++ first ≡ spell b ++ second → (a ≡ b) × (first ≡ second)
+spelled-same {read = read} {spell = spell} reads a b first second fits fit e =
+    same_answer a b first second (sym (reads.again a (spell a) first (record { fits = fits; are = refl })) ∙ ap read e ∙ reads.again b (spell b) second (record { fits = fit; are = refl }))
+
+-- where no value is read, none stands in front
+pub spelled-none : {A : Type 0} {read : Reader A} {Fits : A → Type 0} {spell : A → List ℕ} → Reads read (Spelled Fits spell) → (bytes : List ℕ) → read bytes ≡ None
+    → (a : A) (rest : List ℕ) → Fits a → bytes ≡ spell a ++ rest → ⊥
+spelled-none {read = read} {spell = spell} reads bytes none a rest fits are =
+    some_is_not_none (a, rest) (sym (reads.again a (spell a) rest (record { fits = fits; are = refl })) ∙ ap read (sym are) ∙ none)
 
 -- a field with one spelling, and then what a second reader made
 pub record After {A B : Type 0} (Fits : A → Type 0) (spell : A → List ℕ) (Second : A → B → List ℕ → Type 0) (value : B) (bytes : List ℕ) : Type 0 where

@@ -1,10 +1,11 @@
-use Rattle.std.proofs.Common.{◌≡◌, ◌∙◌, ◌∷◌, ◌+◌, ◌-◌, ap, inr, sym, subst, List, ℕ, take, drop, length, arith}
+use Rattle.std.proofs.Common.{◌≡◌, ◌∙◌, ◌∷◌, ◌+◌, ◌-◌, ap, inr, refl, sym, subst, List, ℕ, take, drop, length, arith}
 use Rattle.csi_controller.specs.Judging.{IsFirstRefused, IsRefusal}
 use Rattle.csi_records.specs.Part.{StoredPart, all_stored_in}
-use Rattle.csi_records.specs.Spelling.{controller_head, volume_part}
+use Rattle.csi_records.specs.Spelling.{controller_head, volume_part, volume_row}
 use Rattle.csi_records.specs.Stopping.{AreRead}
 use Rattle.csi_records.specs.Records.{controller_layout, IsVolumeRow, IsRecordOf, IsRefusedAt}
-use Rattle.csi_records.proofs.Plugins.{controller-unread, controller-badrow, stored-split}
+use Rattle.csi_records.proofs.Layouts.{rows-unread, rows-refused}
+use Rattle.csi_records.proofs.PluginLayouts.{controller_one, sound-shown, stored-split}
 use Rattle.csi_records.proofs.controller_record.controller_record.Goals as goal
 
 pub returns-in-Err-BadRow : goal.returns-in-Err-BadRow
@@ -14,7 +15,8 @@ returns-in-Err-BadRow c =
     let is : all_stored_in c.args.parts.now ≡ controller_head c.in-Some.next_id ∷ others = split ∙ ap (λ (h : StoredPart). h ∷ others) (sym c.in-Some.ensures.head) in
     let first : IsFirstRefused c.in-Some.next_id c.in_ok-rows.field-0.rows.items c.in-Err-BadRow.bad = subst (IsRefusal c.in-Some.next_id c.in_ok-rows.field-0.rows.items) c.in-Err-BadRow.field-0-is c.in-Err-BadRow.ensures.refused in
     inr (subst (λ (ps : List StoredPart). IsRefusedAt (IsRecordOf controller_layout) ps c.in-Err-BadRow.bad) (sym is)
-    (controller-badrow c.in-Some.next_id c.in_ok-rows.field-0.rows.items others c.in_ok-rows.field-0.all c.in-Err-BadRow.bad c.in-Some.ensures.fits c.in_ok-rows.ensures first))
+    (rows-refused controller_layout controller_one volume_row c.in-Some.next_id c.in_ok-rows.field-0.rows.items others c.in_ok-rows.field-0.all c.in-Err-BadRow.bad c.in-Some.ensures.fits c.in_ok-rows.ensures
+    first.from first.to (_, refl, first.before) (λ are. first.refused (sound-shown c.in-Some.next_id _ are))))
 
 pub returns-in-Ok-2 : goal.returns-in-Ok-2
 returns-in-Ok-2 c =
@@ -26,4 +28,4 @@ returns-in-Ok-2 c =
     let place : length rows + 1 ≡ c.len.result + 1 = omega (arith, c.len.ensures) in
     inr (subst (λ (ps : List StoredPart). IsRefusedAt (IsRecordOf controller_layout) ps (c.len.result + 1)) (sym is)
     (subst (λ (n : ℕ). IsRefusedAt (IsRecordOf controller_layout) (controller_head c.in-Some.next_id ∷ others) n) place
-    (controller-unread c.in-Some.next_id rows others c.in-Some.ensures.fits (subst (AreRead volume_part IsVolumeRow others _) c.if-all.false read) c.in-Ok-2.ensures.sound)))
+    (rows-unread controller_layout volume_row c.in-Some.next_id rows others c.in-Some.ensures.fits (subst (AreRead volume_part IsVolumeRow others _) c.if-all.false read) (rows, refl, c.in-Ok-2.ensures.sound))))

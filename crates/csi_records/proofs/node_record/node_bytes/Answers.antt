@@ -2,7 +2,7 @@ use Rattle.std.proofs.Common.{List, map, sym, subst}
 use Rattle.csi_node.specs.declared.row.NodeRow.{NodeRow}
 use Rattle.csi_node.specs.OneRow.{shown}
 use Rattle.csi_node.specs.Record.{IsRecord}
-use Rattle.csi_records.proofs.Plugins.{few-targets}
+use Rattle.csi_records.proofs.PluginLayouts.{few-targets}
 use Rattle.csi_records.proofs.node_record.node_bytes.Goals as goal
 
 pub bytes_of-requires-clause-small : goal.bytes_of-requires-clause-small

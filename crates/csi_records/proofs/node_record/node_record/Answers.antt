@@ -1,11 +1,13 @@
 use Rattle.std.proofs.Common.{◌≡◌, ◌∙◌, ◌∷◌, ◌+◌, ◌-◌, ap, inr, sym, subst, List, ℕ, take, drop, length, arith}
 use Rattle.std.specs.Option.{option_copied}
+use Rattle.csi_node.specs.OneRow.{shown}
 use Rattle.csi_node.specs.Judging.{IsFirstRefused, IsRefusal}
 use Rattle.csi_records.specs.Part.{StoredPart, all_stored_in}
 use Rattle.csi_records.specs.Spelling.{node_head, answered_part}
 use Rattle.csi_records.specs.Stopping.{AreRead}
 use Rattle.csi_records.specs.Records.{node_layout, IsNodeHead, IsAnsweredRow, IsRecordOf, IsRefusedAt}
-use Rattle.csi_records.proofs.Plugins.{node-unread, node-badrow, stored-split}
+use Rattle.csi_records.proofs.Layouts.{rows-unread, rows-refused}
+use Rattle.csi_records.proofs.PluginLayouts.{node_one, stored-split}
 use Rattle.csi_records.proofs.node_record.node_record.Goals as goal
 
 pub returns-in-Err-BadRow : goal.returns-in-Err-BadRow
@@ -17,7 +19,8 @@ returns-in-Err-BadRow c =
     let is : all_stored_in c.args.parts.now ≡ node_head c.in-Ok.node ∷ others = split ∙ ap (λ (h : StoredPart). h ∷ others) (sym c.in-Ok.ensures.head.1) in
     let first : IsFirstRefused c.in_ok-rows.field-0.rows.items c.in-Err-BadRow.bad = subst (IsRefusal c.in_ok-rows.field-0.rows.items) c.in-Err-BadRow.field-0-is c.in-Err-BadRow.ensures.refused in
     inr (subst (λ (ps : List StoredPart). IsRefusedAt (IsRecordOf (node_layout wanted)) ps c.in-Err-BadRow.bad) (sym is)
-    (node-badrow wanted c.in-Ok.node c.in_ok-rows.field-0.rows.items others c.in_ok-rows.field-0.all c.in-Err-BadRow.bad head c.in_ok-rows.ensures first))
+    (rows-refused (node_layout wanted) (node_one wanted) shown c.in-Ok.node c.in_ok-rows.field-0.rows.items others c.in_ok-rows.field-0.all c.in-Err-BadRow.bad head c.in_ok-rows.ensures
+    first.from first.to first.before first.refused))
 
 pub returns-in-Ok-2 : goal.returns-in-Ok-2
 returns-in-Ok-2 c =
@@ -31,4 +34,4 @@ returns-in-Ok-2 c =
     let place : length rows + 1 ≡ c.len.result + 1 = omega (arith, c.len.ensures) in
     inr (subst (λ (ps : List StoredPart). IsRefusedAt (IsRecordOf (node_layout wanted)) ps (c.len.result + 1)) (sym is)
     (subst (λ (n : ℕ). IsRefusedAt (IsRecordOf (node_layout wanted)) (node_head c.in-Ok.node ∷ others) n) place
-    (node-unread wanted c.in-Ok.node rows others head (subst (AreRead answered_part IsAnsweredRow others _) c.if-all.false read) c.in-Ok-2.ensures.rules)))
+    (rows-unread (node_layout wanted) shown c.in-Ok.node rows others head (subst (AreRead answered_part IsAnsweredRow others _) c.if-all.false read) c.in-Ok-2.ensures.rules)))

@@ -1,4 +1,4 @@
-use Rattle.csi_records.proofs.Written.{one_more_row, one_more_fit}
+use Rattle.csi_records.proofs.WritingPieces.{one_more_row, one_more_fit}
 use Rattle.csi_records.proofs.plugin_rows.bytes_of.Goals as goal
 
 pub loop-row-preserved : goal.loop-row-preserved

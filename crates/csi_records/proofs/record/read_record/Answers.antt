@@ -4,7 +4,7 @@ use Rattle.csi_records.specs.declared.part.Part.{Part}
 use Rattle.csi_records.specs.Part.{all_stored_in, stored_in}
 use Rattle.csi_records.specs.Places.{IsBadAt, no_head, ReadsParts}
 use Rattle.csi_records.specs.Stopping.{AreSplit}
-use Rattle.csi_records.proofs.Wholes.{bad-end, err-bytes}
+use Rattle.csi_records.proofs.SplittingBytes.{bad-end, err-bytes}
 use Rattle.csi_records.proofs.record.read_record.Goals as goal
 
 pub returns-in-Err-Bad : goal.returns-in-Err-Bad

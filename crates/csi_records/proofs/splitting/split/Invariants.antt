@@ -1,6 +1,6 @@
 use Rattle.std.proofs.Common.{◌≡◌, length}
 use Rattle.csi_records.specs.Part.{all_stored_in}
-use Rattle.csi_records.proofs.Wholes.{IsSoFar}
+use Rattle.csi_records.proofs.SplittingBytes.{IsSoFar}
 use Rattle.csi_records.proofs.splitting.split.Given as goal
 
 -- one part for each turn, and what is left stands behind them

@@ -2,7 +2,7 @@ use Rattle.std.proofs.lemmas.Result.{on_ok_weaker}
 use Rattle.byteorder.specs.Endian.{big_bytes}
 use Rattle.csi_frames.specs.Spelling.{word}
 use Rattle.std.proofs.Common.{length}
-use Rattle.csi_records.proofs.Written.{written3}
+use Rattle.csi_records.proofs.WritingPieces.{written3}
 use Rattle.csi_records.proofs.writing.put_part.Goals as goal
 
 pub returns : goal.returns

@@ -1,6 +1,6 @@
 use Rattle.std.proofs.Common.{◌∙◌, ◌<◌, ◌^◌, List, ℕ, length, sym, subst}
 use Rattle.csi_node.specs.OneRow.{shown}
-use Rattle.csi_records.proofs.Sizes.{answered_size}
+use Rattle.csi_records.proofs.ValueSizes.{answered_size}
 use Rattle.csi_records.proofs.answered.NodeRowRow.put.Goals as goal
 
 pub put_part-requires : goal.put_part-requires

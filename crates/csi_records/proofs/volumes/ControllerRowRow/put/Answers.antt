@@ -1,6 +1,6 @@
 use Rattle.std.proofs.Common.{◌∙◌, ◌<◌, ◌^◌, List, ℕ, length, sym, subst}
 use Rattle.csi_records.specs.Spelling.{volume_row}
-use Rattle.csi_records.proofs.Sizes.{volume_size}
+use Rattle.csi_records.proofs.ValueSizes.{volume_size}
 use Rattle.csi_records.proofs.volumes.ControllerRowRow.put.Goals as goal
 
 pub put_part-requires : goal.put_part-requires

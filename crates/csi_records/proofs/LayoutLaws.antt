@@ -1,5 +1,5 @@
--- Bytes are read in one way.
-use Rattle.std.proofs.Common.{◌≡◌, ◌⊎◌, ℕ, zero, suc, ◌≤◌, ◌<◌, ◌^◌, List, [], ◌∷◌, ◌++◌, length, take, map, refl, sym, ap, subst, ◌∙◌, inl, inr, append_assoc, arith}
+-- The laws of records by any layout: bytes are read in one way, and one part at most is the first that is refused.
+use Rattle.std.proofs.Common.{◌≡◌, ◌⊎◌, ℕ, ◌≤◌, ◌<◌, ◌^◌, List, [], ◌∷◌, ◌++◌, length, take, map, refl, sym, ap, subst, ◌∙◌, inl, inr, append_assoc, arith}
 use Rattle.std.specs.Prelude.{◌≢◌}
 use Rattle.std.specs.List.{flat_map, AllByRecursion}
 use Rattle.std.proofs.lemmas.Bool.{cases_order}
@@ -9,19 +9,17 @@ use Rattle.csi_records.specs.Part.{StoredPart, IsPart}
 use Rattle.csi_records.specs.Spelling.{part_bytes, record_head, record_bytes}
 use Rattle.csi_records.specs.Records.{Layout, IsRecordOf, Begins, IsRefusedAt}
 use Rattle.csi_records.specs.Places.{IsBadAt, no_head, bad_part, more_bytes}
-use Rattle.csi_records.specs.Laws.{PartsTell, HasOneReading, HasOneRefusal}
-use Rattle.csi_records.proofs.Layouts.{IsOneToOne, parts-same}
-use Rattle.csi_records.proofs.Wholes.{part-same, heads-same}
+use Rattle.csi_records.specs.Laws.{HasOneReading, HasOneRefusal}
+use Rattle.csi_records.specs.Stopping.{HasNoHead}
+use Rattle.csi_records.proofs.Readers.{spelled-same}
+use Rattle.csi_records.proofs.Layouts.{IsOneToOne, each-take}
+use Rattle.csi_records.proofs.SplittingBytes.{part_reads, record_head_reads, part-inside}
 
 -- what parts are, whatever they spell
 pub record ArePlain {H R : Type 0} (layout : Layout H R) : Type 0 where
   pub heads : (first : H) → layout.is_head first → IsPart (layout.head first)
   pub rows : (row : R) → layout.is_row row → IsPart (layout.row row)
   pub few : (first : H) (rs : List R) → layout.are_rows first rs → length rs ≤ 4096
-
--- equal parts mean equal records
-pub parts-tell : {H R : Type 0} (layout : Layout H R) → IsOneToOne layout → PartsTell layout
-parts-tell layout one first other rows others parts p q = parts-same layout one first other rows others parts p q
 
 -- the parts of a record fit, and are some, and few
 record FitParts (parts : List StoredPart) : Type 0 where
@@ -60,11 +58,16 @@ front-of {H} {R} layout one (p ∷ ps) more is =
         are = ap (λ (q : StoredPart). q ∷ ps) head ∙ ap (λ (qs : List StoredPart). layout.head is.first ∷ qs) front;
       };
     })
+
+-- a front with one part more is a record where the whole begins one
+begun-front : {H R : Type 0} (layout : Layout H R) → IsOneToOne layout → (front : List StoredPart) (p : StoredPart) (more whole : List StoredPart) → whole ≡ front ++ p ∷ more → Begins (IsRecordOf layout) whole → IsRecordOf layout (front ++ p ∷ [])
+begun-front layout one front p more whole are (inl none) = absurd (omega (arith, ap length (sym none ∙ are), length-append front (p ∷ more)))
+begun-front layout one front p more whole are (inr is) =
+    by (front-of layout one (front ++ p ∷ []) more (subst (IsRecordOf layout) (are ∙ sym (append_assoc front (p ∷ []) more)) is))
   where
-    each-take : {X : Type 0} (P : X → Type 0) (xs : List X) (k : ℕ) → AllByRecursion P xs → AllByRecursion P (take k xs)
-    each-take P xs zero all = tt
-    each-take P [] (suc k) all = tt
-    each-take P (x ∷ xs) (suc k) all = (all.0, each-take P xs k all.1)
+    by : Begins (IsRecordOf layout) (front ++ p ∷ []) → IsRecordOf layout (front ++ p ∷ [])
+    by (inl none) = absurd (omega (arith, length-append front (p ∷ []), ap length none))
+    by (inr here) = here
 
 -- the bytes of parts, one after another
 abbrev flat : List StoredPart → List ℕ
@@ -81,7 +84,7 @@ goes : (few many : List StoredPart) (left right : List ℕ) → AllByRecursion I
 goes [] many left right fit fits e le = record { more = many; are = refl; left_is = e }
 goes (p ∷ ps) [] left right fit fits e le = absurd (omega arith)
 goes (p ∷ ps) (q ∷ qs) left right fit fits e le =
-    let same = part-same p q (flat ps ++ left) (flat qs ++ right) (fit.0) (fits.0) (sym (append_assoc (part_bytes p) (flat ps) left) ∙ e ∙ append_assoc (part_bytes q) (flat qs) right) in
+    let same = spelled-same part_reads p q (flat ps ++ left) (flat qs ++ right) (fit.0) (fits.0) (sym (append_assoc (part_bytes p) (flat ps) left) ∙ e ∙ append_assoc (part_bytes q) (flat qs) right) in
     let rest = goes ps qs left right (fit.1) (fits.1) same.1 (omega arith) in
     record { more = rest.more; are = ap (λ (r : StoredPart). r ∷ qs) (sym same.0) ∙ ap (λ (rs : List StoredPart). p ∷ rs) rest.are; left_is = rest.left_is }
 
@@ -98,29 +101,20 @@ begun-fit layout plain before (inr is) = (fit-parts layout plain before is).fit
 not-further : {H R : Type 0} (layout : Layout H R) → IsOneToOne layout → ArePlain layout → (before many : List StoredPart) (left right : List ℕ) → Begins (IsRecordOf layout) before → Refuses (IsRecordOf layout) before left
     → Begins (IsRecordOf layout) many → flat before ++ left ≡ flat many ++ right → length before < length many → ⊥
 not-further {H} {R} layout one plain before many left right begins refuses begun e less =
-    by (goes before many left right (begun-fit layout plain before begins) (begun-fit layout plain many begun) e (omega (arith, less)))
+    with g.more g.are g.left_is
   where
-    is-many : Begins (IsRecordOf layout) many → IsRecordOf layout many
-    is-many (inl none) = absurd (omega (arith, less, ap length none))
-    is-many (inr is) = is
+    g : Goes before many left right
+    g = goes before many left right (begun-fit layout plain before begins) (begun-fit layout plain many begun) e (omega (arith, less))
 
     with : (more : List StoredPart) → many ≡ before ++ more → left ≡ flat more ++ right → ⊥
     with [] are here = omega (arith, less, ap length are ∙ ap length (append-nil before))
     with (p ∷ ps) are here =
-        let whole : IsRecordOf layout ((before ++ p ∷ []) ++ ps) = subst (IsRecordOf layout) (are ∙ sym (append_assoc before (p ∷ []) ps)) (is-many begun) in
         let fits : AllByRecursion IsPart (before ++ p ∷ ps) = subst (AllByRecursion IsPart) are (begun-fit layout plain many begun) in
-        refuses p (flat ps ++ right) (inside before fits) (here ∙ append_assoc (part_bytes p) (flat ps) right) (some (front-of layout one (before ++ p ∷ []) ps whole))
-      where
-        inside : (qs : List StoredPart) → AllByRecursion IsPart (qs ++ p ∷ ps) → IsPart p
-        inside [] each = each.0
-        inside (q ∷ qs) each = inside qs each.1
+        refuses p (flat ps ++ right) (part-inside before p ps fits) (here ∙ append_assoc (part_bytes p) (flat ps) right) (begun-front layout one before p ps many are begun)
 
-        some : Begins (IsRecordOf layout) (before ++ p ∷ []) → IsRecordOf layout (before ++ p ∷ [])
-        some (inl none) = absurd (omega (arith, length-append before (p ∷ []), ap length none))
-        some (inr is) = is
-
-    by : Goes before many left right → ⊥
-    by g = with g.more g.are g.left_is
+-- one number of parts stands in front of bytes
+heads-same : (a b : ℕ) (first second : List ℕ) → a < 2 ^ 32 → b < 2 ^ 32 → record_head a ++ first ≡ record_head b ++ second → (a ≡ b) × (first ≡ second)
+heads-same a b first second fits fit e = spelled-same record_head_reads a b first second (record { fits = fits }) (record { fits = fit }) e
 
 -- how bytes that have a refused part are seen: no number of parts; or a front, and what is refused behind it, or no more parts
 record Bad {H R : Type 0} (layout : Layout H R) (bytes : List ℕ) (place : ℕ) : Type 0 where
@@ -134,12 +128,8 @@ record Bad {H R : Type 0} (layout : Layout H R) (bytes : List ℕ) (place : ℕ)
   begins : Begins (IsRecordOf layout) before
   why : ((length before < count) × Refuses (IsRecordOf layout) before rest) ⊎ ((length before ≡ count) × (rest ≢ []) × IsRecordOf layout before)
 
--- no version and number of parts, from 1 on, stand in front
-abbrev HasNone : List ℕ → Type 0
-HasNone bytes = (count : ℕ) (rest : List ℕ) → 1 ≤ count → count < 2 ^ 32 → bytes ≡ record_head count ++ rest → ⊥
-
 -- bytes with a refused part have no number of parts and are refused at 0, or are as `Bad` says
-seen : {H R : Type 0} (layout : Layout H R) → ArePlain layout → (bytes : List ℕ) (place : ℕ) → IsBadAt (IsRecordOf layout) bytes place → ((place ≡ 0) × HasNone bytes) ⊎ Bad layout bytes place
+seen : {H R : Type 0} (layout : Layout H R) → ArePlain layout → (bytes : List ℕ) (place : ℕ) → IsBadAt (IsRecordOf layout) bytes place → ((place ≡ 0) × HasNoHead bytes) ⊎ Bad layout bytes place
 seen layout plain bytes _ (no_head none) = inl (refl, none)
 seen layout plain bytes _ (bad_part count before rest to below are begins refuses) =
     inr (record {
@@ -211,7 +201,7 @@ one-reading {H} {R} layout one plain bytes = record {
   one_place = λ a b first second. places a b (seen layout plain bytes a first) (seen layout plain bytes b second);
 }
   where
-    clash : (parts : List StoredPart) (place : ℕ) → IsRecordOf layout parts → bytes ≡ record_bytes parts → ((place ≡ 0) × HasNone bytes) ⊎ Bad layout bytes place → ⊥
+    clash : (parts : List StoredPart) (place : ℕ) → IsRecordOf layout parts → bytes ≡ record_bytes parts → ((place ≡ 0) × HasNoHead bytes) ⊎ Bad layout bytes place → ⊥
     clash parts place is are (inl none) = let fits = fit-parts layout plain parts is in none.1 (length parts) (flat parts) fits.some fits.few are
     clash parts place is are (inr bad) = spelled-clash layout one plain bytes parts place is are bad
 
@@ -229,7 +219,7 @@ one-reading {H} {R} layout one plain bytes = record {
             none [] are = sym (are ∙ append-nil parts)
             none (p ∷ ps) are = absurd (omega (arith, count, ap length are ∙ length-append parts (p ∷ ps)))
 
-    places : (a b : ℕ) → ((a ≡ 0) × HasNone bytes) ⊎ Bad layout bytes a → ((b ≡ 0) × HasNone bytes) ⊎ Bad layout bytes b → a ≡ b
+    places : (a b : ℕ) → ((a ≡ 0) × HasNoHead bytes) ⊎ Bad layout bytes a → ((b ≡ 0) × HasNoHead bytes) ⊎ Bad layout bytes b → a ≡ b
     places a b (inl p) (inl q) = p.0 ∙ sym q.0
     places a b (inl p) (inr q) = absurd (p.1 q.count (flat q.before ++ q.rest) q.from q.to q.are)
     places a b (inr p) (inl q) = absurd (q.1 p.count (flat p.before ++ p.rest) p.from p.to p.are)
@@ -256,16 +246,6 @@ goes-on (a ∷ front) (b ∷ bs) p q x y e less =
     let rest : front ++ p ∷ x ≡ bs ++ q ∷ y = cc in
     let on = goes-on front bs p q x y rest (omega arith) in
     record { more = on.more; are = ap (λ (r : StoredPart). r ∷ bs) same ∙ ap (λ (rs : List StoredPart). a ∷ rs) on.are }
-
--- a front with one part more is a record where the whole begins one
-begun-front : {H R : Type 0} (layout : Layout H R) → IsOneToOne layout → (front : List StoredPart) (p : StoredPart) (more whole : List StoredPart) → whole ≡ front ++ p ∷ more → Begins (IsRecordOf layout) whole → IsRecordOf layout (front ++ p ∷ [])
-begun-front layout one front p more whole are (inl none) = absurd (omega (arith, ap length (sym none ∙ are), length-append front (p ∷ more)))
-begun-front layout one front p more whole are (inr is) =
-    by (front-of layout one (front ++ p ∷ []) more (subst (IsRecordOf layout) (are ∙ sym (append_assoc front (p ∷ []) more)) is))
-  where
-    by : Begins (IsRecordOf layout) (front ++ p ∷ []) → IsRecordOf layout (front ++ p ∷ [])
-    by (inl none) = absurd (omega (arith, length-append front (p ∷ []), ap length none))
-    by (inr here) = here
 
 -- parts that are refused at one place aren't refused at a later one
 refused-clash : {H R : Type 0} (layout : Layout H R) → IsOneToOne layout → (parts : List StoredPart) (a b : ℕ) → IsRefusedAt (IsRecordOf layout) parts a → IsRefusedAt (IsRecordOf layout) parts b → a < b → ⊥

@@ -2,6 +2,7 @@
 use Rattle.std.proofs.Common.{◌≡◌, ℕ, ◌+◌, ◌<◌, List, [], ◌∷◌, ◌++◌, length, take, map, get_or, sym, ap, subst, ◌∙◌, append_assoc}
 use Rattle.std.specs.List.{flat_map, AllByRecursion}
 use Rattle.std.proofs.lemmas.List.{append-nil, map-append, take_more}
+use Rattle.std.proofs.lemmas.List.Concat.{flat_map-append}
 use Rattle.csi_lists.proofs.Each.{each-append_one}
 use Rattle.csi_records.specs.Part.{StoredPart}
 use Rattle.csi_records.specs.Spelling.{part_bytes}
@@ -23,9 +24,8 @@ one_more : {X : Type 0} (xs : List X) (i : ℕ) (x : X) → i < length xs → x 
 one_more xs i x inside is = take_more xs i x inside ∙ ap (λ y. take i xs ++ y ∷ []) (sym is)
 
 -- the spelling of a list and one item more is that of the list and then the item's
-flat_map-last : {X : Type 0} (f : X → List ℕ) (xs : List X) (x : X) → flat_map f (xs ++ x ∷ []) ≡ flat_map f xs ++ f x
-flat_map-last f [] x = append-nil (f x)
-flat_map-last f (y ∷ ys) x = ap (λ (t : List ℕ). f y ++ t) (flat_map-last f ys x) ∙ sym (append_assoc (f y) (flat_map f ys) (f x))
+pub flat_map-push : {X : Type 0} (f : X → List ℕ) (xs : List X) (x : X) → flat_map f (xs ++ x ∷ []) ≡ flat_map f xs ++ f x
+flat_map-push f xs x = flat_map-append f xs (x ∷ []) ∙ ap (λ (t : List ℕ). flat_map f xs ++ t) (append-nil (f x))
 
 -- where the parts of the first rows were written and the next row's part is, those of one row more were
 pub one_more_row : {X R : Type 0} (shown : X → R) (part : R → StoredPart) (rows : List X) (i : ℕ) (row : X) (old before after : List ℕ) → i < length rows → row ≡ get_or rows i row
@@ -35,7 +35,7 @@ one_more_row shown part rows i row old before after inside is so_far one =
     let more : map part (map shown (take (i + 1) rows)) ≡ rows_so_far ++ part (shown row) ∷ [] =
     ap (λ xs. map part (map shown xs)) (one_more rows i row inside is) ∙ ap (map part) (map-append shown (take i rows) (row ∷ [])) ∙ map-append part (map shown (take i rows)) (shown row ∷ []) in
     one ∙ ap (λ (t : List ℕ). t ++ part_bytes (part (shown row))) so_far ∙ append_assoc old (flat_map part_bytes rows_so_far) (part_bytes (part (shown row)))
-    ∙ ap (λ (t : List ℕ). old ++ t) (sym (flat_map-last part_bytes rows_so_far (part (shown row)))) ∙ ap (λ ps. old ++ flat_map part_bytes ps) (sym more)
+    ∙ ap (λ (t : List ℕ). old ++ t) (sym (flat_map-push part_bytes rows_so_far (part (shown row)))) ∙ ap (λ ps. old ++ flat_map part_bytes ps) (sym more)
 
 -- where the first rows are as they should be and the next is, one row more is so
 pub one_more_fit : {X R : Type 0} (shown : X → R) (P : R → Type 0) (rows : List X) (i : ℕ) (row : X) → i < length rows → row ≡ get_or rows i row → AllByRecursion P (map shown (take i rows)) → P (shown row)

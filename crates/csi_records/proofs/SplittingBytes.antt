@@ -20,9 +20,10 @@ use Rattle.csi_records.specs.declared.fault.RecordStop.TheVariants.{BadRecord, N
 use Rattle.csi_records.specs.Places.{IsBadAt, bad_part, more_bytes, ReadsParts, ReadsBytes}
 use Rattle.csi_records.specs.Stopping.{AreSplit, SplitStops, HasNoHead}
 use Rattle.csi_records.specs.Reading.{long_in, bytes_in, part_in, record_head_in}
-use Rattle.csi_records.proofs.Readers.{Took, Reads, then, in_words, done, some_is, Spelled, After, Made, after, makes}
+use Rattle.csi_records.proofs.Readers.{Took, Reads, then, in_words, done, some_is, Spelled, spelled-same, spelled-none, After, Made, after, makes}
 use Rattle.csi_records.proofs.FieldReaders.{word_reads, tag_reads}
 use Rattle.csi_records.proofs.ValueReaders.{join3}
+use Rattle.csi_records.proofs.WritingPieces.{flat_map-push}
 
 -- ---- a number of 32 bits
 
@@ -141,16 +142,6 @@ part_reads =
     in_words (Spelled IsPart part_bytes) part-there part-back
     (after word_reads (λ key. after long_reads (λ n. makes (λ value. make_part key value) (bytes_read n))))
 
--- one part stands in front of bytes
-pub part-same : (a b : StoredPart) (first second : List ℕ) → IsPart a → IsPart b → part_bytes a ++ first ≡ part_bytes b ++ second → (a ≡ b) × (first ≡ second)
-part-same a b first second fits fit e =
-    let one = part_reads.again a (part_bytes a) first (record { fits = fits; are = refl }) in
-    let two = part_reads.again b (part_bytes b) second (record { fits = fit; are = refl }) in
-    both a b first second (sym one ∙ ap part_in e ∙ two)
-  where
-    both : (x y : StoredPart) (xs ys : List ℕ) → done x xs ≡ done y ys → (x ≡ y) × (xs ≡ ys)
-    both x y xs ys h = let same = some_is x xs (y, ys) h in (ap (λ p. p.0) same, ap (λ p. p.1) same)
-
 -- ---- the number of parts
 
 -- the reader of a record's version and number of parts reads what spells them
@@ -162,14 +153,9 @@ record_head_reads =
     (λ value bytes s. record { before = tt; front = 1 ∷ []; back = long value; parts = s.are; first = record { one = refl }; second = record { fits = s.fits; are = refl } })
     (then (tag_reads 1) (λ _. long_reads))
 
--- what is there isn't missing
-some_is_none : {A : Type 0} (x : A) → Some x ≡ None → ⊥
-some_is_none x e = cc
-
 -- where no version and number of parts are read, none stand in front
 pub no-head : (bytes : List ℕ) → record_head_in bytes ≡ None → HasNoHead bytes
-no-head bytes none = λ count rest from to are.
-    some_is_none (count, rest) (sym (record_head_reads.again count (record_head count) rest (record { fits = record { fits = to }; are = refl })) ∙ ap record_head_in (sym are) ∙ none)
+no-head bytes none = λ count rest from to are. spelled-none record_head_reads bytes none count rest (record { fits = to }) are
 
 -- where the number of parts that is read is 0, no number from 1 on stands in front
 pub zero-head : (bytes rest : List ℕ) (count : ℕ) → count ≡ 0 → record_head_in bytes ≡ Some (count, rest) → HasNoHead bytes
@@ -185,11 +171,6 @@ pub record IsSoFar (bytes : List ℕ) (parts : List StoredPart) (rest : List ℕ
   pub fit : AllByRecursion IsPart parts
   pub are : bytes ≡ flat_map part_bytes parts ++ rest
 
--- the bytes of parts and one part more are those of the parts and then that part's
-flat_map-one_more : (parts : List StoredPart) (part : StoredPart) → flat_map part_bytes (parts ++ part ∷ []) ≡ flat_map part_bytes parts ++ part_bytes part
-flat_map-one_more [] part = append-nil (part_bytes part)
-flat_map-one_more (p ∷ ps) part = ap (λ (t : List ℕ). part_bytes p ++ t) (flat_map-one_more ps part) ∙ sym (append_assoc (part_bytes p) (flat_map part_bytes ps) (part_bytes part))
-
 -- where parts were read and one more is, the parts with it were read
 pub one-more : (bytes : List ℕ) (parts : List StoredPart) (rest after : List ℕ) (part : StoredPart) → AreBytes bytes → IsSoFar bytes parts rest → part_in rest ≡ Some (part, after) → IsSoFar bytes (parts ++ part ∷ []) after
 one-more bytes parts rest after part fits so_far read =
@@ -197,15 +178,15 @@ one-more bytes parts rest after part fits so_far read =
     record {
       fit = each-append_one IsPart parts part so_far.fit took.says.fits;
       are = so_far.are ∙ ap (λ (t : List ℕ). flat_map part_bytes parts ++ t) (took.parts ∙ ap (λ (t : List ℕ). t ++ after) took.says.are)
-          ∙ sym (append_assoc (flat_map part_bytes parts) (part_bytes part) after) ∙ ap (λ (t : List ℕ). t ++ after) (sym (flat_map-one_more parts part));
+          ∙ sym (append_assoc (flat_map part_bytes parts) (part_bytes part) after) ∙ ap (λ (t : List ℕ). t ++ after) (sym (flat_map-push part_bytes parts part));
     }
 
--- where no part is read, none stands in front
-pub no-part : (rest : List ℕ) → part_in rest ≡ None → (part : StoredPart) (more : List ℕ) → IsPart part → rest ≡ part_bytes part ++ more → ⊥
-no-part rest none part more fits are =
-    some_is_none (part, more) (sym (part_reads.again part (part_bytes part) more (record { fits = fits; are = refl })) ∙ ap part_in (sym are) ∙ none)
-
 -- ---- the first part that is refused, in the bytes
+
+-- of parts within their limits, each one is
+pub part-inside : (before : List StoredPart) (p : StoredPart) (after : List StoredPart) → AllByRecursion IsPart (before ++ p ∷ after) → IsPart p
+part-inside [] p after each = each.0
+part-inside (b ∷ bs) p after each = part-inside bs p after each.1
 
 -- a part that is refused among the parts is refused in the bytes
 pub bad-among : (Is : List StoredPart → Type 0) (bytes : List ℕ) (parts : List StoredPart) (all : Bool) (place : ℕ) → AreSplit bytes parts all → IsRefusedAt Is parts place → IsBadAt Is bytes place
@@ -213,13 +194,9 @@ bad-among Is bytes parts all place split at =
     subst (λ (n : ℕ). IsBadAt Is bytes n) at.here
     (bad_part split.count at.before (part_bytes at.part ++ (flat_map part_bytes at.after ++ split.rest)) split.to below are at.begins
     (λ part more fits same.
-    let one = part-same at.part part (flat_map part_bytes at.after ++ split.rest) more (inside at.before at.part at.after (subst (λ (ps : List StoredPart). AllByRecursion IsPart ps) at.are split.fit)) fits same in
+    let one = spelled-same part_reads at.part part (flat_map part_bytes at.after ++ split.rest) more (part-inside at.before at.part at.after (subst (AllByRecursion IsPart) at.are split.fit)) fits same in
     λ is. at.refused (subst (λ (p : StoredPart). Is (at.before ++ p ∷ [])) (sym one.0) is)))
   where
-    inside : (before : List StoredPart) (p : StoredPart) (after : List StoredPart) → AllByRecursion IsPart (before ++ p ∷ after) → IsPart p
-    inside [] p after each = each.0
-    inside (b ∷ bs) p after each = inside bs p after each.1
-
     counted : (stops : Bool) → SplitStops split.count parts split.rest stops → length parts ≤ split.count
     counted true h = omega (arith, h.0)
     counted false (inl h) = omega (arith, h.0)
@@ -271,7 +248,7 @@ split-here bytes rest after count parts all fits read from so_far stops =
 
 -- where no part is read and fewer were than the head says, splitting stops there
 pub split-stopped : (bytes rest after : List ℕ) (count : ℕ) (parts : List StoredPart) → AreBytes bytes → record_head_in bytes ≡ Some (count, rest) → 1 ≤ count → IsSoFar rest parts after → length parts < count → part_in after ≡ None → AreSplit bytes parts false
-split-stopped bytes rest after count parts fits read from so_far fewer none = split-here bytes rest after count parts false fits read from so_far (inr (fewer, no-part after none))
+split-stopped bytes rest after count parts fits read from so_far fewer none = split-here bytes rest after count parts false fits read from so_far (inr (fewer, spelled-none part_reads after none))
 
 -- where as many parts were read as the head says, splitting took all if no byte is left, and else not all
 pub split-ended : (bytes rest after : List ℕ) (count : ℕ) (parts : List StoredPart) (empty : Bool) → AreBytes bytes → record_head_in bytes ≡ Some (count, rest) → 1 ≤ count → IsSoFar rest parts after → length parts ≡ count → empty ≡ eqb (length after) 0 → AreSplit bytes parts empty
@@ -299,13 +276,3 @@ pub err-bytes : {X : Type 0} (Is : List StoredPart → Type 0) (parts_of : X →
     → ReadsParts Is parts_of parts (Err stop) → ReadsBytes Is parts_of bytes (Err stop)
 err-bytes Is parts_of bytes parts all (BadRecord place) split read = err-by Is parts_of bytes parts all place split read
 err-bytes Is parts_of bytes parts all NoMemory split read = tt
-
--- one number of parts stands in front of bytes
-pub heads-same : (a b : ℕ) (first second : List ℕ) → a < 2 ^ 32 → b < 2 ^ 32 → record_head a ++ first ≡ record_head b ++ second → (a ≡ b) × (first ≡ second)
-heads-same a b first second fits fit e =
-    let one = record_head_reads.again a (record_head a) first (record { fits = record { fits = fits }; are = refl }) in
-    let two = record_head_reads.again b (record_head b) second (record { fits = record { fits = fit }; are = refl }) in
-    both a b first second (sym one ∙ ap record_head_in e ∙ two)
-  where
-    both : (x y : ℕ) (xs ys : List ℕ) → done x xs ≡ done y ys → (x ≡ y) × (xs ≡ ys)
-    both x y xs ys h = let same = some_is x xs (y, ys) h in (ap (λ p. p.0) same, ap (λ p. p.1) same)

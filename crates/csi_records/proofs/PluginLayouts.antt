@@ -1,8 +1,8 @@
 -- The records of both plugins by their layouts.
-use Rattle.std.proofs.Common.{◌≡◌, ℕ, ◌+◌, ◌-◌, ◌≤◌, ◌<◌, ◌^◌, List, [], ◌∷◌, ◌++◌, length, take, drop, map, get_or, refl, sym, ap, subst, ◌∙◌, arith}
-use Rattle.std.specs.Prelude.{Option, Bool, true, false, IfSome}
+use Rattle.std.proofs.Common.{◌≡◌, ℕ, ◌-◌, ◌≤◌, ◌<◌, List, [], ◌∷◌, length, take, drop, map, get_or, sym, ap, subst, ◌∙◌, arith}
+use Rattle.std.specs.Prelude.{Option, IfSome}
 use Rattle.std.specs.List.{AllByRecursion}
-use Rattle.std.proofs.lemmas.List.{append-nil, take_rest, take-map, length-take, length-map, get_or-take}
+use Rattle.std.proofs.lemmas.List.{take_rest, take-map, length-take, length-map, get_or-take}
 use Rattle.std.proofs.lemmas.List.Elements.{All-take, recursion_from_All}
 use Rattle.csi_controller.specs.declared.row.ControllerRow.{ControllerRow}
 use Rattle.csi_controller.specs.Core.{IsSound}
@@ -12,20 +12,16 @@ use Rattle.csi_controller.proofs.FirstRefused.{sound-take}
 use Rattle.csi_types.specs.Text.{IsNodeId}
 use Rattle.csi_node.specs.declared.row.NodeRow.{NodeRow}
 use Rattle.csi_node.specs.OneRow.{RowShown, shown, IsRow}
-use Rattle.csi_node.specs.Judging.{IsFirstRefused as IsFirstRefusedRow}
 use Rattle.csi_node.specs.Record.{IsRecord, ids, id_at}
-use Rattle.csi_controller.specs.Judging.{IsFirstRefused}
 use Rattle.csi_records.specs.declared.part.Part.{Part}
 use Rattle.csi_records.specs.Part.{StoredPart, stored_in, all_stored_in}
-use Rattle.csi_records.specs.Stopping.{AreRead}
 use Rattle.csi_records.specs.Writing.{ArePublishedFew}
-use Rattle.csi_records.specs.Spelling.{VolumeRow, volume_row, volume_part, controller_head, answered_part, node_head}
-use Rattle.csi_records.specs.Records.{controller_layout, node_layout, IsNodeHead, AreVolumeRows, IsVolumeRow, IsAnsweredRow, IsRecordOf, IsRefusedAt}
+use Rattle.csi_records.specs.Spelling.{VolumeRow, volume_row, node_head}
+use Rattle.csi_records.specs.Records.{controller_layout, node_layout, AreVolumeRows, IsRecordOf, IsRefusedAt}
 use Rattle.csi_records.proofs.PartReaders.{volume_read, answered_read, controller_head_read, node_head_read, same_part}
-use Rattle.csi_frames.specs.Spelling as spelling
-use Rattle.csi_records.proofs.Sizes.{volume_size, answered_size}
-use Rattle.csi_records.proofs.OneReading.{ArePlain}
-use Rattle.csi_records.proofs.Layouts.{IsOneToOne, head-refused, row-unread, row-refused}
+use Rattle.csi_records.proofs.ValueSizes.{volume_size, answered_size}
+use Rattle.csi_records.proofs.LayoutLaws.{ArePlain}
+use Rattle.csi_records.proofs.Layouts.{IsOneToOne, head-refused}
 
 -- ---- the controller's
 
@@ -50,35 +46,6 @@ controller_one = record {
   rows = same_part volume_read;
   fronts = λ next_id shown k are. (take k are.0, sym (take-map volume_row k are.0) ∙ ap (take k) are.1, sound-take next_id are.0 k are.2);
 }
-
--- the first row that is refused is the first part that is
-pub controller-refused : (next_id : ℕ) (rows : List ControllerRow) (place : ℕ) (more parts : List StoredPart) → next_id < 2 ^ 64 → AllByRecursion controller_layout.is_row (map volume_row rows)
-    → 1 ≤ place → place ≤ length rows → IsSound next_id (take (place - 1) rows) → (IsSound next_id (take place rows) → ⊥) → parts ≡ map volume_part (map volume_row rows) ++ more
-    → IsRefusedAt (IsRecordOf controller_layout) (controller_layout.head next_id ∷ parts) place
-controller-refused next_id rows place more parts fits each from to before refused are =
-    row-refused controller_layout controller_one next_id (map volume_row rows) place more parts fits each from (omega (arith, to, length-map rows volume_row))
-    (take (place - 1) rows, sym (take-map volume_row (place - 1) rows), before)
-    (λ is. refused (sound-shown next_id (take place rows) (subst (AreVolumeRows next_id) (take-map volume_row place rows) is)))
-    are
-
--- what was read before the first part that is no row
-abbrev rest_of : {R : Type 0} → (row_part : R → StoredPart) (IsRow : R → Type 0) (parts : List StoredPart) (rows : List R) (all : Bool) → AreRead row_part IsRow parts rows all → (more : List StoredPart) × (parts ≡ map row_part rows ++ more)
-rest_of row_part IsRow parts rows true read = ([], read.stops ∙ sym (append-nil (map row_part rows)))
-rest_of row_part IsRow parts rows false read = (read.stops.0 ∷ read.stops.1, read.stops.2)
-
--- where a controller's rows so far are sound and the next part is no row, that part is refused
-pub controller-unread : (next_id : ℕ) (rows : List ControllerRow) (parts : List StoredPart) → next_id < 2 ^ 64 → AreRead volume_part IsVolumeRow parts (map volume_row rows) false → IsSound next_id rows
-    → IsRefusedAt (IsRecordOf controller_layout) (controller_head next_id ∷ parts) (length rows + 1)
-controller-unread next_id rows parts fits read sound =
-    subst (λ (n : ℕ). IsRefusedAt (IsRecordOf controller_layout) (controller_head next_id ∷ parts) (n + 1)) (length-map rows volume_row)
-    (row-unread controller_layout next_id (map volume_row rows) read.stops.0 read.stops.1 parts fits read.fit (rows, refl, sound) read.stops.2 read.stops.3)
-
--- where a row is the first that a controller refuses, its part is the first that is refused
-pub controller-badrow : (next_id : ℕ) (rows : List ControllerRow) (parts : List StoredPart) (all : Bool) (place : ℕ) → next_id < 2 ^ 64 → AreRead volume_part IsVolumeRow parts (map volume_row rows) all → IsFirstRefused next_id rows place
-    → IsRefusedAt (IsRecordOf controller_layout) (controller_head next_id ∷ parts) place
-controller-badrow next_id rows parts all place fits read first =
-    let rest = rest_of volume_part IsVolumeRow parts (map volume_row rows) all read in
-    controller-refused next_id rows place rest.0 parts fits read.fit first.from first.to first.before first.refused rest.1
 
 -- parts, the first apart
 pub stored-split : (parts : List Part) (head : Part) → 1 ≤ length parts → head ≡ get_or parts 0 head → all_stored_in parts ≡ stored_in head ∷ all_stored_in (take (length parts - 1) (drop 1 parts))
@@ -111,23 +78,6 @@ node_one wanted = record {
   fronts = λ node rows k are. record-take rows k are;
 }
 
--- where a node's rows so far keep the rules and the next part is no row, that part is refused
-pub node-unread : (wanted : Option (List ℕ)) (node : List ℕ) (rows : List NodeRow) (parts : List StoredPart) → IsNodeHead wanted node → AreRead answered_part IsAnsweredRow parts (map shown rows) false → IsRecord (map shown rows)
-    → IsRefusedAt (IsRecordOf (node_layout wanted)) (node_head node ∷ parts) (length rows + 1)
-node-unread wanted node rows parts fits read rules =
-    subst (λ (n : ℕ). IsRefusedAt (IsRecordOf (node_layout wanted)) (node_head node ∷ parts) (n + 1)) (length-map rows shown)
-    (row-unread (node_layout wanted) node (map shown rows) read.stops.0 read.stops.1 parts fits read.fit rules read.stops.2 read.stops.3)
-
--- where a row is the first that a node refuses, its part is the first that is refused
-pub node-badrow : (wanted : Option (List ℕ)) (node : List ℕ) (rows : List NodeRow) (parts : List StoredPart) (all : Bool) (place : ℕ) → IsNodeHead wanted node → AreRead answered_part IsAnsweredRow parts (map shown rows) all → IsFirstRefusedRow rows place
-    → IsRefusedAt (IsRecordOf (node_layout wanted)) (node_head node ∷ parts) place
-node-badrow wanted node rows parts all place fits read first =
-    let rest = rest_of answered_part IsAnsweredRow parts (map shown rows) all read in
-    row-refused (node_layout wanted) (node_one wanted) node (map shown rows) place rest.0 parts fits read.fit first.from (omega (arith, first.to, length-map rows shown))
-    (subst IsRecord (sym (take-map shown (place - 1) rows)) first.before)
-    (λ is. first.refused (subst IsRecord (take-map shown place rows) is))
-    rest.1
-
 -- another node's head
 pub node-unasked : (wanted : Option (List ℕ)) (node : List ℕ) (parts : List StoredPart) → IsNodeId node → (IfSome wanted (λ id. node ≡ id) → ⊥) → IsRefusedAt (IsRecordOf (node_layout wanted)) (node_head node ∷ parts) 0
 node-unasked wanted node parts fits other =
@@ -144,10 +94,6 @@ pub few-targets : (rows : List NodeRow) → IsRecord (map shown rows) → AllByR
 few-targets rows is = few-each rows (recursion_from_All IsRow (map shown rows) is.each)
 
 -- ---- what their parts are
-
--- a number of 64 bits is spelled in eight bytes
-word-size : (n : ℕ) → length (spelling.word n) ≡ 8
-word-size n = refl
 
 -- a controller's parts are within their limits, and there are at most 4,096 rows
 pub controller_plain : ArePlain controller_layout
