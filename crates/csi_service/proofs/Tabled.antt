@@ -20,7 +20,7 @@ use Rattle.csi_tables.specs.Rows.{KeyedRow, cells, without, AreRising, StoresRow
 use Rattle.csi_records.specs.Part.{StoredPart}
 use Rattle.csi_serving.specs.Content.{put_in, take_out, IsRising}
 use Rattle.csi_service.specs.Tables.{row_of, AreKeys, StoresParts, HasParts, HoldsParts, LeavesParts}
-use Rattle.csi_serving.proofs.Rising.{AreAbove, rising-all}
+use Rattle.csi_serving.proofs.RisingChanges.{AreAbove, rising-all}
 use Rattle.csi_service.proofs.KeyOrder.{key_below, key_back, same_key}
 
 -- ---- in their order

@@ -19,7 +19,7 @@ use Rattle.csi_records.specs.Part.{StoredPart, Change}
 use Rattle.csi_records.specs.Spelling.{VolumeRow, volume_row, volume_part, controller_head, controller_parts}
 use Rattle.csi_serving.specs.Content.{put_in, all_changed, IsRising}
 use Rattle.csi_serving.specs.Services.{head_change, row_change, touched_change, last_in}
-use Rattle.csi_serving.proofs.Rising.{AreAbove}
+use Rattle.csi_serving.proofs.RisingChanges.{AreAbove}
 use Rattle.csi_serving.proofs.RisingParts.{rows-put, put-head, put-row}
 
 -- ---- rows that say the same are spelled the same

@@ -19,10 +19,10 @@ use Rattle.csi_serving.specs.Stores.{Store, Follows, Rests}
 use Rattle.csi_serving.specs.Serving.{Setting, Runs, output_of, reply_count}
 use Rattle.csi_serving.specs.Reading.{IsPiece, ReadsPiece}
 use Rattle.csi_serving.specs.Stopping.{AnswersNext, one_more_served}
-use Rattle.csi_serving.proofs.Commits.{follows-same, follows-more, rests-same, rests-more}
+use Rattle.csi_serving.proofs.StoreCalls.{follows-same, follows-more, rests-same, rests-more}
 use Rattle.std.proofs.KnownBytes.{Appends-nil, Appends-trans}
-use Rattle.csi_serving.proofs.Runs.{runs-push, runs-length, count-few, count-push, output-append}
-use Rattle.csi_serving.proofs.Streams.{AreBytes-append, spelling-not-empty, frames_few}
+use Rattle.csi_serving.proofs.GrowingRuns.{runs-push, runs-length, count-few, count-push, output-append}
+use Rattle.csi_serving.proofs.StreamFrames.{AreBytes-append, spelling-not-empty, frames_few}
 
 -- what serving is judged by
 abbrev pub setting_of : {C : Type 0} → (C → Frame → Option Frame → C → Type 0) → (C → List StoredPart) → C → Store → Store → Option (List ℕ) → Option (List ℕ) → Type 0 → Type 0 → Type 0 → Type 0 → Setting C

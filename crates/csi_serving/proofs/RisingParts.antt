@@ -7,7 +7,7 @@ use Rattle.csi_lists.proofs.Options.{some_is_not_none}
 use Rattle.csi_lists.proofs.Searches.{find-of_map}
 use Rattle.csi_records.specs.Part.{StoredPart}
 use Rattle.csi_serving.specs.Content.{put_in, IsRising}
-use Rattle.csi_serving.proofs.Rising.{AreAbove, rising-put}
+use Rattle.csi_serving.proofs.RisingChanges.{AreAbove, rising-put}
 
 -- the part under a key
 abbrev pub part_at : ℕ → List StoredPart → Option StoredPart

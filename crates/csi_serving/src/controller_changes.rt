@@ -5,11 +5,12 @@ ghost use Rattle.csi_types.specs.VolumeId.{IsVolumeId};
 ghost use Rattle.csi_controller.specs.Core.{IsShown};
 ghost use Rattle.csi_controller.specs.Fenced.{fenced};
 ghost use Rattle.csi_controller.specs.State.{ControllerState};
-ghost use Rattle.csi_records.specs.Part.{change_of, put_all};
+ghost use Rattle.csi_records.specs.Part.{change_of};
 ghost use Rattle.csi_serving.specs.Content.{all_changed};
 ghost use Rattle.csi_serving.specs.Services.{parts_of_controller, changes_of, row_change, last_in};
 ghost use Rattle.csi_serving.specs.declared.controller_changes.Changed.{Changed as WhatChanged};
 
+use crate::parts::push_value;
 use csi_controller::{Controller, rows_law, showing_law, sound_law};
 use csi_records::{Part, volume_value};
 use csi_types::{Body, Frame, NoMemory, Number, VolumeId};
@@ -56,17 +57,6 @@ fn touched(
         Some((own, earlier)) if own == id && earlier == last => None,
         _ => Some(id),
     }
-}
-
-/// Puts a part of this value at the end.
-pub(crate) fn push_value(parts: &mut Vec<Part>, key: u64, value: Vec<u8>) -> Result<(), NoMemory>
-    ensures { OnOk result (map change_of parts.new.items ≡ map change_of parts.old.items ++ put_all (record { key = key; value = value.items } ∷ [])) }
-{
-    parts.push(Part {
-        key,
-        value: Some(value),
-    })?;
-    Ok(())
 }
 
 /// Puts the part of a volume's row at the end, if it has one.

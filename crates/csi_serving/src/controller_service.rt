@@ -11,9 +11,10 @@ ghost use Rattle.csi_serving.specs.Stores.{store};
 ghost use Rattle.csi_serving.specs.Opening.{IsOpenFault, LeavesHead, HasRecord};
 ghost use Rattle.csi_serving.specs.Services.{controller_service_parts, controller_service_changes, ControllerAnswers};
 
-use crate::controller_changes::{Changed, NOTHING, answer, push_row, push_value};
+use crate::controller_changes::{Changed, NOTHING, answer, push_row};
 use crate::keep::{Keep, KeepFault};
 use crate::opening::load_or_begin;
+use crate::parts::push_value;
 use crate::plugin_core::Core;
 use csi_controller::{Controller, ControllerRecord};
 use csi_records::{Part, Record, controller_head_value};

@@ -1,5 +1,5 @@
 //! Parts in memory, by rising key.
-ghost use Rattle.std.specs.Prelude.{◌≡◌, ◌≤◌, ◌++◌, ◌∷◌, [], List, map, OnOk, IfOk, nat_le, position, Some};
+ghost use Rattle.std.specs.Prelude.{◌≡◌, ◌++◌, ◌∷◌, [], map, OnOk, IfOk, nat_le, position, Some};
 ghost use Rattle.csi_serving.specs.Content.{put_in, take_out, changed_to, all_changed, size_of};
 ghost use Rattle.csi_records.specs.Part.{change_of};
 ghost use Rattle.csi_serving.specs.Memory.{stored, all_stored};

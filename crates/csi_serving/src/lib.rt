@@ -9,6 +9,7 @@ mod keep;
 mod memory_keep;
 mod node_service;
 mod opening;
+mod parts;
 mod plugin_core;
 mod rows;
 mod serving;

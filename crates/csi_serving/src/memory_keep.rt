@@ -1,11 +1,12 @@
 //! A store in memory.
-ghost use Rattle.std.specs.Prelude.{◌≡◌, ◌≤◌, ◌<◌, ◌⊎◌, ◌++◌, ◌∷◌, ℕ, List, [], map, Ok, IfOk, IfErr, OnOk, OnErr, IsOk};
+ghost use Rattle.std.specs.Prelude.{◌≡◌, ◌≤◌, ◌<◌, ◌⊎◌, [], map, IfOk, IfErr, OnOk, OnErr, IsOk};
 ghost use Rattle.csi_records.specs.Part.{put_all, change_of};
 ghost use Rattle.csi_serving.specs.Content.{all_changed, size_of};
-ghost use Rattle.csi_serving.specs.Memory.{stored, all_stored};
+ghost use Rattle.csi_serving.specs.Memory.{all_stored};
 
 use crate::entries::{Entry, change_all, copies_of, fit};
 use crate::keep::{Keep, KeepFault};
+use crate::parts::push_value;
 use csi_records::Part;
 use csi_types::NoMemory;
 use std::alloc::Global;
@@ -30,25 +31,14 @@ impl Model for MemoryKeep {
     ghost invariant = { λ keep. IsMemory (record { limit = keep.limit; parts = all_stored keep.entries.items }) };
 }
 
-// Puts a part for an entry at the end.
-fn push_part(alloc: Global, parts: &mut Vec<Part>, entry: &Entry) -> Result<(), NoMemory>
-    ensures { OnOk result (map change_of parts.new.items ≡ map change_of parts.old.items ++ put_all (stored entry.now ∷ [])) }
-{
-    let value = Vec::from_slice(alloc, &entry.value)?;
-    parts.push(Part {
-        key: entry.key,
-        value: Some(value),
-    })?;
-    Ok(())
-}
-
 // The parts that put these entries in.
 fn parts_of(alloc: Global, entries: &[Entry]) -> Result<Vec<Part>, NoMemory>
     ensures { IfOk result (λ parts. map change_of parts.items ≡ put_all (all_stored entries.now)) }
 {
     let mut parts = Vec::with_capacity(alloc, entries.len())?;
     for entry in entries {
-        push_part(alloc, &mut parts, entry)?;
+        let value = Vec::from_slice(alloc, &entry.value)?;
+        push_value(&mut parts, entry.key, value)?;
     }
     Ok(parts)
 }

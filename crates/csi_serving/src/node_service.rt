@@ -15,6 +15,7 @@ ghost use Rattle.csi_serving.specs.Services.{node_service_parts};
 
 use crate::keep::{Keep, KeepFault};
 use crate::opening::load_or_begin;
+use crate::parts::push_value;
 use crate::plugin_core::Core;
 use csi_node::{Node, NodeRecord, NodeRow};
 use csi_records::{Part, answered_value, node_head_value, record_of_node};
@@ -173,10 +174,7 @@ impl Core for NodeService {
         let mut parts = Vec::new(self.alloc);
         if let Some(row) = row_touched(&self.node, self.touched) {
             let value = answered_value(self.alloc, row)?;
-            parts.push(Part {
-                key: row.id.number(),
-                value: Some(value),
-            })?;
+            push_value(&mut parts, row.id.number(), value)?;
         }
         Ok(parts)
     }

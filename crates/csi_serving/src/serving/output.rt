@@ -1,5 +1,5 @@
 //! A reply, written.
-ghost use Rattle.std.specs.Prelude.{◌≡◌, ◌≤◌, ◌++◌, List, OnOk, OnErr};
+ghost use Rattle.std.specs.Prelude.{◌≤◌, OnOk, OnErr};
 ghost use Rattle.std.specs.Io.KnownBytes.{Appends};
 ghost use Rattle.csi_serving.specs.Keeping.{HasRisen};
 ghost use Rattle.csi_serving.specs.Writing.{WritesFront};

@@ -1,7 +1,7 @@
 use Rattle.std.proofs.Common.{◌∙◌, ap, refl}
 use Rattle.csi_records.specs.Part.{StoredPart}
 use Rattle.csi_serving.specs.Memory.{all_stored}
-use Rattle.csi_serving.proofs.Places.{push-there}
+use Rattle.csi_serving.proofs.EntryPlaces.{push-there}
 use Rattle.csi_serving.proofs.entries.put.Goals as goal
 
 pub returns-in_ok-push-in-None : goal.returns-in_ok-push-in-None

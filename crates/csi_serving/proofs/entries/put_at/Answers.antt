@@ -1,7 +1,7 @@
 use Rattle.std.proofs.Common.{◌∙◌, ap, refl}
 use Rattle.csi_records.specs.Part.{StoredPart}
 use Rattle.csi_serving.specs.Memory.{all_stored}
-use Rattle.csi_serving.proofs.Places.{set-there, insert-there}
+use Rattle.csi_serving.proofs.EntryPlaces.{set-there, insert-there}
 use Rattle.csi_serving.proofs.entries.put_at.Goals as goal
 
 pub returns-then-index-key : goal.returns-then-index-key

@@ -2,7 +2,7 @@ use Rattle.std.proofs.Common.{◌≤◌, length, arith}
 use Rattle.std.proofs.lemmas.Bool.Decides.{nat_tests}
 use Rattle.csi_serving.specs.Stores.{store}
 use Rattle.csi_serving.specs.Opening.{head_of}
-use Rattle.csi_serving.proofs.Loading.{all-put, some-content, has-opened}
+use Rattle.csi_serving.proofs.LoadedParts.{all-put, some-content, has-opened}
 use Rattle.csi_serving.proofs.opening.load_or_begin.Goals as goal
 
 pub returns-then-not-is_empty-clause-loaded : goal.returns-then-not-is_empty-clause-loaded

@@ -3,10 +3,10 @@ use Rattle.std.proofs.Common.{◌++◌, [], ◌≤◌, ◌^◌, length, arith}
 use Rattle.std.specs.Io.KnownBytes.{IsAtEnd}
 use Rattle.csi_serving.specs.Keeping.{HasRisen}
 use Rattle.csi_serving.specs.Stores.{store}
-use Rattle.csi_serving.proofs.Commits.{risen-more}
+use Rattle.csi_serving.proofs.StoreCalls.{risen-more}
 use Rattle.std.proofs.KnownBytes.{Consumes-nil, Consumes-trans}
 use Rattle.csi_serving.proofs.Progress.{start, more, takes_off, waits, fed, more_frames, more_replies}
-use Rattle.csi_serving.proofs.Ends.{halted, stopped_reading, at_end_of}
+use Rattle.csi_serving.proofs.ServingEnds.{halted, stopped_reading, at_end_of}
 use Rattle.csi_serving.proofs.serving.serve.Goals as goal
 
 pub frames-init : goal.frames-init

@@ -9,7 +9,7 @@ use Rattle.csi_records.specs.Spelling.{controller_head, controller_parts, volume
 use Rattle.csi_serving.specs.Stores.{store}
 use Rattle.csi_serving.specs.Opening.{head_of, IsOpenFault, LeavesHead, HasLoaded}
 use Rattle.csi_serving.specs.Services.{controller_service_parts}
-use Rattle.csi_serving.proofs.Opened.{none-of, cause-weaker, stop-cause, opened-new, opened-old, new-controller}
+use Rattle.csi_serving.proofs.OpeningAnswers.{none-of, cause-weaker, stop-cause, opened-new, opened-old, new-controller}
 use Rattle.csi_serving.proofs.controller_service.ControllerService.open.Goals as goal
 
 pub returns-in-Err-clause-cause : goal.returns-in-Err-clause-cause

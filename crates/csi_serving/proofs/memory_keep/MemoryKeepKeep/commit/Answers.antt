@@ -5,7 +5,7 @@ use Rattle.std.proofs.lemmas.Bool.Decides.{nat_tests}
 use Rattle.csi_serving.specs.Content.{all_changed, IsRising, size_of}
 use Rattle.csi_records.specs.Part.{change_of}
 use Rattle.csi_serving.specs.Memory.{all_stored}
-use Rattle.csi_serving.proofs.Rising.{rising-all}
+use Rattle.csi_serving.proofs.RisingChanges.{rising-all}
 use Rattle.csi_serving.proofs.memory_keep.MemoryKeepKeep.commit.Goals as goal
 
 pub invariant_of-self : goal.invariant_of-self

@@ -10,7 +10,7 @@ use Rattle.csi_records.specs.Places.{ReadsParts}
 use Rattle.csi_records.specs.Spelling.{node_head, node_parts}
 use Rattle.csi_serving.specs.Stores.{store}
 use Rattle.csi_serving.specs.Opening.{head_of, IsOpenFault, HasLoaded}
-use Rattle.csi_serving.proofs.Opened.{stop-cause}
+use Rattle.csi_serving.proofs.OpeningAnswers.{stop-cause}
 use Rattle.csi_serving.proofs.node_service.NodeService.open.Goals as goal
 
 pub returns-clause-cause : goal.returns-clause-cause

@@ -1,6 +1,6 @@
 -- Where the reply isn't written whole, a front of it is.
 use Rattle.std.proofs.Common.{◌∙◌, sym, refl, []}
-use Rattle.csi_serving.proofs.Spelled.{spelled-some}
+use Rattle.csi_serving.proofs.ReplyBytes.{spelled-some}
 use Rattle.csi_serving.proofs.serving.answering.answer_frame.Goals as goal
 
 pub returns-in-Some-clause-answer : goal.returns-in-Some-clause-answer

@@ -3,7 +3,7 @@ use Rattle.std.proofs.Common.{◌≡◌, ◌∙◌, ap, sym, map, List}
 use Rattle.csi_records.specs.Part.{StoredPart, Change, change_of}
 use Rattle.csi_serving.specs.Content.{all_changed}
 use Rattle.csi_serving.specs.Stores.{store}
-use Rattle.csi_serving.proofs.Commits.{refused-left, refused-cause}
+use Rattle.csi_serving.proofs.StoreCalls.{refused-left, refused-cause}
 use Rattle.csi_serving.proofs.serving.answering.carry_out.Goals as goal
 
 pub returns-clause-err : goal.returns-clause-err

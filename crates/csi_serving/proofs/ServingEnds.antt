@@ -27,10 +27,10 @@ use Rattle.csi_serving.specs.Serving.{Setting, Runs, output_of, AllDone, LastUnw
 use Rattle.csi_serving.specs.Reading.{IsPiece, IsPieceStop, ReadsPiece}
 use Rattle.csi_serving.specs.Stopping.{AnswersNext, stopped_by}
 use Rattle.csi_serving.specs.Ending.{ended_by}
-use Rattle.csi_serving.proofs.Commits.{rests-more, left-more, refusal-more}
+use Rattle.csi_serving.proofs.StoreCalls.{rests-more, left-more, refusal-more}
 use Rattle.std.proofs.KnownBytes.{Appends-trans}
-use Rattle.csi_serving.proofs.Runs.{runs-push, output-append}
-use Rattle.csi_serving.proofs.Streams.{AreBytes-append, fault_of_something, frames_of, given_first}
+use Rattle.csi_serving.proofs.GrowingRuns.{runs-push, output-append}
+use Rattle.csi_serving.proofs.StreamFrames.{AreBytes-append, fault_of_something, frames_of, given_first}
 use Rattle.csi_serving.proofs.Progress.{setting_of, Progress, same-written, taken_front}
 
 -- behind the frames that were answered stands the next one
