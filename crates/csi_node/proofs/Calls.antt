@@ -23,8 +23,8 @@ use Rattle.csi_node.specs.Shown.{Shows}
 use Rattle.csi_node.specs.OneRow.{RowShown, shown, alone, row_anew, IsRow, IsAfter, RowAnswers}
 use Rattle.csi_node.specs.Record.{parts, id_at, IsAt, IsGapFor, IsRecord, Gives}
 use Rattle.csi_node.proofs.Steps.{row_of, all-from_shows, shows-from_all}
-use Rattle.csi_node.proofs.Answering.{GivesAll, gives-again, gives-anew, gives-full}
-use Rattle.csi_node.proofs.Rules.{id_at-parts, found-at, absent-gap, after-set, after-insert, rules-set, rules-insert}
+use Rattle.csi_node.proofs.AnsweredRows.{GivesAll, gives-again, gives-anew, gives-full}
+use Rattle.csi_node.proofs.RecordRules.{id_at-parts, found-at, absent-gap, after-set, after-insert, rules-set, rules-insert}
 
 -- the row at a place, of the rows as they are shown, is what is shown of the row there
 pub parts-at : (rows : List NodeRow) (place : ℕ) (d : NodeRow) → get_or (parts rows) place (shown d) ≡ shown (get_or rows place d)

@@ -20,10 +20,10 @@ use Rattle.csi_node.specs.Table.{Outcome, lifecycle_row, changed}
 use Rattle.csi_node.specs.Fenced.{Fenced, fenced, kept_for, keep}
 use Rattle.csi_node.specs.View.{held_on, kept_on, view_of, key_of, IsDeliveredTo}
 use Rattle.csi_node.proofs.Effects.{Effect, EffectAt, effect}
-use Rattle.csi_node.proofs.Keeping.{keep-own, changed-rows}
+use Rattle.csi_node.proofs.LastCalls.{keep-own, changed-rows}
 use Rattle.csi_node.proofs.Moves.{Move, refuses, was_staged, stages, unstages, was_published, publishes, was_unpublished, unpublishes, lifecycle_moves}
-use Rattle.csi_node.proofs.Passages.{Passage, stale, repeated, no_room, carried, passes, kept_of, state_then}
-use Rattle.csi_node.proofs.Numbers.{answered_spent, spent_still}
+use Rattle.csi_node.proofs.FencedCalls.{Passage, stale, repeated, no_room, carried, passes, kept_of, state_then}
+use Rattle.csi_node.proofs.SpentNumbers.{answered_spent, spent_still}
 use Rattle.csi_node.proofs.Things.{row_id, kept_at, kept_on-at, IsFor, is_for, keep-held, kept_either, kept_none, held_none}
 
 -- ResourceExhausted, and below Aborted, isn't OK

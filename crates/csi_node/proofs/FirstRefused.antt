@@ -9,7 +9,7 @@ use Rattle.csi_node.specs.Judging.{IsFirstRefused, may_follow}
 use Rattle.csi_node.specs.OneRow.{RowShown, shown, IsRow}
 use Rattle.csi_node.specs.Record.{parts, id_at, IsRecord}
 use Rattle.csi_node.specs.SoundRow.{is_sound_row}
-use Rattle.csi_node.proofs.Rules.{IsRising}
+use Rattle.csi_node.proofs.RecordRules.{IsRising}
 use Rattle.csi_node.proofs.SoundRow.{row-sound, sound-row}
 
 -- ---- ids that rise

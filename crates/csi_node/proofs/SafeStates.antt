@@ -20,7 +20,7 @@ use Rattle.csi_node.specs.Fenced.{Fenced, keep, fenced_call, kept_for, fenced_pa
 use Rattle.csi_lists.specs.Members.{IsAmong}
 use Rattle.csi_node.specs.Safe.{AllowTwo, IsPublishedRight}
 use Rattle.csi_node.proofs.Moves.{Fits, Move, refuses, was_staged, stages, unstages, was_published, publishes, was_unpublished, unpublishes, lifecycle_moves}
-use Rattle.csi_node.proofs.Passages.{Passage, stale, repeated, no_room, carried, call_passes, kept_of}
+use Rattle.csi_node.proofs.FencedCalls.{Passage, stale, repeated, no_room, carried, call_passes, kept_of}
 use Rattle.csi_lists.proofs.Members.{among-either, among-filter, none_kept}
 use Rattle.csi_lists.proofs.Searches.{find-filter}
 use Rattle.csi_lists.proofs.Pairs.{two-append, two-filter}

@@ -22,7 +22,7 @@ use Rattle.csi_node.specs.State.{NodeState, StagedVolume, empty_node, staged_of,
 use Rattle.csi_node.specs.Table.{Outcome, Stages, Unstages, lifecycle_row, changed}
 use Rattle.csi_node.specs.Fenced.{Fenced, keep, fenced_call, kept_for, fenced_parts, fenced, after_frames}
 use Rattle.csi_node.proofs.Moves.{Move, refuses, was_staged, stages, unstages, was_published, publishes, was_unpublished, unpublishes, lifecycle_moves}
-use Rattle.csi_node.proofs.Passages.{Passage, stale, repeated, no_room, carried, call_passes, kept_of}
+use Rattle.csi_node.proofs.FencedCalls.{Passage, stale, repeated, no_room, carried, call_passes, kept_of}
 
 -- each staged volume is found as it is staged
 abbrev pub AreFound : NodeState → Type 0

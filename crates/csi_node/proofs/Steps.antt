@@ -14,12 +14,13 @@ use Rattle.csi_lists.proofs.Options.{option_or-left}
 use Rattle.csi_lists.proofs.Searches.{find-of_map}
 use Rattle.csi_node.specs.declared.row.NodeRow.{NodeRow}
 use Rattle.csi_node.specs.State.{NodeState, Answered, StagedVolume, PublishedVolume, empty_node, row_with_id, published_of, volume_of, row_of_volume, row_for}
-use Rattle.csi_node.specs.Table.{Change, Stays, Stages, Unstages, Publishes, Unpublishes, Outcome, lifecycle_row, has_no_room, changed}
+use Rattle.csi_node.specs.Table.{Change, Outcome, lifecycle_row, has_no_room, changed}
 use Rattle.csi_node.specs.Fenced.{kept_in, kept_rows, keep, kept_for}
 use Rattle.csi_node.specs.Laws.{is_another}
 use Rattle.csi_node.specs.Shown.{Shows, answered_of_row, published_in, staged_in, row_in}
 use Rattle.csi_node.specs.OneRow.{RowShown, shown, alone}
 use Rattle.csi_node.proofs.Facts.{lifecycle_facts}
+use Rattle.csi_node.proofs.LastCalls.{changed-rows, kept_in-id}
 use Rattle.csi_node.proofs.StateChanges.{IsPart, IsAbout, lifecycle-part, lifecycle-about, changed-published, changed-staged}
 
 -- the row of an id
@@ -104,14 +105,6 @@ itself id = eq-eqb id id refl
 answered_id : (o : Option RowShown) (row : Answered) → option_map answered_of o ≡ Some row → (r : RowShown) → o ≡ Some r → answered_of r ≡ row
 answered_id o row h r e = let both : Some (answered_of r) ≡ Some row = ap (option_map answered_of) (sym e) ∙ h in cc
 
--- a change of the table changes no row
-changed-rows : (state : NodeState) (change : Change) → (changed state change).rows ≡ state.rows
-changed-rows state Stays = refl
-changed-rows state (Stages staged) = refl
-changed-rows state (Unstages id) = refl
-changed-rows state (Publishes published) = refl
-changed-rows state (Unpublishes id target) = refl
-
 -- the parts of the state that are a volume's
 pub part_of : (id : ℕ) (rows : List RowShown) (state : NodeState) → ShowsAll rows state → IsPart id (alone_in (row_of id rows)) state
 part_of id rows state all = record {
@@ -160,14 +153,6 @@ length-kept id kept rows (Some row) None h = cc
 length-kept id kept rows None None h = omega (arith, length-append {A = Answered})
 length-kept id kept rows None (Some r) h = cc
 length-kept id kept rows (Some row) (Some r) h = length-map rows (kept_in id kept)
-
--- what is kept in a row leaves its id
-kept_in-id : (id : ℕ) (kept : Kept) (row : Answered) → (kept_in id kept row).id ≡ row.id
-kept_in-id id kept row = by (row.id == id)
-  where
-    by : (b : Bool) → (cond b (record row { kept = kept }) row).id ≡ row.id
-    by true = refl
-    by false = refl
 
 -- the row in which something is kept is found with it
 kept-here : (id : ℕ) (kept : Kept) (rows : List Answered) (o : Option Answered) → find (λ (row : Answered). row.id == id) rows ≡ o

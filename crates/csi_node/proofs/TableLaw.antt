@@ -17,8 +17,8 @@ use Rattle.csi_node.specs.State.{NodeState, Answered, row_with_id, row_of_volume
 use Rattle.csi_node.specs.Table.{Outcome, Change, refused, lifecycle_row, node_row, has_no_room, changed}
 use Rattle.csi_node.specs.Fenced.{Fenced, fenced, fenced_call, kept_for, kept_rows, keep, carried_out}
 use Rattle.csi_node.specs.Laws.{IsLetThrough, IsSameApart, IsDone, IsIdempotent, LeavesOthers, IsLawful, HasAtMostOneMore, is_another, reply_at, state_after}
-use Rattle.csi_node.proofs.Keeping.{keep-staged, keep-published, keep-others, keep-own, keep-rows, changed-rows}
-use Rattle.csi_node.proofs.Passages.{kept_of, state_then, done_then}
+use Rattle.csi_node.proofs.LastCalls.{keep-staged, keep-published, keep-others, keep-own, keep-rows, changed-rows}
+use Rattle.csi_node.proofs.FencedCalls.{kept_of, state_then, done_then}
 use Rattle.csi_node.proofs.Facts.{IsReady, lifecycle_facts, ready_met, ready_kept, ready_volume, ready_done}
 
 -- a number that is let through leads to the table, whatever is kept in the row

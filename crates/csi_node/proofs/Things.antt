@@ -12,7 +12,7 @@ use Rattle.csi_types.specs.Same.{same_text}
 use Rattle.csi_node.specs.State.{NodeState, empty_node, volume_of}
 use Rattle.csi_node.specs.Fenced.{keep}
 use Rattle.csi_node.specs.View.{held_on, kept_in_row, kept_on, key_of}
-use Rattle.csi_node.proofs.Keeping.{keep-either}
+use Rattle.csi_node.proofs.LastCalls.{keep-either}
 
 -- a node is itself
 pub here : (node : List ℕ) → same_text node node ≡ true

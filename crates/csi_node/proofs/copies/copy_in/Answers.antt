@@ -1,5 +1,5 @@
 use Rattle.csi_node.proofs.Calls.{there}
-use Rattle.csi_node.proofs.Frames.{row-there, row-nowhere, row-clash}
+use Rattle.csi_node.proofs.CopiedRows.{row-there, row-nowhere, row-clash}
 use Rattle.csi_node.proofs.copies.copy_in.Goals as goal
 
 pub returns-in_err-copy_of-in-Ok-clause-succeeds : goal.returns-in_err-copy_of-in-Ok-clause-succeeds

@@ -1,6 +1,6 @@
 use Rattle.std.proofs.Common.{sym}
 use Rattle.csi_node.proofs.Calls.{there}
-use Rattle.csi_node.proofs.Rules.{absent-gap}
+use Rattle.csi_node.proofs.RecordRules.{absent-gap}
 use Rattle.csi_node.specs.Record.{parts}
 use Rattle.csi_node.proofs.finding.row_with_id.Goals as goal
 

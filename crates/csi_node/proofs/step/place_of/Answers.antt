@@ -1,7 +1,7 @@
 use Rattle.std.proofs.Common.{rules}
 use Rattle.std.proofs.lemmas.List.Sorted.{answers_always}
 use Rattle.csi_node.specs.declared.row.NodeRow.{NodeRow}
-use Rattle.csi_node.proofs.Rules.{searched}
+use Rattle.csi_node.proofs.RecordRules.{searched}
 use Rattle.csi_node.proofs.step.place_of.Goals as goal
 
 pub returns-clause-found : goal.returns-clause-found

@@ -2,7 +2,8 @@ use Rattle.std.proofs.Common.{◌∙◌, sym, subst, ap}
 use Rattle.csi_types.specs.Lent.{lent_call}
 use Rattle.csi_node.specs.Fenced.{Fenced}
 use Rattle.csi_node.specs.Shown.{Shows}
-use Rattle.csi_node.proofs.Frames.{shows-same, err_holds, for_own}
+use Rattle.csi_node.proofs.CopiedRows.{shows-same, err_holds}
+use Rattle.csi_node.proofs.OwnFrames.{for_own}
 use Rattle.csi_node.proofs.node.Node.answer.Goals as goal
 
 pub returns-clause-reply : goal.returns-clause-reply

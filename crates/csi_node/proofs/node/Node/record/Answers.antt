@@ -1,5 +1,5 @@
 use Rattle.std.proofs.lemmas.Result.{IfOk-weaker}
-use Rattle.csi_node.proofs.Frames.{shows-same}
+use Rattle.csi_node.proofs.CopiedRows.{shows-same}
 use Rattle.csi_node.proofs.node.Node.record.Goals as goal
 
 pub returns-clause-shows : goal.returns-clause-shows

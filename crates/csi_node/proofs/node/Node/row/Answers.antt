@@ -1,5 +1,5 @@
 use Rattle.std.proofs.lemmas.Result.{IfOk-weaker}
-use Rattle.csi_node.proofs.Frames.{row-shows}
+use Rattle.csi_node.proofs.CopiedRows.{row-shows}
 use Rattle.csi_node.proofs.node.Node.row.Goals as goal
 
 pub returns-clause-shows : goal.returns-clause-shows

@@ -1,4 +1,4 @@
-use Rattle.csi_node.proofs.Frames.{shows-same, err_holds}
+use Rattle.csi_node.proofs.CopiedRows.{shows-same, err_holds}
 use Rattle.csi_node.specs.OneVolume.{called_volume}
 use Rattle.csi_node.specs.Record.{parts}
 use Rattle.csi_node.proofs.OneVolume.{none-put}

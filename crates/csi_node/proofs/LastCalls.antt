@@ -31,8 +31,8 @@ changed-rows state (Unstages id) = refl
 changed-rows state (Publishes published) = refl
 changed-rows state (Unpublishes id target) = refl
 
--- the rows of other volumes
-kept_in-id : (id : ℕ) (kept : Kept) (row : Answered) → (kept_in id kept row).id ≡ row.id
+-- what is kept in a row leaves its id
+pub kept_in-id : (id : ℕ) (kept : Kept) (row : Answered) → (kept_in id kept row).id ≡ row.id
 kept_in-id id kept row = by (row.id == id)
   where
     by : (b : Bool) → (cond b (record row { kept = kept }) row).id ≡ row.id

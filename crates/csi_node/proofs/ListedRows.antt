@@ -21,7 +21,7 @@ use Rattle.csi_node.specs.Record.{parts, id_at, IsRecord}
 use Rattle.csi_node.specs.Views.{IsStagedBefore, IsPublishedBefore, ListsStaged, ListsPublished}
 use Rattle.csi_lists.proofs.Searches.{find-of_map}
 use Rattle.csi_node.proofs.Steps.{ShowsAll, row_of, alone_in, answered_of, all-from_shows, shows-from_all}
-use Rattle.csi_node.proofs.Rules.{IsRising}
+use Rattle.csi_node.proofs.RecordRules.{IsRising}
 
 -- the first has the lower id
 abbrev IsRowBefore : RowShown → RowShown → Type 0
