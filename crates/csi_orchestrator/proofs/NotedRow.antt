@@ -22,22 +22,24 @@ use Rattle.csi_orchestrator.specs.declared.thing.Thing.{Thing}
 use Rattle.csi_orchestrator.specs.declared.thing.Thing.TheVariants.{Exists, Attached, Staged, Published}
 use Rattle.csi_orchestrator.specs.declared.thing.Known.{Known}
 use Rattle.csi_orchestrator.specs.declared.thing.Known.TheVariants.{No}
-use Rattle.csi_orchestrator.specs.Thing.{Issued, is_no}
+use Rattle.csi_orchestrator.specs.Thing.{Issued, name_in, is_no}
 use Rattle.csi_orchestrator.specs.History.{Arguments}
 use Rattle.csi_orchestrator.specs.History as history
 use Rattle.csi_orchestrator.specs.Readings.{arguments_in_goal}
 use Rattle.csi_orchestrator.specs.Agrees.{View}
-use Rattle.csi_orchestrator.specs.Following.{after_closed, after_noted}
+use Rattle.csi_orchestrator.specs.Following.{after_accepted, after_closed, after_noted}
 use Rattle.csi_orchestrator.specs.Kept.{ArePlacesApart}
 use Rattle.csi_orchestrator.specs.RowChanges.{wanted, wanted_anew, new_row, dropped, is_aim_kept, is_place_kept, has_aims, with_kept_aims, with_entry, entry_for, with_aim, new_aim, held_as}
 use Rattle.csi_orchestrator.specs.Shown.{PlaceShown, RowShown, Parts, row_of, place_of, aim_of, mark_in, published_in, mark_of, held_in, held_at, goal_in, goal_shown, open_in_row, issued_as, due_by, closed, view_of, AreTargetsApart}
 use Rattle.csi_orchestrator.proofs.Texts.{text-same}
 use Rattle.csi_orchestrator.proofs.KnownTests.{no_is_no}
 use Rattle.csi_orchestrator.proofs.Keyed.{find-put}
-use Rattle.csi_orchestrator.proofs.RowViews.{Reads}
+use Rattle.csi_orchestrator.proofs.RowViews.{Reads, Here, here}
 use Rattle.csi_orchestrator.proofs.Joined.{own-entry}
 use Rattle.csi_orchestrator.proofs.KeptEntries.{by_if}
 use Rattle.csi_orchestrator.proofs.SentRow.{goals-same, mark-same}
+use Rattle.csi_types.specs.declared.status.Status.{Status}
+use Rattle.csi_types.specs.Reply.{is_ok_status}
 
 -- of its own name
 own : {X : Type 0} (name : List ℕ) (x y : X) → cond (same_text name name) x y ≡ x
@@ -114,35 +116,36 @@ reads-new arguments parts name none =
       counts = sym (own name 0 ((view_of parts).counts name));
     }
 
--- it tells what is shown once its call was given up
-pub reads-closed : (row : RowShown) (issued : Issued) (view : View) (name : List ℕ) → issued.name ≡ name → Reads row view name → Reads (closed row) (after_closed issued view) name
-reads-closed row issued view name is reads =
+-- its call was closed: it tells what is shown then, if nothing else changed
+pub reads-shut : (row : RowShown) (view after : View) (name : List ℕ) → Reads row view name → here view name ≡ here after name → ((thing : Thing) → name_in thing ≡ name → view.marks thing ≡ after.marks thing)
+    → ((node : List ℕ) → view.holdings name node ≡ after.holdings name node) → after.open_calls name ≡ None → Reads (closed row) after name
+reads-shut row view after name reads rest marks holdings quiet =
     record {
       own = reads.own;
-      there = reads.there;
-      marks = λ thing same. mark-same thing (closed row) row refl refl ∙ reads.marks thing same;
-      ids = reads.ids;
-      goals = goals-same (closed row) row refl refl ∙ reads.goals;
-      arguments = reads.arguments;
-      holdings = reads.holdings;
-      open_calls = sym (ap (λ n. cond (same_text n name) None (view.open_calls name)) is ∙ own name None (view.open_calls name));
-      counts = reads.counts;
+      there = sym (ap (λ (h : Here). h.there) rest) ∙ reads.there;
+      marks = λ thing is. mark-same thing (closed row) row refl refl ∙ reads.marks thing is ∙ marks thing is;
+      ids = reads.ids ∙ ap (λ (h : Here). h.ids) rest;
+      goals = goals-same (closed row) row refl refl ∙ reads.goals ∙ ap (λ (h : Here). h.goals) rest;
+      arguments = reads.arguments ∙ ap (λ (h : Here). h.arguments) rest;
+      holdings = λ node maybe. reads.holdings node maybe ∙ holdings node;
+      open_calls = sym quiet;
+      counts = reads.counts ∙ ap (λ (h : Here). h.counts) rest;
     }
 
--- it had none
+-- a call that was given up, and one that there was not
+pub reads-closed : (row : RowShown) (issued : Issued) (view : View) (name : List ℕ) → issued.name ≡ name → Reads row view name → Reads (closed row) (after_closed issued view) name
+reads-closed row issued view name is reads =
+    reads-shut row view (after_closed issued view) name reads refl (λ thing same. refl) (λ node. refl) (ap (λ n. cond (same_text n name) None (view.open_calls name)) is ∙ own name None (view.open_calls name))
+
 pub reads-quiet : (row : RowShown) (view : View) (name : List ℕ) → Reads row view name → view.open_calls name ≡ None → Reads (closed row) view name
-reads-quiet row view name reads quiet =
-    record {
-      own = reads.own;
-      there = reads.there;
-      marks = λ thing same. mark-same thing (closed row) row refl refl ∙ reads.marks thing same;
-      ids = reads.ids;
-      goals = goals-same (closed row) row refl refl ∙ reads.goals;
-      arguments = reads.arguments;
-      holdings = reads.holdings;
-      open_calls = sym quiet;
-      counts = reads.counts;
-    }
+reads-quiet row view name reads quiet = reads-shut row view view name reads refl (λ thing same. refl) (λ node. refl) quiet
+
+-- one that was refused
+pub reads-refused : (row : RowShown) (issued : Issued) (status : Status) (id : Option ℕ) (view : View) (name : List ℕ) → issued.name ≡ name → is_ok_status status ≡ false → Reads row view name
+    → Reads (closed row) (after_accepted issued status id view) name
+reads-refused row issued status id view name is bad reads =
+    reads-shut row view (after_accepted issued status id view) name reads (rw bad refl) (λ thing same. rw bad refl) (λ node. refl)
+    (ap (λ n. cond (same_text n name) None (view.open_calls name)) is ∙ own name None (view.open_calls name))
 
 -- what a search finds where entries were taken out
 kept-if : {X : Type 0} → (X → Bool) → Option X → Option X

@@ -5,6 +5,7 @@ use Rattle.std.specs.Option.{option_or}
 use Rattle.csi_lists.proofs.Searches.{find-passes}
 use Rattle.csi_types.specs.declared.number.Number.{Number}
 use Rattle.csi_types.specs.declared.status.Status.{Status}
+use Rattle.std.proofs.lemmas.Bool.{false≢true, false_from_ne_true}
 use Rattle.csi_types.specs.Reply.{is_ok_status}
 use Rattle.csi_types.specs.Same.{same_text}
 use Rattle.csi_types.proofs.Equality.{same_text-tells}
@@ -12,13 +13,13 @@ use Rattle.csi_orchestrator.specs.declared.thing.Thing.{Thing}
 use Rattle.csi_orchestrator.specs.declared.thing.Thing.TheVariants.{Attached}
 use Rattle.csi_orchestrator.specs.declared.thing.Known.TheVariants.{No, Maybe}
 use Rattle.csi_orchestrator.specs.Thing.{Issued, name_in, touches}
-use Rattle.csi_orchestrator.specs.History.{Goal, History}
+use Rattle.csi_orchestrator.specs.History.{Arguments, Goal, History}
 use Rattle.csi_orchestrator.specs.Readings.{held_by, arguments_in_goal, known, id_of, goal_of, arguments_of, held, open_call, tries, last_number, has_row}
 use Rattle.csi_orchestrator.specs.Agrees.{View, Agrees}
 use Rattle.csi_orchestrator.specs.Following.{after_sent, after_accepted, after_closed, after_noted, told, id_brought}
 use Rattle.csi_orchestrator.specs.Shown.{RowShown, Parts, row_of, mark_in, mark_of, goal_in, held_in, open_in_row, tries_in, view_of, AgreesWith}
 use Rattle.csi_orchestrator.specs.RowMoves.{put}
-use Rattle.csi_orchestrator.proofs.Following.{touches-name}
+use Rattle.csi_orchestrator.proofs.Following.{touches-name, and-false}
 use Rattle.csi_orchestrator.proofs.Keyed.{find-put}
 
 -- the row tells what is shown of a name
@@ -33,100 +34,64 @@ pub record Reads (row : RowShown) (view : View) (name : List ℕ) : Type 0 where
   pub open_calls : open_in_row row ≡ view.open_calls name
   pub counts : row.tries ≡ view.counts name
 
+-- what is shown of a name beside marks, holdings and the open call; and the same of a row, if there is one
+pub record Here : Type 0 where
+  pub there : Bool
+  pub ids : Option ℕ
+  pub goals : Option Goal
+  pub arguments : Option Arguments
+  pub counts : ℕ
+
+abbrev pub here : View → List ℕ → Here
+here view name = record { there = view.rows name; ids = view.ids name; goals = view.goals name; arguments = view.arguments name; counts = view.counts name }
+
+abbrev here_by : Option RowShown → Here
+here_by o = record { there = is_some o; ids = option_and_then (λ row. row.id) o; goals = option_and_then goal_in o; arguments = option_map (λ row. row.arguments) o; counts = tries_in o }
+
 -- two show the same of a name
 pub record SameAt (view other : View) (name : List ℕ) : Type 0 where
-  pub rows : view.rows name ≡ other.rows name
+  pub rest : here view name ≡ here other name
   pub marks : (thing : Thing) → name_in thing ≡ name → view.marks thing ≡ other.marks thing
-  pub ids : view.ids name ≡ other.ids name
-  pub goals : view.goals name ≡ other.goals name
-  pub arguments : view.arguments name ≡ other.arguments name
   pub holdings : (node : List ℕ) → view.holdings name node ≡ other.holdings name node
   pub open_calls : view.open_calls name ≡ other.open_calls name
-  pub counts : view.counts name ≡ other.counts name
 
 -- so it is of a view and itself, and it goes on from one view to the next
 pub same-self : (view : View) (name : List ℕ) → SameAt view view name
-same-self view name =
-    record { rows = refl; marks = λ thing is. refl; ids = refl; goals = refl; arguments = refl; holdings = λ node. refl; open_calls = refl; counts = refl }
+same-self view name = record { rest = refl; marks = λ thing is. refl; holdings = λ node. refl; open_calls = refl }
 
 pub same-then : (a b c : View) (name : List ℕ) → SameAt a b name → SameAt b c name → SameAt a c name
 same-then a b c name f g =
-    record {
-      rows = f.rows ∙ g.rows;
-      marks = λ thing is. f.marks thing is ∙ g.marks thing is;
-      ids = f.ids ∙ g.ids;
-      goals = f.goals ∙ g.goals;
-      arguments = f.arguments ∙ g.arguments;
-      holdings = λ node. f.holdings node ∙ g.holdings node;
-      open_calls = f.open_calls ∙ g.open_calls;
-      counts = f.counts ∙ g.counts;
-    }
+    record { rest = f.rest ∙ g.rest; marks = λ thing is. f.marks thing is ∙ g.marks thing is; holdings = λ node. f.holdings node ∙ g.holdings node; open_calls = f.open_calls ∙ g.open_calls }
 
 -- a call of one name touches nothing of another
 untouched : (issued : Issued) (other : List ℕ) (thing : Thing) → same_text issued.name other ≡ false → name_in thing ≡ other → touches thing issued ≡ false
-untouched issued other thing differs is = by (touches thing issued) refl
-  where
-    by : (b : Bool) → touches thing issued ≡ b → b ≡ false
-    by true e = sym (subst (λ n. same_text issued.name n ≡ true) is (touches-name thing issued e)) ∙ differs
-    by false e = refl
+untouched issued other thing differs is = false_from_ne_true _ (λ e. false≢true (sym differs ∙ subst (λ n. same_text issued.name n ≡ true) is (touches-name thing issued e)))
 
 -- each item changes what is shown of its own name alone
 pub same-sent : (issued : Issued) (view : View) (other : List ℕ) → same_text issued.name other ≡ false → SameAt (after_sent issued view) view other
 same-sent issued view other differs =
     record {
-      rows = refl;
+      rest = rw differs refl;
       marks = λ thing is. ap (λ b. cond b Maybe (view.marks thing)) (untouched issued other thing differs is);
-      ids = refl;
-      goals = refl;
-      arguments = refl;
-      holdings = λ node. ap (λ b. cond b (option_or (held_by node issued.call) (view.holdings other node)) (view.holdings other node)) differs;
-      open_calls = ap (λ b. cond b (Some issued) (view.open_calls other)) differs;
-      counts = rw differs refl;
+      holdings = λ node. rw differs refl;
+      open_calls = rw differs refl;
     }
-
-and-right : (a b : Bool) → b ≡ false → (a && b) ≡ false
-and-right true b e = e
-and-right false b e = refl
 
 -- a reply, a call that is given up and a goal that is noted
 pub same-accepted : (issued : Issued) (status : Status) (id : Option ℕ) (view : View) (other : List ℕ) → same_text issued.name other ≡ false → SameAt (after_accepted issued status id view) view other
 same-accepted issued status id view other differs =
     record {
-      rows = refl;
-      marks = λ thing is. ap (λ b. cond b (told issued.call) (view.marks thing)) (and-right (is_ok_status status) (touches thing issued) (untouched issued other thing differs is));
-      ids = ap (λ b. cond b (option_or (id_brought issued.call id) (view.ids other)) (view.ids other)) (and-right (is_ok_status status) (same_text issued.name other) differs);
-      goals = refl;
-      arguments = refl;
+      rest = rw (differs, and-false (is_ok_status status)) refl;
+      marks = λ thing is. rw (untouched issued other thing differs is, and-false (is_ok_status status)) refl;
       holdings = λ node. refl;
-      open_calls = ap (λ b. cond b None (view.open_calls other)) differs;
-      counts = ap (λ b. cond b 0 (view.counts other)) (and-right (is_ok_status status) (same_text issued.name other) differs);
+      open_calls = rw differs refl;
     }
 
 pub same-closed : (issued : Issued) (view : View) (other : List ℕ) → same_text issued.name other ≡ false → SameAt (after_closed issued view) view other
-same-closed issued view other differs =
-    record {
-      rows = refl;
-      marks = λ thing is. refl;
-      ids = refl;
-      goals = refl;
-      arguments = refl;
-      holdings = λ node. refl;
-      open_calls = ap (λ b. cond b None (view.open_calls other)) differs;
-      counts = refl;
-    }
+same-closed issued view other differs = record { rest = refl; marks = λ thing is. refl; holdings = λ node. refl; open_calls = rw differs refl }
 
 pub same-noted : (name : List ℕ) (goal : Option Goal) (view : View) (other : List ℕ) → same_text name other ≡ false → SameAt (after_noted name goal view) view other
-same-noted name goal view other differs =
-    record {
-      rows = ap (λ b. cond b true (view.rows other)) differs;
-      marks = λ thing is. refl;
-      ids = refl;
-      goals = ap (λ b. cond b goal (view.goals other)) differs;
-      arguments = ap (λ b. cond b (option_or (arguments_in_goal goal) (view.arguments other)) (view.arguments other)) differs;
-      holdings = λ node. refl;
-      open_calls = refl;
-      counts = ap (λ b. cond b 0 (view.counts other)) differs;
-    }
+same-noted name goal view other differs = record { rest = rw differs refl; marks = λ thing is. refl; holdings = λ node. refl; open_calls = refl }
 
 -- a row that tells what is shown of its name stands in its place: what is shown of the others is as it was
 pub put-agrees : (parts : Parts) (last : Number) (name : List ℕ) (row : RowShown) (view : View) (history : History) → Reads row view name
@@ -135,14 +100,14 @@ pub put-agrees : (parts : Parts) (last : Number) (name : List ℕ) (row : RowSho
 put-agrees parts last name row view history reads others is_last agrees =
     record {
       same_last = is_last ∙ agrees.same_last;
-      same_rows = λ other. own_rows other (same_text name other) refl ∙ agrees.same_rows other;
+      same_rows = λ other. ap (λ (h : Here). h.there) (own other (same_text name other) refl) ∙ agrees.same_rows other;
       same_marks = λ thing. own_marks thing (same_text name (name_in thing)) refl ∙ agrees.same_marks thing;
-      same_ids = λ other. own_ids other (same_text name other) refl ∙ agrees.same_ids other;
-      same_goals = λ other. own_goals other (same_text name other) refl ∙ agrees.same_goals other;
-      same_arguments = λ other. own_arguments other (same_text name other) refl ∙ agrees.same_arguments other;
+      same_ids = λ other. ap (λ (h : Here). h.ids) (own other (same_text name other) refl) ∙ agrees.same_ids other;
+      same_goals = λ other. ap (λ (h : Here). h.goals) (own other (same_text name other) refl) ∙ agrees.same_goals other;
+      same_arguments = λ other. ap (λ (h : Here). h.arguments) (own other (same_text name other) refl) ∙ agrees.same_arguments other;
       same_holdings = λ other node maybe. own_holdings other node (same_text name other) refl (λ e. maybe (sym (own_marks (Attached other node) (same_text name other) refl ∙ agrees.same_marks (Attached other node)) ∙ e)) ∙ agrees.same_holdings other node maybe;
       same_open_calls = λ other. own_calls other (same_text name other) refl ∙ agrees.same_open_calls other;
-      same_counts = λ other. own_counts other (same_text name other) refl ∙ agrees.same_counts other;
+      same_counts = λ other. ap (λ (h : Here). h.counts) (own other (same_text name other) refl) ∙ agrees.same_counts other;
     }
   where
     found : (other : List ℕ) → row_of (put row parts.rows) other ≡ cond (same_text name other) (Some row) (row_of parts.rows other)
@@ -157,25 +122,14 @@ put-agrees parts last name row view history reads others is_last agrees =
     is : (other : List ℕ) → same_text name other ≡ true → name ≡ other
     is other e = (same_text-tells name other).0 e
 
-    own_rows : (other : List ℕ) (b : Bool) → same_text name other ≡ b → is_some (row_of (put row parts.rows) other) ≡ view.rows other
-    own_rows other true e = ap is_some (this other e) ∙ sym (ap view.rows (sym (is other e)) ∙ reads.there)
-    own_rows other false e = ap is_some (that other e) ∙ sym (others other e).rows
+    own : (other : List ℕ) (b : Bool) → same_text name other ≡ b → here_by (row_of (put row parts.rows) other) ≡ here view other
+    own other true e =
+        ap here_by (this other e) ∙ (λ i. record { there = (sym reads.there) i; ids = reads.ids i; goals = reads.goals i; arguments = reads.arguments i; counts = reads.counts i }) ∙ ap (here view) (is other e)
+    own other false e = ap here_by (that other e) ∙ sym (others other e).rest
 
     own_marks : (thing : Thing) (b : Bool) → same_text name (name_in thing) ≡ b → mark_in (mark_of thing) (row_of (put row parts.rows) (name_in thing)) ≡ view.marks thing
     own_marks thing true e = ap (mark_in (mark_of thing)) (this (name_in thing) e) ∙ reads.marks thing (sym (is (name_in thing) e))
     own_marks thing false e = ap (mark_in (mark_of thing)) (that (name_in thing) e) ∙ sym ((others (name_in thing) e).marks thing refl)
-
-    own_ids : (other : List ℕ) (b : Bool) → same_text name other ≡ b → option_and_then (λ (r : RowShown). r.id) (row_of (put row parts.rows) other) ≡ view.ids other
-    own_ids other true e = ap (option_and_then (λ (r : RowShown). r.id)) (this other e) ∙ reads.ids ∙ ap view.ids (is other e)
-    own_ids other false e = ap (option_and_then (λ (r : RowShown). r.id)) (that other e) ∙ sym (others other e).ids
-
-    own_goals : (other : List ℕ) (b : Bool) → same_text name other ≡ b → option_and_then goal_in (row_of (put row parts.rows) other) ≡ view.goals other
-    own_goals other true e = ap (option_and_then goal_in) (this other e) ∙ reads.goals ∙ ap view.goals (is other e)
-    own_goals other false e = ap (option_and_then goal_in) (that other e) ∙ sym (others other e).goals
-
-    own_arguments : (other : List ℕ) (b : Bool) → same_text name other ≡ b → option_map (λ (r : RowShown). r.arguments) (row_of (put row parts.rows) other) ≡ view.arguments other
-    own_arguments other true e = ap (option_map (λ (r : RowShown). r.arguments)) (this other e) ∙ reads.arguments ∙ ap view.arguments (is other e)
-    own_arguments other false e = ap (option_map (λ (r : RowShown). r.arguments)) (that other e) ∙ sym (others other e).arguments
 
     own_holdings : (other node : List ℕ) (b : Bool) → same_text name other ≡ b → mark_in (mark_of (Attached other node)) (row_of (put row parts.rows) other) ≢ No
         → option_and_then (λ (r : RowShown). held_in r node) (row_of (put row parts.rows) other) ≡ view.holdings other node
@@ -187,10 +141,6 @@ put-agrees parts last name row view history reads others is_last agrees =
     own_calls : (other : List ℕ) (b : Bool) → same_text name other ≡ b → option_and_then open_in_row (row_of (put row parts.rows) other) ≡ view.open_calls other
     own_calls other true e = ap (option_and_then open_in_row) (this other e) ∙ reads.open_calls ∙ ap view.open_calls (is other e)
     own_calls other false e = ap (option_and_then open_in_row) (that other e) ∙ sym (others other e).open_calls
-
-    own_counts : (other : List ℕ) (b : Bool) → same_text name other ≡ b → tries_in (row_of (put row parts.rows) other) ≡ view.counts other
-    own_counts other true e = ap tries_in (this other e) ∙ reads.counts ∙ ap view.counts (is other e)
-    own_counts other false e = ap tries_in (that other e) ∙ sym (others other e).counts
 
 -- the row of a name tells what is shown of it
 pub row-reads : (parts : Parts) (name : List ℕ) (row : RowShown) → row.name ≡ name → row_of parts.rows name ≡ Some row → Reads row (view_of parts) name

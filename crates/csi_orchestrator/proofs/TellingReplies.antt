@@ -44,7 +44,7 @@ use Rattle.csi_orchestrator.proofs.Following.{accepted-follows, closed-follows, 
 use Rattle.csi_orchestrator.proofs.GoingOn.{Guards, Tells, IsReady, has-entry, then-dropped, goes-on-tells}
 use Rattle.csi_orchestrator.proofs.Keeping.{found-kept, replied-due}
 use Rattle.csi_orchestrator.proofs.KeptRows.{kept-distinct, FitsGoal, marked-distinct, kept-closed, wanted-stopped, wanted-succeeded}
-use Rattle.csi_orchestrator.proofs.NotedRow.{reads-wanted, reads-closed, reads-quiet, reads-dropped}
+use Rattle.csi_orchestrator.proofs.NotedRow.{reads-wanted, reads-closed, reads-quiet, reads-refused}
 use Rattle.csi_orchestrator.proofs.Refused.{timeout-unknown, timeout-refused}
 use Rattle.csi_orchestrator.proofs.Replied.{replied, replied-row}
 use Rattle.csi_orchestrator.proofs.Restarting.{session-agrees}
@@ -220,31 +220,6 @@ timeouts-tell parts history name form kept agrees None e =
 timeouts-tell parts history name form kept agrees (Some row) e =
     subst (λ f. Tells history (times_out parts (Some row)) (timeout history name f)) (sym (timeout-refused history name row (is-row-of parts history name row agrees e)))
     (timeout-tells parts history name row (record { form = form; kept = kept; agrees = agrees; found = e }) row.goal refl)
-
--- a reply of another status changes nothing but that its call is closed
-and-left : (a b : Bool) → a ≡ false → (a && b) ≡ false
-and-left true b e = absurd (false≢true (sym e))
-and-left false b e = refl
-
--- the row whose call is closed tells what is shown after it
-reads-refused : (row : RowShown) (issued : Issued) (status : Status) (id : Option ℕ) (view : View) (name : List ℕ) → issued.name ≡ name → is_ok_status status ≡ false → Reads row view name
-    → Reads (closed row) (after_accepted issued status id view) name
-reads-refused row issued status id view name is bad reads =
-    let quiet = reads-closed row issued view name is reads in
-    record {
-      own = quiet.own;
-      there = quiet.there;
-      marks = λ thing same. quiet.marks thing same ∙ sym (off (touches thing issued) _ (view.marks thing));
-      ids = quiet.ids ∙ sym (off (same_text issued.name name) _ (view.ids name));
-      goals = quiet.goals;
-      arguments = quiet.arguments;
-      holdings = quiet.holdings;
-      open_calls = quiet.open_calls;
-      counts = quiet.counts ∙ sym (off (same_text issued.name name) 0 (view.counts name));
-    }
-  where
-    off : {X : Type 0} (b : Bool) (x y : X) → cond (is_ok_status status && b) x y ≡ y
-    off b x y = ap (λ c. cond c x y) (and-left (is_ok_status status) b bad)
 
 -- a reply comes to the due call of the row
 record IsHeardBy (parts : Parts) (history : History) (row : RowShown) (number : Number) (due : Due) : Type 0 where
