@@ -1,15 +1,14 @@
 -- An entry for a use, where its node's entry stands and where there is none.
-use Rattle.std.proofs.Common.{◌≡◌, ℕ, Bool, true, false, cond, List, [], ◌∷◌, ◌++◌, get_or, map, set, refl, sym, ◌∙◌, ap}
+use Rattle.std.proofs.Common.{◌≡◌, ℕ, List, [], ◌∷◌, ◌++◌, get_or, map, set, refl, sym, ◌∙◌, ap}
 use Rattle.std.specs.Prelude.{Option, Some, None, find, position}
 use Rattle.std.proofs.lemmas.List.Quantifiers.{position-Some}
 use Rattle.csi_types.specs.Same.{same_text}
 use Rattle.csi_types.proofs.Equality.{same_text-tells}
 use Rattle.csi_orchestrator.specs.declared.row.Place.{Place}
 use Rattle.csi_orchestrator.specs.declared.row.Usage.{Usage}
-use Rattle.csi_orchestrator.specs.Thing.{is_no}
 use Rattle.csi_orchestrator.specs.Keyed.{put_by}
 use Rattle.csi_orchestrator.specs.Shown.{PlaceShown, place_shown}
-use Rattle.csi_orchestrator.specs.RowChanges.{held_as, entry_for}
+use Rattle.csi_orchestrator.specs.RowChanges.{entry_for}
 use Rattle.csi_orchestrator.proofs.ChangedEntries.{find-place, find-none_placed, put-place, put-none_placed}
 use Rattle.csi_orchestrator.proofs.NotedRow.{held-same}
 

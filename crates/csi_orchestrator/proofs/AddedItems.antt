@@ -2,7 +2,7 @@
 -- the frame of the call that is sent, if one is.
 use Rattle.std.proofs.Common.{◌≡◌, ◌+◌, ◌^◌, ◌≤◌, ℕ, List, [], ◌∷◌, length, map, Bool, true, false, cond, not, refl, sym, ◌∙◌, ap, subst, arith}
 use Rattle.std.specs.Prelude.{suc, Option, Some, None, nat_lt, is_none, ◌==◌, ◌&&◌, Result, Ok, Err, option_and_then}
-use Rattle.std.proofs.lemmas.Bool.{false≢true, and_parts, eq-eqb, lt-ltb, le-ltb}
+use Rattle.std.proofs.lemmas.Bool.{eq-eqb, lt-ltb, le-ltb}
 use Rattle.csi_types.specs.declared.call.Call.{Call}
 use Rattle.csi_types.specs.declared.call.Call.TheVariants as calls
 use Rattle.csi_types.specs.declared.call.Kind.{Kind}
@@ -16,7 +16,6 @@ use Rattle.csi_types.specs.Number.{IsBefore}
 use Rattle.csi_types.specs.Reply.{is_ok_status}
 use Rattle.csi_types.specs.Replies.{reply_frame}
 use Rattle.csi_types.specs.Same.{same_number, same_party, same_kind}
-use Rattle.csi_types.proofs.Equality.{same_number-tells, same_party-tells, same_kind-tells}
 use Rattle.csi_lists.proofs.Members.{among-find}
 use Rattle.csi_lists.proofs.Searches.{find-passes}
 use Rattle.csi_orchestrator.specs.declared.fault.OrchFault.{OrchFault}
@@ -30,7 +29,7 @@ use Rattle.csi_orchestrator.specs.Commands.{next_number, create_fault, use_fault
 use Rattle.csi_orchestrator.specs.Due.{Due, due_use, due_leave, due_stop, due_delete, due_for, due_call, targets_in_use}
 use Rattle.csi_orchestrator.specs.Moves.{Input, ToCreate, ToUse, ToStop, ToDelete, TimesOut, Comes, Restarts, Answer, Sends, Moved, met, sent_as, go_on, command, use_when, delete_when, stopped, closing, is_forward_due, timeout, is_number_open, call_replied, hears, heard, heard_refusal, deliver, restart, moves, moved_to}
 use Rattle.csi_orchestrator.specs.Steps.{IsReplyTo, frame_of, frame_in, frames_in}
-use Rattle.csi_orchestrator.proofs.Replied.{IsCall, own-open}
+use Rattle.csi_orchestrator.proofs.Replied.{own-open}
 
 -- what is so of both is so of either
 either : {X : Type 0} (P : X → Type 0) (b : Bool) (x y : X) → P x → P y → P (cond b x y)

@@ -1,28 +1,19 @@
 -- Why the call that is due is read from the row.
-use Rattle.std.proofs.Common.{◌≡◌, ◌⊎◌, ℕ, List, [], ◌∷◌, Bool, true, false, cond, not, refl, sym, ◌∙◌, ap, subst, inl, inr}
-use Rattle.std.specs.Prelude.{Option, Some, None, option_map, option_and_then, find, length, nat_lt, ◌&&◌, ◌||◌}
-use Rattle.std.specs.List.{AllByRecursion, list_any}
-use Rattle.std.proofs.lemmas.Bool.{false≢true}
+use Rattle.std.proofs.Common.{◌≡◌, ℕ, List, [], ◌∷◌, Bool, true, false, cond, not, refl, sym, ◌∙◌, ap, subst, inl}
+use Rattle.std.specs.Prelude.{Option, Some, None, option_map, option_and_then, length, nat_lt}
+use Rattle.std.specs.List.{AllByRecursion}
 use Rattle.csi_types.specs.declared.call.Call.TheVariants as calls
 use Rattle.csi_types.specs.declared.call.Party.TheVariants.{Controller, Node}
-use Rattle.csi_lists.specs.Members.{IsAmong}
-use Rattle.csi_lists.proofs.Members.{among-find, each_of, in_filter, in-filter_map, among-empty, empty-where, among-kept, some-has}
-use Rattle.csi_lists.proofs.Searches.{find-passes}
-use Rattle.csi_lists.proofs.Tests.{then-any, any-none}
+use Rattle.csi_lists.proofs.Members.{among-find, each_of, some-has}
 use Rattle.csi_types.specs.Same.{same_text}
-use Rattle.csi_types.proofs.Equality.{same_text-tells}
-use Rattle.csi_orchestrator.specs.declared.row.Aim.{Aim}
 use Rattle.csi_orchestrator.specs.declared.row.Goal.{Goal as KeptGoal}
 use Rattle.csi_orchestrator.specs.declared.row.Goal.TheVariants as kept
-use Rattle.csi_orchestrator.specs.declared.thing.Thing.{Thing}
 use Rattle.csi_orchestrator.specs.declared.thing.Thing.TheVariants.{Exists, Attached, Staged, Published}
-use Rattle.csi_orchestrator.specs.declared.thing.Known.{Known}
-use Rattle.csi_orchestrator.specs.declared.thing.Known.TheVariants.{Yes, No, Maybe}
-use Rattle.csi_orchestrator.specs.Thing.{Issued, name_in, thing_of, is_thing, touches, is_no}
+use Rattle.csi_orchestrator.specs.Thing.{is_no}
 use Rattle.csi_orchestrator.specs.History.{Usage, History}
-use Rattle.csi_orchestrator.specs.Readings.{known, known_by, id_of, goal_of, issued_in, issued_of, distinct}
-use Rattle.csi_orchestrator.specs.Due.{Due, published_target, targets_in_use, due_use, due_leave, due_stop, due_delete, due_for, due_call}
-use Rattle.csi_orchestrator.specs.Shown.{PlaceShown, RowShown, row_of, place_of, aim_of, mark_in, published_in, mark_of, goal_shown, goal_in, others_in, marks_for, use_due, stop_due, delete_due, due_by, due_in, AreTargetsApart, DueIsTold}
+use Rattle.csi_orchestrator.specs.Readings.{id_of}
+use Rattle.csi_orchestrator.specs.Due.{Due, targets_in_use, due_use, due_leave, due_stop, due_for, due_call}
+use Rattle.csi_orchestrator.specs.Shown.{RowShown, row_of, place_of, mark_in, published_in, mark_of, goal_shown, goal_in, others_in, marks_for, use_due, stop_due, due_by, due_in, AreTargetsApart, DueIsTold}
 use Rattle.csi_orchestrator.proofs.InUse.{in-use-alike}
 use Rattle.csi_orchestrator.proofs.RowViews.{IsRowOf, is-row-of}
 

@@ -1,7 +1,7 @@
 -- Where the row of an open call stands: the place that is noted for the call's number.
 use Rattle.std.proofs.Common.{◌≡◌, ℕ, List, get_or, Bool, true, false, refl, sym, ◌∙◌, ap}
-use Rattle.std.specs.Prelude.{Option, Some, None, position, slice_get, ◌&&◌}
-use Rattle.std.proofs.lemmas.Bool.{and_parts, false≢true, false_from_ne_true}
+use Rattle.std.specs.Prelude.{Option, Some, None, position, slice_get}
+use Rattle.std.proofs.lemmas.Bool.{false≢true, false_from_ne_true}
 use Rattle.std.proofs.lemmas.List.Quantifiers.{position-Some}
 use Rattle.std.proofs.lemmas.Option.{none-some, same_Some}
 use Rattle.csi_lists.specs.Places.{IsAt}
@@ -10,16 +10,13 @@ use Rattle.csi_lists.proofs.Searches.{find-no_place}
 use Rattle.csi_types.specs.declared.call.Kind.{Kind}
 use Rattle.csi_types.specs.declared.call.Party.{Party}
 use Rattle.csi_types.specs.declared.number.Number.{Number}
-use Rattle.csi_types.specs.Call.{kind_of}
-use Rattle.csi_types.specs.Same.{same_number, same_party, same_kind}
-use Rattle.csi_types.proofs.Equality.{same_number-tells}
 use Rattle.csi_orchestrator.specs.declared.row.Row.{Row}
 use Rattle.csi_orchestrator.specs.declared.catalog.Catalog.{Catalog}
 use Rattle.csi_orchestrator.specs.Catalog.{rows_of, place_noted, IsIndexed}
-use Rattle.csi_orchestrator.specs.Due.{Due}
 use Rattle.csi_orchestrator.specs.RowMoves.{is_issued_as}
-use Rattle.csi_orchestrator.specs.Shown.{row_shown, due_in, issued_as, open_in_row}
+use Rattle.csi_orchestrator.specs.Shown.{row_shown, open_in_row}
 use Rattle.csi_orchestrator.proofs.Standing.{at-of_get, get-of_at}
+use Rattle.csi_orchestrator.proofs.Replied.{hears-it}
 
 -- the row that passes a test, if it is the only one, and that none passes
 unplaced : (p : Row → Bool) (rows : List Row) → ((j : ℕ) (row : Row) → IsAt rows j row → p row ≡ true → ⊥) → None ≡ position p rows
@@ -32,14 +29,6 @@ placed p rows i row at passes only = by (position p rows) refl
     by None e = absurd (find-not_none p rows i row at passes (find-no_place p rows e))
     by (Some j) e = let there = position-Some p rows j row e in ap Some (sym (only j (get_or rows j row) (at-index rows j row there.0) there.1))
 
--- the open call of a row that a reply is to has the reply's number
-own-number : (number : Number) (party : Party) (kind : Kind) (name : List ℕ) (own : Option Number) (due : Option Due) → is_issued_as number party kind (issued_as name own due) ≡ true → own ≡ Some number
-own-number number party kind name None due e = absurd (false≢true e)
-own-number number party kind name (Some own) None e = absurd (false≢true e)
-own-number number party kind name (Some own) (Some due) e =
-    let last = and_parts (same_number own number && same_party due.party party) (same_kind (kind_of due.call) kind) e in
-    ap Some ((same_number-tells own number).0 (and_parts (same_number own number) (same_party due.party party) last.0).0)
-
 -- the reply is to the row's open call
 abbrev Replied : Number → Party → Kind → Row → Bool
 Replied number party kind row = is_issued_as number party kind (open_in_row (row_shown row))
@@ -47,7 +36,7 @@ Replied number party kind row = is_issued_as number party kind (open_in_row (row
 -- the place of a row that a reply is to is noted for the reply's number
 noted-at : (catalog : Catalog) (number : Number) (party : Party) (kind : Kind) → IsIndexed catalog → (j : ℕ) (row : Row) → IsAt (rows_of catalog) j row → Replied number party kind row ≡ true → place_noted catalog number.call ≡ Some j
 noted-at catalog number party kind indexed j row at passes =
-    indexed.noted.found j row number at (own-number number party kind row.name row.open_number (due_in (row_shown row)) passes)
+    indexed.noted.found j row number at (hears-it (row_shown row) number party kind passes).own
 
 -- no call of the number is noted
 pub replied-unnoted : (catalog : Catalog) (number : Number) (party : Party) (kind : Kind) → IsIndexed catalog → place_noted catalog number.call ≡ None

@@ -1,7 +1,6 @@
 -- Why a row whose due call is sent, or whose goal is dropped, tells what the history tells then.
-use Rattle.std.proofs.Common.{◌≡◌, ℕ, List, ◌∷◌, true, false, cond, refl, sym, ◌∙◌, ap, subst}
-use Rattle.std.specs.Prelude.{Option, Some, None, option_and_then, Result, Ok, Err}
-use Rattle.std.specs.List.{AllByRecursion}
+use Rattle.std.proofs.Common.{◌≡◌, ℕ, List, ◌∷◌, true, false, refl, sym, ◌∙◌, ap, subst}
+use Rattle.std.specs.Prelude.{Option, Some, None, Result, Ok, Err}
 use Rattle.std.proofs.lemmas.Bool.{false≢true, and_parts}
 use Rattle.csi_types.specs.declared.number.Number.{Number}
 use Rattle.csi_types.specs.Call.{kind_of}
@@ -22,7 +21,7 @@ use Rattle.csi_orchestrator.specs.Guards.{MayIssue}
 use Rattle.csi_orchestrator.specs.Moves.{Answer, Moved, sent_as, go_on}
 use Rattle.csi_orchestrator.specs.Agrees.{View, Agrees}
 use Rattle.csi_orchestrator.specs.Following.{after_sent, after_noted, DetachesSomething}
-use Rattle.csi_orchestrator.specs.Shown.{RowShown, Parts, row_of, place_of, mark_in, due_in, view_of, AgreesWith, AreTargetsApart, AreAimsApart}
+use Rattle.csi_orchestrator.specs.Shown.{RowShown, Parts, place_of, mark_in, due_in, view_of, AgreesWith, AreAimsApart}
 use Rattle.csi_orchestrator.specs.RowChanges.{sent, dropped}
 use Rattle.csi_orchestrator.specs.RowMoves.{Told, put, with_row, sends_as, goes_on}
 use Rattle.csi_orchestrator.specs.Kept.{MayBeWanted, AreGuarded, Fits}
@@ -31,9 +30,7 @@ use Rattle.csi_orchestrator.proofs.DueCases.{IsDueFor, due-cases, ToAttach, ToDe
 use Rattle.csi_orchestrator.proofs.Following.{sent-follows, noted-follows}
 use Rattle.csi_orchestrator.proofs.AddedItems.{IsNextIfSome, is_next}
 use Rattle.csi_orchestrator.proofs.Guarded.{due-guarded}
-use Rattle.csi_orchestrator.proofs.KeptEntries.{each-put}
 use Rattle.csi_orchestrator.proofs.KeptRows.{AreDistinct}
-use Rattle.csi_orchestrator.proofs.Keyed.{find-put}
 use Rattle.csi_orchestrator.proofs.Marked.{GoalHasEntry}
 use Rattle.csi_orchestrator.proofs.NotedRow.{reads-dropped}
 use Rattle.csi_orchestrator.proofs.RowViews.{Reads, SameAt, same-then, same-sent, same-noted, put-agrees, IsRowOf, reads-history}

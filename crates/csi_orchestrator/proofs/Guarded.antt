@@ -1,6 +1,6 @@
 -- Why the call that is due for a row may be sent.
 use Rattle.std.proofs.Common.{◌≡◌, ◌≢◌, ℕ, List, Bool, true, false, not, refl, sym, ◌∙◌, ap, subst, inr}
-use Rattle.std.specs.Prelude.{Option, Some, None, option_map, option_and_then, ◌&&◌, ◌||◌}
+use Rattle.std.specs.Prelude.{Option, Some, None, option_map, ◌&&◌}
 use Rattle.std.specs.List.{AllByRecursion}
 use Rattle.std.proofs.lemmas.Bool.{false≢true, true_from_ne_false, or_parts}
 use Rattle.csi_types.specs.Holding.{CanHoldBoth}
@@ -12,20 +12,18 @@ use Rattle.csi_lists.proofs.Tests.{then-any}
 use Rattle.csi_types.specs.Same.{same_text}
 use Rattle.csi_types.specs.Sharing.{is_single_node}
 use Rattle.csi_types.proofs.Equality.{same_text-tells}
-use Rattle.csi_orchestrator.specs.declared.row.Aim.{Aim}
 use Rattle.csi_orchestrator.specs.declared.thing.Thing.{Thing}
 use Rattle.csi_orchestrator.specs.declared.thing.Thing.TheVariants.{Exists, Attached, Staged, Published}
-use Rattle.csi_orchestrator.specs.declared.thing.Known.{Known}
-use Rattle.csi_orchestrator.specs.declared.thing.Known.TheVariants.{Yes, No, Maybe}
+use Rattle.csi_orchestrator.specs.declared.thing.Known.TheVariants.{Yes, No}
 use Rattle.csi_orchestrator.specs.Thing.{name_in, is_yes, is_no}
 use Rattle.csi_orchestrator.specs.History.{Usage, Held, History}
-use Rattle.csi_orchestrator.specs.Readings.{known, id_of, held, open_call}
+use Rattle.csi_orchestrator.specs.Readings.{known, held, open_call}
 use Rattle.csi_orchestrator.specs.Due.{Due}
 use Rattle.csi_orchestrator.specs.Commands.{is_for_one_node, is_second_writer}
 use Rattle.csi_orchestrator.specs.Guards.{CanBeHeldToo, holding_by, IsGuarded, MayIssue}
-use Rattle.csi_orchestrator.specs.Shown.{PlaceShown, RowShown, Parts, row_of, place_of, aim_of, mark_in, published_in, mark_of, held_at, held_in, others_in, due_in, AreTargetsApart}
+use Rattle.csi_orchestrator.specs.Shown.{PlaceShown, RowShown, place_of, mark_in, published_in, mark_of, held_at, others_in, due_in, AreTargetsApart}
 use Rattle.csi_orchestrator.specs.RowMoves.{is_so_elsewhere, has_elsewhere}
-use Rattle.csi_orchestrator.specs.Kept.{ArePlacesApart, IsUsable, MayBeWanted}
+use Rattle.csi_orchestrator.specs.Kept.{IsUsable, MayBeWanted}
 use Rattle.csi_orchestrator.proofs.DueCases.{IsDueFor, due-cases, ToMake, ToRemove, ToAttach, ToStage, ToPublish, ToUnpublish, ToUnstage, ToDetach}
 use Rattle.csi_orchestrator.proofs.InUse.{in-use-alike, target-in-use}
 use Rattle.csi_orchestrator.proofs.KnownTests.{yes_is_yes, no_is_no, not_yes, not_no, yes_not_no, is_not_no}

@@ -1,8 +1,7 @@
 -- What an orchestrator shows and answers after a reply, by the row that the reply is to.
 use Rattle.std.proofs.Common.{◌≡◌, ◌<◌, ℕ, zero, suc, List, [], ◌∷◌, Bool, true, false, cond, length, get_or, set, map, refl, sym, ◌∙◌, ap, subst, arith}
-use Rattle.std.specs.Prelude.{Option, Some, None, position, Result, Ok, Err, ◌&&◌}
+use Rattle.std.specs.Prelude.{Option, Some, None, position, Result, Ok, Err}
 use Rattle.std.specs.List.{AllByRecursion}
-use Rattle.std.proofs.lemmas.Bool.{false≢true, and_parts}
 use Rattle.std.proofs.lemmas.List.Quantifiers.{position-Some}
 use Rattle.csi_types.specs.declared.call.Kind.{Kind}
 use Rattle.csi_types.specs.declared.call.Kind.TheVariants as kinds
@@ -14,8 +13,8 @@ use Rattle.csi_types.specs.Frame.{Frame}
 use Rattle.csi_lists.specs.Members.{EachTwo}
 use Rattle.csi_lists.proofs.Searches.{find-passes}
 use Rattle.csi_types.specs.Reply.{is_ok_status}
-use Rattle.csi_types.specs.Same.{same_text, same_number, same_party, same_kind}
-use Rattle.csi_types.proofs.Equality.{same_text-tells, same_kind-tells}
+use Rattle.csi_types.specs.Same.{same_text}
+use Rattle.csi_types.proofs.Equality.{same_text-tells}
 use Rattle.csi_orchestrator.specs.declared.fault.Heard.TheVariants.{Ignored}
 use Rattle.csi_orchestrator.specs.declared.fault.OrchFault.{OrchFault}
 use Rattle.csi_orchestrator.specs.declared.row.Goal.{Goal}
@@ -25,8 +24,8 @@ use Rattle.csi_orchestrator.specs.declared.row.Usage.{Usage}
 use Rattle.csi_orchestrator.specs.declared.going_on.Outgoing.{Outgoing}
 use Rattle.csi_orchestrator.specs.Due.{Due}
 use Rattle.csi_orchestrator.specs.Commands.{next_number}
-use Rattle.csi_orchestrator.specs.Moves.{Answer, Hears, hears}
-use Rattle.csi_orchestrator.specs.Shown.{RowShown, Parts, row_shown, due_in, issued_as, open_in_row}
+use Rattle.csi_orchestrator.specs.Moves.{Hears, hears}
+use Rattle.csi_orchestrator.specs.Shown.{RowShown, Parts, row_shown, due_in, open_in_row}
 use Rattle.csi_orchestrator.specs.RowChanges.{succeeded, wanted}
 use Rattle.csi_orchestrator.specs.RowMoves.{Told, told, put, sends_as, goes_on, is_issued_as, stops_after, hears_refusal, hears_reply, row_replied, IsRefusal, IsToldAs}
 use Rattle.csi_orchestrator.specs.Found.{kind_due}
@@ -37,6 +36,7 @@ use Rattle.csi_orchestrator.specs.Keyed.{put_by}
 use Rattle.csi_orchestrator.proofs.ChangedEntries.{find-place, find-none_placed}
 use Rattle.csi_orchestrator.proofs.KeptEntries.{by_if}
 use Rattle.csi_orchestrator.proofs.DueCases.{IsDueFor, due-cases, ToMake, ToRemove, ToAttach, ToStage, ToPublish, ToUnpublish, ToUnstage, ToDetach}
+use Rattle.csi_orchestrator.proofs.Replied.{hears-it}
 
 -- the orchestrator's parts then, and its answer
 abbrev pub parts_after : Parts → RowShown → Option Outgoing → Parts
@@ -48,15 +48,8 @@ heard_by parts row (Err fault) = Err fault
 heard_by parts row (Ok next) = told (parts_after parts (row next) next) (hears (frame_in next))
 
 -- the due call of the row that a reply is to is of its kind
-issued-kind : (number : Number) (party : Party) (kind : Kind) (name : List ℕ) (own : Option Number) (due : Option Due) → is_issued_as number party kind (issued_as name own due) ≡ true → kind_due due ≡ Some kind
-issued-kind number party kind name None due e = absurd (false≢true e)
-issued-kind number party kind name (Some own) None e = absurd (false≢true e)
-issued-kind number party kind name (Some own) (Some due) e =
-    ap Some ((same_kind-tells (kind_of due.call) kind).0 (and_parts (same_number own number && same_party due.party party) (same_kind (kind_of due.call) kind) e).1)
-
--- the same of the row as it is shown
 pub replied-kind : (row : RowShown) (number : Number) (party : Party) (kind : Kind) → is_issued_as number party kind (open_in_row row) ≡ true → kind_due (due_in row) ≡ Some kind
-replied-kind row number party kind e = issued-kind number party kind row.name row.open_number (due_in row) e
+replied-kind row number party kind e = let it = hears-it row number party kind e in ap kind_due it.is_due ∙ ap Some it.has_kind
 
 -- what holds of each row as it is shown
 each-shown : {R X : Type 0} (P : X → Type 0) (view : R → X) (rs : List R) (i : ℕ) (r : R) → i < length rs → AllByRecursion P (map view rs) → P (view (get_or rs i r))

@@ -5,13 +5,12 @@ use Rattle.std.specs.Option.{option_or}
 use Rattle.csi_types.specs.declared.call.Kind.{Kind}
 use Rattle.csi_types.specs.Call.{kind_of}
 use Rattle.csi_orchestrator.specs.declared.row.Goal.{Goal}
-use Rattle.csi_orchestrator.specs.declared.row.Goal.TheVariants.{Create}
 use Rattle.csi_orchestrator.specs.Due.{Due}
 use Rattle.csi_orchestrator.specs.Found.{kind_due}
 use Rattle.csi_orchestrator.specs.Hearing.{due_heard}
 use Rattle.csi_orchestrator.specs.Kept.{IsKept}
-use Rattle.csi_orchestrator.specs.RowChanges.{marked, told_of, id_told, answered, succeeded}
-use Rattle.csi_orchestrator.specs.Shown.{RowShown, marks_for, due_with, due_by, due_in}
+use Rattle.csi_orchestrator.specs.RowChanges.{marked, told_of, id_told, succeeded}
+use Rattle.csi_orchestrator.specs.Shown.{RowShown, due_with, due_by, due_in}
 use Rattle.csi_orchestrator.proofs.DueCases.{due-cases}
 use Rattle.csi_orchestrator.proofs.GoingOn.{has-entry}
 use Rattle.csi_orchestrator.proofs.Marked.{marks-then}

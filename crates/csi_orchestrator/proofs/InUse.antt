@@ -1,14 +1,13 @@
 -- Where a history says that a volume may be in use, its row has an entry that says so.
-use Rattle.std.proofs.Common.{◌≡◌, ◌≢◌, ℕ, List, Bool, true, false, cond, not, map, length, refl, sym, ◌∙◌, ap, subst}
+use Rattle.std.proofs.Common.{◌≡◌, ◌≢◌, ℕ, List, Bool, true, false, cond, not, length, refl, sym, ◌∙◌, ap, subst}
 use Rattle.std.specs.Prelude.{Option, Some, None, option_map, find, filter, filter_map, nat_lt, ◌&&◌}
 use Rattle.std.specs.List.{AllByRecursion, list_any}
 use Rattle.std.proofs.lemmas.Bool.{false≢true, false_from_ne_true, and_parts, not-true}
-use Rattle.std.proofs.lemmas.List.{length-map}
 use Rattle.std.proofs.lemmas.List.Sums.{length-filter}
 use Rattle.std.proofs.lemmas.Option.{same_Some}
 use Rattle.csi_lists.specs.Members.{IsAmong}
-use Rattle.csi_lists.proofs.Members.{among-find, each_of, all_of, in_filter, among-kept, in-filter_map, in-map, empty-where, among-filter_map, has-some, some-has, among-map}
-use Rattle.csi_lists.proofs.Pairs.{two-filter, two-map}
+use Rattle.csi_lists.proofs.Members.{among-find, each_of, all_of, in_filter, among-kept, in-filter_map, empty-where, among-filter_map, has-some, some-has}
+use Rattle.csi_lists.proofs.Pairs.{two-filter}
 use Rattle.csi_lists.proofs.Searches.{find-passes}
 use Rattle.csi_lists.proofs.Tests.{alike, then-any, any-then}
 use Rattle.csi_lists.proofs.Counts.{any-counted}

@@ -13,8 +13,6 @@ use Rattle.indexmap.specs.Layout.{set_value_at}
 use Rattle.csi_lists.specs.Places.{IsAt}
 use Rattle.csi_lists.proofs.Places.{same-at}
 use Rattle.csi_types.specs.Same.{same_text}
-use Rattle.csi_types.proofs.Equality.{same_text-tells}
-use Rattle.std.proofs.lemmas.Bool.{false≢true}
 use Rattle.csi_types.specs.declared.number.Number.{Number}
 use Rattle.csi_orchestrator.specs.declared.going_on.Outgoing.{Outgoing}
 use Rattle.csi_orchestrator.specs.declared.row.Row.{Row}

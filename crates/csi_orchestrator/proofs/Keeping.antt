@@ -2,7 +2,7 @@
 use Rattle.std.proofs.Common.{◌≡◌, ℕ, ◌+◌, ◌^◌, List, [], ◌∷◌, Bool, true, false, cond, not, refl, sym, subst}
 use Rattle.std.specs.Prelude.{◌==◌, find, nat_lt, ◌&&◌, Option, Some, None, is_some, is_none, Result, Ok, Err}
 use Rattle.std.specs.List.{AllByRecursion, list_any}
-use Rattle.std.proofs.lemmas.Bool.{false≢true, and_parts, or_parts}
+use Rattle.std.proofs.lemmas.Bool.{false≢true, or_parts}
 use Rattle.csi_types.specs.declared.call.Kind.{Kind}
 use Rattle.csi_types.specs.declared.call.Kind.TheVariants as kinds
 use Rattle.csi_types.specs.declared.call.Party.{Party}
@@ -10,15 +10,13 @@ use Rattle.csi_types.specs.declared.frame.Body.{Body}
 use Rattle.csi_types.specs.declared.frame.Body.TheVariants as bodies
 use Rattle.csi_types.specs.declared.number.Number.{Number}
 use Rattle.csi_types.specs.declared.reply.Reply.{Reply}
-use Rattle.csi_types.specs.Call.{kind_of}
 use Rattle.csi_types.specs.Frame.{Frame}
 use Rattle.csi_types.specs.Reply.{is_ok_status}
-use Rattle.csi_types.specs.Same.{same_text, same_number, same_party, has_capability}
+use Rattle.csi_types.specs.Same.{same_text, has_capability}
 use Rattle.csi_lists.proofs.Members.{each_of, among-find}
 use Rattle.csi_lists.proofs.Searches.{find-passes}
 use Rattle.csi_lists.proofs.Options.{none-from_is_some}
 use Rattle.csi_lists.proofs.Each.{each-map}
-use Rattle.csi_types.proofs.Equality.{same_kind-tells}
 use Rattle.csi_orchestrator.specs.declared.fault.OrchFault.{OrchFault}
 use Rattle.csi_orchestrator.specs.declared.fault.OrchFault.TheVariants as faults
 use Rattle.csi_orchestrator.specs.declared.row.Goal.{Goal}
@@ -30,13 +28,14 @@ use Rattle.csi_orchestrator.specs.History.{Arguments, Usage}
 use Rattle.csi_orchestrator.specs.Commands.{next_number, is_for_one_node, is_second_writer}
 use Rattle.csi_orchestrator.specs.Due.{Due}
 use Rattle.csi_orchestrator.specs.Moves.{Input, ToCreate, ToUse, ToStop, ToDelete, TimesOut, Comes, Restarts, Answer, Sends, Restarted, is_forward_due, hears}
-use Rattle.csi_orchestrator.specs.Shown.{PlaceShown, RowShown, Parts, row_of, place_of, due_in, issued_as, open_in_row, closed, in_session}
+use Rattle.csi_orchestrator.specs.Shown.{PlaceShown, RowShown, Parts, row_of, place_of, due_in, open_in_row, closed, in_session}
 use Rattle.csi_orchestrator.specs.RowChanges.{succeeded, told_of, wanted, dropped, stopped_goal, new_row, wanted_anew, with_entry}
 use Rattle.csi_orchestrator.specs.RowMoves.{Told, told, put, sends_as, goes_on, unless_refused, first_fault, again_fault, creates, has_elsewhere, is_place_otherwise, use_refusal, room_refusal, due_for_use, uses, stop_refusal, stops, is_attached_somewhere, delete_refusal, busy_refusal, deletes, times_out_with, times_out, is_issued_as, row_replied, stops_after, hears_refusal, hears_reply, receives, starts_again, row_moves}
 use Rattle.csi_orchestrator.specs.Kept.{MayBeWanted, IsKept, AreKept, RowsStayKept}
 use Rattle.csi_orchestrator.proofs.KeptEntries.{by_if, each-put, apart-put, apart-map}
 use Rattle.csi_orchestrator.proofs.KeptRows.{AreDistinct, kept-distinct, FitsGoal, due-fits-goal, marked-distinct, kept-sent, kept-closed, kept-dropped, wanted-stopped, wanted-succeeded}
 use Rattle.csi_orchestrator.proofs.KeptUses.{distinct-entry, usable-entry}
+use Rattle.csi_orchestrator.proofs.Replied.{hears-it}
 
 -- what is told, if anything, is kept so
 abbrev pub KeptAfter : Parts → Result Told OrchFault → Type 0
@@ -156,15 +155,6 @@ timeouts-kept : (parts : Parts) (name : List ℕ) → AreKept parts.rows → (o 
 timeouts-kept parts name kept None e = tt
 timeouts-kept parts name kept (Some row) e = times-out-kept parts row kept (found-kept (λ (r : RowShown). same_text r.name name) parts.rows row kept e) row.goal refl
 
--- the call that is replied to is the due one
-pub replied-due : (row : RowShown) (number : Number) (party : Party) (kind : Kind) → is_issued_as number party kind (open_in_row row) ≡ true → FitsGoal row.goal kind
-replied-due row number party kind passes = by row.open_number (due_in row) refl passes
-  where
-    by : (o : Option Number) (d : Option Due) → due_in row ≡ d → is_issued_as number party kind (issued_as row.name o d) ≡ true → FitsGoal row.goal kind
-    by None d e f = absurd (false≢true f)
-    by (Some n) None e f = absurd (false≢true f)
-    by (Some n) (Some due) e f = subst (FitsGoal row.goal) ((same_kind-tells (kind_of due.call) kind).0 (and_parts (same_number n number && same_party due.party party) _ f).1) (due-fits-goal row due e)
-
 -- a refusal is heard
 stops-after-kept : (parts : Parts) (row : RowShown) → AreKept parts.rows → IsKept row → (goal : Option Goal) → row.goal ≡ goal → KeptAfter parts (stops_after parts row goal)
 stops-after-kept parts row kept own None e = (put-kept (closed row) parts.rows kept (kept-closed row own), refl)
@@ -185,11 +175,11 @@ reply-kept : (parts : Parts) (number : Number) (party : Party) (kind : Kind) (re
 reply-kept parts number party kind reply kept None e = (kept, refl)
 reply-kept parts number party kind reply kept (Some row) e =
     let own = found-kept (λ (r : RowShown). is_issued_as number party kind (open_in_row r)) parts.rows row kept e in
-    let fits = replied-due row number party kind (find-passes (λ (r : RowShown). is_issued_as number party kind (open_in_row r)) parts.rows row e) in
+    let it = hears-it row number party kind (find-passes (λ (r : RowShown). is_issued_as number party kind (open_in_row r)) parts.rows row e) in
     by_if (KeptAfter parts) (is_ok_status reply.status) _ _
     (λ fine.
     goes-on-kept parts hears (succeeded kind reply.id row) kept (marked-distinct (told_of kind) kind row (kept-distinct row own))
-    (λ due f. wanted-succeeded kind reply.id row row.goal due refl fits own.goal f))
+    (λ due f. wanted-succeeded kind reply.id row row.goal due refl (subst (FitsGoal row.goal) it.has_kind (due-fits-goal row it.due it.is_due)) own.goal f))
     (λ refused. refusal-kept parts row kind kept own)
 
 -- a frame that comes

@@ -1,5 +1,5 @@
 -- What the tests tell of what is known of a thing.
-use Rattle.std.proofs.Common.{◌≡◌, ◌≢◌, true, false, not, sym, ◌∙◌, ap, refl}
+use Rattle.std.proofs.Common.{◌≡◌, ◌≢◌, true, false, sym, ◌∙◌, ap, refl}
 use Rattle.std.proofs.lemmas.Bool.{false≢true, false_from_ne_true}
 use Rattle.csi_orchestrator.specs.declared.thing.Known.{Known}
 use Rattle.csi_orchestrator.specs.declared.thing.Known.TheVariants.{Yes, No, Maybe}

@@ -1,5 +1,5 @@
 -- Where rows note nothing, no part of them does.
-use Rattle.std.proofs.Common.{◌≡◌, ◌<◌, ℕ, zero, suc, List, [], ◌∷◌, ◌++◌, length, get_or, map, refl, sym, ◌∙◌, inl, arith}
+use Rattle.std.proofs.Common.{◌≡◌, ◌<◌, ℕ, zero, suc, List, [], ◌∷◌, ◌++◌, length, get_or, map, refl, sym, ◌∙◌, arith}
 use Rattle.std.specs.List.{flat_map}
 use Rattle.csi_lists.proofs.Members.{empty-where}
 use Rattle.csi_orchestrator.specs.declared.thing.Known.TheVariants.{No}

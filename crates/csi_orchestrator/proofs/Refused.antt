@@ -1,6 +1,6 @@
 -- Why a refusal is read from the rows.
-use Rattle.std.proofs.Common.{◌≡◌, ℕ, List, Bool, true, false, cond, map, length, refl, sym, ◌∙◌, ap, subst}
-use Rattle.std.specs.Prelude.{Option, Some, None, is_some, is_none, option_map, option_and_then, filter_map, nat_lt}
+use Rattle.std.proofs.Common.{◌≡◌, ℕ, List, true, false, cond, length, refl, sym, ◌∙◌, ap, subst}
+use Rattle.std.specs.Prelude.{Option, Some, None, is_some, is_none, option_and_then, filter_map, nat_lt}
 use Rattle.std.proofs.lemmas.Bool.{false≢true}
 use Rattle.csi_lists.specs.Members.{IsAmong}
 use Rattle.csi_lists.proofs.Members.{among-find, each_of, some-found}
@@ -9,12 +9,12 @@ use Rattle.csi_lists.proofs.Tests.{then-any, any-then}
 use Rattle.csi_types.specs.Same.{same_text}
 use Rattle.csi_types.proofs.Equality.{same_text-tells}
 use Rattle.csi_orchestrator.specs.declared.fault.OrchFault.TheVariants as faults
-use Rattle.csi_orchestrator.specs.declared.thing.Thing.TheVariants.{Exists, Attached, Staged, Published}
+use Rattle.csi_orchestrator.specs.declared.thing.Thing.TheVariants.{Exists, Published}
 use Rattle.csi_orchestrator.specs.History.{Usage, History}
 use Rattle.csi_orchestrator.specs.Readings.{id_of, goal_of, name_noted, names_of, has_row}
 use Rattle.csi_orchestrator.specs.Due.{due_use}
-use Rattle.csi_orchestrator.specs.Commands.{next_number, is_spent, create_fault, is_for_one_node, is_second_writer, other_targets, use_fault, use_room_fault, stop_fault, delete_fault, delete_busy_fault, timeout_fault}
-use Rattle.csi_orchestrator.specs.Shown.{RowShown, Parts, row_of, place_of, goal_shown, goal_in, others_in, AgreesWith}
+use Rattle.csi_orchestrator.specs.Commands.{next_number, is_spent, create_fault, is_for_one_node, is_second_writer, use_fault, use_room_fault, stop_fault, delete_fault, delete_busy_fault, timeout_fault}
+use Rattle.csi_orchestrator.specs.Shown.{RowShown, Parts, row_of, place_of, goal_shown, goal_in, AgreesWith}
 use Rattle.csi_orchestrator.specs.Kept.{IsKept, AreKept}
 use Rattle.csi_orchestrator.specs.RowMoves.{is_last, first_fault, again_fault, use_refusal, room_refusal, due_for_use, stop_refusal, delete_refusal, busy_refusal}
 use Rattle.csi_orchestrator.proofs.DueCalls.{use-told}

@@ -17,7 +17,8 @@ use Rattle.csi_orchestrator.specs.History.{History}
 use Rattle.csi_orchestrator.specs.Readings.{open_call, issued_in}
 use Rattle.csi_orchestrator.specs.Moves.{call_replied, is_number_open}
 use Rattle.csi_orchestrator.specs.WellFormed.{IsWellFormed}
-use Rattle.csi_orchestrator.specs.Shown.{RowShown, Parts, row_of, open_in_row, AgreesWith}
+use Rattle.csi_orchestrator.specs.Due.{Due}
+use Rattle.csi_orchestrator.specs.Shown.{RowShown, Parts, row_of, due_in, issued_as, open_in_row, AgreesWith}
 use Rattle.csi_orchestrator.specs.RowMoves.{is_issued_as, row_replied}
 use Rattle.csi_orchestrator.specs.Kept.{AreKept}
 use Rattle.csi_orchestrator.proofs.Numbers.{one-call, open-sent}
@@ -47,6 +48,23 @@ that-passes : (number : Number) (party : Party) (kind : Kind) (o : Option Issued
 that-passes number party kind None e = absurd (false≢true e)
 that-passes number party kind (Some issued) e = (issued, refl, e)
 
+-- a row whose open call a reply is to: the call is the one that is due, under the reply's number
+pub record HearsIt (row : RowShown) (number : Number) (party : Party) (kind : Kind) : Type 0 where
+  pub own : row.open_number ≡ Some number
+  pub due : Due
+  pub is_due : due_in row ≡ Some due
+  pub has_kind : kind_of due.call ≡ kind
+
+pub hears-it : (row : RowShown) (number : Number) (party : Party) (kind : Kind) → is_issued_as number party kind (open_in_row row) ≡ true → HearsIt row number party kind
+hears-it row number party kind e = by row.open_number refl (due_in row) refl e
+  where
+    by : (o : Option Number) → row.open_number ≡ o → (d : Option Due) → due_in row ≡ d → is_issued_as number party kind (issued_as row.name o d) ≡ true → HearsIt row number party kind
+    by None own d is f = absurd (false≢true f)
+    by (Some n) own None is f = absurd (false≢true f)
+    by (Some n) own (Some due) is f =
+        let such = such-call number party kind (record { name = row.name; number = n; party = due.party; call = due.call }) f in
+        record { own = own ∙ ap Some such.has_number; due = due; is_due = is; has_kind = such.has_kind }
+
 -- a call that a reply is to, by the history, is the open call of its name
 pub own-open : (history : History) (number : Number) (party : Party) (kind : Kind) (issued : Issued) → IsWellFormed history → IsAmong issued (issued_in history.items)
     → (is-call number party kind issued && is_number_open number (open_call history issued.name)) ≡ true → (open_call history issued.name ≡ Some issued) × IsCall number party kind issued
@@ -62,17 +80,9 @@ own-open history number party kind issued form among e = (by (open_call history 
         ((same_number-tells other.number number).0 f ∙ sym (such-call number party kind issued parted.0).has_number))
 
 -- it is also the row that is found for its name
-pub row-replied-own : (parts : Parts) (number : Number) (party : Party) (kind : Kind) (row : RowShown) → AreKept parts.rows → row_replied parts.rows number party kind ≡ Some row → row_of parts.rows row.name ≡ Some row
-row-replied-own parts number party kind row kept e =
+pub found-own : (parts : Parts) (number : Number) (party : Party) (kind : Kind) (row : RowShown) → AreKept parts.rows → row_replied parts.rows number party kind ≡ Some row → row_of parts.rows row.name ≡ Some row
+found-own parts number party kind row kept e =
     own-entry (λ (r : RowShown). r.name) parts.rows row kept.names (among-find (λ (r : RowShown). is_issued_as number party kind (open_in_row r)) parts.rows row e)
-
--- the row that is found by a reply is its name's, and its open call is what the reply is to
-pub replied-row : (parts : Parts) (number : Number) (party : Party) (kind : Kind) (row : RowShown) → AreKept parts.rows → row_replied parts.rows number party kind ≡ Some row
-    → (row_of parts.rows row.name ≡ Some row) × ((issued : Issued) × (open_in_row row ≡ Some issued) × (issued.number ≡ number) × (issued.party ≡ party) × (kind_of issued.call ≡ kind))
-replied-row parts number party kind row kept e =
-    let found = that-passes number party kind (open_in_row row) (find-passes (λ (r : RowShown). is_issued_as number party kind (open_in_row r)) parts.rows row e) in
-    let such = such-call number party kind found.0 found.2 in
-    (row-replied-own parts number party kind row kept e, (found.0, found.1, such.has_number, such.has_party, such.has_kind))
 
 -- the open call that a reply is to is that of the row found by it
 pub replied : (parts : Parts) (history : History) (number : Number) (party : Party) (kind : Kind) → IsWellFormed history → AreKept parts.rows → AgreesWith parts history
@@ -89,7 +99,7 @@ replied parts history number party kind form kept agrees = by (row_replied parts
     found row e call own_call is = find-one test (issued_in history.items) call there.0 passes only ∙ sym own_call
       where
         is_open : open_call history row.name ≡ Some call
-        is_open = sym (agrees.same_open_calls row.name) ∙ ap (option_and_then open_in_row) (row-replied-own parts number party kind row kept e) ∙ own_call
+        is_open = sym (agrees.same_open_calls row.name) ∙ ap (option_and_then open_in_row) (found-own parts number party kind row kept e) ∙ own_call
 
         there : IsAmong call (issued_in history.items) × (same_text call.name row.name ≡ true)
         there = open-sent row.name history.items call is_open

@@ -6,15 +6,12 @@ use Rattle.csi_orchestrator.specs.declared.fault.OrchFault.{OrchFault}
 use Rattle.csi_orchestrator.specs.declared.fault.OrchFault.TheVariants as faults
 use Rattle.csi_types.specs.Same.{same_text}
 use Rattle.csi_lists.proofs.Searches.{find-map}
-use Rattle.csi_orchestrator.specs.declared.row.Goal.{Goal as KeptGoal}
-use Rattle.csi_orchestrator.specs.declared.thing.Thing.{Thing}
-use Rattle.csi_orchestrator.specs.declared.thing.Thing.TheVariants.{Exists}
 use Rattle.csi_orchestrator.specs.Thing.{name_in}
 use Rattle.csi_orchestrator.specs.History.{History}
 use Rattle.csi_orchestrator.specs.Moves.{Restarts, Restarted}
 use Rattle.csi_orchestrator.specs.Agrees.{Agrees}
 use Rattle.csi_orchestrator.specs.Following.{after_started}
-use Rattle.csi_orchestrator.specs.Shown.{RowShown, Parts, row_of, mark_in, mark_of, goal_shown, goal_in, held_in, open_in_row, tries_in, closed, without_call, row_shown, view_of, AgreesWith, in_session}
+use Rattle.csi_orchestrator.specs.Shown.{RowShown, Parts, row_of, mark_in, mark_of, goal_in, held_in, open_in_row, tries_in, closed, without_call, row_shown, view_of, AgreesWith, in_session}
 use Rattle.csi_orchestrator.specs.declared.inner.Core.{Core}
 use Rattle.csi_orchestrator.specs.Catalog.{rows_of}
 use Rattle.csi_orchestrator.specs.Core.{parts_of}

@@ -1,7 +1,6 @@
 -- Why what is shown agrees with a history once one row stands in place of another.
 use Rattle.std.proofs.Common.{◌≡◌, ◌≢◌, ℕ, List, Bool, true, false, cond, refl, sym, ◌∙◌, ap, subst}
-use Rattle.std.specs.Prelude.{Option, Some, None, is_some, option_map, option_and_then, ◌&&◌}
-use Rattle.std.specs.Option.{option_or}
+use Rattle.std.specs.Prelude.{Option, Some, is_some, option_map, option_and_then}
 use Rattle.csi_lists.proofs.Searches.{find-passes}
 use Rattle.csi_types.specs.declared.number.Number.{Number}
 use Rattle.csi_types.specs.declared.status.Status.{Status}
@@ -14,9 +13,9 @@ use Rattle.csi_orchestrator.specs.declared.thing.Thing.TheVariants.{Attached}
 use Rattle.csi_orchestrator.specs.declared.thing.Known.TheVariants.{No, Maybe}
 use Rattle.csi_orchestrator.specs.Thing.{Issued, name_in, touches}
 use Rattle.csi_orchestrator.specs.History.{Arguments, Goal, History}
-use Rattle.csi_orchestrator.specs.Readings.{held_by, arguments_in_goal, known, id_of, goal_of, arguments_of, held, open_call, tries, last_number, has_row}
+use Rattle.csi_orchestrator.specs.Readings.{known, id_of, goal_of, arguments_of, held, open_call, tries, last_number, has_row}
 use Rattle.csi_orchestrator.specs.Agrees.{View, Agrees}
-use Rattle.csi_orchestrator.specs.Following.{after_sent, after_accepted, after_closed, after_noted, told, id_brought}
+use Rattle.csi_orchestrator.specs.Following.{after_sent, after_accepted, after_closed, after_noted}
 use Rattle.csi_orchestrator.specs.Shown.{RowShown, Parts, row_of, mark_in, mark_of, goal_in, held_in, open_in_row, tries_in, view_of, AgreesWith}
 use Rattle.csi_orchestrator.specs.RowMoves.{put}
 use Rattle.csi_orchestrator.proofs.Following.{touches-name, and-false}

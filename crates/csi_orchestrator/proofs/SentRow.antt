@@ -2,11 +2,9 @@
 use Rattle.std.proofs.Common.{◌≡◌, ◌≢◌, ◌+◌, ℕ, List, Bool, true, false, cond, refl, sym, ◌∙◌, ap, subst}
 use Rattle.std.specs.Prelude.{Option, Some, None, min, option_map, ◌&&◌}
 use Rattle.std.specs.Option.{option_or}
-use Rattle.std.proofs.lemmas.Bool.{false≢true}
 use Rattle.std.proofs.lemmas.Option.{same_Some}
 use Rattle.csi_types.specs.declared.call.Call.{Call}
 use Rattle.csi_types.specs.declared.call.Call.TheVariants as calls
-use Rattle.csi_types.specs.declared.call.Kind.{Kind}
 use Rattle.csi_types.specs.declared.call.Kind.TheVariants as kinds
 use Rattle.csi_types.specs.declared.capability.Capability.{Capability}
 use Rattle.csi_types.specs.declared.number.Number.{Number}
@@ -20,7 +18,6 @@ use Rattle.csi_orchestrator.specs.declared.row.Goal.TheVariants.{Create, Use, St
 use Rattle.csi_orchestrator.specs.declared.row.Usage.{Usage}
 use Rattle.csi_orchestrator.specs.declared.thing.Thing.{Thing}
 use Rattle.csi_orchestrator.specs.declared.thing.Thing.TheVariants.{Exists, Attached}
-use Rattle.csi_orchestrator.specs.declared.thing.Known.{Known}
 use Rattle.csi_orchestrator.specs.declared.thing.Known.TheVariants.{No, Maybe}
 use Rattle.csi_orchestrator.specs.Thing.{Issued, thing_at, is_thing, touches, is_no}
 use Rattle.csi_orchestrator.specs.History.{Held}
@@ -31,7 +28,7 @@ use Rattle.csi_orchestrator.specs.Due.{Due}
 use Rattle.csi_orchestrator.specs.Following.{after_sent, after_accepted, told, id_brought}
 use Rattle.csi_orchestrator.specs.Hearing.{marks_marked}
 use Rattle.csi_orchestrator.specs.Kept.{HasEntry}
-use Rattle.csi_orchestrator.specs.RowChanges.{aspect_of, marked, opened, sent, told_of, id_told, answered, succeeded}
+use Rattle.csi_orchestrator.specs.RowChanges.{aspect_of, marked, sent, told_of, id_told, succeeded}
 use Rattle.csi_orchestrator.specs.Shown.{RowShown, place_of, mark_in, mark_of, held_in, held_at, goal_in, goal_shown, marks_for, due_with, due_by, due_in, issued_as}
 use Rattle.csi_orchestrator.proofs.Texts.{text-same}
 use Rattle.csi_orchestrator.proofs.DueCases.{attaching, staging, publishing, unpublishing, unstaging, detaching, IsDueFor, ToMake, ToRemove, ToAttach, ToStage, ToPublish, ToUnpublish, ToUnstage, ToDetach}

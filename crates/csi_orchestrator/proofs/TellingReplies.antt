@@ -1,8 +1,8 @@
 -- Why the rows tell what the history tells of a timeout, a reply and a restart.
-use Rattle.std.proofs.Common.{◌≡◌, ◌+◌, ◌^◌, ℕ, List, [], ◌∷◌, Bool, true, false, cond, refl, sym, ◌∙◌, ap, subst}
+use Rattle.std.proofs.Common.{◌≡◌, ◌+◌, ◌^◌, ℕ, List, [], ◌∷◌, true, false, cond, refl, sym, ◌∙◌, ap, subst}
 use Rattle.std.specs.Prelude.{Option, Some, None, nat_lt, ◌==◌, ◌&&◌, is_none, option_map, option_and_then, Result, Ok, Err}
 use Rattle.std.proofs.lemmas.Bool.{false≢true, and_parts}
-use Rattle.std.proofs.lemmas.Option.{same_Some}
+use Rattle.std.proofs.lemmas.Option.{same_Some, none-some}
 use Rattle.csi_types.specs.declared.call.Call.{Call}
 use Rattle.csi_types.specs.declared.call.Call.TheVariants as calls
 use Rattle.csi_types.specs.declared.call.Kind.{Kind}
@@ -11,7 +11,6 @@ use Rattle.csi_types.specs.declared.frame.Body.{Body}
 use Rattle.csi_types.specs.declared.frame.Body.TheVariants as bodies
 use Rattle.csi_types.specs.declared.number.Number.{Number}
 use Rattle.csi_types.specs.declared.reply.Reply.{Reply}
-use Rattle.csi_types.specs.declared.status.Status.{Status}
 use Rattle.csi_types.specs.Call.{kind_of}
 use Rattle.csi_types.specs.Frame.{Frame}
 use Rattle.csi_types.specs.Reply.{is_ok_status}
@@ -23,7 +22,7 @@ use Rattle.csi_orchestrator.specs.declared.fault.OrchFault.TheVariants as faults
 use Rattle.csi_orchestrator.specs.declared.row.Goal.{Goal}
 use Rattle.csi_orchestrator.specs.declared.row.Goal.TheVariants.{Use, Stop}
 use Rattle.csi_orchestrator.specs.declared.row.Usage.{Usage}
-use Rattle.csi_orchestrator.specs.Thing.{Issued, touches}
+use Rattle.csi_orchestrator.specs.Thing.{Issued}
 use Rattle.csi_orchestrator.specs.History.{Item, Started, Accepted, Closed, Noted, History, with_items}
 use Rattle.csi_orchestrator.specs.History as wishes
 use Rattle.csi_orchestrator.specs.Readings.{goal_of, open_call, tries, last_number}
@@ -33,20 +32,20 @@ use Rattle.csi_orchestrator.specs.Due.{Due, due_call}
 use Rattle.csi_orchestrator.specs.Moves.{Input, ToCreate, ToUse, ToStop, ToDelete, TimesOut, Comes, Restarts, Answer, Sends, Hears, Restarted, Moved, go_on, is_forward, is_forward_due, stopped, closing, timeout, hears, call_replied, heard, heard_refusal, deliver, restart, moves}
 use Rattle.csi_orchestrator.specs.Agrees.{View, Agrees}
 use Rattle.csi_orchestrator.specs.Following.{after_accepted, after_closed, after_noted}
-use Rattle.csi_orchestrator.specs.Shown.{RowShown, Parts, row_of, goal_in, goal_shown, held_in, due_in, open_in_row, issued_as, closed, in_session, view_of, AgreesWith}
+use Rattle.csi_orchestrator.specs.Shown.{RowShown, Parts, row_of, goal_shown, held_in, due_in, open_in_row, issued_as, closed, in_session, view_of, AgreesWith}
 use Rattle.csi_orchestrator.specs.RowChanges.{told_of, succeeded, wanted, dropped, stopped_goal}
 use Rattle.csi_orchestrator.specs.RowMoves.{told, goes_on, times_out_with, times_out, row_replied, is_issued_as, takes_nothing_more, stops_after, hears_refusal, hears_reply, receives, starts_again, row_moves}
-use Rattle.csi_orchestrator.specs.Kept.{MayBeWanted, IsKept, AreKept, AreGuarded, RowsTell, MovesAreGuarded}
+use Rattle.csi_orchestrator.specs.Kept.{IsKept, AreKept, AreGuarded, RowsTell, MovesAreGuarded}
 use Rattle.csi_orchestrator.proofs.Texts.{text-same}
 use Rattle.csi_orchestrator.proofs.DueCalls.{due-of-row}
 use Rattle.csi_orchestrator.proofs.DueCases.{IsDueFor, due-cases, ToAttach, ToStage, ToPublish}
 use Rattle.csi_orchestrator.proofs.Following.{accepted-follows, closed-follows, noted-follows, started-follows}
 use Rattle.csi_orchestrator.proofs.GoingOn.{Guards, Tells, IsReady, has-entry, then-dropped, goes-on-tells}
-use Rattle.csi_orchestrator.proofs.Keeping.{found-kept, replied-due}
-use Rattle.csi_orchestrator.proofs.KeptRows.{kept-distinct, FitsGoal, marked-distinct, kept-closed, wanted-stopped, wanted-succeeded}
+use Rattle.csi_orchestrator.proofs.Keeping.{found-kept}
+use Rattle.csi_orchestrator.proofs.KeptRows.{kept-distinct, due-fits-goal, marked-distinct, kept-closed, wanted-succeeded}
 use Rattle.csi_orchestrator.proofs.NotedRow.{reads-wanted, reads-closed, reads-quiet, reads-refused}
 use Rattle.csi_orchestrator.proofs.Refused.{timeout-unknown, timeout-refused}
-use Rattle.csi_orchestrator.proofs.Replied.{replied, replied-row}
+use Rattle.csi_orchestrator.proofs.Replied.{replied, found-own, hears-it}
 use Rattle.csi_orchestrator.proofs.Restarting.{session-agrees}
 use Rattle.csi_orchestrator.proofs.RowViews.{Reads, SameAt, same-self, same-then, same-accepted, same-closed, same-noted, put-agrees, row-reads, IsRowOf, is-row-of}
 use Rattle.csi_orchestrator.proofs.SentRow.{issued-by, reads-succeeded}
@@ -67,27 +66,11 @@ forward-due row forward = by (due_in row) refl forward
     by None e f = absurd (false≢true f)
     by (Some due) e f = forward-goal row due (due-cases row due e) f
 
--- a row's open call
-record HasCall (row : RowShown) (issued : Issued) : Type 0 where
-  number : Number
-  due : Due
-  is_due : due_in row ≡ Some due
-  is : issued ≡ issued-by row.name number due
-
--- the open call of a row is its due call under a number
-has-call : (row : RowShown) (issued : Issued) → open_in_row row ≡ Some issued → HasCall row issued
-has-call row issued e = by row.open_number (due_in row) refl e
-  where
-    none : None ≡ Some issued → ⊥
-    none h = cc
-
-    the-one : (other : Issued) → Some other ≡ Some issued → issued ≡ other
-    the-one other h = cc
-
-    by : (o : Option Number) (d : Option Due) → due_in row ≡ d → issued_as row.name o d ≡ Some issued → HasCall row issued
-    by None d f h = absurd (none h)
-    by (Some number) None f h = absurd (none h)
-    by (Some number) (Some due) f h = record { number = number; due = due; is_due = f; is = the-one (issued-by row.name number due) h }
+-- an open call is of its row's name
+open-name : (name : List ℕ) (o : Option Number) (d : Option Due) (issued : Issued) → issued_as name o d ≡ Some issued → issued.name ≡ name
+open-name name None d issued e = absurd (none-some issued e)
+open-name name (Some number) None issued e = absurd (none-some issued e)
+open-name name (Some number) (Some due) issued e = sym (ap (λ (i : Issued). i.name) (same_Some (issued-by name number due) issued e))
 
 -- the row of a name, in rows that are kept and that agree with a history
 record IsFound (parts : Parts) (history : History) (name : List ℕ) (row : RowShown) : Type 0 where
@@ -178,7 +161,7 @@ given-up parts history name row at (Some issued) f =
     own = own-name parts name row at.found
 
     its : issued.name ≡ name
-    its = ap (λ (i : Issued). i.name) (has-call row issued (sym (ap (option_and_then open_in_row) at.found) ∙ (at.agrees).same_open_calls name ∙ f)).is ∙ own
+    its = open-name row.name row.open_number (due_in row) issued (sym (ap (option_and_then open_in_row) at.found) ∙ (at.agrees).same_open_calls name ∙ f) ∙ own
 
 -- a timeout
 timeout-tells : (parts : Parts) (history : History) (name : List ℕ) (row : RowShown) → IsFound parts history name row → (goal : Option Goal) → row.goal ≡ goal
@@ -260,10 +243,10 @@ heard-closed parts history row number due reply by bad =
     }
 
 -- a success
-success-tells : (parts : Parts) (history : History) (row : RowShown) (number : Number) (due : Due) (reply : Reply) → IsHeardBy parts history row number due → is_ok_status reply.status ≡ true → FitsGoal row.goal (kind_of due.call)
+success-tells : (parts : Parts) (history : History) (row : RowShown) (number : Number) (due : Due) (reply : Reply) → IsHeardBy parts history row number due → is_ok_status reply.status ≡ true
     → Tells history (goes_on parts hears (succeeded (kind_of due.call) reply.id row)) (go_on history row.name hears (taken number reply ∷ []))
 unfolding heard-view taken
-success-tells parts history row number due reply by fine fits =
+success-tells parts history row number due reply by fine =
     goes-on-tells parts history row.name (succeeded (kind_of due.call) reply.id row) (heard-view parts row number due reply) (taken number reply ∷ [])
     (record {
       form = heard-form parts history row number due reply by;
@@ -276,7 +259,7 @@ success-tells parts history row number due reply by fine fits =
       quiet = ap (λ b. cond b None ((view_of parts).open_calls row.name)) (text-same row.name);
       distinct = marked-distinct (told_of (kind_of due.call)) (kind_of due.call) row (kept-distinct row own);
       aims = kept-aims parts.rows ((by.at).kept).each;
-      may = λ next f. wanted-succeeded (kind_of due.call) reply.id row row.goal next refl fits own.goal f;
+      may = λ next f. wanted-succeeded (kind_of due.call) reply.id row row.goal next refl (due-fits-goal row due by.is_due) own.goal f;
       guarded = tt;
     }) hears
   where
@@ -317,13 +300,13 @@ refusal-tells parts history row number party (calls.NodePublishVolume id target 
 refusal-tells parts history row number party call reply by bad = waits-tell parts history row number _ reply by bad
 
 -- a reply to the open call of a row
-heard-tells : (parts : Parts) (history : History) (row : RowShown) (number : Number) (due : Due) (reply : Reply) → IsHeardBy parts history row number due → FitsGoal row.goal (kind_of due.call)
+heard-tells : (parts : Parts) (history : History) (row : RowShown) (number : Number) (due : Due) (reply : Reply) → IsHeardBy parts history row number due
     → Tells history (hears_reply parts (kind_of due.call) reply (Some row)) (heard history reply (Some (issued-by row.name number due)))
 unfolding taken
-heard-tells parts history row number due reply by fits =
+heard-tells parts history row number due reply by =
     either-tells history (is_ok_status reply.status) (goes_on parts hears (succeeded (kind_of due.call) reply.id row)) (hears_refusal parts row (kind_of due.call))
     (go_on history row.name hears (taken number reply ∷ [])) (heard_refusal history (issued-by row.name number due) (taken number reply) due.call)
-    (λ fine. success-tells parts history row number due reply by fine fits)
+    (λ fine. success-tells parts history row number due reply by fine)
     (λ bad. refusal-tells parts history row number due.party due.call reply by bad)
 
 -- a reply, whether it is to the open call of a row or not
@@ -332,19 +315,17 @@ replies-tell : (parts : Parts) (history : History) (number : Number) (party : Pa
 replies-tell parts history number party kind reply form kept agrees None e =
     subst (λ c. Tells history (told parts (Hears Ignored)) (heard history reply c)) (sym (replied parts history number party kind form kept agrees ∙ ap (option_and_then open_in_row) e)) ((refl, agrees), tt)
 replies-tell parts history number party kind reply form kept agrees (Some row) e =
-    let there = replied-row parts number party kind row kept e in
-    let call = has-call row there.1.0 there.1.1 in
-    let is_kind : kind_of call.due.call ≡ kind = sym (ap (λ (i : Issued). kind_of i.call) call.is) ∙ there.1.4 in
-    let is : call_replied history number party kind ≡ Some (issued-by row.name call.number call.due) = replied parts history number party kind form kept agrees ∙ ap (option_and_then open_in_row) e ∙ there.1.1 ∙ ap Some call.is in
-    let fits = replied-due row number party kind (find-passes (λ (r : RowShown). is_issued_as number party kind (open_in_row r)) parts.rows row e) in
-    subst (λ c. Tells history (hears_reply parts kind reply (Some row)) (heard history reply c)) (sym is)
-    (subst (λ k. Tells history (hears_reply parts k reply (Some row)) (heard history reply (Some (issued-by row.name call.number call.due)))) is_kind
-    (heard-tells parts history row call.number call.due reply
+    let there = found-own parts number party kind row kept e in
+    let it = hears-it row number party kind (find-passes (λ (r : RowShown). is_issued_as number party kind (open_in_row r)) parts.rows row e) in
+    let call : open_in_row row ≡ Some (issued-by row.name number it.due) = λ i. issued_as row.name (it.own i) (it.is_due i) in
+    subst (λ c. Tells history (hears_reply parts kind reply (Some row)) (heard history reply c)) (sym (replied parts history number party kind form kept agrees ∙ ap (option_and_then open_in_row) e ∙ call))
+    (subst (λ k. Tells history (hears_reply parts k reply (Some row)) (heard history reply (Some (issued-by row.name number it.due)))) it.has_kind
+    (heard-tells parts history row number it.due reply
     (record {
-      at = record { form = form; kept = kept; agrees = agrees; found = there.0 };
-      is_due = call.is_due;
-      is_open = sym (agrees.same_open_calls row.name) ∙ ap (option_and_then open_in_row) there.0 ∙ there.1.1 ∙ ap Some call.is;
-    }) (subst (FitsGoal row.goal) (sym is_kind) fits)))
+      at = record { form = form; kept = kept; agrees = agrees; found = there };
+      is_due = it.is_due;
+      is_open = sym (agrees.same_open_calls row.name) ∙ ap (option_and_then open_in_row) there ∙ call;
+    })))
 
 -- a frame that comes, of which a call is ignored
 deliveries-tell : (parts : Parts) (history : History) (number : Number) (party : Party) (body : Body) → IsWellFormed history → AreKept parts.rows → AgreesWith parts history
