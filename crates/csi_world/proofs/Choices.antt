@@ -1,5 +1,5 @@
 -- What is so of a world after what its orchestrator chooses to do.
-use Rattle.std.proofs.Common.{◌≡◌, ◌⊎◌, ℕ, ◌<◌, List, [], ◌∷◌, ◌++◌, true, Option, Some, None, refl, sym, ◌∙◌, ap, subst, inl, inr, arith}
+use Rattle.std.proofs.Common.{◌≡◌, ◌⊎◌, ℕ, ◌<◌, List, [], ◌∷◌, ◌++◌, true, Option, Some, None, refl, sym, ◌∙◌, ap, subst, inl, inr, ⊎_elim, arith}
 use Rattle.std.proofs.lemmas.Bool.Decides.{nat_tests}
 use Rattle.std.proofs.lemmas.Option.{none-some}
 use Rattle.csi_types.specs.declared.capability.Capability.{Capability}
@@ -24,11 +24,10 @@ use Rattle.csi_orchestrator.proofs.Numbers.{open-sent}
 use Rattle.csi_world.specs.World.{World, empty_world, node_state, with_history}
 use Rattle.csi_world.specs.Step.{Choice, Sends, Closes, Takes, Notes, Starts, Answers, frame_of, MaySend, MayTake, MayChoose, MayChooseAll, chosen, chosen_all}
 use Rattle.csi_world.proofs.WorldView.{party_of, node_view, plugin_view, view_of}
-use Rattle.csi_world.proofs.Issued.{HasName, IsOwn, IsAnsweredOk}
-use Rattle.csi_world.proofs.Named.{Named}
+use Rattle.csi_world.proofs.KeyedCalls.{HasName, IsOwn, IsAnsweredOk, Named}
 use Rattle.csi_world.proofs.Heard.{WasSent, sent-more}
 use Rattle.csi_world.proofs.Truth.{Truth, unanswered, before_call, truth-sent}
-use Rattle.csi_world.proofs.Standing.{IsStanding, stands-sent, stands-noted}
+use Rattle.csi_world.proofs.Standing.{stands-sent, stands-noted}
 use Rattle.csi_world.proofs.Guarded.{own-guarded, leaves-guarded, stages-guarded}
 use Rattle.csi_world.proofs.Recorded.{IsWell}
 use Rattle.csi_world.proofs.Reached.{found-at, knows-nothing, empty-reached, still-reached, answered-history}
@@ -52,11 +51,8 @@ pub record IsRight (config : Config) (world : World) : Type 0 where
 
 -- a number after the last one is after all
 after-all : (history : History) (number : Number) → IsLast history → IsBefore (last_number history) number → (older : Issued) → IsAmong older (issued_in history.items) → IsBefore older.number number
-after-all history number last next older among = by (last older among)
-  where
-    by : (older.number ≡ last_number history) ⊎ IsBefore older.number (last_number history) → IsBefore older.number number
-    by (inl e) = subst (λ n. IsBefore n number) (sym e) next
-    by (inr before) = then-before older.number (last_number history) number before next
+after-all history number last next older among =
+    ⊎_elim (λ e. subst (λ n. IsBefore n number) (sym e) next) (λ before. then-before older.number (last_number history) number before next) (last older among)
 
 -- a call is sent
 sent-right : PluginLaws → (config : Config) (world : World) (call : Issued) → IsRight config world → MaySend world call → IsRight config (chosen config world (Sends call))
@@ -67,17 +63,14 @@ sent-right laws config world call right may =
         well = record {
           truth = truth-sent (issued_in world.history.items) world.frames (view_of world) call well.truth later;
           closed = all-closed laws world;
-          named = record {
-            own = own;
-            made = made;
-          };
+          named = record { own = own; made = made };
           names = well.names;
           heard = heard;
           stands = stands-sent world.history.items call (view_of world) well.stands
               (leaves-guarded world.history world.frames (view_of world) world.controller call well may.allowed.guarded) (stages-guarded world.history world.frames (view_of world) world.controller call well may.allowed.guarded);
         };
       };
-      last = last;
+      last = λ other among. ⊎_elim (λ e. inl (ap (λ (x : Issued). x.number) e)) (λ there. inr (later other there)) among;
     }
   where
     well : IsWell world
@@ -100,10 +93,6 @@ sent-right laws config world call right may =
     heard : (number : Number) (status : Status) (id : Option ℕ) → IsAmong (Accepted number status id) (Sent call ∷ world.history.items) → WasSent (call ∷ issued_in world.history.items) (world.frames ++ frame_of call ∷ []) number status id
     heard number status id (inl e) = absurd (let clash : Accepted number status id ≡ Sent call → ⊥ = (λ h. cc) in clash e)
     heard number status id (inr there) = sent-more (issued_in world.history.items) (call ∷ issued_in world.history.items) world.frames (frame_of call) number status id (λ c among. inr among) (well.heard number status id there)
-
-    last : (other : Issued) → IsAmong other (call ∷ issued_in world.history.items) → (other.number ≡ call.number) ⊎ IsBefore other.number call.number
-    last other (inl e) = inl (ap (λ (x : Issued). x.number) e)
-    last other (inr there) = inr (later other there)
 
 -- what an item says was heard was sent
 abbrev IsTold : World → Item → Type 0
@@ -139,14 +128,10 @@ noted-right config world item same right told last =
 -- the last number of a new session
 started-last : (history : History) (session : ℕ) → IsLast history → (last_number history).session < session
     → (call : Issued) → IsAmong call (issued_in history.items) → IsBefore call.number (let n : Number = record { session = session; call = 0 } in n)
-started-last history session last rises call among = by (last call among)
+started-last history session last rises = after-all history (record { session = session; call = 0 }) last (later (last_number history) rises)
   where
     later : (a : Number) → a.session < session → IsBefore a (let n : Number = record { session = session; call = 0 } in n)
     later a less = grind (arith, nat_tests)
-
-    by : (call.number ≡ last_number history) ⊎ IsBefore call.number (last_number history) → IsBefore call.number (let n : Number = record { session = session; call = 0 } in n)
-    by (inl e) = subst (λ n. IsBefore n (let m : Number = record { session = session; call = 0 } in m)) (sym e) (later (last_number history) rises)
-    by (inr before) = then-before call.number (last_number history) (record { session = session; call = 0 }) before (later (last_number history) rises)
 
 -- a reply is taken
 taken-sent : (world : World) (call : Issued) (reply : Reply) → MayTake world call reply → WasSent (issued_in world.history.items) world.frames call.number reply.status reply.id
@@ -202,15 +187,11 @@ empty-right laws config =
           named = record { own = λ call among. absurd among; made = λ call reply id create required limit capabilities among is ok given. absurd among };
           names = laws.names.named config [];
           heard = λ number status id among. absurd among;
-          stands = λ id node capability standing. absurd (nothing empty id node capability standing);
+          stands = λ id node capability standing. absurd (⊎_elim (λ held. none-some (StagedAs capability) (sym (empty.held (Staged id node)) ∙ held)) (λ may. may.among) standing);
         };
       };
       last = λ call among. absurd among;
     }
-  where
-    nothing : IsEmpty (view_of (empty_world config)) → (id : ℕ) (node : List ℕ) (capability : Capability) → IsStanding [] (view_of (empty_world config)) id node capability → ⊥
-    nothing empty id node capability (inl held) = none-some (StagedAs capability) (sym (empty.held (Staged id node)) ∙ held)
-    nothing empty id node capability (inr may) = may.among
 
 -- every world to which choices lead
 pub all-right : PluginLaws → (config : Config) (world : World) (choices : List Choice) → IsRight config world → MayChooseAll config world choices → IsRight config (chosen_all config world choices)

@@ -35,8 +35,7 @@ use Rattle.csi_orchestrator.specs.Readings.{issued_in}
 use Rattle.csi_world.specs.World.{NodeAt, World, node_state, with_node, with_frame}
 use Rattle.csi_world.specs.Step.{frame_of, answered_by_node, answered_by, answered}
 use Rattle.csi_world.proofs.WorldView.{party_of, node_view, plugin_view, view_of, ChangesOnly, acts-all, rests-all, closed-all}
-use Rattle.csi_world.proofs.Issued.{HasName, IsKeyed, key_at, is_key, is_of, keyed}
-use Rattle.csi_world.proofs.Named.{KeepsIds, own-kept}
+use Rattle.csi_world.proofs.KeyedCalls.{HasName, IsKeyed, key_at, is_key, is_of, keyed, KeepsIds, own-kept}
 use Rattle.csi_world.proofs.Heard.{sent-more}
 use Rattle.csi_world.proofs.Truth.{answer_to, delivery_of, IsEffect, effect-acts, effect-rests, ok-either, truth-answered}
 use Rattle.csi_world.proofs.Standing.{stands-answered}

@@ -25,8 +25,7 @@ use Rattle.csi_orchestrator.specs.Thing.{Issued, touches, is_thing, thing_at, is
 use Rattle.csi_orchestrator.specs.History.{Held, History}
 use Rattle.csi_orchestrator.specs.Readings.{newest, issued_in, known, held_by, held}
 use Rattle.csi_orchestrator.specs.Guards.{IsGuarded, HasId}
-use Rattle.csi_world.proofs.Issued.{HasName, IsAnsweredOk, IsOwn, IsOne, Attachment, Staging, key_at, is_key, is_of, latest-last}
-use Rattle.csi_world.proofs.Named.{Named, touches-key}
+use Rattle.csi_world.proofs.KeyedCalls.{HasName, IsAnsweredOk, IsOwn, IsOne, Attachment, Staging, key_at, is_key, is_of, latest-last, Named, touches-key}
 use Rattle.csi_world.proofs.Heard.{IsHeard, IsLatest, success-ok, id-given, known-yes, known-no, latest-known}
 use Rattle.csi_world.proofs.Truth.{Truth}
 use Rattle.csi_world.proofs.Standing.{staging, IsStanding, IsAttachedSo, Stands}

@@ -25,8 +25,7 @@ use Rattle.csi_orchestrator.specs.declared.thing.Known.TheVariants.{Yes, No, May
 use Rattle.csi_orchestrator.specs.Thing.{Issued, touches, is_doing, is_yes, is_no}
 use Rattle.csi_orchestrator.specs.History.{Item, Accepted, History}
 use Rattle.csi_orchestrator.specs.Readings.{newest, issued_in, issued_of, is_success_of, has_success, known_by, known, id_in, id_by, id_of}
-use Rattle.csi_world.proofs.Issued.{HasName, IsAnsweredOk, ComesAfter, one-number}
-use Rattle.csi_world.proofs.Named.{Named}
+use Rattle.csi_world.proofs.KeyedCalls.{HasName, IsAnsweredOk, ComesAfter, one-number, Named}
 
 -- a reply like this was sent to a sent call of this number
 pub record WasSent (issued : List Issued) (frames : List Frame) (number : Number) (status : Status) (id : Option ℕ) : Type 0 where

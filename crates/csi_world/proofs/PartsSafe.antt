@@ -32,7 +32,7 @@ use Rattle.csi_world.specs.Simulated.{AreNodesShown}
 use Rattle.csi_world.specs.Audited.{ArePlugins}
 use Rattle.csi_world.specs.Listed.{Lists, IsListed, IsPublishing, ArePluginsSafe, is_held_as, is_row_held, row_with_id, is_staged_right, is_node_attached}
 use Rattle.csi_world.proofs.PluginSafety.{staged_there}
-use Rattle.csi_world.proofs.Likeness.{listed-of, node-of}
+use Rattle.csi_world.proofs.ListedNodes.{listed-of, node-of}
 
 -- ---- the controller
 

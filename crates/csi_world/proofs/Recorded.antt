@@ -24,7 +24,7 @@ use Rattle.csi_orchestrator.specs.Readings.{issued_in, known}
 use Rattle.csi_world.specs.World.{World, node_state}
 use Rattle.csi_world.specs.Safe.{holds_attached, holds_staged, holds_published, holds, IsRecordedRight}
 use Rattle.csi_world.proofs.WorldView.{node_view, view_of}
-use Rattle.csi_world.proofs.Issued.{HasName, IsOne, Existence, Attachment, Staging, Publication, named-found, keyed}
+use Rattle.csi_world.proofs.KeyedCalls.{HasName, IsOne, Existence, Attachment, Staging, Publication, named-found, keyed}
 use Rattle.csi_world.proofs.MarksTold.{same-tells}
 use Rattle.csi_world.proofs.Heard.{known-yes}
 use Rattle.csi_world.proofs.Guarded.{IsSoFar, latest-told, not-there}

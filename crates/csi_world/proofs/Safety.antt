@@ -18,7 +18,7 @@ use Rattle.csi_world.specs.World.{NodeAt, World, empty_world}
 use Rattle.csi_world.specs.Step.{Choice, MayChooseAll, chosen_all}
 use Rattle.csi_world.specs.Safe.{IsAttachedAs, IsStagedWhereAttached, Safe}
 use Rattle.csi_world.proofs.WorldView.{node_view, view_of}
-use Rattle.csi_world.proofs.Issued.{is_of}
+use Rattle.csi_world.proofs.KeyedCalls.{is_of}
 use Rattle.csi_world.proofs.Heard.{success-ok}
 use Rattle.csi_world.proofs.Recorded.{recorded}
 use Rattle.csi_world.proofs.Reached.{IsNodeOfFrames}
@@ -37,11 +37,8 @@ held-there world id at capability readonly h =
       is_held = among-find (is_held_at id at) world.controller.holdings holding found.1;
       of_volume = eqb-true holding.volume id parts.0;
       at_node = (same_text-tells holding.node at).0 parts.1;
-      same_capability = same holding found.2;
+      same_capability = let same : AttachedAs holding.capability holding.readonly ≡ AttachedAs capability readonly = found.2 in cc;
     }
-  where
-    same : (holding : Holding) → AttachedAs holding.capability holding.readonly ≡ AttachedAs capability readonly → holding.capability ≡ capability
-    same holding e = cc
 
 -- what is staged in a node's list is staged as its view has it
 staged-seen : PluginLaws → (config : Config) (world : World) (at : NodeAt) (staged : StagedVolume) → IsRight config world → IsAmong at world.nodes → IsAmong staged at.state.staged

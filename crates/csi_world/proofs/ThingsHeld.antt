@@ -28,7 +28,7 @@ use Rattle.csi_world.specs.World.{NodeAt, World, node_state}
 use Rattle.csi_world.specs.Safe.{holds, holds_attached, holds_staged, holds_published}
 use Rattle.csi_world.specs.Listed.{AreKept, Lists, node_listed, IsNodeAlike, IsListed, row_with_id, exists_thing, attached_thing, things_of, staged_by, staged_thing, published_by, published_thing, things_at, things_listed}
 use Rattle.csi_world.proofs.PartsSafe.{held_of}
-use Rattle.csi_world.proofs.Likeness.{listed-of, node-of, node-found-by-id}
+use Rattle.csi_world.proofs.ListedNodes.{listed-of, node-of, node-found-by-id}
 
 -- ---- rows, of which at most one has a name, and one an id
 

@@ -4,7 +4,7 @@ use Rattle.std.proofs.lemmas.List.{take_more, map-append}
 use Rattle.csi_node.specs.Record.{NodeParts}
 use Rattle.csi_world.specs.World.{NodeAt}
 use Rattle.csi_world.specs.Listed.{node_listed, AreListsOf}
-use Rattle.csi_world.proofs.Laid.{lists-more}
+use Rattle.csi_world.proofs.ListedNodes.{lists-more}
 use Rattle.csi_world.proofs.auditing.gathering.list_nodes.Goals as goal
 
 pub loop-node-preserved : goal.loop-node-preserved

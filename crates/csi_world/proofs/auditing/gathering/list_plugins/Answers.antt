@@ -1,7 +1,7 @@
 -- By what each reader says.
 use Rattle.std.proofs.Common.{map, subst}
 use Rattle.csi_world.specs.Listed.{AreDistinct, node_listed}
-use Rattle.csi_world.proofs.Laid.{lists-alike, shown-ids}
+use Rattle.csi_world.proofs.ListedNodes.{lists-alike, shown-ids}
 use Rattle.csi_world.proofs.auditing.gathering.list_plugins.Goals as goal
 
 pub returns : goal.returns

@@ -3,7 +3,7 @@ use Rattle.std.proofs.Common.{rules, ◌∙◌}
 use Rattle.std.proofs.lemmas.Fn.{always_returns_same}
 use Rattle.csi_orchestrator.specs.declared.thing.Thing.{Thing}
 use Rattle.csi_orchestrator.specs.Listing.{thing_order}
-use Rattle.csi_world.proofs.ThingsFound.{listed-told}
+use Rattle.csi_world.proofs.FoundByHalving.{listed-told}
 use Rattle.csi_world.proofs.auditing.halving.has_thing.Goals as goal
 
 pub returns : goal.returns

@@ -4,7 +4,7 @@ use Rattle.std.proofs.lemmas.Fn.{always_returns_same}
 use Rattle.csi_orchestrator.specs.declared.thing.Thing.{Thing}
 use Rattle.csi_orchestrator.specs.declared.thing.Known.{Known}
 use Rattle.csi_orchestrator.specs.Listing.{thing_order}
-use Rattle.csi_world.proofs.ThingsFound.{noted-told}
+use Rattle.csi_world.proofs.FoundByHalving.{noted-told}
 use Rattle.csi_world.proofs.auditing.halving.is_noted.Goals as goal
 
 pub returns : goal.returns

@@ -2,7 +2,7 @@
 use Rattle.std.proofs.Common.{rules, ◌∙◌}
 use Rattle.std.proofs.lemmas.List.Sorted.{answers_always}
 use Rattle.csi_controller.specs.declared.row.ControllerRow.{ControllerRow}
-use Rattle.csi_world.proofs.Search.{searched}
+use Rattle.csi_world.proofs.FoundByHalving.{searched}
 use Rattle.csi_world.proofs.auditing.halving.place_of_row.Goals as goal
 
 pub returns : goal.returns
