@@ -87,7 +87,8 @@ made-id controller name id names h = by (controllers.live_named name controller)
 
 -- where CreateVolume was carried out and answered OK, the name has the id that the reply has
 made-now : (new : World) (call : Issued) (key : Key) (reply : Reply) (id : ℕ) (create : List ℕ) (required limit : ℕ) (capabilities : List Capability) → key_at call.name call.party call.call ≡ Some key
-    → controllers.AreNamed new.controller → (view_of new).held key ≡ asked call.call reply → call.call ≡ calls.CreateVolume create required limit capabilities → reply.id ≡ Some id → HasName new.controller call.name id
+    → controllers.AreNamed new.controller → (view_of new).held key ≡ asked call.call reply → call.call ≡ calls.CreateVolume create required limit capabilities
+    → reply.id ≡ Some id → HasName new.controller call.name id
 made-now new call key reply id create required limit capabilities of_key names done is given =
     let exists : key ≡ Exists call.name = same_Some key (Exists call.name) (sym of_key ∙ ap (key_at call.name call.party) is) in
     let held : (plugin_view new (party_of key)).held key ≡ Some (HasId id) = done ∙ ap (λ c. asked c reply) is ∙ ap (option_map HasId) given in
@@ -119,7 +120,8 @@ module _ (laws : PluginLaws) (config : Config) (world : World) (controller : Con
             made = λ other r id create required limit capabilities among is ok given.
                 ⊎_elim (λ was. keeps_ids other.name id (well.named.made other r id create required limit capabilities among is was given))
                 (λ now. subst (λ (x : Issued). HasName controller x.name id) (sym now.0)
-                (made-now next call key reply id create required limit capabilities keyed_call.by_name names now.2 (ap (λ (x : Issued). x.call) (sym now.0) ∙ is) (ap (λ (x : Reply). x.id) (sym now.1) ∙ given)))
+                (made-now next call key reply id create required limit capabilities keyed_call.by_name names now.2 (ap (λ (x : Issued). x.call) (sym now.0) ∙ is)
+                (ap (λ (x : Reply). x.id) (sym now.1) ∙ given)))
                 (ok-either issued world.frames (view_of world) (view_of next) call key kind reply well.truth effect other r among ok);
           };
           names = names;
@@ -149,7 +151,8 @@ module _ (laws : PluginLaws) (config : Config) (world : World) (controller : Con
       others : ChangesOnly (party_of key) world next
       others = subst (λ p. ChangesOnly p world next) (sym keyed_call.of_party) only
 
-      becomes : Acts key (delivery_of call kind reply) (plugin_view world (party_of key)) (plugin_view next (party_of key)) ⊎ Rests key (delivery_of call kind reply) (plugin_view world (party_of key)) (plugin_view next (party_of key))
+      becomes : Acts key (delivery_of call kind reply) (plugin_view world (party_of key)) (plugin_view next (party_of key))
+          ⊎ Rests key (delivery_of call kind reply) (plugin_view world (party_of key)) (plugin_view next (party_of key))
       becomes = subst (λ p. Becomes (Some key) (delivery_of call kind reply) (plugin_view world p) (plugin_view next p)) (sym keyed_call.of_party) delivered.becomes
 
       effect : IsEffect issued world.frames (view_of world) (view_of next) call key kind reply
@@ -157,7 +160,8 @@ module _ (laws : PluginLaws) (config : Config) (world : World) (controller : Con
           ⊎_elim (λ acts.
           effect-acts issued world.frames (view_of world) (view_of next) call key kind reply well.truth among of (kept-either world next call key kind reply keyed_call.of_party others acts)
           (acts-all world next key (delivery_of call kind reply) others acts)) (λ rests.
-          effect-rests issued world.frames (view_of world) (view_of next) call key kind reply well.truth among of keyed_call.of_party (rests-all world next key (delivery_of call kind reply) others rests)) becomes
+          effect-rests issued world.frames (view_of world) (view_of next) call key kind reply well.truth among of keyed_call.of_party
+          (rests-all world next key (delivery_of call kind reply) others rests)) becomes
 
 -- the controller got a call
 controller-got : PluginLaws → (config : Config) (world : World) (number : Number) (name : List ℕ) (c : Call) → IsGood config world

@@ -78,7 +78,8 @@ asked-undoing (calls.NodeUnpublishVolume id target) reply h = refl
 asked-undoing c reply h = absurd (false≢true (sym h))
 
 -- the latest call of a thing, where its success was heard, was answered OK and left the thing as it asks
-pub latest-told : (history : History) (frames : List Frame) (view : View) (controller : ControllerState) (thing : Thing) (key : Key) (call : Issued) (doing : Bool) → IsSoFar history frames view controller
+pub latest-told : (history : History) (frames : List Frame) (view : View) (controller : ControllerState) (thing : Thing) (key : Key) (call : Issued) (doing : Bool)
+    → IsSoFar history frames view controller
     → IsOne controller thing key → IsLatest history.items thing call doing
     → (reply : Reply) × IsAnsweredOk frames call reply × (find (is_of key) (issued_in history.items) ≡ Some call) × (view.held key ≡ asked call.call reply)
 latest-told history frames view controller thing key call doing so one latest =
@@ -103,7 +104,8 @@ none-stands history frames view controller name node id capability so has is_no 
     ⊎_elim (λ none. false≢true (sym (none_passes p issued call (sym (found-one history frames view controller thing (Staged id node) so one) ∙ none) may.among) ∙ of)) (λ latest.
     let told = latest-told history frames view controller thing (Staged id node) latest.0 false so one latest.1 in
     let spent = so.truth.spent latest.0 (Staged id node) told.0 (among-find p issued latest.0 told.2) (find-passes p issued latest.0 told.2) told.1 in
-    ⊎_elim (λ e. false≢true (sym latest.1.is_so ∙ ap (λ (x : Issued). is_doing x.call) (sym e))) (λ before. false≢true (sym may.unspent ∙ so.closed (Staged id node) may.number (latest.0).number before spent))
+    ⊎_elim (λ e. false≢true (sym latest.1.is_so ∙ ap (λ (x : Issued). is_doing x.call) (sym e)))
+    (λ before. false≢true (sym may.unspent ∙ so.closed (Staged id node) may.number (latest.0).number before spent))
     (latest-last (Staged id node) issued latest.0 call so.truth.numbers told.2 may.among of)) (known-no history thing is_no)
   where
     issued : List Issued

@@ -1,5 +1,6 @@
 -- Why the run of any list of events is made of steps.
-use Rattle.std.proofs.Common.{◌≡◌, ◌+◌, ◌*◌, ◌≤◌, ℕ, zero, suc, List, [], ◌∷◌, ◌++◌, length, map, reverse, Bool, true, false, cond, Option, Some, None, Result, Ok, Err, slice_get, refl, sym, ◌∙◌, ap, subst, arith, length-append, append_assoc, append-nil}
+use Rattle.std.proofs.Common.{◌≡◌, ◌+◌, ◌*◌, ◌≤◌, ℕ, zero, suc, List, [], ◌∷◌, ◌++◌, length, map, reverse, Bool, true, false}
+use Rattle.std.proofs.Common.{cond, Option, Some, None, Result, Ok, Err, slice_get, refl, sym, ◌∙◌, ap, subst, arith, length-append, append_assoc, append-nil}
 use Rattle.std.proofs.lemmas.List.{reverse-append}
 use Rattle.csi_types.specs.declared.call.Party.{Party}
 use Rattle.csi_types.specs.declared.call.Party.TheVariants.{Controller, Node}
@@ -138,7 +139,8 @@ calls config world frame among reached party = by party
           reached = subst (stepwise.IsReached (map node_id config.nodes)) (sym (answered-history config world frame)) reached;
         }
 
-    at : (b : Bool) → Stepped config world (cond b (let o : Occurred = record { world = answered config world frame; outcome = outcomes.Answered (next_frame world) } in o) (record { world = world; outcome = outcomes.NoSuchNode })).world
+    at : (b : Bool) → Stepped config world (cond b (let o : Occurred = record { world = answered config world frame; outcome = outcomes.Answered (next_frame world) } in o)
+        (record { world = world; outcome = outcomes.NoSuchNode })).world
     at true = answers
     at false = record { comes = stays config world 3; reached = reached }
 
@@ -167,7 +169,8 @@ one-event config world events.RestartOrchestrator law reached = orchestrates con
 one-event config world event law reached = record { comes = stays config world 3; reached = reached }
 
 -- the run of any list of events is made of steps, at most three for each
-run-from : (config : Config) (world : World) (list : List Event) → stepwise.MovesLaw → stepwise.IsReached (map node_id config.nodes) world.history → Comes config world (after_from config world list).world (3 * length list)
+run-from : (config : Config) (world : World) (list : List Event) → stepwise.MovesLaw → stepwise.IsReached (map node_id config.nodes) world.history
+    → Comes config world (after_from config world list).world (3 * length list)
 run-from config world [] law reached = stays config world 0
 run-from config world (event ∷ others) law reached =
     let first = one-event config world event law reached in

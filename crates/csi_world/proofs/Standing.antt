@@ -66,7 +66,8 @@ staged_by name Controller (calls.NodeStageVolume i other) reply id node capabili
 staged_by name party c reply id node capability of asks = absurd (false≢true of)
 
 -- whatever stands is attached so after a plugin answered a sent call, since it stood before
-pub stands-answered : (items : List Item) (frames : List Frame) (old new : View) (call : Issued) (key : Key) (kind : Kind) (reply : Reply) → IsEffect (issued_in items) frames old new call key kind reply
+pub stands-answered : (items : List Item) (frames : List Frame) (old new : View) (call : Issued) (key : Key) (kind : Kind) (reply : Reply)
+    → IsEffect (issued_in items) frames old new call key kind reply
     → Stands items old → Stands items new
 stands-answered items frames old new call key kind reply effect stands id node capability standing = stands id node capability (before standing)
   where
@@ -74,7 +75,8 @@ stands-answered items frames old new call key kind reply effect stands id node c
     carried_out same fresh asks =
         let is = staged_by call.name call.party call.call reply id node capability (ap (λ k. is_of k call) same ∙ effect.of) asks in
         let whole : call ≡ staging call.name call.number id node capability = λ i. record { name = call.name; number = call.number; party = is.0 i; call = is.1 i } in
-        inr (record { name = call.name; number = call.number; among = subst (λ (x : Issued). IsAmong x (issued_in items)) whole effect.among; unspent = ap (λ k. old.is_spent k call.number) same ∙ fresh })
+        let among = subst (λ (x : Issued). IsAmong x (issued_in items)) whole effect.among in
+        inr (record { name = call.name; number = call.number; among = among; unspent = ap (λ k. old.is_spent k call.number) same ∙ fresh })
 
     before : IsStanding (issued_in items) new id node capability → IsStanding (issued_in items) old id node capability
     before (inl held) = ⊎_elim (λ same. inl (sym same ∙ held)) (λ now. carried_out now.0 now.1 (sym now.2 ∙ held)) (effect.held (Staged id node))

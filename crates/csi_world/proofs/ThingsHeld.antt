@@ -120,7 +120,8 @@ module _ (lists : Lists) (world : World) (is : IsListed lists world) (kept : Are
   id-of-row id row e = (among-find (λ (r : ControllerRow). r.id == id) rows row e, sym (eqb-true row.id id (find-passes (λ (r : ControllerRow). r.id == id) rows row e)))
 
   -- what is listed as staged is staged, where a row has its id
-  staged-holds : (n : NodeLists) → IsAmong n lists.nodes → (s : StagedEntry) → IsAmong s n.staged.items → (row : ControllerRow) → row_with_id s.id rows ≡ Some row → holds world (Staged row.name n.id) ≡ true
+  staged-holds : (n : NodeLists) → IsAmong n lists.nodes → (s : StagedEntry) → IsAmong s n.staged.items → (row : ControllerRow) → row_with_id s.id rows ≡ Some row
+      → holds world (Staged row.name n.id) ≡ true
   staged-holds n at s here row e =
       let own = id-of-row s.id row e in
       let node = node-of-list n at in
@@ -140,7 +141,8 @@ module _ (lists : Lists) (world : World) (is : IsListed lists world) (kept : Are
       let node = node-of-list n at in
       let list : List PublishedVolume = (node.0).state.published in
       let p : PublishedVolume → Bool = is_published_at row.id s.target in
-      let there = among-by_key (λ (x : PublishedVolume). x.volume) (map published_shown n.published.items) list (node.1).published (published_shown s) (in-map published_shown n.published.items s here) in
+      let shown = in-map published_shown n.published.items s here in
+      let there = among-by_key (λ (x : PublishedVolume). x.volume) (map published_shown n.published.items) list (node.1).published (published_shown s) shown in
       let volume = volume-of row own.0 in
       let place = node.2 in
       (λ i. holds_published s.target (volume i) (place i)) ∙ sym (any-find p list)
@@ -150,7 +152,8 @@ module _ (lists : Lists) (world : World) (is : IsListed lists world) (kept : Are
   pub listed-then-holds : (thing : Thing) → IsAmong thing (things_listed rows lists.nodes) → holds world thing ≡ true
   listed-then-holds thing among =
       ⊎_elim (λ here. let found = among-flat things_of rows thing here in of_row found.0 found.1 (among-joined (exists_thing found.0) _ thing found.2))
-      (λ here. let found = among-flat (things_at rows) lists.nodes thing here in of_list found.0 found.1 (among-joined (flat_map (staged_thing rows (found.0).id) (found.0).staged.items) _ thing found.2))
+      (λ here. let found = among-flat (things_at rows) lists.nodes thing here in
+      of_list found.0 found.1 (among-joined (flat_map (staged_thing rows (found.0).id) (found.0).staged.items) _ thing found.2))
       (among-joined (flat_map things_of rows) _ thing among)
     where
       Holds : Thing → Type 0
@@ -172,12 +175,14 @@ module _ (lists : Lists) (world : World) (is : IsListed lists world) (kept : Are
       staged_at n at s own None e here = absurd here
       staged_at n at s own (Some row) e here = among-one Holds thing _ here (staged-holds n at s own row e)
 
-      published_at : (n : NodeLists) → IsAmong n lists.nodes → (s : PublishedEntry) → IsAmong s n.published.items → (o : Option ControllerRow) → row_with_id s.id rows ≡ o → IsAmong thing (published_by n.id s.target o)
+      published_at : (n : NodeLists) → IsAmong n lists.nodes → (s : PublishedEntry) → IsAmong s n.published.items → (o : Option ControllerRow) → row_with_id s.id rows ≡ o
+          → IsAmong thing (published_by n.id s.target o)
           → Holds thing
       published_at n at s own None e here = absurd here
       published_at n at s own (Some row) e here = among-one Holds thing _ here (published-holds n at s own row e)
 
-      of_list : (n : NodeLists) → IsAmong n lists.nodes → IsAmong thing (flat_map (staged_thing rows n.id) n.staged.items) ⊎ IsAmong thing (flat_map (published_thing rows n.id) n.published.items) → Holds thing
+      of_list : (n : NodeLists) → IsAmong n lists.nodes
+          → IsAmong thing (flat_map (staged_thing rows n.id) n.staged.items) ⊎ IsAmong thing (flat_map (published_thing rows n.id) n.published.items) → Holds thing
       of_list n at (inl here) = let found = among-flat (staged_thing rows n.id) n.staged.items thing here in staged_at n at found.0 found.1 (row_with_id (found.0).id rows) refl found.2
       of_list n at (inr here) = let found = among-flat (published_thing rows n.id) n.published.items thing here in published_at n at found.0 found.1 (row_with_id (found.0).id rows) refl found.2
 

@@ -157,7 +157,8 @@ module _ (issued : List Issued) (frames : List Frame) (old new : View) (call : I
         held = λ k. held k (same_key k key) refl (is_ok_status reply.status) refl;
       }
     where
-      held : (k : Key) (b : Bool) → same_key k key ≡ b → (s : Bool) → is_ok_status reply.status ≡ s → (new.held k ≡ old.held k) ⊎ ((k ≡ key) × (old.is_spent key call.number ≡ false) × (new.held k ≡ asked call.call reply))
+      held : (k : Key) (b : Bool) → same_key k key ≡ b → (s : Bool) → is_ok_status reply.status ≡ s
+          → (new.held k ≡ old.held k) ⊎ ((k ≡ key) × (old.is_spent key call.number ≡ false) × (new.held k ≡ asked call.call reply))
       held k false e s t = inl (acts.others k e)
       held k true e false t =
           let same : k ≡ key = (same_key-tells k key).0 e in
@@ -198,7 +199,8 @@ module _ (issued : List Issued) (frames : List Frame) (old new : View) (call : I
         calls = λ frame c among is. ⊎_elim (λ there. truth.calls frame c there is) (λ e. absurd (no_call c (sym (ap (λ (f : Frame). f.body) e) ∙ is))) (among-either frames _ frame among);
         replies = λ number party k r among.
             ⊎_elim (truth.replies number party k r) (λ e. record { call = call; among = effect.among; has_number = sym (ap (λ (f : Frame). f.number) e) }) (among-either frames _ _ among);
-        ids = λ number party k r among ok. ⊎_elim (λ there. truth.ids number party k r there ok) (λ e. rule k r (reply-parts number call.number party call.party k kind r reply e) ok) (among-either frames _ _ among);
+        ids = λ number party k r among ok.
+            ⊎_elim (λ there. truth.ids number party k r there ok) (λ e. rule k r (reply-parts number call.number party call.party k kind r reply e) ok) (among-either frames _ _ among);
         kept = effect.kept;
         numbers = truth.numbers;
         spent = λ other k r among of ok.
