@@ -36,11 +36,11 @@ use Rattle.csi_world.specs.World.{NodeAt, World, node_state, with_node, with_fra
 use Rattle.csi_world.specs.Step.{frame_of, answered_by_node, answered_by, answered}
 use Rattle.csi_world.proofs.WorldView.{party_of, node_view, plugin_view, view_of, ChangesOnly, acts-all, rests-all, closed-all}
 use Rattle.csi_world.proofs.KeyedCalls.{HasName, IsKeyed, key_at, is_key, is_of, keyed, KeepsIds, own-kept}
-use Rattle.csi_world.proofs.Heard.{sent-more}
-use Rattle.csi_world.proofs.Truth.{answer_to, delivery_of, IsEffect, effect-acts, effect-rests, ok-either, truth-answered}
-use Rattle.csi_world.proofs.Standing.{stands-answered}
-use Rattle.csi_world.proofs.Recorded.{IsWell}
-use Rattle.csi_world.proofs.Reached.{IsReached, controller-next, node-next, node-of-frames, node_state-same, node_state-other, with_node-same}
+use Rattle.csi_world.proofs.HeardReplies.{sent-more}
+use Rattle.csi_world.proofs.RepliesTold.{answer_to, delivery_of, IsEffect, effect-acts, effect-rests, ok-either, truth-answered}
+use Rattle.csi_world.proofs.StagedAttached.{stands-answered}
+use Rattle.csi_world.proofs.RecordedRight.{IsWell}
+use Rattle.csi_world.proofs.PluginsReached.{IsReached, controller-next, node-next, node-of-frames, node_state-same, node_state-other, with_node-same}
 
 -- the laws of the plugins
 pub record PluginLaws : Type 0 where

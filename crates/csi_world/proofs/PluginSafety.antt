@@ -12,7 +12,7 @@ use Rattle.csi_node.specs.Safe.{IsPublishedRight, NodeSafetyLaw}
 use Rattle.csi_node.specs.State.{NodeState, StagedVolume, staged_of}
 use Rattle.csi_world.specs.World.{World}
 use Rattle.csi_world.specs.Safe.{IsPublishedWhereStaged}
-use Rattle.csi_world.proofs.Reached.{IsReached, IsNodeOfFrames}
+use Rattle.csi_world.proofs.PluginsReached.{IsReached, IsNodeOfFrames}
 
 -- any two holdings of one volume are apart, and what is attached wasn't deleted
 pub exclusive : ControllerSafetyLaw → (config : Config) (world : World) → IsReached config world → IsExclusive world.controller

@@ -9,4 +9,4 @@ pub mod Simulating
 pub mod System
 pub mod Listed
 pub mod Laws
-pub mod Rows
+pub mod Worked

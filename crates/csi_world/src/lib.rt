@@ -9,11 +9,11 @@ mod event;
 mod laws;
 mod occurring;
 mod plugins;
-mod rows;
 mod sending;
 mod simulation;
 mod system;
 mod violation;
+mod worked;
 mod world;
 
 pub use assembling::AssembleFault;

@@ -4,7 +4,7 @@ use Rattle.std.proofs.lemmas.Bool.{false≢true}
 use Rattle.csi_types.specs.declared.config.NodeSlots.{NodeSlots}
 use Rattle.csi_node.specs.Record.{NodeParts}
 use Rattle.csi_world.specs.Assembled.{AreOfNodes}
-use Rattle.csi_world.proofs.OwnNodes.{same-at, same-from}
+use Rattle.csi_world.proofs.AssembledNodes.{same-at, same-from}
 use Rattle.csi_world.proofs.assembling.are_of_nodes.Goals as goal
 
 pub returns-then-not-is_same : goal.returns-then-not-is_same

@@ -1,7 +1,7 @@
 -- By the decoder's promise of every frame.
 use Rattle.std.proofs.Common.{ℕ, length, ap}
 use Rattle.csi_types.specs.Frame.{Frame}
-use Rattle.csi_world.proofs.Carried.{begins-whole, only-memory, only-value}
+use Rattle.csi_world.proofs.CarriedFrames.{begins-whole, only-memory, only-value}
 use Rattle.csi_world.proofs.carrying.read.Goals as goal
 
 pub memory_of-requires : goal.memory_of-requires

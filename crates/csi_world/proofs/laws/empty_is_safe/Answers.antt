@@ -9,7 +9,7 @@ use Rattle.csi_types.specs.Config.{Config}
 use Rattle.csi_lists.specs.Members.{IsAmong}
 use Rattle.csi_world.specs.World.{empty_world}
 use Rattle.csi_world.specs.Safe.{holds}
-use Rattle.csi_world.proofs.Reached.{knows-nothing}
+use Rattle.csi_world.proofs.PluginsReached.{knows-nothing}
 use Rattle.csi_world.proofs.laws.empty_is_safe.Goals as goal
 
 -- in the empty world no thing holds

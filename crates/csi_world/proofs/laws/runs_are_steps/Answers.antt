@@ -1,5 +1,5 @@
 -- By the law of the orchestrator's moves.
-use Rattle.csi_world.proofs.Runs.{runs-are-steps}
+use Rattle.csi_world.proofs.RunSteps.{runs-are-steps}
 use Rattle.csi_world.proofs.laws.runs_are_steps.Goals as goal
 
 pub returns : goal.returns

@@ -1,5 +1,5 @@
 -- By the plugins' laws.
-use Rattle.csi_world.proofs.Safety.{worlds_are_safe}
+use Rattle.csi_world.proofs.WorldSafety.{worlds_are_safe}
 use Rattle.csi_world.proofs.laws.safety_law.Goals as goal
 
 pub returns : goal.returns

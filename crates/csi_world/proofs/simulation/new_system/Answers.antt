@@ -2,7 +2,7 @@
 use Rattle.std.proofs.Common.{◌∙◌, ap, map}
 use Rattle.csi_world.specs.After.{node_id}
 use Rattle.csi_world.specs.Simulating.{new_node_parts}
-use Rattle.csi_world.proofs.Simulations.{run-first}
+use Rattle.csi_world.proofs.SimulatedRuns.{run-first}
 use Rattle.csi_world.proofs.simulation.new_system.Goals as goal
 
 pub returns : goal.returns

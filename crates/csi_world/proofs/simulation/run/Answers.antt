@@ -5,7 +5,7 @@ use Rattle.csi_world.specs.declared.event.Event.{Event}
 use Rattle.csi_world.specs.After.{after}
 use Rattle.csi_world.specs.Simulating.{IsRun}
 use Rattle.csi_world.specs.System.{shown_of}
-use Rattle.csi_world.proofs.Simulations.{run-more}
+use Rattle.csi_world.proofs.SimulatedRuns.{run-more}
 use Rattle.csi_world.proofs.simulation.run.Goals as goal
 
 pub loop-event-preserved : goal.loop-event-preserved

@@ -2,7 +2,7 @@
 use Rattle.std.proofs.Common.{sym, ◌∙◌}
 use Rattle.std.proofs.lemmas.Result.{IfOk-weaker}
 use Rattle.csi_world.specs.System.{shown_of}
-use Rattle.csi_world.proofs.Called.{node-becomes, nowhere-becomes}
+use Rattle.csi_world.proofs.SystemCalls.{node-becomes, nowhere-becomes}
 use Rattle.csi_world.proofs.system.System.call.Goals as goal
 
 pub returns-in_ok-reply-in-Some : goal.returns-in_ok-reply-in-Some

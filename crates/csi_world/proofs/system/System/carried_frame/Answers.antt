@@ -2,7 +2,7 @@
 use Rattle.std.proofs.Common.{◌∙◌, ap}
 use Rattle.std.proofs.lemmas.Result.{IfOk-weaker}
 use Rattle.csi_world.specs.Simulating.{numbered}
-use Rattle.csi_world.proofs.Carried.{frame-numbered}
+use Rattle.csi_world.proofs.CarriedFrames.{frame-numbered}
 use Rattle.csi_world.proofs.system.System.carried_frame.Goals as goal
 
 pub returns : goal.returns

@@ -3,7 +3,7 @@ use Rattle.std.proofs.Common.{sym, ◌∙◌, ap}
 use Rattle.csi_orchestrator.specs.Moves.{ToCreate, ToUse, ToStop, ToDelete, TimesOut, Restarts, Sends, Restarted}
 use Rattle.csi_world.specs.After.{occurs}
 use Rattle.csi_world.specs.System.{shown_of}
-use Rattle.csi_world.proofs.Orchestrated.{input-becomes}
+use Rattle.csi_world.proofs.SystemInputs.{input-becomes}
 use Rattle.csi_world.proofs.system.System.outcome_of.Goals as goal
 
 pub returns-in-Create : goal.returns-in-Create

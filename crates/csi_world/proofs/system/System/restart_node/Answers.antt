@@ -1,6 +1,6 @@
 -- The node is put where it stood.
 use Rattle.csi_world.specs.System.{shown_of}
-use Rattle.csi_world.proofs.Called.{node-restarts, nowhere-restarts}
+use Rattle.csi_world.proofs.SystemCalls.{node-restarts, nowhere-restarts}
 use Rattle.csi_world.proofs.system.System.restart_node.Goals as goal
 
 pub returns-in_ok-node-in-Some : goal.returns-in_ok-node-in-Some

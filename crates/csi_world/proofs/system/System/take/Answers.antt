@@ -3,7 +3,7 @@ use Rattle.std.proofs.Common.{◌∙◌, sym, ap}
 use Rattle.csi_orchestrator.specs.Moves.{Comes, Hears}
 use Rattle.csi_world.specs.After.{delivered_body}
 use Rattle.csi_world.specs.System.{shown_of}
-use Rattle.csi_world.proofs.Orchestrated.{input-becomes}
+use Rattle.csi_world.proofs.SystemInputs.{input-becomes}
 use Rattle.csi_world.proofs.system.System.take.Goals as goal
 
 pub returns-in-Reply : goal.returns-in-Reply

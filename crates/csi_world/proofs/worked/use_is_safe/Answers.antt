@@ -1,6 +1,6 @@
 -- By the law of runs; the four things are some of all.
-use Rattle.csi_world.specs.Rows.{config, using, made, attached, staged, published}
-use Rattle.csi_world.proofs.rows.use_is_safe.Goals as goal
+use Rattle.csi_world.specs.Worked.{config, using, made, attached, staged, published}
+use Rattle.csi_world.proofs.worked.use_is_safe.Goals as goal
 
 pub returns : goal.returns
 returns c =

@@ -1,4 +1,4 @@
--- Worked rows of runs of events, which the checker computes.
+-- Worked runs of events, which the checker computes.
 use Rattle.std.specs.Prelude.{◌≡◌, ℕ, List, [], ◌∷◌, ◌++◌, length, slice_get, true, false, Some, None, codes}
 use Rattle.csi_types.specs.declared.number.Number.{Number}
 use Rattle.csi_types.specs.declared.mode.Mode.TheVariants.{SingleNodeWriter}
@@ -91,7 +91,7 @@ abbrev pub using_outcomes : List Outcome
 using_outcomes = staging_outcomes ++ Answered 6 ∷ Taken (Some 7) ∷ Answered 8 ∷ Taken None ∷ []
 
 -- eight frames lead from nothing to a published volume
-pub record UseRow : Type 0 where
+pub record WorkedUse : Type 0 where
   pub outcomes : outcomes_of using ≡ using_outcomes
   pub frames : length (world_of using).frames ≡ 8
   pub made_known : known_after using made ≡ Yes
@@ -118,7 +118,7 @@ UseIsMadeOfSteps = IsMadeOfSteps config using
 abbrev pub late_stage : List Event
 late_stage = staging ++ Timeout v ∷ Timeout v ∷ Timeout v ∷ Deliver 8 ∷ Deliver 9 ∷ Deliver 5 ∷ []
 
-pub record LateStageRow : Type 0 where
+pub record WorkedLateStage : Type 0 where
   pub outcomes : outcomes_of late_stage ≡ staging_outcomes ++ Sent 6 ∷ Sent 7 ∷ Sent 8 ∷ Answered 9 ∷ Taken (Some 10) ∷ Answered 11 ∷ []
   pub undo : slice_get (world_of late_stage).frames 7 ≡ Some (call_frame (number 1 6) (Node n1) (calls.NodeUnstageVolume 1))
   pub detach : slice_get (world_of late_stage).frames 9 ≡ Some (call_frame (number 1 7) Controller (calls.ControllerUnpublishVolume 1 n1))
@@ -131,7 +131,7 @@ late_detach =
     using ++ Stop v n1 a ∷ Deliver 9 ∷ Deliver 10 ∷ Deliver 11 ∷ Deliver 12 ∷ Timeout v ∷ Deliver 14 ∷ Deliver 15
     ∷ use_v ∷ Deliver 16 ∷ Deliver 17 ∷ Deliver 18 ∷ Deliver 19 ∷ Deliver 13 ∷ []
 
-pub record LateDetachRow : Type 0 where
+pub record WorkedLateDetach : Type 0 where
   pub outcomes : outcomes_of late_detach
       ≡ using_outcomes ++ Sent 9 ∷ Answered 10 ∷ Taken (Some 11) ∷ Answered 12 ∷ Taken (Some 13) ∷ Sent 14 ∷ Answered 15 ∷ Taken None
       ∷ Sent 16 ∷ Answered 17 ∷ Taken (Some 18) ∷ Answered 19 ∷ Taken (Some 20) ∷ Answered 21 ∷ []
@@ -144,7 +144,7 @@ pub record LateDetachRow : Type 0 where
 abbrev pub late_reply : List Event
 late_reply = publishing ++ Timeout v ∷ Deliver 8 ∷ []
 
-pub record LateReplyRow : Type 0 where
+pub record WorkedLateReply : Type 0 where
   pub outcomes : outcomes_of late_reply ≡ staging_outcomes ++ Answered 6 ∷ Taken (Some 7) ∷ Answered 8 ∷ Sent 9 ∷ Ignored ∷ []
   pub maybe_published : known_after late_reply published ≡ Maybe
 
@@ -152,7 +152,7 @@ pub record LateReplyRow : Type 0 where
 abbrev pub restarted : List Event
 restarted = attaching ++ Deliver 3 ∷ RestartOrchestrator ∷ Timeout v ∷ Deliver 4 ∷ Deliver 5 ∷ []
 
-pub record RestartRow : Type 0 where
+pub record WorkedRestart : Type 0 where
   pub outcomes : outcomes_of restarted ≡ Sent 1 ∷ Answered 2 ∷ Taken None ∷ Sent 3 ∷ Answered 4 ∷ Restarted ∷ Sent 5 ∷ Ignored ∷ Answered 6 ∷ []
   pub session : last_number (world_of (attaching ++ Deliver 3 ∷ RestartOrchestrator ∷ [])).history ≡ number 2 0
   pub maybe_attached : known_after (attaching ++ Deliver 3 ∷ RestartOrchestrator ∷ []) attached ≡ Maybe
@@ -163,7 +163,7 @@ pub record RestartRow : Type 0 where
 abbrev pub undone : List Event
 undone = attaching ++ Delete v ∷ Timeout v ∷ Timeout v ∷ Timeout v ∷ Deliver 6 ∷ Deliver 7 ∷ Delete v ∷ []
 
-pub record UndoneRow : Type 0 where
+pub record WorkedUndone : Type 0 where
   pub outcomes : outcomes_of undone
       ≡ Sent 1 ∷ Answered 2 ∷ Taken None ∷ Sent 3 ∷ Refused InUse ∷ Sent 4 ∷ Sent 5 ∷ Sent 6 ∷ Answered 7 ∷ Taken None ∷ Sent 8 ∷ []
   pub undo : slice_get (world_of undone).frames 5 ≡ Some (call_frame (number 1 5) Controller (calls.ControllerUnpublishVolume 1 n1))
@@ -173,6 +173,6 @@ pub record UndoneRow : Type 0 where
 abbrev pub no_nodes : Config
 no_nodes = record { greatest = 1000; nodes = [] }
 
-pub record NothingRow : Type 0 where
+pub record WorkedNothing : Type 0 where
   pub no_frame : after no_nodes (Deliver 99 ∷ []) ≡ record { world = empty_world no_nodes; outcomes = NoSuchFrame ∷ [] }
   pub no_event : after no_nodes [] ≡ record { world = empty_world no_nodes; outcomes = [] }

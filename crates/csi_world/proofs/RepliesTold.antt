@@ -26,7 +26,7 @@ use Rattle.csi_types.proofs.Equality.{same_key-tells}
 use Rattle.csi_orchestrator.specs.Thing.{Issued}
 use Rattle.csi_world.specs.Step.{frame_of}
 use Rattle.csi_world.proofs.WorldView.{party_of}
-use Rattle.csi_world.proofs.Heard.{is_ok-then}
+use Rattle.csi_world.proofs.HeardReplies.{is_ok-then}
 use Rattle.csi_world.proofs.KeyedCalls.{is_of, is_key, key_at, IsAnsweredOk, ComesAfter, before-irreflexive, one-number, latest-last}
 
 -- a call with this number was sent

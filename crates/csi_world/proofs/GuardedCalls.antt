@@ -26,9 +26,9 @@ use Rattle.csi_orchestrator.specs.History.{Held, History}
 use Rattle.csi_orchestrator.specs.Readings.{newest, issued_in, known, held_by, held}
 use Rattle.csi_orchestrator.specs.Guards.{IsGuarded, HasId}
 use Rattle.csi_world.proofs.KeyedCalls.{HasName, IsAnsweredOk, IsOwn, IsOne, Attachment, Staging, key_at, is_key, is_of, latest-last, Named, touches-key}
-use Rattle.csi_world.proofs.Heard.{IsHeard, IsLatest, success-ok, id-given, known-yes, known-no, latest-known}
-use Rattle.csi_world.proofs.Truth.{Truth}
-use Rattle.csi_world.proofs.Standing.{staging, IsStanding, IsAttachedSo, Stands}
+use Rattle.csi_world.proofs.HeardReplies.{IsHeard, IsLatest, success-ok, id-given, known-yes, known-no, latest-known}
+use Rattle.csi_world.proofs.RepliesTold.{Truth}
+use Rattle.csi_world.proofs.StagedAttached.{staging, IsStanding, IsAttachedSo, Stands}
 
 -- what is so of a history, the frames that were sent, the things, and the controller
 pub record IsSoFar (history : History) (frames : List Frame) (view : View) (controller : ControllerState) : Type 0 where

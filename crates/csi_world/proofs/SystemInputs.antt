@@ -16,7 +16,7 @@ use Rattle.csi_world.specs.World.{World, with_history}
 use Rattle.csi_world.specs.After.{Occurred, by_answer, by_result, node_id, orchestrated}
 use Rattle.csi_world.specs.Simulated.{WorldShown}
 use Rattle.csi_world.specs.Simulating.{IsPosted, IsRefused, IsSettled, Does}
-use Rattle.csi_world.proofs.Called.{at-world}
+use Rattle.csi_world.proofs.SystemCalls.{at-world}
 
 -- the world after the orchestrator's move
 after_move : World → List Frame → Result Moved OrchFault → World

@@ -19,7 +19,7 @@ use Rattle.csi_orchestrator.specs.Thing.{Issued}
 use Rattle.csi_orchestrator.specs.History.{Item, Sent}
 use Rattle.csi_orchestrator.specs.Readings.{issued_in, is_success_of, has_success, held}
 use Rattle.csi_world.proofs.KeyedCalls.{key_at, is_key, is_of}
-use Rattle.csi_world.proofs.Truth.{IsEffect}
+use Rattle.csi_world.proofs.RepliesTold.{IsEffect}
 use Rattle.csi_types.specs.declared.number.Number.{Number}
 use Rattle.csi_types.specs.Frame.{Frame}
 

@@ -25,12 +25,12 @@ use Rattle.csi_world.specs.World.{World, empty_world, node_state, with_history}
 use Rattle.csi_world.specs.Step.{Choice, Sends, Closes, Takes, Notes, Starts, Answers, frame_of, MaySend, MayTake, MayChoose, MayChooseAll, chosen, chosen_all}
 use Rattle.csi_world.proofs.WorldView.{party_of, node_view, plugin_view, view_of}
 use Rattle.csi_world.proofs.KeyedCalls.{HasName, IsOwn, IsAnsweredOk, Named}
-use Rattle.csi_world.proofs.Heard.{WasSent, sent-more}
-use Rattle.csi_world.proofs.Truth.{Truth, unanswered, before_call, truth-sent}
-use Rattle.csi_world.proofs.Standing.{stands-sent, stands-noted}
-use Rattle.csi_world.proofs.Guarded.{own-guarded, leaves-guarded, stages-guarded}
-use Rattle.csi_world.proofs.Recorded.{IsWell}
-use Rattle.csi_world.proofs.Reached.{found-at, knows-nothing, empty-reached, still-reached, answered-history}
+use Rattle.csi_world.proofs.HeardReplies.{WasSent, sent-more}
+use Rattle.csi_world.proofs.RepliesTold.{Truth, unanswered, before_call, truth-sent}
+use Rattle.csi_world.proofs.StagedAttached.{stands-sent, stands-noted}
+use Rattle.csi_world.proofs.GuardedCalls.{own-guarded, leaves-guarded, stages-guarded}
+use Rattle.csi_world.proofs.RecordedRight.{IsWell}
+use Rattle.csi_world.proofs.PluginsReached.{found-at, knows-nothing, empty-reached, still-reached, answered-history}
 use Rattle.csi_world.proofs.Deliveries.{PluginLaws, all-closed, IsGood, frame-got}
 
 -- each sent number is the last one, or before it

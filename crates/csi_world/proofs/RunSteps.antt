@@ -23,8 +23,8 @@ use Rattle.csi_world.specs.World.{World, empty_world, with_history}
 use Rattle.csi_world.specs.Step.{Choice, Sends, Closes, Takes, Notes, Starts, Answers, frame_of, answered, chosen, MayChooseAll, chosen_all}
 use Rattle.csi_world.specs.After.{Occurred, by_answer, by_result, node_id, orchestrated, called, delivered_body, delivered, next_frame, occurs, after_from}
 use Rattle.csi_world.specs.Laws.{RunsAreSteps}
-use Rattle.csi_world.proofs.Heard.{among-get}
-use Rattle.csi_world.proofs.Reached.{answered-history}
+use Rattle.csi_world.proofs.HeardReplies.{among-get}
+use Rattle.csi_world.proofs.PluginsReached.{answered-history}
 
 -- choices one after another
 all-append : (config : Config) (world : World) (xs ys : List Choice) → MayChooseAll config world xs → MayChooseAll config (chosen_all config world xs) ys → MayChooseAll config world (xs ++ ys)

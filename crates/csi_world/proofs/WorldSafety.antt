@@ -19,11 +19,11 @@ use Rattle.csi_world.specs.Step.{Choice, MayChooseAll, chosen_all}
 use Rattle.csi_world.specs.Safe.{IsAttachedAs, IsStagedWhereAttached, Safe}
 use Rattle.csi_world.proofs.WorldView.{node_view, view_of}
 use Rattle.csi_world.proofs.KeyedCalls.{is_of}
-use Rattle.csi_world.proofs.Heard.{success-ok}
-use Rattle.csi_world.proofs.Recorded.{recorded}
-use Rattle.csi_world.proofs.Reached.{IsNodeOfFrames}
+use Rattle.csi_world.proofs.HeardReplies.{success-ok}
+use Rattle.csi_world.proofs.RecordedRight.{recorded}
+use Rattle.csi_world.proofs.PluginsReached.{IsNodeOfFrames}
 use Rattle.csi_world.proofs.Deliveries.{PluginLaws}
-use Rattle.csi_world.proofs.Choices.{IsRight, empty-right, all-right}
+use Rattle.csi_world.proofs.ChoicesRight.{IsRight, empty-right, all-right}
 use Rattle.csi_world.proofs.PluginSafety.{exclusive, published-staged}
 
 -- what the controller holds so is in its list

@@ -26,8 +26,8 @@ use Rattle.csi_world.specs.Safe.{holds_attached, holds_staged, holds_published, 
 use Rattle.csi_world.proofs.WorldView.{node_view, view_of}
 use Rattle.csi_world.proofs.KeyedCalls.{HasName, IsOne, Existence, Attachment, Staging, Publication, named-found, keyed}
 use Rattle.csi_world.proofs.MarksTold.{same-tells}
-use Rattle.csi_world.proofs.Heard.{known-yes}
-use Rattle.csi_world.proofs.Guarded.{IsSoFar, latest-told, not-there}
+use Rattle.csi_world.proofs.HeardReplies.{known-yes}
+use Rattle.csi_world.proofs.GuardedCalls.{IsSoFar, latest-told, not-there}
 
 -- what is so of a world
 abbrev pub IsWell : World → Type 0

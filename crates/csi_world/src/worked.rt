@@ -1,0 +1,44 @@
+//! Worked runs of events. Each function proves a statement, and does nothing.
+ghost use Rattle.csi_world.specs.Worked.{WorkedUse, UseIsSafe, UseIsMadeOfSteps, WorkedLateStage, WorkedLateDetach, WorkedLateReply, WorkedRestart, WorkedUndone, WorkedNothing};
+
+use crate::laws::{runs_are_steps, runs_law};
+
+fn use_a_volume()
+    ensures { WorkedUse }
+{}
+
+fn use_is_safe()
+    ensures { UseIsSafe }
+{
+    runs_law();
+}
+
+fn late_stage()
+    ensures { WorkedLateStage }
+{}
+
+fn late_detach()
+    ensures { WorkedLateDetach }
+{}
+
+fn late_reply()
+    ensures { WorkedLateReply }
+{}
+
+fn restart()
+    ensures { WorkedRestart }
+{}
+
+fn undone()
+    ensures { WorkedUndone }
+{}
+
+fn nothing()
+    ensures { WorkedNothing }
+{}
+
+fn use_is_made_of_steps()
+    ensures { UseIsMadeOfSteps }
+{
+    runs_are_steps();
+}
