@@ -2,6 +2,7 @@
 use Rattle.std.proofs.Common.{◌≡◌, ℕ, Bool, List, [], ◌∷◌, ◌++◌, Some, None, refl, sym, ap, subst, ◌∙◌, append_assoc}
 use Rattle.std.specs.Prelude.{Option}
 use Rattle.std.proofs.lemmas.List.{append-nil}
+use Rattle.std.proofs.lemmas.Option.{same_Some}
 use Rattle.csi_lists.proofs.Options.{some_is_not_none}
 use Rattle.csi_types.specs.declared.capability.Capability.{Capability}
 use Rattle.csi_types.specs.Fence.{Kept}
@@ -304,10 +305,7 @@ module _ {R : Type 0} {row_in : ℕ → Reader R} {IsKey : ℕ → Type 0} {IsRo
 
   -- what has equal parts is equal
   pub same_part : (a b : R) → IsRow a → IsRow b → row_part a ≡ row_part b → a ≡ b
-  same_part a b fits fit e = same (sym (is_read.again a fits) ∙ ap value_of e ∙ is_read.again b fit)
-    where
-      same : Some a ≡ Some b → a ≡ b
-      same h = cc
+  same_part a b fits fit e = same_Some a b (sym (is_read.again a fits) ∙ ap value_of e ∙ is_read.again b fit)
 
 -- a part with this value
 pub stored-is : (part : Part) (value : Vec ℕ) (key : ℕ) (bytes : List ℕ) → part.value ≡ Some value → key ≡ part.key → bytes ≡ value.items → stored_in part ≡ make_part key bytes

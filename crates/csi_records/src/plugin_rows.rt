@@ -1,6 +1,6 @@
 //! The rows of either plugin's record: read from parts, and written as parts of a whole record.
-ghost use Rattle.std.specs.Prelude.{◌≡◌, ◌≤◌, ◌<◌, ◌++◌, ◌∷◌, ◌^◌, [], ℕ, List, Some, None, map, length, IfOk, IsErrOf, OnOk};
-ghost use Rattle.std.specs.List.{flat_map, AllByRecursion};
+ghost use Rattle.std.specs.Prelude.{◌≡◌, ◌≤◌, ◌<◌, ◌++◌, ◌∷◌, ◌^◌, ℕ, List, Some, None, map, length, IfOk, IsErrOf, OnOk};
+ghost use Rattle.std.specs.List.{AllByRecursion};
 ghost use Rattle.csi_types.specs.VolumeId.{IsVolumeId};
 ghost use Rattle.csi_frames.specs.Bytes.{AreBytes};
 ghost use Rattle.csi_records.specs.Part.{StoredPart, stored_in, all_stored_in};

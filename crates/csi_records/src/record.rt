@@ -1,5 +1,5 @@
 //! Records of either plugin: as parts, as bytes, and back.
-ghost use Rattle.std.specs.Prelude.{◌≡◌, ℕ, List, None, map, IfOk, length};
+ghost use Rattle.std.specs.Prelude.{◌≡◌, List, None, map, IfOk, length};
 ghost use Rattle.csi_node.specs.OneRow.{shown};
 ghost use Rattle.csi_records.specs.Part.{StoredPart, all_stored_in};
 ghost use Rattle.csi_records.specs.Spelling.{controller_parts, node_parts, volume_row, record_bytes};

@@ -1,12 +1,10 @@
 //! The values of parts, written: of heads and of rows.
-ghost use Rattle.std.specs.Prelude.{◌≡◌, ◌≤◌, ◌<◌, ◌++◌, ◌^◌, length, map, IfOk, OnOk};
-ghost use Rattle.std.specs.List.{flat_map, AllByRecursion};
-ghost use Rattle.csi_types.specs.Limits.{IsWord, IsCapability};
+ghost use Rattle.std.specs.Prelude.{◌≡◌, ◌<◌, ◌++◌, IfOk, OnOk};
 ghost use Rattle.csi_types.specs.Text.{IsNodeId};
 ghost use Rattle.csi_node.specs.OneRow.{shown};
-ghost use Rattle.csi_records.specs.Spelling.{volume_row, counted, holding_bytes, target_bytes, staged_bytes, volume_bytes, answered_bytes, controller_head, node_head};
+ghost use Rattle.csi_records.specs.Spelling.{volume_row, staged_bytes, volume_bytes, answered_bytes, controller_head, node_head};
 ghost use Rattle.csi_records.specs.Writing.{AreHeldFew, ArePublishedFew};
-ghost use Rattle.csi_records.specs.Records.{IsHolding, IsVolumeRow, IsTargetRow, IsStagedSo, IsAnsweredRow};
+ghost use Rattle.csi_records.specs.Records.{IsVolumeRow, IsStagedSo, IsAnsweredRow};
 
 use crate::items::{Item, put_list};
 use crate::writing::{put_byte, put_kept, put_text, put_word};

@@ -1,5 +1,5 @@
 //! The bytes of a whole record, split into parts.
-ghost use Rattle.std.specs.Prelude.{◌≡◌, ◌≤◌, Some, None, IfOk, IfErr, IfSome, OnErr, IsErrOf, length};
+ghost use Rattle.std.specs.Prelude.{◌≡◌, Some, None, IfOk, OnErr, IsErrOf};
 ghost use Rattle.csi_records.specs.Part.{stored_in, all_stored_in};
 ghost use Rattle.csi_records.specs.Reading.{long_in, bytes_in, part_in, record_head_in};
 ghost use Rattle.csi_records.specs.Stopping.{AreSplit, HasNoHead};

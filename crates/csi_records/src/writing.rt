@@ -1,11 +1,10 @@
 //! Values written as bytes, one field after another. Reading a value shows that it is within its limits.
 ghost use Rattle.std.specs.Prelude.{◌≡◌, ◌≤◌, ◌<◌, ◌+◌, ◌++◌, ◌^◌, [], ◌∷◌, length, OnOk};
-ghost use Rattle.std.specs.List.{flat_map, AllByRecursion};
 ghost use Rattle.byteorder.specs.Endian.{big_bytes};
-ghost use Rattle.csi_types.specs.Limits.{IsAccess, IsCapability, IsCapabilityList, IsReply};
-ghost use Rattle.csi_frames.specs.Spelling.{word, text, flag, access, capability, reply_fields};
+ghost use Rattle.csi_types.specs.Limits.{IsAccess, IsReply};
+ghost use Rattle.csi_frames.specs.Spelling.{word, text, flag, access, reply_fields};
 ghost use Rattle.csi_types.specs.Same.{kind_number};
-ghost use Rattle.csi_records.specs.Spelling.{counted, kept_bytes, part_bytes};
+ghost use Rattle.csi_records.specs.Spelling.{kept_bytes, part_bytes};
 ghost use Rattle.csi_records.specs.Records.{IsKept};
 
 use byteorder::{BigEndian, ByteOrder};

@@ -4,6 +4,7 @@ use Rattle.std.specs.Prelude.{nat_lt, nat_le, not, ◌==◌, Some, None, positio
 use Rattle.std.specs.List.{position_or_len, insert}
 use Rattle.std.proofs.lemmas.Bool.Decides.{nat_tests}
 use Rattle.std.proofs.lemmas.List.Quantifiers.{position-Some}
+use Rattle.csi_lists.proofs.Options.{some_is_not_none}
 use Rattle.csi_serving.specs.declared.entries.Entry.{Entry}
 use Rattle.csi_records.specs.Part.{StoredPart}
 use Rattle.csi_serving.specs.Content.{put_in}
@@ -46,13 +47,9 @@ put-last part (e ∷ es) entry none is = by (nat_le part.key e.key) refl (λ few
     by true t rest few = absurd (omega arith)
     by false t rest few = put-behind part (stored e) (all_stored es) _ t (rest (omega arith))
 
--- what is there isn't missing
-some_isnt_none : {X : Type 0} (x : X) → Some x ≡ None → ⊥
-some_isnt_none x h = cc
-
 -- a place that isn't below the size is at the end or beyond it
 beyond : (place size : ℕ) (b : Bool) → nat_lt place size ≡ b → cond b (Some place) None ≡ None → size ≤ place
-beyond place size true e h = absurd (some_isnt_none place h)
+beyond place size true e h = absurd (some_is_not_none place h)
 beyond place size false e h = grind (arith, nat_tests)
 
 -- by where the first key is that isn't below

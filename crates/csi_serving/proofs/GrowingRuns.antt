@@ -1,10 +1,9 @@
 -- Runs of a core that grow by a frame.
-use Rattle.std.proofs.Common.{◌≡◌, ap, subst, refl, ◌+◌, ◌≤◌, suc, cond, List, [], ◌∷◌, ◌++◌, length, arith}
+use Rattle.std.proofs.Common.{◌≡◌, ap, subst, refl, ◌+◌, suc, cond, List, [], ◌∷◌, ◌++◌, length, arith}
 use Rattle.std.specs.Prelude.{Option, is_some}
-use Rattle.std.proofs.lemmas.List.Concat.{flat_map-append}
-use Rattle.std.proofs.lemmas.List.Sums.{sum_by-cons, count_by-le-length}
+use Rattle.std.proofs.lemmas.List.Sums.{sum_by-cons}
 use Rattle.csi_types.specs.Frame.{Frame}
-use Rattle.csi_serving.specs.Serving.{Runs, reply_bytes, output_of, reply_count}
+use Rattle.csi_serving.specs.Serving.{Runs, reply_count}
 
 -- a run that goes on by one frame is a run
 pub runs-push : {C : Type 0} (answers : C → Frame → Option Frame → C → Type 0) (core : C) (frames : List Frame) (replies : List (Option Frame)) (now : C) (frame : Frame) (reply : Option Frame) (next : C)
@@ -21,10 +20,6 @@ runs-length answers core [] (r ∷ rs) now runs = absurd runs
 runs-length answers core (f ∷ fs) [] now runs = absurd runs
 runs-length answers core (f ∷ fs) (r ∷ rs) now runs = ap suc (runs-length answers runs.0 fs rs now runs.2)
 
--- there are no more replies than frames that were answered
-pub count-few : (replies : List (Option Frame)) → reply_count replies ≤ length replies
-count-few replies = count_by-le-length is_some replies
-
 -- a frame that was answered in front of the others is one reply more, or none
 count-more : (reply : Option Frame) (replies : List (Option Frame)) → reply_count (reply ∷ replies) ≡ cond (is_some reply) 1 0 + reply_count replies
 count-more reply replies = sum_by-cons (λ (r : Option Frame). cond (is_some r) 1 0) reply replies
@@ -33,7 +28,3 @@ count-more reply replies = sum_by-cons (λ (r : Option Frame). cond (is_some r) 
 pub count-push : (replies : List (Option Frame)) (reply : Option Frame) → reply_count (replies ++ reply ∷ []) ≡ reply_count replies + cond (is_some reply) 1 0
 count-push [] reply = omega (arith, count-more reply [])
 count-push (r ∷ rs) reply = omega (arith, count-push rs reply, count-more r rs, count-more r (rs ++ reply ∷ []))
-
--- the output of replies and then of others is one behind the other
-pub output-append : (earlier later : List (Option Frame)) → output_of (earlier ++ later) ≡ output_of earlier ++ output_of later
-output-append earlier later = flat_map-append reply_bytes earlier later

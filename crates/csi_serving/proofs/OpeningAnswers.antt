@@ -26,11 +26,6 @@ none-empty : (parts : List Part) → 1 ≤ length parts → all_stored_in parts 
 none-empty [] some e = omega arith
 none-empty (p ∷ ps) some e = cc
 
--- a list of length 0 is empty
-pub none-of : (parts : List Part) → length parts ≡ 0 → parts ≡ []
-none-of [] zero = refl
-none-of (p ∷ ps) zero = absurd (omega arith)
-
 -- parts that are no record
 pub stop-cause : {X : Type 0} (Is : List StoredPart → Type 0) (parts_of : X → List StoredPart) (before after : Store) (head : StoredPart) (parts : Vec Part) (stop : RecordStop) → 1 ≤ length parts.items → HasLoaded before after head parts
     → ReadsParts Is parts_of (all_stored_in parts.items) (Err stop) → IsOpenFault (IsRefusedAt Is) before after head (fault_of_stop stop)

@@ -1,10 +1,11 @@
 -- How far serving has come, and what it has come to where a frame stops it.
 use Rattle.std.proofs.Common.{◌≡◌, ◌∙◌, sym, ap, subst, refl, ℕ, ◌+◌, ◌-◌, ◌<◌, ◌^◌, min, Bool, true, cond, List, [], ◌∷◌, ◌++◌, length, take, arith, length-append, length-drop}
-use Rattle.std.specs.Prelude.{Option, Some, None, Ok}
+use Rattle.std.specs.Prelude.{Option, Some, None, Ok, is_some}
 use Rattle.std.specs.List.{flat_map}
 use Rattle.std.specs.Io.KnownBytes.{Appends}
 use Rattle.std.proofs.lemmas.List.{append-nil}
 use Rattle.std.proofs.lemmas.List.Concat.{flat_map-append}
+use Rattle.std.proofs.lemmas.List.Sums.{count_by-le-length}
 use Rattle.std.proofs.Math.Seq.{take-append_seam}
 use Rattle.csi_types.specs.Frame.{Frame}
 use Rattle.csi_frames.specs.declared.fault.FrameFault.{FrameFault}
@@ -16,12 +17,12 @@ use Rattle.csi_frames.proofs.Bytes.{AreBytes-drop}
 use Rattle.csi_serving.specs.declared.serving.fault.Served.{Served}
 use Rattle.csi_records.specs.Part.{StoredPart}
 use Rattle.csi_serving.specs.Stores.{Store, Follows, Rests}
-use Rattle.csi_serving.specs.Serving.{Setting, Runs, output_of, reply_count}
+use Rattle.csi_serving.specs.Serving.{Setting, Runs, reply_bytes, output_of, reply_count}
 use Rattle.csi_serving.specs.Reading.{IsPiece, ReadsPiece}
 use Rattle.csi_serving.specs.Stopping.{AnswersNext, one_more_served}
 use Rattle.csi_serving.proofs.StoreCalls.{follows-same, follows-more, rests-same, rests-more}
 use Rattle.std.proofs.KnownBytes.{Appends-nil, Appends-trans}
-use Rattle.csi_serving.proofs.GrowingRuns.{runs-push, runs-length, count-few, count-push, output-append}
+use Rattle.csi_serving.proofs.GrowingRuns.{runs-push, runs-length, count-push}
 use Rattle.csi_serving.proofs.StreamFrames.{AreBytes-append, spelling-not-empty, frames_few}
 
 -- what serving is judged by
@@ -81,7 +82,7 @@ start answers parts_of core before out = record {
 
 -- what was written, and more of it
 written-more : (a b c : Option (List ℕ)) (earlier later : List (Option Frame)) → Appends a b (output_of earlier) → Appends b c (output_of later) → Appends a c (output_of (earlier ++ later))
-written-more a b c earlier later first second = subst (Appends a c) (sym (output-append earlier later)) (Appends-trans a b c (output_of earlier) (output_of later) first second)
+written-more a b c earlier later first second = subst (Appends a c) (sym (flat_map-append reply_bytes earlier later)) (Appends-trans a b c (output_of earlier) (output_of later) first second)
 
 -- what was done, and nothing more
 pub same-written : (a b c : Option (List ℕ)) (earlier : List (Option Frame)) → Appends a b (output_of earlier) → Appends b c [] → Appends a c (output_of earlier)
@@ -109,7 +110,7 @@ module _ {C : Type 0} (answers : C → Frame → Option Frame → C → Type 0) 
   more_frames p = omega (arith, p.counted, frames_few p.done, p.taken, p.total, p.few)
 
   pub more_replies : Now → served.replies + 1 < 2 ^ 64
-  more_replies p = omega (arith, p.replied, count-few p.replies, runs-length answers core p.done p.replies now p.runs, frames_few p.done, p.taken, p.total, p.few)
+  more_replies p = omega (arith, p.replied, count_by-le-length is_some p.replies, runs-length answers core p.done p.replies now p.runs, frames_few p.done, p.taken, p.total, p.few)
 
   -- ---- one frame more
 

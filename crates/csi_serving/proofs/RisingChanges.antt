@@ -21,7 +21,7 @@ above-put key part (other ∷ others) less above = by (nat_lt other.key part.key
     by false false rest = (less, above)
 
 -- keys that are above a key are above a lower one
-above-more : (low key : ℕ) (parts : List StoredPart) → low < key → AreAbove key parts → AreAbove low parts
+pub above-more : (low key : ℕ) (parts : List StoredPart) → low < key → AreAbove key parts → AreAbove low parts
 above-more low key [] less above = tt
 above-more low key (part ∷ parts) less above = (omega (arith, above.0), above-more low key parts less above.1)
 

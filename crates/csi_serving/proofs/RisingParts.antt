@@ -3,11 +3,12 @@ use Rattle.std.proofs.Common.{◌≡◌, ◌∙◌, sym, ap, subst, refl, ℕ, �
 use Rattle.std.specs.Prelude.{Option, Some, None, find, option_map, nat_lt, ◌==◌}
 use Rattle.std.proofs.lemmas.Bool.{eqb-true}
 use Rattle.std.proofs.lemmas.Bool.Decides.{nat_tests}
+use Rattle.std.proofs.lemmas.Option.{same_Some}
 use Rattle.csi_lists.proofs.Options.{some_is_not_none}
 use Rattle.csi_lists.proofs.Searches.{find-of_map}
 use Rattle.csi_records.specs.Part.{StoredPart}
 use Rattle.csi_serving.specs.Content.{put_in, IsRising}
-use Rattle.csi_serving.proofs.RisingChanges.{AreAbove, rising-put}
+use Rattle.csi_serving.proofs.RisingChanges.{AreAbove, above-more, rising-put}
 
 -- the part under a key
 abbrev pub part_at : ℕ → List StoredPart → Option StoredPart
@@ -36,15 +37,7 @@ none-below key (part ∷ parts) above =
 none-before : (key : ℕ) (part : StoredPart) (parts : List StoredPart) → key < part.key → IsRising (part ∷ parts) → part_at key (part ∷ parts) ≡ None
 none-before key part parts less rising =
     let differs : (part.key == key) ≡ false = grind (arith, nat_tests) in
-    at-other key part parts differs ∙ none-below key parts (more part.key parts less rising.0)
-  where
-    more : (high : ℕ) (parts : List StoredPart) → key < high → AreAbove high parts → AreAbove key parts
-    more high [] less above = tt
-    more high (p ∷ ps) less above = (omega (arith, above.0), more high ps less above.1)
-
--- parts that are found alike are equal
-same-first : (x y : StoredPart) → Some x ≡ Some y → x ≡ y
-same-first x y e = cc
+    at-other key part parts differs ∙ none-below key parts (above-more key part.key parts less rising.0)
 
 -- two lists by rising key that have the same part under each key are one
 pub same-parts : (first second : List StoredPart) → IsRising first → IsRising second → ((key : ℕ) → part_at key first ≡ part_at key second) → first ≡ second
@@ -72,7 +65,7 @@ same-parts (x ∷ xs) (y ∷ ys) up up_too same = by (nat_lt x.key y.key) (nat_l
         absurd (some_is_not_none y (sym (at-own y.key y ys (itself y.key)) ∙ sym (same y.key) ∙ none-before y.key x xs less up))
     by false false t u others =
         let keys : x.key ≡ y.key = grind (arith, nat_tests) in
-        let one : x ≡ y = same-first x y (sym (at-own x.key x xs (itself x.key)) ∙ same x.key ∙ at-own x.key y ys (ap (λ (k : ℕ). k == x.key) (sym keys) ∙ itself x.key)) in
+        let one : x ≡ y = same_Some x y (sym (at-own x.key x xs (itself x.key)) ∙ same x.key ∙ at-own x.key y ys (ap (λ (k : ℕ). k == x.key) (sym keys) ∙ itself x.key)) in
         let more = others keys in
         λ i. one i ∷ more i
 

@@ -4,6 +4,7 @@ use Rattle.std.specs.Prelude.{Option, Some, None, slice_get, Bool, false, Result
 use Rattle.std.specs.List.{flat_map}
 use Rattle.std.specs.Io.KnownBytes.{Appends, IsAtEnd}
 use Rattle.std.proofs.lemmas.List.{append-nil}
+use Rattle.std.proofs.lemmas.List.Concat.{flat_map-append}
 use Rattle.csi_types.specs.Frame.{Frame}
 use Rattle.csi_frames.specs.declared.fault.FaultKind.TheVariants.{Short}
 use Rattle.csi_frames.specs.declared.fault.FrameFault.{FrameFault}
@@ -23,13 +24,13 @@ use Rattle.csi_serving.specs.declared.keep.KeepFault.{KeepFault}
 use Rattle.csi_records.specs.Part.{StoredPart}
 use Rattle.csi_serving.specs.Keeping.{HasRisen}
 use Rattle.csi_serving.specs.Stores.{Store, Follows}
-use Rattle.csi_serving.specs.Serving.{Setting, Runs, output_of, AllDone, LastUnwritten, NextRefused, Waits, Serves}
+use Rattle.csi_serving.specs.Serving.{Setting, Runs, reply_bytes, output_of, AllDone, LastUnwritten, NextRefused, Waits, Serves}
 use Rattle.csi_serving.specs.Reading.{IsPiece, IsPieceStop, ReadsPiece}
 use Rattle.csi_serving.specs.Stopping.{AnswersNext, stopped_by}
 use Rattle.csi_serving.specs.Ending.{ended_by}
 use Rattle.csi_serving.proofs.StoreCalls.{rests-more, left-more, refusal-more}
 use Rattle.std.proofs.KnownBytes.{Appends-trans}
-use Rattle.csi_serving.proofs.GrowingRuns.{runs-push, output-append}
+use Rattle.csi_serving.proofs.GrowingRuns.{runs-push}
 use Rattle.csi_serving.proofs.StreamFrames.{AreBytes-append, fault_of_something, frames_of, given_first}
 use Rattle.csi_serving.proofs.Progress.{setting_of, Progress, same-written, taken_front}
 
@@ -131,7 +132,7 @@ module _ {C : Type 0} (answers : C → Frame → Option Frame → C → Type 0) 
       front = last.front;
       more = last.more;
       parts = last.parts;
-      written = subst (Appends out0 out2) (sym (append_assoc (output_of p.replies) (output_of last.earlier) last.front) ∙ ap (λ bytes. bytes ++ last.front) (sym (output-append p.replies last.earlier)))
+      written = subst (Appends out0 out2) (sym (append_assoc (output_of p.replies) (output_of last.earlier) last.front) ∙ ap (λ bytes. bytes ++ last.front) (sym (flat_map-append reply_bytes p.replies last.earlier)))
           (Appends-trans out0 out1 out2 (output_of p.replies) (output_of last.earlier ++ last.front) p.written last.written);
     }
 

@@ -1,8 +1,6 @@
 //! A frame, answered: stepped, committed, and then its reply written.
-ghost use Rattle.std.specs.Prelude.{◌≡◌, ◌≤◌, ◌+◌, ℕ, Option, IfOk, IfErr, OnErr, OnOk, Err, length, drop, option_map};
+ghost use Rattle.std.specs.Prelude.{◌≡◌, ◌≤◌, Option, IfOk, IfErr, OnOk, Err};
 ghost use Rattle.std.specs.Option.{option_copied};
-ghost use Rattle.csi_frames.specs.Spelling.{spelling};
-ghost use Rattle.csi_records.specs.Part.{bytes_in};
 ghost use Rattle.csi_serving.specs.Keeping.{HasRisen};
 ghost use Rattle.csi_serving.specs.Stores.{store, Rests, Follows};
 ghost use Rattle.csi_serving.specs.Answering.{IsSpelledAs, Steps, StopsUnwritten, AnswersOne};

@@ -1,5 +1,5 @@
 //! The input, read a piece at a time.
-ghost use Rattle.std.specs.Prelude.{◌≡◌, ◌≤◌, ◌+◌, ◌<◌, ◌^◌, None, OnOk, IfErr, length};
+ghost use Rattle.std.specs.Prelude.{◌≡◌, ◌≤◌, ◌+◌, ◌<◌, ◌^◌, OnOk, IfErr, length};
 ghost use Rattle.csi_frames.specs.Bytes.{AreBytes};
 ghost use Rattle.csi_frames.specs.Splitting.{after_feed};
 ghost use Rattle.csi_serving.specs.Reading.{ReadsPiece};

@@ -1,5 +1,6 @@
 use Rattle.std.proofs.Common.{◌≡◌, ◌≤◌, List, [], map, Err, length, ap, sym, subst, arith}
 use Rattle.std.proofs.lemmas.Bool.Decides.{nat_tests}
+use Rattle.std.proofs.lemmas.List.{nil_from_length}
 use Rattle.csi_controller.specs.Views.{RecordParts}
 use Rattle.csi_records.specs.declared.part.Part.{Part}
 use Rattle.csi_records.specs.Part.{all_stored_in, StoredPart}
@@ -9,7 +10,7 @@ use Rattle.csi_records.specs.Spelling.{controller_head, controller_parts, volume
 use Rattle.csi_serving.specs.Stores.{store}
 use Rattle.csi_serving.specs.Opening.{head_of, IsOpenFault, LeavesHead, HasLoaded}
 use Rattle.csi_serving.specs.Services.{controller_service_parts}
-use Rattle.csi_serving.proofs.OpeningAnswers.{none-of, cause-weaker, stop-cause, opened-new, opened-old, new-controller}
+use Rattle.csi_serving.proofs.OpeningAnswers.{cause-weaker, stop-cause, opened-new, opened-old, new-controller}
 use Rattle.csi_serving.proofs.controller_service.ControllerService.open.Goals as goal
 
 pub returns-in-Err-clause-cause : goal.returns-in-Err-clause-cause
@@ -26,7 +27,7 @@ returns-then-is_empty-clause-opened g c =
     let after = store g.K.Keep.is_honest g.K.Keep.holds g.K.Keep.leaves g.K.Keep.fits g.K.Keep.fault_count c.load_or_begin.new.keep in
     let head = ap head_of c.in_ok-head.ensures in
     let zero : length c.in-Ok.parts.items ≡ 0 = grind (arith, nat_tests) in
-    let none : c.in-Ok.parts.items ≡ [] = none-of c.in-Ok.parts.items zero in
+    let none : c.in-Ok.parts.items ≡ [] = nil_from_length c.in-Ok.parts.items zero in
     opened-new (IsRecordOf controller_layout) before after (controller_head 1) c.in-Ok.parts (controller_service_parts c.begun.result) none c.begun.ensures.parts new-controller
     (subst (λ (h : StoredPart). HasLoaded before after h c.in-Ok.parts) head c.in-Ok.ensures.loaded)
 
