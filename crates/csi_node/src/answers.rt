@@ -59,7 +59,7 @@ fn new_row(alloc: Global, id: VolumeId, number: Number, kind: Kind) -> Result<No
 }
 
 /// Answers the first call of a volume, and gives its row and the answer.
-pub(crate) fn answer_anew(
+pub(crate) fn answer_with_new_row(
     alloc: Global,
     id: VolumeId,
     number: Number,
@@ -101,7 +101,7 @@ fn kept_answer(row: &NodeRow) -> Result<(Kind, Reply), CoreFault>
 }
 
 /// Answers a call of the row's volume, behind the fence. An `Err` changes nothing.
-pub(crate) fn answer_again(
+pub(crate) fn answer_at_row(
     row: &mut NodeRow,
     alloc: Global,
     number: Number,

@@ -9,7 +9,7 @@ ghost use Rattle.csi_node.specs.Record.{parts, IsRecord, IsAt, IsGapFor, Gives};
 ghost use Rattle.csi_node.specs.Shown.{Shows};
 ghost use Rattle.csi_node.specs.State.{NodeState, volume_of};
 
-use crate::answers::{answer_again, answer_anew, refusal};
+use crate::answers::{answer_at_row, answer_with_new_row, refusal};
 use crate::fault::CoreFault;
 use crate::row::NodeRow;
 use csi_types::{CallRef, Kind, Number, Reply, Status, VolumeId};
@@ -28,7 +28,7 @@ pub(crate) fn place_of(rows: &[NodeRow], id: VolumeId) -> Result<usize, usize>
 }
 
 // Answers a call of a volume that has the row in this place. An `Err` changes nothing.
-fn answer_there(
+fn answer_with_row(
     rows: &mut Vec<NodeRow>,
     place: usize,
     alloc: Global,
@@ -47,11 +47,11 @@ fn answer_there(
     ensures one { OnOk result (IsOneRowPut id (parts rows.old.items) (parts rows.new.items)) }
     ensures err { OnErr result (parts rows.new.items ≡ parts rows.old.items) }
 {
-    answer_again(&mut rows[place], alloc, number, call)
+    answer_at_row(&mut rows[place], alloc, number, call)
 }
 
 // Answers the first call of a volume, whose row would have this place. An `Err` changes nothing.
-fn answer_first(
+fn answer_without_row(
     rows: &mut Vec<NodeRow>,
     place: usize,
     alloc: Global,
@@ -73,7 +73,7 @@ fn answer_first(
     if rows.len() >= MAX_ROWS {
         return refusal(alloc, call.kind(), Status::ResourceExhausted, "rows");
     }
-    let (row, answer) = answer_anew(alloc, id, number, call)?;
+    let (row, answer) = answer_with_new_row(alloc, id, number, call)?;
     rows.insert(place, row)?;
     Ok(answer)
 }
@@ -97,7 +97,7 @@ pub(crate) fn answer(
     ensures err { OnErr result (parts rows.new.items ≡ parts rows.old.items) }
 {
     match place_of(rows, id) {
-        Ok(place) => answer_there(rows, place, alloc, number, id, call),
-        Err(place) => answer_first(rows, place, alloc, number, id, call),
+        Ok(place) => answer_with_row(rows, place, alloc, number, id, call),
+        Err(place) => answer_without_row(rows, place, alloc, number, id, call),
     }
 }

@@ -7,7 +7,7 @@ use Rattle.csi_node.specs.Fenced.{answer_frame, fenced_call, kept_for}
 use Rattle.csi_node.proofs.Calls.{gives-first, rules-first, gives-none}
 use Rattle.csi_node.specs.OneVolume.{IsOneRowPut}
 use Rattle.csi_node.proofs.OneVolume.{put-nowhere, one-first, on_ok_holds}
-use Rattle.csi_node.proofs.step.answer_first.Goals as goal
+use Rattle.csi_node.proofs.step.answer_without_row.Goals as goal
 
 pub returns-then-len-ge-MAX_ROWS-clause-ok : goal.returns-then-len-ge-MAX_ROWS-clause-ok
 returns-then-len-ge-MAX_ROWS-clause-ok c = λ node state shows.
