@@ -1,4 +1,4 @@
--- What the rows of a node answer, as its functions have them.
+-- A call at its volume's row, or at the place of a new one: what the rows answer, and their rules afterwards.
 use Rattle.std.proofs.Common.{◌≡◌, ℕ, zero, suc, ◌<◌, ◌≤◌, List, [], ◌∷◌, ◌++◌, map, length, get_or, set, take, drop, refl, sym, ◌∙◌, ap, subst, arith, Result, Ok, Err, IfOk, Some}
 use Rattle.std.specs.Prelude.{OnErr}
 use Rattle.std.specs.List.{insert}

@@ -17,10 +17,10 @@ use Rattle.csi_node.specs.declared.line.Line.TheVariants.{Refused, Met, Done}
 use Rattle.csi_node.specs.Lines.{WhereDone}
 
 -- an id is equal to itself, and below: asking that too asks nothing more
-itself : (id : ℕ) → (id == id) ≡ true
+pub itself : (id : ℕ) → (id == id) ≡ true
 itself id = eq-eqb id id refl
 
-itself_and : (id : ℕ) (b : Bool) → ((id == id) && b) ≡ b
+pub itself_and : (id : ℕ) (b : Bool) → ((id == id) && b) ≡ b
 itself_and id b = rw (itself id) refl
 
 -- how a staged row is published at a target

@@ -6,6 +6,7 @@ use Rattle.std.proofs.lemmas.Bool.{eqb-true}
 use Rattle.std.proofs.lemmas.Bool.Decides.{nat_tests}
 use Rattle.csi_lists.proofs.Searches.{find-passes}
 use Rattle.std.proofs.lemmas.List.{map-set}
+use Rattle.std.proofs.lemmas.Option.{same_Some}
 use Rattle.csi_types.specs.declared.call.Call.{Call}
 use Rattle.csi_types.specs.declared.number.Number.{Number}
 use Rattle.csi_types.specs.declared.fence.Verdict.{Verdict}
@@ -51,9 +52,6 @@ put-insert (row ∷ rows) (suc place) new gap =
     }) in
     grind (arith, nat_tests, gap.before 0 (omega arith), rest)
 
-same_some : {X : Type 0} (x y : X) → Some x ≡ Some y → x ≡ y
-same_some x y h = cc
-
 never : {X : Type 0} {A : Type 0} (o : Option X) (x : X) → o ≡ Some x → o ≡ None → A
 never o x some none = cc
 
@@ -92,10 +90,10 @@ put-there : (id : ℕ) (rows : List RowShown) (place : ℕ) (old new : RowShown)
 put-there id rows place old new rising at own is stays = record {
   put = λ row found other.
       sym (put-set rows place new (subst (λ (n : ℕ). IsAt rows n place) (sym own) at) (λ j lt. let below = rising j place lt at.within in omega (arith, below, at.has_id, own)))
-      ∙ ap (λ (r : RowShown). put_row r rows) (same_some new row (sym now ∙ found));
+      ∙ ap (λ (r : RowShown). put_row r rows) (same_Some new row (sym now ∙ found));
   none = λ none. never (row_by_id id (set rows place new)) new now none;
   same = λ same.
-      let number : new.kept.number ≡ old.kept.number = same_some new.kept.number old.kept.number (sym (ap (option_map (λ (r : RowShown). r.kept.number)) now) ∙ same ∙ ap (option_map (λ (r : RowShown). r.kept.number)) before) in
+      let number : new.kept.number ≡ old.kept.number = same_Some new.kept.number old.kept.number (sym (ap (option_map (λ (r : RowShown). r.kept.number)) now) ∙ same ∙ ap (option_map (λ (r : RowShown). r.kept.number)) before) in
       ap (set rows place) (stays number) ∙ set_own rows place old is;
 }
   where
@@ -110,7 +108,7 @@ put-first : (id : ℕ) (rows : List RowShown) (place : ℕ) (new : RowShown) →
 put-first id rows place new gap own = record {
   put = λ row found other.
       sym (put-insert rows place new (subst (λ (n : ℕ). IsGapFor rows n place) (sym own) gap))
-      ∙ ap (λ (r : RowShown). put_row r rows) (same_some new row (sym now ∙ found));
+      ∙ ap (λ (r : RowShown). put_row r rows) (same_Some new row (sym now ∙ found));
   none = λ none. never (row_by_id id (insert rows place new)) new now none;
   same = λ same. never (last_of id rows) new.kept.number (sym same ∙ ap (option_map (λ (r : RowShown). r.kept.number)) now) (ap (option_map (λ (r : RowShown). r.kept.number)) (absent-gap rows id place gap));
 }

@@ -1,5 +1,5 @@
 -- The rows of a record keep its rules, and a search among them finds the id or its gap.
-use Rattle.std.proofs.Common.{◌≡◌, ℕ, zero, suc, ◌+◌, ◌-◌, ◌<◌, ◌≤◌, List, [], ◌∷◌, length, get_or, set, Bool, true, false, cond, refl, sym, ◌∙◌, ap, subst, arith, inl, inr, Result, Ok, Err, IfOk, IfErr}
+use Rattle.std.proofs.Common.{◌≡◌, ℕ, zero, suc, ◌+◌, ◌-◌, ◌<◌, ◌≤◌, List, [], ◌∷◌, length, get_or, set, Bool, false, cond, refl, sym, ◌∙◌, ap, subst, arith, inl, inr, Result, Ok, Err, IfOk, IfErr}
 use Rattle.std.specs.Prelude.{Option, Some, None, ◌==◌}
 use Rattle.std.specs.List.{insert}
 use Rattle.std.specs.List.Sorted.{IsSearchInRange, IsBinarySearchResult, IsNonDecreasingBy}
@@ -13,6 +13,7 @@ use Rattle.std.proofs.lemmas.Bool.Decides.{nat_tests}
 use Rattle.csi_node.specs.declared.row.NodeRow.{NodeRow}
 use Rattle.csi_node.specs.OneRow.{RowShown, shown, IsRow}
 use Rattle.csi_node.specs.Record.{parts, id_at, ids, IsAt, IsGapFor, IsRecord}
+use Rattle.csi_node.proofs.OneRow.{itself}
 use Rattle.csi_node.proofs.Steps.{RowsAfter, grown, row_of}
 use Rattle.csi_node.proofs.FoundRows.{NoneBefore, row_of-absent, row_of-present, row_of-set, row_of-insert}
 
@@ -99,9 +100,6 @@ is_other k id row o p h e = e ∙ ap (λ (b : Bool). cond b (Some row) o) h
 -- under its own id the new row is found
 is_this : (id : ℕ) (row : RowShown) (o p : Option RowShown) → p ≡ cond (id == id) (Some row) o → p ≡ Some row
 is_this id row o p e = e ∙ ap (λ (b : Bool). cond b (Some row) o) (itself id)
-  where
-    itself : (n : ℕ) → (n == n) ≡ true
-    itself n = grind (arith, nat_tests)
 
 -- the rows, with another row in the place of the id
 pub after-set : (rows : List RowShown) (id place : ℕ) (new d : RowShown) → IsRising rows → IsAt rows id place → new.id ≡ id → RowsAfter id rows (set rows place new) new

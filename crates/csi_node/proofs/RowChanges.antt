@@ -1,8 +1,8 @@
 -- What a call that the table carries out changes in its row is what it changes in the state, and the row keeps its
 -- rules.
-use Rattle.std.proofs.Common.{◌≡◌, ℕ, ◌≤◌, List, [], ◌∷◌, ◌++◌, map, length, Bool, true, false, cond, not, ◌&&◌, refl, sym, ◌∙◌, ap, subst, arith, length-append}
+use Rattle.std.proofs.Common.{◌≡◌, ℕ, ◌≤◌, List, [], ◌∷◌, ◌++◌, map, length, Bool, true, false, cond, not, refl, sym, ◌∙◌, ap, subst, arith, length-append}
 use Rattle.std.specs.Prelude.{Option, Some, None, filter, ◌==◌}
-use Rattle.std.proofs.lemmas.Bool.{eq-eqb, both_ways, false_from_ne_true}
+use Rattle.std.proofs.lemmas.Bool.{both_ways, false_from_ne_true}
 use Rattle.std.proofs.lemmas.List.{map-append}
 use Rattle.csi_types.specs.declared.capability.Capability.{Capability}
 use Rattle.csi_types.specs.declared.call.Call.{Call}
@@ -28,13 +28,7 @@ use Rattle.csi_node.specs.State.{NodeState, StagedVolume, PublishedVolume, is_pu
 use Rattle.csi_node.specs.Table.{Change, Outcome, lifecycle_row, changed, begins_with_slash}
 use Rattle.csi_node.specs.Lines.{outcome_shown, reply_shown, WhereDone, is_done}
 use Rattle.csi_node.specs.OneRow.{RowShown, alone, staged_by, published_so, published_by, target_among, row_changed, change_of, CanChange, AreDistinct, AreAbsolute, TargetsFit, IsRow, IsAfter}
-
-itself : (id : ℕ) → (id == id) ≡ true
-itself id = eq-eqb id id refl
-
--- also asking whether an id is itself asks nothing more
-itself_and : (id : ℕ) (b : Bool) → ((id == id) && b) ≡ b
-itself_and id b = rw (itself id) refl
+use Rattle.csi_node.proofs.OneRow.{itself, itself_and}
 
 -- texts differ both ways
 differs : (a b : List ℕ) → same_text a b ≡ false → same_text b a ≡ false

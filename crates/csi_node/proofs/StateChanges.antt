@@ -15,9 +15,6 @@ use Rattle.csi_lists.proofs.Searches.{find-first, find-filter, first_of_list}
 use Rattle.csi_node.specs.State.{NodeState, StagedVolume, PublishedVolume, staged_of, published_of, published_at, is_published_at, volume_of}
 use Rattle.csi_node.specs.Table.{Change, Stays, Stages, Unstages, Publishes, Unpublishes, Outcome, refused, met, done, stage, unstage, publish, publish_at_target, publish_staged, publish_new, unpublish, lifecycle_row, changed, begins_with_slash}
 
-itself : (id : ℕ) → (id == id) ≡ true
-itself id = eq-eqb id id refl
-
 -- the part of a state that is the volume's, in another state
 pub record IsPart (id : ℕ) (part state : NodeState) : Type 0 where
   pub staged : map (λ (s : StagedVolume). s.capability) part.staged ≡ map (λ (s : StagedVolume). s.capability) (filter (λ (s : StagedVolume). s.volume == id) state.staged)

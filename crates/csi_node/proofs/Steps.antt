@@ -21,6 +21,7 @@ use Rattle.csi_node.specs.Shown.{Shows, answered_of_row, published_in, staged_in
 use Rattle.csi_node.specs.OneRow.{RowShown, shown, alone}
 use Rattle.csi_node.proofs.Facts.{lifecycle_facts}
 use Rattle.csi_node.proofs.LastCalls.{changed-rows, kept_in-id}
+use Rattle.csi_node.proofs.OneRow.{itself}
 use Rattle.csi_node.proofs.StateChanges.{IsPart, IsAbout, lifecycle-part, lifecycle-about, changed-published, changed-staged}
 
 -- the row of an id
@@ -97,9 +98,6 @@ pub record RowsAfter (id : ℕ) (old new : List RowShown) (row : RowShown) : Typ
   pub count : length new ≡ grown (row_of id old) (length old)
   pub this : row_of id new ≡ Some row
   pub others : (k : ℕ) → (k == id) ≡ false → row_of k new ≡ row_of k old
-
-itself : (id : ℕ) → (id == id) ≡ true
-itself id = eq-eqb id id refl
 
 -- what a row that is found keeps is what was found of it
 answered_id : (o : Option RowShown) (row : Answered) → option_map answered_of o ≡ Some row → (r : RowShown) → o ≡ Some r → answered_of r ≡ row
