@@ -24,7 +24,7 @@ use Rattle.csi_node.proofs.LastCalls.{keep-own, changed-rows}
 use Rattle.csi_node.proofs.Moves.{Move, refuses, was_staged, stages, unstages, was_published, publishes, was_unpublished, unpublishes, lifecycle_moves}
 use Rattle.csi_node.proofs.FencedCalls.{Passage, stale, repeated, no_room, carried, passes, kept_of, state_then}
 use Rattle.csi_node.proofs.SpentNumbers.{answered_spent, spent_still}
-use Rattle.csi_node.proofs.Things.{row_id, kept_at, kept_on-at, IsFor, is_for, keep-held, kept_either, kept_none, held_none}
+use Rattle.csi_node.proofs.ThingRows.{row_id, kept_at, kept_on-at, IsFor, is_for, keep-held, kept_either, kept_none, held_none}
 
 -- ResourceExhausted, and below Aborted, isn't OK
 refused_status : {A : Type 0} → ResourceExhausted ≡ Ok → A

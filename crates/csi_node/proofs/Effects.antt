@@ -16,7 +16,7 @@ use Rattle.csi_lists.proofs.Tests.{not-where}
 use Rattle.csi_node.specs.State.{NodeState, StagedVolume, PublishedVolume, is_published_at}
 use Rattle.csi_node.specs.Table.{Outcome, Change, Stays, Stages, Unstages, Publishes, Unpublishes, refused, met, done, changed}
 use Rattle.csi_node.specs.View.{held_on, key_of}
-use Rattle.csi_node.proofs.Things.{here}
+use Rattle.csi_node.proofs.ThingRows.{here}
 use Rattle.csi_node.proofs.Moves.{Move, at_itself, refuses, was_staged, stages, unstages, was_published, publishes, was_unpublished, unpublishes, stage_call, publish_call}
 
 -- after an OK the thing is as asked, after a refusal as it was, and other things are as they were

@@ -3,7 +3,7 @@ pub mod LastCalls
 pub mod FencedCalls
 pub mod Effects
 pub mod SpentNumbers
-pub mod Things
+pub mod ThingRows
 pub mod Delivered
 pub mod Facts
 pub mod OneRow
