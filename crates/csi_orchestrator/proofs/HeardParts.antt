@@ -1,8 +1,8 @@
--- What an orchestrator shows and answers after a reply, by the row that the reply is to.
-use Rattle.std.proofs.Common.{◌≡◌, ◌<◌, ℕ, zero, suc, List, [], ◌∷◌, Bool, true, false, cond, length, get_or, set, map, refl, sym, ◌∙◌, ap, subst, arith}
-use Rattle.std.specs.Prelude.{Option, Some, None, position, Result, Ok, Err}
+-- What is told of a reply, by a step of the row that the reply is to.
+use Rattle.std.proofs.Common.{◌≡◌, ℕ, zero, suc, List, [], ◌∷◌, Bool, true, false, cond, map, refl, sym, ◌∙◌, ap, subst}
+use Rattle.std.specs.Prelude.{Option, Some, None, position, slice_get, Result, Ok, Err, ◌&&◌}
 use Rattle.std.specs.List.{AllByRecursion}
-use Rattle.std.proofs.lemmas.List.Quantifiers.{position-Some}
+use Rattle.std.proofs.lemmas.Bool.{false≢true, and_parts}
 use Rattle.csi_types.specs.declared.call.Kind.{Kind}
 use Rattle.csi_types.specs.declared.call.Kind.TheVariants as kinds
 use Rattle.csi_types.specs.declared.call.Party.{Party}
@@ -11,83 +11,66 @@ use Rattle.csi_types.specs.declared.reply.Reply.{Reply}
 use Rattle.csi_types.specs.Call.{kind_of}
 use Rattle.csi_types.specs.Frame.{Frame}
 use Rattle.csi_lists.specs.Members.{EachTwo}
+use Rattle.csi_lists.specs.Places.{IsAt, FirstAt}
+use Rattle.csi_lists.proofs.Places.{position-first}
 use Rattle.csi_lists.proofs.Searches.{find-passes}
 use Rattle.csi_types.specs.Reply.{is_ok_status}
-use Rattle.csi_types.specs.Same.{same_text}
-use Rattle.csi_types.proofs.Equality.{same_text-tells}
+use Rattle.csi_types.specs.Same.{same_text, same_number, same_party, same_kind}
+use Rattle.csi_types.proofs.Equality.{same_text-tells, same_kind-tells}
 use Rattle.csi_orchestrator.specs.declared.fault.Heard.TheVariants.{Ignored}
 use Rattle.csi_orchestrator.specs.declared.fault.OrchFault.{OrchFault}
+use Rattle.csi_orchestrator.specs.declared.inner.Core.{Core}
 use Rattle.csi_orchestrator.specs.declared.row.Goal.{Goal}
 use Rattle.csi_orchestrator.specs.declared.row.Goal.TheVariants.{Use, Stop}
 use Rattle.csi_orchestrator.specs.declared.row.Row.{Row}
 use Rattle.csi_orchestrator.specs.declared.row.Usage.{Usage}
-use Rattle.csi_orchestrator.specs.declared.going_on.Outgoing.{Outgoing}
+use Rattle.csi_orchestrator.specs.declared.step.Step.{Step}
+use Rattle.csi_orchestrator.specs.declared.step.Step.TheVariants.{Succeed, Fail}
+use Rattle.csi_orchestrator.specs.Catalog.{rows_of}
+use Rattle.csi_orchestrator.specs.Core.{parts_of}
 use Rattle.csi_orchestrator.specs.Due.{Due}
-use Rattle.csi_orchestrator.specs.Commands.{next_number}
 use Rattle.csi_orchestrator.specs.Moves.{Hears, hears}
-use Rattle.csi_orchestrator.specs.Shown.{RowShown, Parts, row_shown, due_in, open_in_row}
+use Rattle.csi_orchestrator.specs.Shown.{RowShown, Parts, row_shown, due_in, issued_as, row_of, open_in_row, closed}
 use Rattle.csi_orchestrator.specs.RowChanges.{succeeded, wanted}
-use Rattle.csi_orchestrator.specs.RowMoves.{Told, told, put, sends_as, goes_on, is_issued_as, stops_after, hears_refusal, hears_reply, row_replied, IsRefusal, IsToldAs}
+use Rattle.csi_orchestrator.specs.RowMoves.{Told, goes_on, is_issued_as, stops_after, hears_refusal, hears_reply, row_replied, IsToldAs}
 use Rattle.csi_orchestrator.specs.Found.{kind_due}
-use Rattle.csi_orchestrator.specs.CoreMoves.{outgoing_by, gone_on, frame_in, last_after}
-use Rattle.csi_orchestrator.specs.Hearing.{due_refused, next_heard, row_refused, row_heard}
+use Rattle.csi_orchestrator.specs.CoreMoves.{RowTold, row_goes_on, row_rests, waits_for, failed, row_step, Fits, frame_in, placed, steps_at}
+use Rattle.csi_orchestrator.specs.Hearing.{step_heard}
 use Rattle.csi_orchestrator.specs.Kept.{IsKept, AreKept}
-use Rattle.csi_orchestrator.specs.Keyed.{put_by}
+use Rattle.csi_orchestrator.proofs.CalledRows.{row-at, shown-there}
 use Rattle.csi_orchestrator.proofs.ChangedEntries.{find-place, find-none_placed}
-use Rattle.csi_orchestrator.proofs.KeptEntries.{by_if}
 use Rattle.csi_orchestrator.proofs.DueCases.{IsDueFor, due-cases, ToMake, ToRemove, ToAttach, ToStage, ToPublish, ToUnpublish, ToUnstage, ToDetach}
-use Rattle.csi_orchestrator.proofs.Replied.{hears-it}
-
--- the orchestrator's parts then, and its answer
-abbrev pub parts_after : Parts → RowShown → Option Outgoing → Parts
-parts_after parts row next = record { nodes = parts.nodes; last = last_after parts.last next; rows = put row parts.rows }
-
--- what is told after a reply, by what is sent next, unless that is refused
-abbrev pub heard_by : Parts → (Option Outgoing → RowShown) → Result (Option Outgoing) OrchFault → Result Told OrchFault
-heard_by parts row (Err fault) = Err fault
-heard_by parts row (Ok next) = told (parts_after parts (row next) next) (hears (frame_in next))
+use Rattle.csi_orchestrator.proofs.Indexed.{read-at}
+use Rattle.csi_orchestrator.proofs.Keeping.{found-kept}
+use Rattle.csi_orchestrator.proofs.PlacedRows.{some-is, placed-on}
+use Rattle.csi_orchestrator.proofs.Standing.{get-of_at}
 
 -- the due call of the row that a reply is to is of its kind
+issued-kind : (number : Number) (party : Party) (kind : Kind) (name : List ℕ) (own : Option Number) (due : Option Due) → is_issued_as number party kind (issued_as name own due) ≡ true → kind_due due ≡ Some kind
+issued-kind number party kind name None due e = absurd (false≢true e)
+issued-kind number party kind name (Some own) None e = absurd (false≢true e)
+issued-kind number party kind name (Some own) (Some due) e =
+    ap Some ((same_kind-tells (kind_of due.call) kind).0 (and_parts (same_number own number && same_party due.party party) (same_kind (kind_of due.call) kind) e).1)
+
+-- the same of the row as it is shown
 pub replied-kind : (row : RowShown) (number : Number) (party : Party) (kind : Kind) → is_issued_as number party kind (open_in_row row) ≡ true → kind_due (due_in row) ≡ Some kind
-replied-kind row number party kind e = let it = hears-it row number party kind e in ap kind_due it.is_due ∙ ap Some it.has_kind
+replied-kind row number party kind e = issued-kind number party kind row.name row.open_number (due_in row) e
 
--- what holds of each row as it is shown
-each-shown : {R X : Type 0} (P : X → Type 0) (view : R → X) (rs : List R) (i : ℕ) (r : R) → i < length rs → AllByRecursion P (map view rs) → P (view (get_or rs i r))
-each-shown P view [] i r inside all = absurd (omega arith)
-each-shown P view (x ∷ rs) zero r inside all = all.0
-each-shown P view (x ∷ rs) (suc i) r inside all = each-shown P view rs i r (omega arith) all.1
+-- what is told by a failure of the call that is due for this goal
+Fails : Parts → RowShown → Option Goal → Result Told OrchFault
+Fails parts row goal = placed parts hears (cond (waits_for goal) (row_rests (closed row)) (row_goes_on parts.last (failed row goal)))
 
--- an entry of the same text is written where it stands, if texts are apart
-put-own : {R X : Type 0} (view : R → X) (key : X → List ℕ) (rs : List R) (i : ℕ) (r s : R) → EachTwo (λ a b. same_text (key a) (key b) ≡ false) (map view rs) → i < length rs
-    → key (view s) ≡ key (view (get_or rs i r)) → map view (set rs i s) ≡ put_by key (view s) (map view rs)
-put-own view key [] i r s apart inside own = absurd (omega arith)
-put-own view key (x ∷ rs) zero r s apart inside own =
-    let same : same_text (key (view x)) (key (view s)) ≡ true = (same_text-tells (key (view x)) (key (view s))).1 (sym own) in
-    rw same refl
-put-own view key (x ∷ rs) (suc i) r s apart inside own =
-    let differs : same_text (key (view x)) (key (view s)) ≡ false = ap (same_text (key (view x))) own ∙ each-shown (λ y. same_text (key (view x)) (key y) ≡ false) view rs i r (omega arith) apart.0 in
-    rw differs (ap (λ ys. view x ∷ ys) (put-own view key rs i r s apart.1 (omega arith) own))
-
--- the due call is sent, or nothing more is wanted
-goes-on-heard : (parts : Parts) (row : RowShown) (due : Option Due) (number : Option Number) → sends_as parts hears row due number ≡ heard_by parts (λ next. gone_on next row) (outgoing_by due number)
-goes-on-heard parts row None number = refl
-goes-on-heard parts row (Some due) None = refl
-goes-on-heard parts row (Some due) (Some number) = refl
-
--- after another status
 Refused : Parts → RowShown → Kind → Option Goal → Type 0
-Refused parts row kind goal = hears_refusal parts row kind ≡ heard_by parts (λ next. row_refused next row goal) (outgoing_by (due_refused row goal) (next_number parts.last))
+Refused parts row kind goal = hears_refusal parts row kind ≡ Fails parts row goal
 
 -- a use that was refused is stopped
-stops-heard : (parts : Parts) (row : RowShown) (usage : Usage) → row.goal ≡ Some (Use usage)
-    → stops_after parts row row.goal ≡ heard_by parts (λ next. row_refused next row row.goal) (outgoing_by (due_refused row row.goal) (next_number parts.last))
-stops-heard parts row usage goal =
-    subst (λ g. stops_after parts row g ≡ heard_by parts (λ next. row_refused next row g) (outgoing_by (due_refused row g) (next_number parts.last))) (sym goal)
-    (goes-on-heard parts (wanted (Stop usage.node usage.target) row) (due_in (wanted (Stop usage.node usage.target) row)) (next_number parts.last))
+stops-heard : (parts : Parts) (row : RowShown) (usage : Usage) → row.goal ≡ Some (Use usage) → stops_after parts row row.goal ≡ Fails parts row row.goal
+unfolding Fails
+stops-heard parts row usage goal = subst (λ g. stops_after parts row g ≡ Fails parts row g) (sym goal) (placed-on parts hears (wanted (Stop usage.node usage.target) row))
 
 -- each call that may be due, and the same by the kind of the due call
 refused-heard : (parts : Parts) (row : RowShown) (due : Due) → IsDueFor row due → Refused parts row (kind_of due.call) row.goal
-unfolding Refused
+unfolding Refused Fails
 refused-heard parts row _ (ToMake goal e) = subst (Refused parts row kinds.CreateVolume) (sym goal) refl
 refused-heard parts row _ (ToRemove id goal own e) = subst (Refused parts row kinds.DeleteVolume) (sym goal) refl
 refused-heard parts row _ (ToAttach usage id goal own a) = stops-heard parts row usage goal
@@ -105,143 +88,83 @@ refused-by-kind parts row kind (Some due) e is =
     subst (λ k. Refused parts row k row.goal) own (refused-heard parts row due (due-cases row due e))
 
 -- after a reply
-pub reply-heard : (parts : Parts) (row : RowShown) (kind : Kind) (reply : Reply) → kind_due (due_in row) ≡ Some kind
-    → hears_reply parts kind reply (Some row) ≡ heard_by parts (row_heard kind reply row) (next_heard kind reply (next_number parts.last) row)
-unfolding Refused
-reply-heard parts row kind reply is = by (is_ok_status reply.status)
+reply-at : (parts : Parts) (row : RowShown) (kind : Kind) (reply : Reply) → kind_due (due_in row) ≡ Some kind → hears_reply parts kind reply (Some row) ≡ steps_at parts hears (step_heard kind reply) (Some row)
+unfolding Refused Fails
+reply-at parts row kind reply is = by (is_ok_status reply.status)
   where
-    by : (b : Bool) → cond b (goes_on parts hears (succeeded kind reply.id row)) (hears_refusal parts row kind)
-        ≡ heard_by parts (λ next. cond b (gone_on next (succeeded kind reply.id row)) (row_refused next row row.goal))
-        (outgoing_by (cond b (due_in (succeeded kind reply.id row)) (due_refused row row.goal)) (next_number parts.last))
-    by true = goes-on-heard parts (succeeded kind reply.id row) (due_in (succeeded kind reply.id row)) (next_number parts.last)
+    by : (b : Bool) → cond b (goes_on parts hears (succeeded kind reply.id row)) (hears_refusal parts row kind) ≡ placed parts hears (row_step parts (cond b (Succeed kind reply.id) Fail) row)
+    by true = placed-on parts hears (succeeded kind reply.id row)
     by false = refused-by-kind parts row kind (due_in row) refl is
 
--- where what is to be sent is refused, the reply is
-pub refusal-heard : (parts : Parts) (row : Option Outgoing → RowShown) (next : Result (Option Outgoing) OrchFault) (fault : OrchFault) → IsRefusal next fault → IsRefusal (heard_by parts row next) fault
-refusal-heard parts row (Ok next) fault is = is
-refusal-heard parts row (Err other) fault is = is
+-- what holds of each row as it is shown
+each-at : (P : RowShown → Type 0) (rows : List Row) (i : ℕ) (row : Row) → AllByRecursion P (map row_shown rows) → IsAt rows i row → P (row_shown row)
+each-at P [] i row all at = absurd at
+each-at P (x ∷ rows) zero row all at = subst (λ (r : Row). P (row_shown r)) at all.0
+each-at P (x ∷ rows) (suc i) row all at = each-at P rows i row all.1 at
 
--- the row at the place that the search gives
-Asked : Number → Party → Kind → Row → Bool
-Asked number party kind row = is_issued_as number party kind (open_in_row (row_shown row))
+-- the place of a row is the one of its name
+first-own : (rows : List Row) (i : ℕ) (row : Row) → EachTwo (λ (a b : RowShown). same_text a.name b.name ≡ false) (map row_shown rows) → IsAt rows i row → FirstAt (λ (r : Row). same_text r.name row.name) rows i row
+first-own [] i row apart at = absurd at
+first-own (x ∷ rows) zero row apart at = ((same_text-tells x.name row.name).1 (ap (λ (r : Row). r.name) at), at)
+first-own (x ∷ rows) (suc i) row apart at = (each-at (λ (b : RowShown). same_text x.name b.name ≡ false) rows i row apart.0 at, first-own rows i row apart.1 at)
 
--- it is kept
-pub kept-there : (rows : List Row) (i : ℕ) (row : Row) (number : Number) (party : Party) (kind : Kind) → AreKept (map row_shown rows)
-    → position (λ (row : Row). is_issued_as number party kind (open_in_row (row_shown row))) rows ≡ Some i → row ≡ get_or rows i row → IsKept (row_shown row)
-unfolding Asked
-kept-there rows i row number party kind kept at there =
-    let found = position-Some (Asked number party kind) rows i row at in
-    subst (λ (r : Row). IsKept (row_shown r)) (sym there) (each-shown IsKept row_shown rows i row found.0 kept.each)
+-- the row that a reply is to, as it stands at its place
+pub record IsReplied (core : Core) (place : ℕ) (number : Number) (party : Party) (kind : Kind) : Type 0 where
+  pub row : Row
+  pub stands : slice_get (rows_of core.catalog) place ≡ Some row
+  pub found : row_replied (map row_shown (rows_of core.catalog)) number party kind ≡ Some (row_shown row)
+  pub named : position (λ (r : Row). same_text r.name row.name) (rows_of core.catalog) ≡ Some place
+  pub kept : IsKept (row_shown row)
+  pub due : kind_due (due_in (row_shown row)) ≡ Some kind
 
--- its due call has the kind of the reply
-pub kind-there : (rows : List Row) (i : ℕ) (row : Row) (number : Number) (party : Party) (kind : Kind)
-    → position (λ (row : Row). is_issued_as number party kind (open_in_row (row_shown row))) rows ≡ Some i → row ≡ get_or rows i row → kind_due (due_in (row_shown row)) ≡ Some kind
-unfolding Asked
-kind-there rows i row number party kind at there =
-    let found = position-Some (Asked number party kind) rows i row at in
-    replied-kind (row_shown row) number party kind (ap (Asked number party kind) there ∙ found.1)
+pub replied-at : (core : Core) (place : ℕ) (number : Number) (party : Party) (kind : Kind) → AreKept (map row_shown (rows_of core.catalog))
+    → position (λ (row : Row). is_issued_as number party kind (open_in_row (row_shown row))) (rows_of core.catalog) ≡ Some place → IsReplied core place number party kind
+replied-at core place number party kind kept at =
+    let rows = rows_of core.catalog in
+    let there = row-at (λ (row : Row). is_issued_as number party kind (open_in_row (row_shown row))) rows place at in
+    let stands = get-of_at rows place there.0 there.1.0 in
+    let found = find-place row_shown (λ (row : RowShown). is_issued_as number party kind (open_in_row row)) rows place there.0 at (read-at rows place there.0 stands) in
+    record {
+      row = there.0;
+      stands = stands;
+      found = found;
+      named = sym (position-first (λ (r : Row). same_text r.name (there.0).name) rows place there.0 (first-own rows place there.0 kept.names there.1.0));
+      kept = found-kept (λ (r : RowShown). is_issued_as number party kind (open_in_row r)) (map row_shown rows) (row_shown there.0) kept found;
+      due = replied-kind (row_shown there.0) number party kind there.1.1;
+    }
 
--- what it shows and answers then
-answered-with : List (List ℕ) → Number → List RowShown → Option Frame → Result Told OrchFault
-answered-with nodes last rows frame = told (record { nodes = nodes; last = last; rows = rows }) (hears frame)
-
--- the entry of a place, by whatever it is there for where there is none
-pub same-there : {X : Type 0} (xs : List X) (i : ℕ) (x y : X) → i < length xs → get_or xs i x ≡ get_or xs i y
-same-there [] i x y inside = absurd (omega arith)
-same-there (z ∷ xs) zero x y inside = refl
-same-there (z ∷ xs) (suc i) x y inside = same-there xs i x y (omega arith)
-
--- the row keeps its name
-same-followed : (next : Option Outgoing) (row : RowShown) → (gone_on next row).name ≡ row.name
-same-followed None row = refl
-same-followed (Some next) row = refl
-
-same-refused : (next : Option Outgoing) (row : RowShown) (goal : Option Goal) → (row_refused next row goal).name ≡ row.name
-same-refused next row (Some (Use usage)) = same-followed next (wanted (Stop usage.node usage.target) row)
-same-refused next row goal = refl
-
-pub same-heard : (kind : Kind) (reply : Reply) (row : RowShown) (next : Option Outgoing) → (row_heard kind reply row next).name ≡ row.name
-same-heard kind reply row next =
-    by_if (λ (r : RowShown). r.name ≡ row.name) (is_ok_status reply.status) (gone_on next (succeeded kind reply.id row)) (row_refused next row row.goal)
-    (λ e. same-followed next (succeeded kind reply.id row)) (λ e. same-refused next row row.goal)
-
--- the row that the reply is to, among those that are shown
-found-there : (rows : List Row) (i : ℕ) (row : Row) (number : Number) (party : Party) (kind : Kind)
-    → position (λ (row : Row). is_issued_as number party kind (open_in_row (row_shown row))) rows ≡ Some i → row ≡ get_or rows i row → row_replied (map row_shown rows) number party kind ≡ Some (row_shown row)
-found-there rows i row number party kind at there = find-place row_shown (λ (r : RowShown). is_issued_as number party kind (open_in_row r)) rows i row at there
-
--- where the search gives no place, none of them is the one
-pub unfound : (rows : List Row) (number : Number) (party : Party) (kind : Kind)
-    → position (λ (row : Row). is_issued_as number party kind (open_in_row (row_shown row))) rows ≡ None → row_replied (map row_shown rows) number party kind ≡ None
-unfound rows number party kind none = find-none_placed row_shown (λ (r : RowShown). is_issued_as number party kind (open_in_row r)) rows none
-
--- where it gives a place, one of them is
-pub found-differs : (rows : List Row) (i : ℕ) (row : Row) (number : Number) (party : Party) (kind : Kind)
-    → position (λ (row : Row). is_issued_as number party kind (open_in_row (row_shown row))) rows ≡ Some i → row ≡ get_or rows i row → row_replied (map row_shown rows) number party kind ≡ None → ⊥
-found-differs rows i row number party kind at there none = let found = found-there rows i row number party kind at there in let same : Some (row_shown row) ≡ None = sym found ∙ none in cc
-
--- a reply to the call of the row at this place
-pub heard-there : (parts : Parts) (rows : List Row) (i : ℕ) (row now after : Row) (number last : Number) (party : Party) (kind : Kind) (reply : Reply) (next : Option Outgoing) (frame : Option Frame)
-    → parts.rows ≡ map row_shown rows → AreKept (map row_shown rows)
-    → position (λ (row : Row). is_issued_as number party kind (open_in_row (row_shown row))) rows ≡ Some i → row ≡ get_or rows i row → now ≡ get_or rows i now
-    → next_heard kind reply (next_number parts.last) (row_shown row) ≡ Ok next → row_shown after ≡ row_heard kind reply (row_shown now) next → last ≡ last_after parts.last next → frame ≡ frame_in next
-    → hears_reply parts kind reply (row_replied (map row_shown rows) number party kind) ≡ told (record { nodes = parts.nodes; last = last; rows = map row_shown (set rows i after) }) (hears frame)
-unfolding Asked answered-with
-heard-there parts rows i row now after number last party kind reply next frame own kept at there then is changed numbered framed =
-    let found = position-Some (Asked number party kind) rows i row at in
-    let settled : row_shown after ≡ row_heard kind reply (row_shown row) next = changed ∙ ap (λ (r : Row). row_heard kind reply (row_shown r) next) (then ∙ same-there rows i now row found.0 ∙ sym there) in
-    let name : (row_shown after).name ≡ (row_shown (get_or rows i row)).name = ap (λ (r : RowShown). r.name) settled ∙ same-heard kind reply (row_shown row) next ∙ ap (λ (r : Row). (row_shown r).name) there in
-    let written : map row_shown (set rows i after) ≡ put (row_heard kind reply (row_shown row) next) parts.rows =
-    put-own row_shown (λ (r : RowShown). r.name) rows i row after kept.names found.0 name ∙ ap (λ (r : RowShown). put r (map row_shown rows)) settled ∙ ap (put (row_heard kind reply (row_shown row) next)) (sym own) in
-    ap (hears_reply parts kind reply) (found-there rows i row number party kind at there)
-    ∙ reply-heard parts (row_shown row) kind reply (kind-there rows i row number party kind at there)
-    ∙ ap (heard_by parts (row_heard kind reply (row_shown row))) is
-    ∙ ap (λ n. answered-with parts.nodes n (put (row_heard kind reply (row_shown row) next) parts.rows) (frame_in next)) (sym numbered)
-    ∙ ap (λ rs. answered-with parts.nodes last rs (frame_in next)) (sym written)
-    ∙ ap (answered-with parts.nodes last (map row_shown (set rows i after))) (sym framed)
-
--- it is refused
-pub refused-there : (parts : Parts) (rows : List Row) (i : ℕ) (row : Row) (number : Number) (party : Party) (kind : Kind) (reply : Reply) (fault : OrchFault)
-    → position (λ (row : Row). is_issued_as number party kind (open_in_row (row_shown row))) rows ≡ Some i → row ≡ get_or rows i row
-    → IsRefusal (next_heard kind reply (next_number parts.last) (row_shown row)) fault → IsRefusal (hears_reply parts kind reply (row_replied (map row_shown rows) number party kind)) fault
-refused-there parts rows i row number party kind reply fault at there is =
-    subst (λ (r : Result Told OrchFault). IsRefusal r fault)
-    (sym (ap (hears_reply parts kind reply) (found-there rows i row number party kind at there) ∙ reply-heard parts (row_shown row) kind reply (kind-there rows i row number party kind at there)))
-    (refusal-heard parts (row_heard kind reply (row_shown row)) (next_heard kind reply (next_number parts.last) (row_shown row)) fault is)
-
--- what a row hears isn't ignored, so a reply that is told to be ignored is to no row's open call
-never-ignored : (parts : Parts) (row : Option Outgoing → RowShown) (next : Result (Option Outgoing) OrchFault) → IsToldAs (Hears Ignored) (heard_by parts row next) → ⊥
-never-ignored parts row (Ok next) e = cc
-never-ignored parts row (Err fault) e = e
-
-pub none-replied : (parts : Parts) (number : Number) (party : Party) (kind : Kind) (reply : Reply) → IsToldAs (Hears Ignored) (hears_reply parts kind reply (row_replied parts.rows number party kind))
-    → row_replied parts.rows number party kind ≡ None
-none-replied parts number party kind reply e = by (row_replied parts.rows number party kind) refl e
+-- what the reply brings fits the row
+pub reply-fits : (core : Core) (place : ℕ) (number : Number) (party : Party) (kind : Kind) (reply : Reply) → IsReplied core place number party kind → (row : Row) → slice_get (rows_of core.catalog) place ≡ Some row
+    → Fits (step_heard kind reply) (row_shown row)
+reply-fits core place number party kind reply of row there = subst (λ (r : Row). Fits (step_heard kind reply) (row_shown r)) same (by (is_ok_status reply.status))
   where
-    by : (o : Option RowShown) → row_replied parts.rows number party kind ≡ o → IsToldAs (Hears Ignored) (hears_reply parts kind reply o) → o ≡ None
-    by None found e = refl
-    by (Some row) found e =
-        let passes = find-passes (λ (r : RowShown). is_issued_as number party kind (open_in_row r)) parts.rows row found in
-        absurd (never-ignored parts (row_heard kind reply row) (next_heard kind reply (next_number parts.last) row)
-        (subst (IsToldAs (Hears Ignored)) (reply-heard parts row kind reply (replied-kind row number party kind passes)) e))
+    same : of.row ≡ row
+    same = some-is of.row row (sym of.stands ∙ there)
 
-pub ignored-none : (parts ignored : Parts) (number : Number) (party : Party) (kind : Kind) (reply : Reply) → hears_reply parts kind reply (row_replied parts.rows number party kind) ≡ told ignored (Hears Ignored)
-    → row_replied parts.rows number party kind ≡ None
-ignored-none parts ignored number party kind reply e = none-replied parts number party kind reply (subst (IsToldAs (Hears Ignored)) (sym e) refl)
+    by : (b : Bool) → Fits (cond b (Succeed kind reply.id) Fail) (row_shown of.row)
+    by true = (of.kept, of.due)
+    by false = tt
 
--- where a reply is told to send nothing, nothing is due
-taken-quiet : (parts : Parts) (row : Option Outgoing → RowShown) (next : Result (Option Outgoing) OrchFault) → IsToldAs (hears None) (heard_by parts row next) → next ≡ Ok None
-taken-quiet parts row (Ok None) told = refl
-taken-quiet parts row (Ok (Some outgoing)) told = absurd (clash outgoing.frame told)
+-- what is told of the reply is what is told by the step
+pub reply-told : (core : Core) (place : ℕ) (number : Number) (party : Party) (kind : Kind) (reply : Reply) (step : Step) (of : IsReplied core place number party kind) → step ≡ step_heard kind reply
+    → hears_reply (parts_of core) kind reply (row_replied (map row_shown (rows_of core.catalog)) number party kind) ≡ steps_at (parts_of core) hears step (row_of (map row_shown (rows_of core.catalog)) (of.row).name)
+reply-told core place number party kind reply step of is =
+    ap (hears_reply (parts_of core) kind reply) of.found ∙ reply-at (parts_of core) (row_shown of.row) kind reply of.due ∙ ap (λ s. steps_at (parts_of core) hears s (Some (row_shown of.row))) (sym is)
+    ∙ sym (ap (steps_at (parts_of core) hears step) (shown-there (rows_of core.catalog) (of.row).name place of.row of.named of.stands))
+
+-- a reply that is to no row's open call
+pub unfound : (rows : List Row) (number : Number) (party : Party) (kind : Kind) → position (λ (row : Row). is_issued_as number party kind (open_in_row (row_shown row))) rows ≡ None
+    → row_replied (map row_shown rows) number party kind ≡ None
+unfound rows number party kind none = find-none_placed row_shown (λ (row : RowShown). is_issued_as number party kind (open_in_row row)) rows none
+
+-- what is told by a step isn't ignored
+pub never-ignored : (parts : Parts) (step : Step) (o : Option RowShown) → IsToldAs (Hears Ignored) (steps_at parts hears step o) → ⊥
+never-ignored parts step None told = told
+never-ignored parts step (Some row) told = by (row_step parts step row) told
   where
-    clash : (frame : Frame) → hears (Some frame) ≡ hears None → ⊥
+    clash : (frame : Option Frame) → hears frame ≡ Hears Ignored → ⊥
     clash frame e = cc
-taken-quiet parts row (Err fault) told = absurd told
 
--- the same of the row that stands at a place
-pub quiet-there : (parts : Parts) (rows : List Row) (i : ℕ) (row : Row) (number : Number) (party : Party) (kind : Kind) (reply : Reply)
-    → position (λ (row : Row). is_issued_as number party kind (open_in_row (row_shown row))) rows ≡ Some i → row ≡ get_or rows i row
-    → IsToldAs (hears None) (hears_reply parts kind reply (row_replied (map row_shown rows) number party kind)) → next_heard kind reply (next_number parts.last) (row_shown row) ≡ Ok None
-quiet-there parts rows i row number party kind reply at there told =
-    taken-quiet parts (row_heard kind reply (row_shown row)) (next_heard kind reply (next_number parts.last) (row_shown row))
-    (subst (IsToldAs (hears None)) (ap (hears_reply parts kind reply) (found-there rows i row number party kind at there) ∙ reply-heard parts (row_shown row) kind reply (kind-there rows i row number party kind at there)) told)
+    by : (r : Result RowTold OrchFault) → IsToldAs (Hears Ignored) (placed parts hears r) → ⊥
+    by (Ok row_told) is = clash (frame_in row_told.outgoing) is
+    by (Err fault) is = is

@@ -14,7 +14,7 @@ use Rattle.csi_lists.specs.Places.{IsAt}
 use Rattle.csi_lists.proofs.Places.{same-at}
 use Rattle.csi_types.specs.Same.{same_text}
 use Rattle.csi_types.specs.declared.number.Number.{Number}
-use Rattle.csi_orchestrator.specs.declared.going_on.Outgoing.{Outgoing}
+use Rattle.csi_orchestrator.specs.declared.sending.Outgoing.{Outgoing}
 use Rattle.csi_orchestrator.specs.declared.row.Row.{Row}
 use Rattle.csi_orchestrator.specs.declared.catalog.Catalog.{Catalog}
 use Rattle.csi_orchestrator.specs.Catalog.{rows_of, by_name, place_noted, HasRoom, IsIndexed, IsReady, IsNextFor, IsClosedAt, AreUpTo, AreNotedBefore, call_in, IsAfter}

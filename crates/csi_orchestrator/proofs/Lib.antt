@@ -26,7 +26,6 @@ pub mod TellingCommands
 pub mod TellingReplies
 pub mod Stepwise
 pub mod Promised
-pub mod Ignoring
 pub mod ChangedEntries
 pub mod AddedEntries
 pub mod RowsGoOn
@@ -36,8 +35,6 @@ pub mod Joined
 pub mod ThingsNoted
 pub mod NothingNoted
 pub mod CalledRows
-pub mod MetUses
-pub mod GivenUp
 pub mod HeardRows
 pub mod HeardParts
 pub mod Indexed

@@ -1,47 +1,47 @@
--- Why a command or a timeout answers by the row of its name.
-use Rattle.std.proofs.Common.{◌≡◌, ℕ, List, [], ◌∷◌, Bool, true, false, cond, refl, sym, ap, subst}
+-- What a step of a row tells of all the rows is what each input tells.
+use Rattle.std.proofs.Common.{◌≡◌, ℕ, List, [], ◌∷◌, Bool, true, false, cond, refl, sym, ◌∙◌, ap, subst}
 use Rattle.std.specs.Prelude.{Option, Some, None, find, is_none, Result, Ok, Err}
+use Rattle.std.proofs.lemmas.Option.{none-some}
 use Rattle.csi_types.specs.declared.number.Number.{Number}
+use Rattle.csi_types.specs.Frame.{Frame}
 use Rattle.csi_types.specs.Same.{same_text}
 use Rattle.csi_types.proofs.Equality.{same_text-tells}
 use Rattle.csi_lists.proofs.Searches.{find-passes}
 use Rattle.csi_orchestrator.specs.declared.fault.OrchFault.{OrchFault}
-use Rattle.csi_orchestrator.specs.declared.going_on.Outgoing.{Outgoing}
 use Rattle.csi_orchestrator.specs.declared.row.Goal.{Goal}
-use Rattle.csi_orchestrator.specs.declared.row.Goal.TheVariants.{Use, Stop, Delete}
+use Rattle.csi_orchestrator.specs.declared.row.Goal.TheVariants.{Create, Use, Stop, Delete}
 use Rattle.csi_orchestrator.specs.declared.row.Usage.{Usage}
+use Rattle.csi_orchestrator.specs.declared.sending.Outgoing.{Outgoing}
+use Rattle.csi_orchestrator.specs.declared.step.Step.{Step}
+use Rattle.csi_orchestrator.specs.declared.step.Step.TheVariants as steps
 use Rattle.csi_orchestrator.specs.Thing.{is_no}
 use Rattle.csi_orchestrator.specs.History.{Arguments}
 use Rattle.csi_orchestrator.specs.Commands.{next_number}
 use Rattle.csi_orchestrator.specs.Due.{Due}
-use Rattle.csi_orchestrator.specs.Moves.{Sends}
-use Rattle.csi_orchestrator.specs.RowChanges.{wanted, wanted_anew, stopped_goal}
-use Rattle.csi_orchestrator.specs.RowMoves.{Told, told, put, sends_as, goes_on, unless_refused, again_fault, creates, use_refusal, room_refusal, due_for_use, uses, stop_refusal, stops, delete_refusal, busy_refusal, deletes, times_out_with, times_out}
+use Rattle.csi_orchestrator.specs.Moves.{Input, Answer, Sends}
+use Rattle.csi_orchestrator.specs.RowChanges.{wanted, wanted_anew, stopped_goal, with_entry}
+use Rattle.csi_orchestrator.specs.RowMoves.{Told, told, put, sends_as, goes_on, unless_refused, again_fault, creates, use_refusal, room_refusal, due_for_use, uses, stop_refusal, stops, delete_refusal, busy_refusal, deletes, times_out_with, times_out, row_moves, IsToldAs}
 use Rattle.csi_orchestrator.specs.Shown.{RowShown, Parts, row_of, due_in, closed}
-use Rattle.csi_orchestrator.specs.CoreMoves.{RowTold, outgoing_by, row_after, row_goes_on, row_unless, row_met, row_creates, with_entry_for, row_wants, row_use_or_met, row_uses, row_stops, row_delete_or_met, row_deletes, is_given_up, timed_out, row_times_out_with, row_times_out, frame_in, last_after}
+use Rattle.csi_orchestrator.specs.CoreMoves.{RowTold, outgoing_by, row_after, row_goes_on, row_rests, row_unless, idle_refusal, is_given_up, timed_out, frame_in, placed, steps_at, asked_by, SendsNothing}
 
--- what becomes of a row, among the parts
-abbrev pub parts_after : Parts → RowTold → Parts
-parts_after parts told = record { nodes = parts.nodes; last = last_after parts.last told.outgoing; rows = put told.row parts.rows }
-
--- the parts and the answer by what becomes of a row, unless it is refused
-abbrev pub placed : Parts → Result RowTold OrchFault → Result Told OrchFault
-placed parts (Err fault) = Err fault
-placed parts (Ok told) = Ok (record { answer = Sends (frame_in told.outgoing); parts = parts_after parts told })
+pub some-is : {X : Type 0} (a b : X) → Some a ≡ Some b → a ≡ b
+some-is a b h = cc
 
 -- unless it is refused, either of two, and a row that goes on
-placed-unless : (parts : Parts) (fault : Option OrchFault) (told : Result Told OrchFault) (row_told : Result RowTold OrchFault) → told ≡ placed parts row_told → unless_refused fault told ≡ placed parts (row_unless fault row_told)
-placed-unless parts None told row_told is = is
-placed-unless parts (Some fault) told row_told is = refl
+placed-unless : (parts : Parts) (answer : Option Frame → Answer) (fault : Option OrchFault) (told : Result Told OrchFault) (row_told : Result RowTold OrchFault) → told ≡ placed parts answer row_told
+    → unless_refused fault told ≡ placed parts answer (row_unless fault row_told)
+placed-unless parts answer None told row_told is = is
+placed-unless parts answer (Some fault) told row_told is = refl
 
-placed-either : (parts : Parts) (b : Bool) (x y : Result Told OrchFault) (r s : Result RowTold OrchFault) → x ≡ placed parts r → y ≡ placed parts s → cond b x y ≡ placed parts (cond b r s)
-placed-either parts true x y r s is other = is
-placed-either parts false x y r s is other = other
+placed-either : (parts : Parts) (answer : Option Frame → Answer) (b : Bool) (x y : Result Told OrchFault) (r s : Result RowTold OrchFault) → x ≡ placed parts answer r → y ≡ placed parts answer s
+    → cond b x y ≡ placed parts answer (cond b r s)
+placed-either parts answer true x y r s is other = is
+placed-either parts answer false x y r s is other = other
 
-pub placed-on : (parts : Parts) (row : RowShown) → goes_on parts Sends row ≡ placed parts (row_goes_on parts.last row)
-placed-on parts row = by (due_in row) (next_number parts.last)
+pub placed-on : (parts : Parts) (answer : Option Frame → Answer) (row : RowShown) → goes_on parts answer row ≡ placed parts answer (row_goes_on parts.last row)
+placed-on parts answer row = by (due_in row) (next_number parts.last)
   where
-    by : (due : Option Due) (number : Option Number) → sends_as parts Sends row due number ≡ placed parts (row_after row (outgoing_by due number))
+    by : (due : Option Due) (number : Option Number) → sends_as parts answer row due number ≡ placed parts answer (row_after row (outgoing_by due number))
     by None number = refl
     by (Some due) None = refl
     by (Some due) (Some number) = refl
@@ -61,89 +61,68 @@ pub found-name : (rows : List RowShown) (name : List ℕ) (row : RowShown) → r
 found-name rows name row found = (same_text-tells row.name name).0 (find-passes (λ (r : RowShown). same_text r.name name) rows row found)
 
 -- what is met already leaves the row
-placed-met : (parts : Parts) (name : List ℕ) (row : RowShown) → row_of parts.rows name ≡ Some row → told parts (Sends None) ≡ placed parts (row_met row)
+placed-met : (parts : Parts) (name : List ℕ) (row : RowShown) → row_of parts.rows name ≡ Some row → told parts (Sends None) ≡ placed parts Sends (row_rests row)
 placed-met parts name row found =
     let own = subst (λ n. row_of parts.rows n ≡ Some row) (sym (found-name parts.rows name row found)) found in
     ap (λ rows. told (record { nodes = parts.nodes; last = parts.last; rows = rows }) (Sends None)) (sym (put-same parts.rows row own))
 
--- each command, and a timeout
-pub creates-placed : (parts : Parts) (name : List ℕ) (arguments : Arguments) (row : RowShown) → creates parts name arguments (Some row) ≡ placed parts (row_creates parts arguments row)
-creates-placed parts name arguments row = placed-unless parts (again_fault parts row) _ (row_goes_on parts.last (wanted_anew arguments row)) (placed-on parts (wanted_anew arguments row))
+-- each command, and a timeout, at the row that is found
+pub create-at : (parts : Parts) (name : List ℕ) (arguments : Arguments) (row : RowShown) → creates parts name arguments (Some row) ≡ steps_at parts Sends (steps.Create arguments) (Some row)
+create-at parts name arguments row = placed-unless parts Sends (again_fault parts row) _ (row_goes_on parts.last (wanted_anew arguments row)) (placed-on parts Sends (wanted_anew arguments row))
 
-pub uses-placed : (parts : Parts) (usage : Usage) (name : List ℕ) (row : RowShown) → row_of parts.rows name ≡ Some row → uses parts usage (Some row) ≡ placed parts (row_uses parts usage row)
-uses-placed parts usage name row found =
-    placed-unless parts (use_refusal parts.nodes usage row) _ (row_use_or_met parts usage row)
-    (placed-either parts (is_none (due_for_use usage row)) _ _ (row_met row) (row_unless (room_refusal parts usage row) (row_wants parts.last (Use usage) row)) (placed-met parts name row found)
-    (placed-unless parts (room_refusal parts usage row) _ (row_wants parts.last (Use usage) row) (placed-on parts (wanted (Use usage) (with_entry_for (Use usage) row)))))
+use-at : (parts : Parts) (name : List ℕ) (usage : Usage) (row : RowShown) → row_of parts.rows name ≡ Some row → uses parts usage (Some row) ≡ steps_at parts Sends (steps.Want (Use usage)) (Some row)
+use-at parts name usage row found =
+    let on = row_goes_on parts.last (wanted (Use usage) (with_entry usage row)) in
+    placed-unless parts Sends (use_refusal parts.nodes usage row) _ _
+    (placed-either parts Sends (is_none (due_for_use usage row)) _ _ (row_rests row) (row_unless (room_refusal parts usage row) on) (placed-met parts name row found)
+    (placed-unless parts Sends (room_refusal parts usage row) _ on (placed-on parts Sends (wanted (Use usage) (with_entry usage row)))))
 
-pub stops-placed : (parts : Parts) (node target : List ℕ) (row : RowShown) → stops parts node target (Some row) ≡ placed parts (row_stops parts node target row)
-stops-placed parts node target row = placed-unless parts (stop_refusal parts node target row) _ (row_wants parts.last (Stop node target) row) (placed-on parts (wanted (Stop node target) row))
+stop-at : (parts : Parts) (node target : List ℕ) (row : RowShown) → stops parts node target (Some row) ≡ steps_at parts Sends (steps.Want (Stop node target)) (Some row)
+stop-at parts node target row = placed-unless parts Sends (stop_refusal parts node target row) _ (row_goes_on parts.last (wanted (Stop node target) row)) (placed-on parts Sends (wanted (Stop node target) row))
 
-pub deletes-placed : (parts : Parts) (name : List ℕ) (row : RowShown) → row_of parts.rows name ≡ Some row → deletes parts (Some row) ≡ placed parts (row_deletes parts row)
-deletes-placed parts name row found =
-    placed-unless parts (delete_refusal row) _ (row_delete_or_met parts row)
-    (placed-either parts (is_no row.exists) _ _ (row_met row) (row_unless (busy_refusal parts row) (row_wants parts.last Delete row)) (placed-met parts name row found)
-    (placed-unless parts (busy_refusal parts row) _ (row_wants parts.last Delete row) (placed-on parts (wanted Delete row))))
+delete-at : (parts : Parts) (name : List ℕ) (row : RowShown) → row_of parts.rows name ≡ Some row → deletes parts (Some row) ≡ steps_at parts Sends (steps.Want Delete) (Some row)
+delete-at parts name row found =
+    let on = row_goes_on parts.last (wanted Delete row) in
+    placed-unless parts Sends (delete_refusal row) _ _
+    (placed-either parts Sends (is_no row.exists) _ _ (row_rests row) (row_unless (busy_refusal parts row) on) (placed-met parts name row found)
+    (placed-unless parts Sends (busy_refusal parts row) _ on (placed-on parts Sends (wanted Delete row))))
 
-pub times-out-placed : (parts : Parts) (row : RowShown) → times_out parts (Some row) ≡ placed parts (row_times_out parts.last row)
-times-out-placed parts row = by row.goal
+timeout-at : (parts : Parts) (row : RowShown) → times_out parts (Some row) ≡ steps_at parts Sends steps.TimeOut (Some row)
+timeout-at parts row = by row.goal
   where
-    gives_up : (b : Bool) (goal : Goal) → cond b (goes_on parts Sends (wanted (stopped_goal goal) row)) (goes_on parts Sends (closed row)) ≡ placed parts (row_goes_on parts.last (timed_out b goal row))
-    gives_up true goal = placed-on parts (wanted (stopped_goal goal) row)
-    gives_up false goal = placed-on parts (closed row)
+    gives_up : (b : Bool) (goal : Goal) → cond b (goes_on parts Sends (wanted (stopped_goal goal) row)) (goes_on parts Sends (closed row)) ≡ placed parts Sends (row_goes_on parts.last (cond b (wanted (stopped_goal goal) row) (closed row)))
+    gives_up true goal = placed-on parts Sends (wanted (stopped_goal goal) row)
+    gives_up false goal = placed-on parts Sends (closed row)
 
-    by : (goal : Option Goal) → times_out_with parts row goal ≡ placed parts (row_times_out_with parts.last row goal)
+    by : (goal : Option Goal) → times_out_with parts row goal ≡ placed parts Sends (row_unless (idle_refusal goal) (row_goes_on parts.last (timed_out row goal)))
     by None = refl
-    by (Some goal) = gives_up (is_given_up (due_in row) row) goal
+    by (Some goal) = gives_up (is_given_up row) goal
 
--- its name stays
-abbrev pub KeepsName : List ℕ → Result RowTold OrchFault → Type 0
-KeepsName name (Ok told) = (told.row).name ≡ name
-KeepsName name (Err fault) = Unit {0}
-
--- a row that goes on, unless it is refused, and either of two
-pub on-keeps : (last : Number) (row : RowShown) → KeepsName row.name (row_goes_on last row)
-on-keeps last row = by (outgoing_by (due_in row) (next_number last))
+-- the same, whether the name has a row or not
+by-row : (parts : Parts) (name : List ℕ) (f g : Option RowShown → Result Told OrchFault) → f None ≡ g None → ((row : RowShown) → row_of parts.rows name ≡ Some row → g (Some row) ≡ f (Some row)) → f (row_of parts.rows name) ≡ g (row_of parts.rows name)
+by-row parts name f g none some = by (row_of parts.rows name) refl
   where
-    by : (next : Result (Option Outgoing) OrchFault) → KeepsName row.name (row_after row next)
-    by (Err fault) = tt
-    by (Ok None) = refl
-    by (Ok (Some next)) = refl
+    by : (o : Option RowShown) → row_of parts.rows name ≡ o → f o ≡ g o
+    by None e = none
+    by (Some row) e = sym (some row e)
 
-unless-keeps : (name : List ℕ) (fault : Option OrchFault) (told : Result RowTold OrchFault) → KeepsName name told → KeepsName name (row_unless fault told)
-unless-keeps name None told keeps = keeps
-unless-keeps name (Some fault) told keeps = tt
+-- what is asked is told by a step
+pub asked : (parts : Parts) (name : List ℕ) (step : Step) (input : Input) → asked_by name step ≡ Some input → steps_at parts Sends step (row_of parts.rows name) ≡ row_moves parts input
+asked parts name (steps.Create arguments) input is = absurd (none-some input is)
+asked parts name (steps.Want Create) input is = absurd (none-some input is)
+asked parts name (steps.Want (Use usage)) input is = by-row parts name (steps_at parts Sends (steps.Want (Use usage))) (uses parts usage) refl (use-at parts name usage) ∙ ap (row_moves parts) (some-is _ input is)
+asked parts name (steps.Want (Stop node target)) input is =
+    by-row parts name (steps_at parts Sends (steps.Want (Stop node target))) (stops parts node target) refl (λ row found. stop-at parts node target row) ∙ ap (row_moves parts) (some-is _ input is)
+asked parts name (steps.Want Delete) input is = by-row parts name (steps_at parts Sends (steps.Want Delete)) (deletes parts) refl (delete-at parts name) ∙ ap (row_moves parts) (some-is _ input is)
+asked parts name steps.TimeOut input is = by-row parts name (steps_at parts Sends steps.TimeOut) (times_out parts) refl (λ row found. timeout-at parts row) ∙ ap (row_moves parts) (some-is _ input is)
+asked parts name (steps.Succeed kind id) input is = absurd (none-some input is)
+asked parts name steps.Fail input is = absurd (none-some input is)
 
-either-keeps : (name : List ℕ) (b : Bool) (r s : Result RowTold OrchFault) → KeepsName name r → KeepsName name s → KeepsName name (cond b r s)
-either-keeps name true r s keeps other = keeps
-either-keeps name false r s keeps other = other
-
--- each command, and a timeout
-pub creates-keeps : (parts : Parts) (arguments : Arguments) (row : RowShown) → KeepsName row.name (row_creates parts arguments row)
-creates-keeps parts arguments row = unless-keeps row.name (again_fault parts row) (row_goes_on parts.last (wanted_anew arguments row)) (on-keeps parts.last (wanted_anew arguments row))
-
-pub uses-keeps : (parts : Parts) (usage : Usage) (row : RowShown) → KeepsName row.name (row_uses parts usage row)
-uses-keeps parts usage row =
-    unless-keeps row.name (use_refusal parts.nodes usage row) (row_use_or_met parts usage row)
-    (either-keeps row.name (is_none (due_for_use usage row)) (row_met row) (row_unless (room_refusal parts usage row) (row_wants parts.last (Use usage) row)) refl
-    (unless-keeps row.name (room_refusal parts usage row) (row_wants parts.last (Use usage) row) (on-keeps parts.last (wanted (Use usage) (with_entry_for (Use usage) row)))))
-
-pub stops-keeps : (parts : Parts) (node target : List ℕ) (row : RowShown) → KeepsName row.name (row_stops parts node target row)
-stops-keeps parts node target row = unless-keeps row.name (stop_refusal parts node target row) (row_wants parts.last (Stop node target) row) (on-keeps parts.last (wanted (Stop node target) row))
-
-pub deletes-keeps : (parts : Parts) (row : RowShown) → KeepsName row.name (row_deletes parts row)
-deletes-keeps parts row =
-    unless-keeps row.name (delete_refusal row) (row_delete_or_met parts row)
-    (either-keeps row.name (is_no row.exists) (row_met row) (row_unless (busy_refusal parts row) (row_wants parts.last Delete row)) refl
-    (unless-keeps row.name (busy_refusal parts row) (row_wants parts.last Delete row) (on-keeps parts.last (wanted Delete row))))
-
-pub times-out-keeps : (last : Number) (row : RowShown) → KeepsName row.name (row_times_out last row)
-times-out-keeps last row = by row.goal
+-- where it is told that nothing is sent, the row sends nothing
+pub nothing-sent : (parts : Parts) (answer : Option Frame → Answer) (told : Result RowTold OrchFault) → ((frame : Frame) → answer (Some frame) ≡ answer None → ⊥) → IsToldAs (answer None) (placed parts answer told) → SendsNothing told
+nothing-sent parts answer (Ok told) apart is = by told.outgoing is
   where
-    gives_up : (b : Bool) (goal : Goal) → KeepsName row.name (row_goes_on last (timed_out b goal row))
-    gives_up true goal = on-keeps last (wanted (stopped_goal goal) row)
-    gives_up false goal = on-keeps last (closed row)
-
-    by : (goal : Option Goal) → KeepsName row.name (row_times_out_with last row goal)
-    by None = tt
-    by (Some goal) = gives_up (is_given_up (due_in row) row) goal
+    by : (next : Option Outgoing) → answer (frame_in next) ≡ answer None → next ≡ None
+    by None e = refl
+    by (Some next) e = absurd (apart next.frame e)
+nothing-sent parts answer (Err fault) apart is = is

@@ -6,6 +6,7 @@ use Rattle.csi_orchestrator.specs.History.{History}
 use Rattle.csi_orchestrator.specs.WellFormed.{IsWellFormed}
 use Rattle.csi_orchestrator.specs.Moves.{Input, Answer, Moved, moves}
 use Rattle.csi_orchestrator.specs.Shown.{Parts, AgreesWith}
+use Rattle.csi_orchestrator.specs.CoreMoves.{IsTold}
 use Rattle.csi_orchestrator.specs.RowMoves.{Told, row_moves, IsRefusal, IsToldAs}
 use Rattle.csi_orchestrator.specs.Kept.{AreKept}
 use Rattle.csi_orchestrator.specs.Promises.{IsDone, IsAnsweredAs}
@@ -36,29 +37,26 @@ pub is-refused : (old : Parts) (history : History) (input : Input) (fault : Orch
     → IsRefusal (moves old.nodes history input) fault
 is-refused old history input fault kept form agrees is = refused history (row_moves old input) (moves old.nodes history input) fault (all-tell old history input form kept agrees) is
 
--- the rows stay kept
-pub stays-kept : (old new : Parts) (input : Input) (answer : Answer) → AreKept old.rows → row_moves old input ≡ Ok (let t : Told = record { answer = answer; parts = new } in t) → AreKept new.rows × (new.nodes ≡ old.nodes)
-stays-kept old new input answer kept e = rows-stay-kept old input (record { answer = answer; parts = new }) kept e
-
--- the same of a call's result, by the parts that were told and are shown
-pub ok-promised : {R : Type 0} (result : Result R OrchFault) (says : R → Answer) (old now new : Parts) (input : Input) → old ≡ now → AreKept old.rows
-    → IfOk result (λ r. row_moves old input ≡ Ok (let t : Told = record { answer = says r; parts = new } in t)) → (history : History) → IsWellFormed history → AgreesWith now history
+-- the same of a call's result, by the parts that are shown
+pub ok-promised : {R : Type 0} {old now new : Parts} {input : Input} {says : R → Answer} {result : Result R OrchFault} → old ≡ now → AreKept old.rows → IsTold old new input says result → (history : History) → IsWellFormed history → AgreesWith now history
     → IfOk result (λ r. IsDone history (moves now.nodes history input) (says r) new)
-ok-promised (Err fault) says old now new input is kept told history form agrees = tt
-ok-promised (Ok r) says old now new input is kept told history form agrees =
+ok-promised {old = old} {now = now} {new = new} {input = input} {says = says} {result = Err fault} is kept told history form agrees = tt
+ok-promised {old = old} {now = now} {new = new} {input = input} {says = says} {result = Ok r} is kept told history form agrees =
     subst (λ (p : Parts). IsDone history (moves p.nodes history input) (says r) new) is
-    (is-done old history input (record { answer = says r; parts = new }) kept form (subst (λ (p : Parts). AgreesWith p history) (sym is) agrees) told)
+    (is-done old history input (record { answer = says r; parts = new }) kept form (subst (λ (p : Parts). AgreesWith p history) (sym is) agrees) told.ok)
 
-pub err-promised : {R : Type 0} (result : Result R OrchFault) (old now : Parts) (input : Input) → old ≡ now → AreKept old.rows → IfErr result (λ fault. IsRefusal (row_moves old input) fault)
-    → (history : History) → IsWellFormed history → AgreesWith now history → IfErr result (λ fault. IsRefusal (moves now.nodes history input) fault)
-err-promised (Ok r) old now input is kept told history form agrees = tt
-err-promised (Err fault) old now input is kept told history form agrees =
-    subst (λ (p : Parts). IsRefusal (moves p.nodes history input) fault) is (is-refused old history input fault kept form (subst (λ (p : Parts). AgreesWith p history) (sym is) agrees) told)
+pub err-promised : {R : Type 0} {old now new : Parts} {input : Input} {says : R → Answer} {result : Result R OrchFault} → old ≡ now → AreKept old.rows → IsTold old new input says result → (history : History) → IsWellFormed history → AgreesWith now history
+    → IfErr result (IsRefusal (moves now.nodes history input))
+err-promised {old = old} {now = now} {new = new} {input = input} {says = says} {result = Ok r} is kept told history form agrees = tt
+err-promised {old = old} {now = now} {new = new} {input = input} {says = says} {result = Err fault} is kept told history form agrees =
+    subst (λ (p : Parts). IsRefusal (moves p.nodes history input) fault) is (is-refused old history input fault kept form (subst (λ (p : Parts). AgreesWith p history) (sym is) agrees) told.err)
 
-pub kept-promised : {R : Type 0} (result : Result R OrchFault) (says : R → Answer) (old new : Parts) (input : Input) → AreKept old.rows
-    → IfOk result (λ r. row_moves old input ≡ Ok (let t : Told = record { answer = says r; parts = new } in t)) → OnErr result (new ≡ old) → AreKept new.rows × (new.nodes ≡ old.nodes)
-kept-promised (Ok r) says old new input kept told stays = stays-kept old new input (says r) kept told
-kept-promised (Err fault) says old new input kept told stays = (subst (λ (p : Parts). AreKept p.rows) (sym stays) kept, ap (λ (p : Parts). p.nodes) stays)
+pub kept-promised : {R : Type 0} {old new : Parts} {input : Input} {says : R → Answer} {result : Result R OrchFault} → AreKept old.rows → IsTold old new input says result → AreKept new.rows × (new.nodes ≡ old.nodes)
+kept-promised {old = old} {new = new} {input = input} {says = says} {result = Ok r} kept told = rows-stay-kept old input (record { answer = says r; parts = new }) kept told.ok
+kept-promised {old = old} {new = new} {input = input} {says = says} {result = Err fault} kept told = (subst (λ (p : Parts). AreKept p.rows) (sym told.stays) kept, ap (λ (p : Parts). p.nodes) told.stays)
+
+pub nodes-promised : {R : Type 0} {old now new : Parts} {input : Input} {says : R → Answer} {result : Result R OrchFault} → old ≡ now → AreKept old.rows → IsTold old new input says result → new.nodes ≡ now.nodes
+nodes-promised is kept told = (kept-promised kept told).1 ∙ ap (λ (p : Parts). p.nodes) is
 
 -- where they do, what the history answers the rows answer
 told-so : (history : History) (answer : Answer) (result : Result Told OrchFault) (moved : Result Moved OrchFault) → Tells history result moved → IsAnsweredAs answer moved → IsToldAs answer result
@@ -68,8 +66,8 @@ told-so history answer (Err fault) (Ok moved) tells is = absurd tells.0
 told-so history answer (Err fault) (Err other) tells is = absurd is
 
 -- as a history answers, so the rows do
-pub answered-promised : (old now : Parts) (input : Input) (answer : Answer) → old ≡ now → AreKept old.rows → (history : History) → IsWellFormed history → AgreesWith now history → IsAnsweredAs answer (moves now.nodes history input)
+pub answered-promised : {old now : Parts} (input : Input) (answer : Answer) → old ≡ now → AreKept old.rows → (history : History) → IsWellFormed history → AgreesWith now history → IsAnsweredAs answer (moves now.nodes history input)
     → IsToldAs answer (row_moves old input)
-answered-promised old now input answer is kept history form agrees answered =
+answered-promised {old = old} {now = now} input answer is kept history form agrees answered =
     told-so history answer (row_moves old input) (moves old.nodes history input) (all-tell old history input form kept (subst (λ (p : Parts). AgreesWith p history) (sym is) agrees))
     (subst (λ (p : Parts). IsAnsweredAs answer (moves p.nodes history input)) (sym is) answered)

@@ -1,6 +1,6 @@
 -- Why what is shown after a restart agrees with the history after it.
 use Rattle.std.proofs.Common.{◌≡◌, ◌+◌, ◌^◌, ℕ, List, map, Bool, true, false, cond, not, refl, sym, ◌∙◌, ap, subst}
-use Rattle.std.specs.Prelude.{Option, Some, None, option_map, option_and_then, is_some, nat_lt, IsTrue, Result, Ok, Err, OnOk, IfOk, IfErr}
+use Rattle.std.specs.Prelude.{Option, Some, None, option_map, option_and_then, is_some, nat_lt, IsTrue, Result, Ok, Err, OnOk, OnErr, IfOk, IfErr}
 use Rattle.std.proofs.lemmas.Bool.{false≢true}
 use Rattle.csi_orchestrator.specs.declared.fault.OrchFault.{OrchFault}
 use Rattle.csi_orchestrator.specs.declared.fault.OrchFault.TheVariants as faults
@@ -15,6 +15,7 @@ use Rattle.csi_orchestrator.specs.Shown.{RowShown, Parts, row_of, mark_in, mark_
 use Rattle.csi_orchestrator.specs.declared.inner.Core.{Core}
 use Rattle.csi_orchestrator.specs.Catalog.{rows_of}
 use Rattle.csi_orchestrator.specs.Core.{parts_of}
+use Rattle.csi_orchestrator.specs.CoreMoves.{IsTold}
 use Rattle.csi_orchestrator.specs.RowMoves.{Told, told, row_moves, IsRefusal}
 use Rattle.csi_orchestrator.proofs.Entries.{shown-closed}
 use Rattle.csi_orchestrator.proofs.SentRow.{goals-same, mark-same}
@@ -70,15 +71,10 @@ spent old fault is none = subst (λ (r : Result Told OrchFault). IsRefusal r fau
     by false e = refl
 
 -- so is the call's result
-pub restart-told : {R : Type 0} (result : Result R OrchFault) (old new : Core) → OnOk result (IsRestarted old new)
-    → IfOk result (λ r. row_moves (parts_of old) Restarts ≡ Ok (let t : Told = record { answer = Restarted; parts = parts_of new } in t))
-restart-told (Ok r) old new facts = restarted old new facts
-restart-told (Err fault) old new facts = tt
-
-pub restart-refused : {R : Type 0} (result : Result R OrchFault) (old : Core) → IfErr result (λ fault. (fault ≡ faults.NumbersSpent) × IsTrue (not (nat_lt (old.last.session + 1) (2 ^ 64))))
-    → IfErr result (λ fault. IsRefusal (row_moves (parts_of old) Restarts) fault)
-restart-refused (Ok r) old facts = tt
-restart-refused (Err fault) old facts = spent old fault facts.0 facts.1
+pub restart-told : {R : Type 0} (result : Result R OrchFault) (old new : Core) → OnOk result (IsRestarted old new) → IfErr result (λ fault. (fault ≡ faults.NumbersSpent) × IsTrue (not (nat_lt (old.last.session + 1) (2 ^ 64))))
+    → OnErr result (parts_of new ≡ parts_of old) → IsTold (parts_of old) (parts_of new) Restarts (λ r. Restarted) result
+restart-told (Ok r) old new facts refused stays = record { ok = restarted old new facts; err = tt; stays = tt }
+restart-told (Err fault) old new facts refused stays = record { ok = tt; err = spent old fault refused.0 refused.1; stays = stays }
 
 -- and nothing else refuses it
 pub only-spent : {R : Type 0} (result : Result R OrchFault) (old : Core) → IfErr result (λ fault. (fault ≡ faults.NumbersSpent) × IsTrue (not (nat_lt (old.last.session + 1) (2 ^ 64))))

@@ -1,26 +1,26 @@
--- What goes on for a row, by what the code finds before it changes the row.
+-- What is due for a row once it took a step, by what is found before the row is changed.
 use Rattle.std.proofs.Common.{◌≡◌, ◌++◌, ℕ, List, [], ◌∷◌, Bool, true, false, cond, not, refl, sym, ◌∙◌, ap, subst}
-use Rattle.std.specs.Prelude.{Option, Some, None, find, is_some, ◌&&◌, ◌||◌, Result, Ok, Err, IfErr, OnErr, IsErrAnd}
+use Rattle.std.specs.Prelude.{Option, Some, None, find, is_some, is_none, ◌&&◌, ◌||◌, Result, Ok, Err, IfErr, OnErr, IsErrAnd}
 use Rattle.std.specs.List.{list_any}
+use Rattle.std.proofs.lemmas.Bool.{false≢true}
 use Rattle.std.proofs.lemmas.List.Folds.{list_any-append}
 use Rattle.csi_types.specs.declared.number.Number.{Number}
 use Rattle.csi_types.specs.Same.{same_text}
-use Rattle.csi_orchestrator.specs.declared.fault.OrchFault.{OrchFault}
-use Rattle.csi_orchestrator.specs.declared.fault.OrchFault.TheVariants as faults
-use Rattle.csi_orchestrator.specs.declared.going_on.Outgoing.{Outgoing}
+use Rattle.csi_orchestrator.specs.declared.sending.Outgoing.{Outgoing}
 use Rattle.csi_orchestrator.specs.declared.row.Aim.{Aim}
 use Rattle.csi_orchestrator.specs.declared.row.Goal.{Goal}
 use Rattle.csi_orchestrator.specs.declared.row.Goal.TheVariants.{Use}
 use Rattle.csi_orchestrator.specs.declared.row.Usage.{Usage}
+use Rattle.csi_orchestrator.specs.declared.step.Step.{Step}
+use Rattle.csi_orchestrator.specs.declared.step.Step.TheVariants as steps
 use Rattle.csi_orchestrator.specs.declared.thing.Thing.TheVariants.{Attached, Staged, Published}
 use Rattle.csi_orchestrator.specs.Thing.{is_no}
 use Rattle.csi_orchestrator.specs.Commands.{next_number}
 use Rattle.csi_orchestrator.specs.Due.{Due}
 use Rattle.csi_orchestrator.specs.RowChanges.{wanted, with_entry, entry_for, with_aim, new_aim}
-use Rattle.csi_orchestrator.specs.RowMoves.{IsRefusal}
-use Rattle.csi_orchestrator.specs.Shown.{PlaceShown, RowShown, place_of, others_in, marks_at, marks_for, due_with, due_in}
-use Rattle.csi_orchestrator.specs.CoreMoves.{outgoing_by, gone_on, row_after, row_goes_on, with_entry_for}
-use Rattle.csi_orchestrator.proofs.Texts.{text-same}
+use Rattle.csi_orchestrator.specs.Shown.{PlaceShown, RowShown, Parts, place_of, others_in, marks_at, marks_for, due_with, due_in, closed}
+use Rattle.csi_orchestrator.specs.CoreMoves.{outgoing_by, row_after, row_goes_on, row_rests, row_unless, with_entry_for, needs_entry, step_refusal, is_met, waits, late_refusal, changed, row_step, SendsNothing}
+use Rattle.csi_orchestrator.proofs.DueCalls.{text-same}
 use Rattle.csi_orchestrator.proofs.NotedRow.{mark-with-entry, entry-there}
 
 -- a refusal that is passed on
@@ -81,26 +81,30 @@ pub due-wanted : (goal : Goal) (row : RowShown) → due_in (wanted goal (with_en
 due-wanted (Use usage) row = ap (λ marks. due_with row.name row.arguments row.id marks (Use usage)) (marks-with-entry usage row)
 due-wanted goal row = refl
 
--- a row goes on by what is sent for it
-pub goes-on : (last : Number) (row : RowShown) (due : Option Due) (next : Option Outgoing) → due_in row ≡ due → outgoing_by due (next_number last) ≡ Ok next
-    → row_goes_on last row ≡ Ok (record { outgoing = next; row = gone_on next row })
-goes-on last row due next is made = ap (row_after row) (ap (λ d. outgoing_by d (next_number last)) is ∙ made)
+-- where a call is due, one is sent
+sends-due : (row : RowShown) (due : Option Due) (number : Option Number) → SendsNothing (row_after row (outgoing_by due number)) → is_none due ≡ true
+sends-due row None number nothing = refl
+sends-due row (Some due) None nothing = absurd nothing
+sends-due row (Some due) (Some number) nothing = absurd (clash _ nothing)
+  where
+    clash : (next : Outgoing) → Some next ≡ None → ⊥
+    clash next e = cc
 
--- where what is to be sent is refused, the row is
-refused-after : (row : RowShown) (r : Result (Option Outgoing) OrchFault) (fault : OrchFault) → IsRefusal r fault → IsRefusal (row_after row r) fault
-refused-after row (Ok next) fault is = is
-refused-after row (Err other) fault is = is
+-- so for a use that isn't met yet one is sent
+needs-none : (last : Number) (step : Step) (row : RowShown) → is_met step row ≡ false → SendsNothing (row_goes_on last (changed step row)) → needs_entry step ≡ false
+needs-none last (steps.Want (Use usage)) row unmet nothing =
+    absurd (false≢true (sym unmet ∙ ap is_none (sym (due-wanted (Use usage) row)) ∙ sends-due (changed (steps.Want (Use usage)) row) (due_in (changed (steps.Want (Use usage)) row)) (next_number last) nothing))
+needs-none last (steps.Want goal) row unmet nothing = refl
+needs-none last step row unmet nothing = refl
 
-pub goes-on-refused : (last : Number) (row : RowShown) (due : Option Due) (fault : OrchFault) → due_in row ≡ due → IsRefusal (outgoing_by due (next_number last)) fault → IsRefusal (row_goes_on last row) fault
-goes-on-refused last row due fault is refused =
-    refused-after row (outgoing_by (due_in row) (next_number last)) fault (subst (λ d. IsRefusal (outgoing_by d (next_number last)) fault) (sym is) refused)
-
--- want of memory is a refusal where nothing else refuses
-pub wants-memory : {X : Type 0} (r : Result X OrchFault) (x : X) (fault : OrchFault) → r ≡ Ok x → fault ≡ faults.NoMemory → IsRefusal r fault
-wants-memory r x fault is memory = subst (λ r. IsRefusal r fault) (sym is) memory
-
--- where nothing is sent, nothing is due
-pub none-due : (due : Option Due) (number : Option Number) → outgoing_by due number ≡ Ok None → due ≡ None
-none-due None number e = refl
-none-due (Some due) None e = cc
-none-due (Some due) (Some number) e = cc
+-- where nothing refuses a step, it isn't met yet and its call doesn't wait, but nothing is sent for it, no entry is needed, and nothing is due
+pub goes-quietly : (parts : Parts) (step : Step) (row : RowShown) → step_refusal parts step row ≡ None → is_met step row ≡ false → waits step row ≡ false → late_refusal parts step row ≡ None → SendsNothing (row_step parts step row)
+    → (needs_entry step ≡ false) × SendsNothing (row_goes_on parts.last (changed step row))
+goes-quietly parts step row free unmet on late nothing =
+    let goes = row_goes_on parts.last (changed step row) in
+    let is : row_step parts step row ≡ goes =
+    ap (λ f. row_unless f (cond (is_met step row) (row_rests row) (cond (waits step row) (row_rests (closed row)) (row_unless (late_refusal parts step row) goes)))) free
+    ∙ ap (λ b. cond b (row_rests row) (cond (waits step row) (row_rests (closed row)) (row_unless (late_refusal parts step row) goes))) unmet
+    ∙ ap (λ b. cond b (row_rests (closed row)) (row_unless (late_refusal parts step row) goes)) on ∙ ap (λ f. row_unless f goes) late in
+    let quiet = subst SendsNothing is nothing in
+    (needs-none parts.last step row unmet quiet, quiet)

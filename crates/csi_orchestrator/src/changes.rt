@@ -61,8 +61,8 @@ pub(crate) fn told(kind: Kind) -> Known
     }
 }
 
-// The id that it brings.
-fn id_told(kind: Kind, id: Option<VolumeId>) -> Option<VolumeId>
+/// The id that it brings.
+pub(crate) fn id_told(kind: Kind, id: Option<VolumeId>) -> Option<VolumeId>
     ensures { result ≡ id_by_kind kind id }
 {
     match kind {

@@ -1,25 +1,49 @@
-//! The commands: each is carried out at the row of its name.
-ghost use Rattle.std.specs.Prelude.{◌≡◌, ◌<◌, map, position, None, Ok, IfOk, IfErr, IsOk, OnErr};
+//! What is asked of a volume, and what comes for it, is done at the row of its name.
+ghost use Rattle.std.specs.Prelude.{◌≡◌, ◌<◌, ℕ, List, map, position, slice_get, Option, Some, None, Ok, IfOk, IfErr, IsOk, OnErr};
 ghost use Rattle.indexmap.specs.IndexMap.{index_map_len};
+ghost use Rattle.csi_types.specs.Frame.{Frame as FrameShown};
 ghost use Rattle.csi_types.specs.Same.{same_text};
+ghost use Rattle.csi_orchestrator.specs.declared.row.Goal.{Goal};
 ghost use Rattle.csi_orchestrator.specs.Catalog.{rows_of, IsReady, AreUpTo, call_in, IsAfter};
 ghost use Rattle.csi_orchestrator.specs.Core.{parts_of, IsFiled};
-ghost use Rattle.csi_orchestrator.specs.CoreMoves.{frame_in, last_after};
-ghost use Rattle.csi_orchestrator.specs.Moves.{ToCreate, ToUse, ToStop, ToDelete, Sends};
+ghost use Rattle.csi_orchestrator.specs.CoreMoves.{frame_in, last_after, steps_at, row_goes_on, Fits, asked_by, IsTold};
+ghost use Rattle.csi_orchestrator.specs.Moves.{Input, ToCreate, Answer, Sends};
+ghost use Rattle.csi_orchestrator.specs.RowChanges.{new_row as new_row_shown};
 ghost use Rattle.csi_orchestrator.specs.RowMoves.{IsRefusal, IsToldAs, creates, row_moves};
-ghost use Rattle.csi_orchestrator.specs.Shown.{row_shown};
+ghost use Rattle.csi_orchestrator.specs.Shown.{RowShown, row_shown, row_of};
 
+use crate::changes::new_row;
 use crate::fault::OrchFault;
-use crate::going_on::Outgoing;
 use crate::inner::Core;
+use crate::next_call::due_now;
 use crate::refusals::first_fault;
-use crate::row::{Arguments, Usage};
-use crate::row_commands::{begin, create_again, delete_row, stop_row, use_row};
-use csi_types::{Capability, CapabilityList, Frame, Name, NodeId, Target};
+use crate::row::{Arguments, Row};
+use crate::sending::{Outgoing, outgoing_for, send_or_drop};
+use crate::step::{Step, take};
+use csi_types::{Frame, Name, Number};
+use std::alloc::Global;
+
+// The row of a name that had none, and what is sent for it.
+#[derive(Drop)]
+struct Begun {
+    row: Row,
+    next: Option<Outgoing>,
+}
+
+// The first create of a name, where nothing refuses it.
+fn begin(alloc: Global, last: Number, name: Name, arguments: Arguments) -> Result<Begun, OrchFault>
+    ensures ok { IfOk result (λ begun. row_goes_on last (new_row_shown name arguments) ≡ Ok (record { outgoing = begun.next; row = row_shown begun.row })) }
+    ensures err { IfErr result (IsRefusal (row_goes_on last (new_row_shown name arguments))) }
+{
+    let mut row = new_row(alloc, name, arguments);
+    let next = outgoing_for(last, &due_now(&row))?;
+    send_or_drop(&mut row, &next);
+    Ok(Begun { row, next })
+}
 
 impl Core {
-    /// Counts the call that is sent for the row at this place, and gives its frame.
-    pub fn issue(&mut self, place: usize, next: Option<Outgoing>) -> Option<Frame>
+    // Counts the call that is sent for the row at this place, and gives its frame.
+    fn issue(&mut self, place: usize, next: Option<Outgoing>) -> Option<Frame>
         requires ready { IsReady self.old.catalog place (call_in next) }
         requires known { AreUpTo self.old.last.call self.old.catalog }
         requires after { IsAfter self.old.last.call next }
@@ -35,6 +59,43 @@ impl Core {
                 Some(next.frame)
             }
             None => None,
+        }
+    }
+
+    /// The row at this place takes a step: the frame to send, if there is one. A refusal changes nothing. Where nothing is sent, and
+    /// for a delete, it takes no memory.
+    pub fn step(&mut self, place: usize, step: Step) -> Result<Option<Frame>, OrchFault>
+        requires filed { IsFiled self.old }
+        requires within { place < index_map_len self.old.catalog.rows }
+        requires fits { (row : Row) → slice_get (rows_of self.old.catalog) place ≡ Some row → Fits step (row_shown row) }
+        ensures ok { (name : List ℕ) (answer : Option FrameShown → Answer) → position (λ row. same_text row.name name) (rows_of self.old.catalog) ≡ Some place
+            → IfOk result (λ sent. steps_at (parts_of self.old) answer step (row_of (map row_shown (rows_of self.old.catalog)) name) ≡ Ok (record { answer = answer sent; parts = parts_of self.new })) }
+        ensures err { (name : List ℕ) (answer : Option FrameShown → Answer) → position (λ row. same_text row.name name) (rows_of self.old.catalog) ≡ Some place
+            → IfErr result (IsRefusal (steps_at (parts_of self.old) answer step (row_of (map row_shown (rows_of self.old.catalog)) name))) }
+        ensures stays { OnErr result (parts_of self.new ≡ parts_of self.old) }
+        ensures filed { IsFiled self.new }
+        ensures quiet { (name : List ℕ) (answer : Option FrameShown → Answer) → ((frame : FrameShown) → answer (Some frame) ≡ answer None → ⊥) → position (λ row. same_text row.name name) (rows_of self.old.catalog) ≡ Some place
+            → IsToldAs (answer None) (steps_at (parts_of self.old) answer step (row_of (map row_shown (rows_of self.old.catalog)) name)) → IsOk result }
+        ensures delete { step ≡ Step.Want Goal.Delete → IfErr result (λ fault. fault ≡ OrchFault.NoMemory → ⊥) }
+    {
+        let row = &mut self.catalog.rows[place];
+        let next = take(self.alloc, row, &self.nodes, self.last, step)?;
+        Ok(self.issue(place, next))
+    }
+
+    /// What is asked of the volume of this name, or its timeout: the frame to send, if there is one.
+    pub fn ask(&mut self, name: &Name, step: Step) -> Result<Option<Frame>, OrchFault>
+        requires filed { IsFiled self.old }
+        requires fits { (row : RowShown) → Fits step row }
+        ensures told { (input : Input) → asked_by name.now step ≡ Some input → IsTold (parts_of self.old) (parts_of self.new) input Sends result }
+        ensures stays { OnErr result (parts_of self.new ≡ parts_of self.old) }
+        ensures filed { IsFiled self.new }
+        ensures quiet { (input : Input) → asked_by name.now step ≡ Some input → IsToldAs (Sends None) (row_moves (parts_of self.old) input) → IsOk result }
+        ensures delete { step ≡ Step.Want Goal.Delete → IfErr result (λ fault. fault ≡ OrchFault.NoMemory → ⊥) }
+    {
+        match self.catalog.place_of(name) {
+            Some(place) => self.step(place, step),
+            None => Err(OrchFault::NoSuchVolume),
         }
     }
 
@@ -57,103 +118,15 @@ impl Core {
     }
 
     /// Requests creation of a volume of this name.
-    pub fn create(
-        &mut self,
-        name: Name,
-        required: u64,
-        limit: u64,
-        capabilities: CapabilityList,
-    ) -> Result<Option<Frame>, OrchFault>
+    pub fn create(&mut self, name: Name, arguments: Arguments) -> Result<Option<Frame>, OrchFault>
         requires { IsFiled self.old }
-        ensures ok { IfOk result (λ sent. row_moves (parts_of self.old) (ToCreate name (record { required = required; limit = limit; capabilities = capabilities })) ≡ Ok (record { answer = Sends sent; parts = parts_of self.new })) }
-        ensures err { IfErr result (IsRefusal (row_moves (parts_of self.old) (ToCreate name (record { required = required; limit = limit; capabilities = capabilities })))) }
+        ensures told { IsTold (parts_of self.old) (parts_of self.new) (ToCreate name arguments) Sends result }
         ensures stays { OnErr result (parts_of self.new ≡ parts_of self.old) }
         ensures filed { IsFiled self.new }
     {
-        let arguments = Arguments {
-            required,
-            limit,
-            capabilities,
-        };
         match self.catalog.place_of(&name) {
-            Some(place) => {
-                let next = create_again(&mut self.catalog.rows[place], self.last, arguments)?;
-                Ok(self.issue(place, next))
-            }
+            Some(place) => self.step(place, Step::Create(arguments)),
             None => self.create_first(name, arguments),
-        }
-    }
-
-    /// Requests publication of the volume of this name. Where it is so already it takes no memory.
-    pub fn use_at(
-        &mut self,
-        name: &Name,
-        node: NodeId,
-        target: Target,
-        capability: Capability,
-        readonly: bool,
-    ) -> Result<Option<Frame>, OrchFault>
-        requires { IsFiled self.old }
-        ensures ok { IfOk result (λ sent. row_moves (parts_of self.old) (ToUse name.now (record { node = node; target = target; capability = capability; readonly = readonly })) ≡ Ok (record { answer = Sends sent; parts = parts_of self.new })) }
-        ensures err { IfErr result (IsRefusal (row_moves (parts_of self.old) (ToUse name.now (record { node = node; target = target; capability = capability; readonly = readonly })))) }
-        ensures stays { OnErr result (parts_of self.new ≡ parts_of self.old) }
-        ensures filed { IsFiled self.new }
-        ensures met { IsToldAs (Sends None) (row_moves (parts_of self.old) (ToUse name.now (record { node = node; target = target; capability = capability; readonly = readonly }))) → IsOk result }
-    {
-        let usage = Usage {
-            node,
-            target,
-            capability,
-            readonly,
-        };
-        match self.catalog.place_of(name) {
-            Some(place) => {
-                let row = &mut self.catalog.rows[place];
-                let next = use_row(self.alloc, row, &self.nodes, self.last, usage)?;
-                Ok(self.issue(place, next))
-            }
-            None => Err(OrchFault::NoSuchVolume),
-        }
-    }
-
-    /// Requests that it is unpublished at the target of the node.
-    pub fn stop(
-        &mut self,
-        name: &Name,
-        node: NodeId,
-        target: Target,
-    ) -> Result<Option<Frame>, OrchFault>
-        requires { IsFiled self.old }
-        ensures ok { IfOk result (λ sent. row_moves (parts_of self.old) (ToStop name.now node target) ≡ Ok (record { answer = Sends sent; parts = parts_of self.new })) }
-        ensures err { IfErr result (IsRefusal (row_moves (parts_of self.old) (ToStop name.now node target))) }
-        ensures stays { OnErr result (parts_of self.new ≡ parts_of self.old) }
-        ensures filed { IsFiled self.new }
-    {
-        match self.catalog.place_of(name) {
-            Some(place) => {
-                let row = &mut self.catalog.rows[place];
-                let next = stop_row(self.alloc, row, &self.nodes, self.last, node, target)?;
-                Ok(self.issue(place, next))
-            }
-            None => Err(OrchFault::NoSuchVolume),
-        }
-    }
-
-    /// Requests deletion. It takes no memory.
-    pub fn delete(&mut self, name: &Name) -> Result<Option<Frame>, OrchFault>
-        requires { IsFiled self.old }
-        ensures ok { IfOk result (λ sent. row_moves (parts_of self.old) (ToDelete name.now) ≡ Ok (record { answer = Sends sent; parts = parts_of self.new })) }
-        ensures err { IfErr result (IsRefusal (row_moves (parts_of self.old) (ToDelete name.now))) }
-        ensures stays { OnErr result (parts_of self.new ≡ parts_of self.old) }
-        ensures filed { IsFiled self.new }
-        ensures memory { IfErr result (λ fault. fault ≡ OrchFault.NoMemory → ⊥) }
-    {
-        match self.catalog.place_of(name) {
-            Some(place) => {
-                let next = delete_row(self.alloc, &mut self.catalog.rows[place], self.last)?;
-                Ok(self.issue(place, next))
-            }
-            None => Err(OrchFault::NoSuchVolume),
         }
     }
 }

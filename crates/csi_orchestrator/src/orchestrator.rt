@@ -9,6 +9,8 @@ use crate::catalog::Catalog;
 use crate::fault::{Heard, OrchFault};
 use crate::inner::{Core, known_in};
 use crate::listing::things_in;
+use crate::row::{Arguments, Goal, Usage};
+use crate::step::Step;
 use crate::thing::{Known, Thing};
 use csi_types::{Capability, CapabilityList, Frame, Name, NodeId, Number, Target};
 use std::alloc::Global;
@@ -106,7 +108,12 @@ impl Orchestrator {
         ensures stays { OnErr result (self.new ≡ self.old) }
         ensures nodes { self.new.nodes ≡ self.old.nodes }
     {
-        self.core.create(name, required, limit, capabilities)
+        let arguments = Arguments {
+            required,
+            limit,
+            capabilities,
+        };
+        self.core.create(name, arguments)
     }
 
     /// Requests publication of the volume at a target of a node, with this capability (CSI's spec.md,
@@ -128,7 +135,13 @@ impl Orchestrator {
         ensures stays { OnErr result (self.new ≡ self.old) }
         ensures nodes { self.new.nodes ≡ self.old.nodes }
     {
-        self.core.use_at(name, node, target, capability, readonly)
+        let usage = Usage {
+            node,
+            target,
+            capability,
+            readonly,
+        };
+        self.core.ask(name, Step::Want(Goal::Use(usage)))
     }
 
     /// Requests that the volume is unpublished at the target, and then, where it is at no other target of the node, unstaged and
@@ -146,7 +159,7 @@ impl Orchestrator {
         ensures stays { OnErr result (self.new ≡ self.old) }
         ensures nodes { self.new.nodes ≡ self.old.nodes }
     {
-        self.core.stop(name, node, target)
+        self.core.ask(name, Step::Want(Goal::Stop { node, target }))
     }
 
     /// Requests deletion (CSI's spec.md, "DeleteVolume"): the DeleteVolume to send, or `None` where the volume doesn't exist.
@@ -159,7 +172,7 @@ impl Orchestrator {
         ensures stays { OnErr result (self.new ≡ self.old) }
         ensures nodes { self.new.nodes ≡ self.old.nodes }
     {
-        self.core.delete(name)
+        self.core.ask(name, Step::Want(Goal::Delete))
     }
 
     /// The open call of a volume timed out: it is given up, and the call that is due is sent under a new
@@ -172,7 +185,7 @@ impl Orchestrator {
         ensures stays { OnErr result (self.new ≡ self.old) }
         ensures nodes { self.new.nodes ≡ self.old.nodes }
     {
-        self.core.timeout(name)
+        self.core.ask(name, Step::TimeOut)
     }
 
     /// A frame came. The reply to an open call, by its number, party and kind, closes that call: what a success says is known

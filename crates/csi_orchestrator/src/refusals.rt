@@ -4,14 +4,16 @@ ghost use Rattle.csi_orchestrator.specs.Commands.{next_number as number_after};
 ghost use Rattle.csi_orchestrator.specs.Shown.{row_shown};
 ghost use Rattle.csi_orchestrator.specs.RowMoves.{first_fault as first_refusal, again_fault as again_refusal, use_refusal, room_refusal, stop_refusal, delete_refusal, busy_refusal};
 ghost use Rattle.csi_orchestrator.specs.Found.{without_rows, with_last, with_rows};
+ghost use Rattle.csi_orchestrator.specs.CoreMoves.{goal_refusal, step_refusal, late_refusal};
 
 use crate::due::next_number;
 use crate::fault::OrchFault;
-use crate::row::{Row, Usage};
+use crate::row::{Goal, Row, Usage};
 use crate::sharing::{
     has_node, is_attached_somewhere, is_held_elsewhere, is_held_otherwise, is_target_taken,
     is_unpublished, is_written_elsewhere, others_count,
 };
+use crate::step::Step;
 use csi_types::{NodeId, Number, Target, has_capability};
 
 /// The most volumes that an orchestrator has rows of.
@@ -21,7 +23,7 @@ pub(crate) const MAX_ROWS: usize = 4096;
 pub(crate) const MAX_OTHERS: usize = 16;
 
 // Whether the session has no number left.
-fn is_spent(last: Number) -> bool
+fn is_used_up(last: Number) -> bool
     ensures { result ≡ is_none (number_after last) }
 {
     next_number(last).is_none()
@@ -38,7 +40,7 @@ fn is_full(rows: &[Row]) -> bool
 pub(crate) fn first_fault(rows: &[Row], last: Number) -> Option<OrchFault>
     ensures { result ≡ first_refusal (with_rows last (map row_shown rows.now)) }
 {
-    if is_spent(last) {
+    if is_used_up(last) {
         return Some(OrchFault::NumbersSpent);
     }
     if is_full(rows) {
@@ -47,21 +49,21 @@ pub(crate) fn first_fault(rows: &[Row], last: Number) -> Option<OrchFault>
     None
 }
 
-/// Why another create of this row's name is refused.
-pub(crate) fn again_fault(row: &Row, last: Number) -> Option<OrchFault>
+// Why another create of this row's name is refused.
+fn again_fault(row: &Row, last: Number) -> Option<OrchFault>
     ensures { result ≡ again_refusal (with_last last) (row_shown row.now) }
 {
     if row.id.is_some() || row.goal.is_some() {
         return Some(OrchFault::NameUsed);
     }
-    if is_spent(last) {
+    if is_used_up(last) {
         return Some(OrchFault::NumbersSpent);
     }
     None
 }
 
-/// Why a use is refused, whether or not it is met already.
-pub(crate) fn use_fault(nodes: &[NodeId], usage: &Usage, row: &Row) -> Option<OrchFault>
+// Why a use is refused, whether or not it is met already.
+fn use_fault(nodes: &[NodeId], usage: &Usage, row: &Row) -> Option<OrchFault>
     ensures { result ≡ use_refusal nodes.now usage.now (row_shown row.now) }
 {
     if !row.exists.is_yes() {
@@ -91,11 +93,11 @@ pub(crate) fn use_fault(nodes: &[NodeId], usage: &Usage, row: &Row) -> Option<Or
     None
 }
 
-/// Why a use that isn't met yet is refused.
-pub(crate) fn room_fault(last: Number, usage: &Usage, row: &Row) -> Option<OrchFault>
+// Why a use that isn't met yet is refused.
+fn room_fault(last: Number, usage: &Usage, row: &Row) -> Option<OrchFault>
     ensures { result ≡ room_refusal (with_last last) usage.now (row_shown row.now) }
 {
-    if is_spent(last) {
+    if is_used_up(last) {
         return Some(OrchFault::NumbersSpent);
     }
     if others_count(row, &usage.node, &usage.target) >= MAX_OTHERS {
@@ -104,8 +106,8 @@ pub(crate) fn room_fault(last: Number, usage: &Usage, row: &Row) -> Option<OrchF
     None
 }
 
-/// Why a stop is refused.
-pub(crate) fn stop_fault(
+// Why a stop is refused.
+fn stop_fault(
     nodes: &[NodeId],
     last: Number,
     node: &NodeId,
@@ -126,14 +128,14 @@ pub(crate) fn stop_fault(
     if is_unpublished(row, node, target) {
         return Some(OrchFault::NoSuchTarget);
     }
-    if is_spent(last) {
+    if is_used_up(last) {
         return Some(OrchFault::NumbersSpent);
     }
     None
 }
 
-/// Why a delete is refused, whether or not it is met already.
-pub(crate) fn delete_fault(row: &Row) -> Option<OrchFault>
+// Why a delete is refused, whether or not it is met already.
+fn delete_fault(row: &Row) -> Option<OrchFault>
     ensures { result ≡ delete_refusal (row_shown row.now) }
 {
     if row.id.is_none() {
@@ -145,15 +147,61 @@ pub(crate) fn delete_fault(row: &Row) -> Option<OrchFault>
     None
 }
 
-/// Why a delete that isn't met yet is refused.
-pub(crate) fn busy_fault(last: Number, row: &Row) -> Option<OrchFault>
+// Why a delete that isn't met yet is refused.
+fn busy_fault(last: Number, row: &Row) -> Option<OrchFault>
     ensures { result ≡ busy_refusal (with_last last) (row_shown row.now) }
 {
     if row.goal.is_some() {
         return Some(OrchFault::Busy);
     }
-    if is_spent(last) {
+    if is_used_up(last) {
         return Some(OrchFault::NumbersSpent);
     }
     None
+}
+
+// Why a goal is refused, whether or not it is met already.
+fn goal_fault(nodes: &[NodeId], last: Number, row: &Row, goal: &Goal) -> Option<OrchFault>
+    ensures { result ≡ goal_refusal (without_rows nodes.now last) goal.now (row_shown row.now) }
+{
+    match goal {
+        Goal::Create => again_fault(row, last),
+        Goal::Use(usage) => use_fault(nodes, usage, row),
+        Goal::Stop { node, target } => stop_fault(nodes, last, node, target, row),
+        Goal::Delete => delete_fault(row),
+    }
+}
+
+/// Why a step is refused, whether or not what it asks for is so already.
+pub(crate) fn step_fault(
+    nodes: &[NodeId],
+    last: Number,
+    row: &Row,
+    step: &Step,
+) -> Option<OrchFault>
+    ensures { result ≡ step_refusal (without_rows nodes.now last) step.now (row_shown row.now) }
+{
+    match step {
+        Step::Create(_) => again_fault(row, last),
+        Step::Want(goal) => goal_fault(nodes, last, row, goal),
+        Step::TimeOut => match row.goal {
+            Some(_) => None,
+            None => Some(OrchFault::Idle),
+        },
+        Step::Succeed { .. } | Step::Fail => None,
+    }
+}
+
+/// Why a step is refused that asks for what isn't so yet.
+pub(crate) fn late_fault(last: Number, row: &Row, step: &Step) -> Option<OrchFault>
+    ensures { result ≡ late_refusal (with_last last) step.now (row_shown row.now) }
+{
+    match step {
+        Step::Want(goal) => match goal {
+            Goal::Use(usage) => room_fault(last, usage, row),
+            Goal::Delete => busy_fault(last, row),
+            Goal::Create | Goal::Stop { .. } => None,
+        },
+        _ => None,
+    }
 }

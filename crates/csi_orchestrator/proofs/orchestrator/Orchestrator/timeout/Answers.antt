@@ -1,20 +1,16 @@
 -- By the rows.
-use Rattle.std.proofs.Common.{◌∙◌, ap}
-use Rattle.csi_orchestrator.specs.Core.{parts_of}
-use Rattle.csi_orchestrator.specs.Moves.{TimesOut, Sends}
-use Rattle.csi_orchestrator.specs.Shown.{Parts}
-use Rattle.csi_orchestrator.proofs.Promised.{ok-promised, err-promised, kept-promised}
+use Rattle.std.proofs.Common.{refl}
+use Rattle.csi_orchestrator.proofs.Promised.{ok-promised, err-promised, kept-promised, nodes-promised}
 use Rattle.csi_orchestrator.proofs.orchestrator.Orchestrator.timeout.Goals as goal
 
 pub invariant_of-self : goal.invariant_of-self
-invariant_of-self c = ((kept-promised c.timeout.result Sends (parts_of c.self.inside.core) (parts_of c.timeout.new.self) (TimesOut c.args.name.now) c.self.invariant.0 c.timeout.ensures.ok c.timeout.ensures.stays).0, c.timeout.ensures.filed)
+invariant_of-self c = ((kept-promised c.self.invariant.0 (c.ask.ensures.told _ refl)).0, c.ask.ensures.filed)
 
 pub returns-clause-ok : goal.returns-clause-ok
-returns-clause-ok c = ok-promised c.timeout.result Sends (parts_of c.self.inside.core) c.args.self.now (parts_of c.timeout.new.self) (TimesOut c.args.name.now) c.self.view_is c.self.invariant.0 c.timeout.ensures.ok
+returns-clause-ok c = ok-promised c.self.view_is c.self.invariant.0 (c.ask.ensures.told _ refl)
 
 pub returns-clause-err : goal.returns-clause-err
-returns-clause-err c = err-promised c.timeout.result (parts_of c.self.inside.core) c.args.self.now (TimesOut c.args.name.now) c.self.view_is c.self.invariant.0 c.timeout.ensures.err
+returns-clause-err c = err-promised c.self.view_is c.self.invariant.0 (c.ask.ensures.told _ refl)
 
 pub returns-clause-nodes : goal.returns-clause-nodes
-returns-clause-nodes c =
-    (kept-promised c.timeout.result Sends (parts_of c.self.inside.core) (parts_of c.timeout.new.self) (TimesOut c.args.name.now) c.self.invariant.0 c.timeout.ensures.ok c.timeout.ensures.stays).1 ∙ ap (λ (p : Parts). p.nodes) c.self.view_is
+returns-clause-nodes c = nodes-promised c.self.view_is c.self.invariant.0 (c.ask.ensures.told _ refl)

@@ -7,12 +7,12 @@ use Rattle.csi_orchestrator.specs.Hearing.{marks_heard}
 use Rattle.csi_orchestrator.specs.RowChanges.{id_told}
 use Rattle.csi_orchestrator.specs.Shown.{row_shown, due_with}
 use Rattle.csi_orchestrator.proofs.HeardRows.{due-after}
-use Rattle.csi_orchestrator.proofs.success.due_after.Goals as goal
+use Rattle.csi_orchestrator.proofs.next_call.due_after.Goals as goal
 
 pub returns-in-Some : goal.returns-in-Some
 returns-in-Some c =
     let row = c.args.row.now in
     c.due_for.ensures
-    ∙ ap (λ (id : Option ℕ). due_with row.name row.arguments id c.heard-marks.result c.in-Some.goal) c.id_heard-id.ensures
-    ∙ ap (λ (marks : Marks). due_with row.name row.arguments (option_or (id_told c.args.kind c.args.reply.now.id) row.id) marks c.in-Some.goal) (c.heard-marks.ensures ∙ ap (marks_heard c.args.kind) c.known_for.ensures)
-    ∙ sym (due-after (row_shown row) c.args.kind c.args.reply.now.id c.in-Some.goal c.requires.kept c.requires.due c.in-Some.is)
+    ∙ ap (λ (id : Option ℕ). due_with row.name row.arguments id c.heard-marks.result c.in-Some.goal) (c.or-id.ensures ∙ ap (λ (id : Option ℕ). option_or id row.id) c.id_told.ensures)
+    ∙ ap (λ (marks : Marks). due_with row.name row.arguments (option_or (id_told c.args.kind c.args.id) row.id) marks c.in-Some.goal) (c.heard-marks.ensures ∙ ap (marks_heard c.args.kind) c.known_for.ensures)
+    ∙ sym (due-after (row_shown row) c.args.kind c.args.id c.in-Some.goal c.requires.kept c.requires.due c.in-Some.is)

@@ -1,0 +1,133 @@
+//! Which call is due for a row, now and once it took a step.
+ghost use Rattle.std.specs.Prelude.{◌≡◌, Some, option_map};
+ghost use Rattle.std.specs.Option.{option_or};
+ghost use Rattle.csi_orchestrator.specs.Shown.{row_shown, due_by, due_in};
+ghost use Rattle.csi_orchestrator.specs.RowChanges.{id_told as id_by_kind, succeeded};
+ghost use Rattle.csi_orchestrator.specs.CoreMoves.{is_given_up as gives_up, timed_out, failed, changed, Fits};
+ghost use Rattle.csi_orchestrator.specs.Found.{due_shown, kind_due};
+ghost use Rattle.csi_orchestrator.specs.Hearing.{marks_heard};
+ghost use Rattle.csi_orchestrator.specs.Kept.{IsKept};
+
+use crate::changes::{id_told, told};
+use crate::due::{Due, create_due, due_for, stop_due};
+use crate::marks::{Marks, known_for, marks_in};
+use crate::row::{Goal, Row};
+use crate::step::Step;
+use csi_types::{Kind, NodeId, Target, VolumeId};
+
+/// The call that is due for this goal of the row.
+pub(crate) fn due_at<'a>(row: &'a Row, goal: &'a Goal) -> Option<Due<'a>>
+    ensures { option_map due_shown result ≡ due_by (row_shown row.now) (Some goal.now) }
+{
+    due_for(
+        &row.name,
+        &row.arguments,
+        row.id,
+        known_for(row, goal),
+        goal,
+    )
+}
+
+/// The call that is due for the row's goal, if it has one.
+pub(crate) fn due_now(row: &Row) -> Option<Due<'_>>
+    ensures { option_map due_shown result ≡ due_in (row_shown row.now) }
+{
+    match &row.goal {
+        Some(goal) => due_at(row, goal),
+        None => None,
+    }
+}
+
+// The call that is due for a stop of the row's use at this node and target.
+fn due_to_stop<'a>(row: &'a Row, node: &'a NodeId, target: &'a Target) -> Option<Due<'a>>
+    ensures { option_map due_shown result ≡ due_by (row_shown row.now) (Some (Goal.Stop node.now target.now)) }
+{
+    let id = row.id?;
+    stop_due(id, marks_in(row, node, target), node, target)
+}
+
+/// Whether the row's open call leads to a use, and was tried three times.
+pub(crate) fn is_given_up(row: &Row) -> bool
+    ensures { result ≡ gives_up (row_shown row.now) }
+{
+    match due_now(row) {
+        Some(due) => due.is_forward() && row.tries == 3,
+        None => false,
+    }
+}
+
+// The call that is due once the open call timed out.
+fn due_timed_out(row: &Row) -> Option<Due<'_>>
+    ensures { option_map due_shown result ≡ due_in (timed_out (row_shown row.now) row.now.goal) }
+{
+    match &row.goal {
+        Some(Goal::Use(usage)) if is_given_up(row) => due_to_stop(row, &usage.node, &usage.target),
+        _ => due_now(row),
+    }
+}
+
+// The call that is due once the open call had another status than `Ok`.
+fn due_failed(row: &Row) -> Option<Due<'_>>
+    ensures { option_map due_shown result ≡ due_in (failed (row_shown row.now) row.now.goal) }
+{
+    match &row.goal {
+        Some(Goal::Use(usage)) => due_to_stop(row, &usage.node, &usage.target),
+        Some(Goal::Create) => None,
+        Some(Goal::Stop { .. } | Goal::Delete) | None => due_now(row),
+    }
+}
+
+// What is known once the call of this kind that was due succeeded.
+fn heard(marks: Marks, kind: Kind) -> Marks
+    ensures { result ≡ marks_heard kind marks }
+{
+    let known = told(kind);
+    match kind {
+        Kind::CreateVolume | Kind::DeleteVolume => Marks {
+            exists: known,
+            ..marks
+        },
+        Kind::ControllerPublishVolume | Kind::ControllerUnpublishVolume => Marks {
+            attached: known,
+            ..marks
+        },
+        Kind::NodeStageVolume | Kind::NodeUnstageVolume => Marks {
+            staged: known,
+            ..marks
+        },
+        Kind::NodePublishVolume | Kind::NodeUnpublishVolume => Marks {
+            published: known,
+            ..marks
+        },
+    }
+}
+
+// The call that is due once the row's due call of this kind succeeded, and brought this id.
+fn due_after(row: &Row, kind: Kind, id: Option<VolumeId>) -> Option<Due<'_>>
+    requires kept { IsKept (row_shown row.now) }
+    requires due { kind_due (due_in (row_shown row.now)) ≡ Some kind }
+    ensures { option_map due_shown result ≡ due_in (succeeded kind id (row_shown row.now)) }
+{
+    match &row.goal {
+        Some(goal) => {
+            let id = id_told(kind, id).or(row.id);
+            let marks = heard(known_for(row, goal), kind);
+            due_for(&row.name, &row.arguments, id, marks, goal)
+        }
+        None => None,
+    }
+}
+
+/// The call that is due once the row took this step.
+pub(crate) fn due_then<'a>(row: &'a Row, step: &'a Step) -> Option<Due<'a>>
+    requires { Fits step.now (row_shown row.now) }
+    ensures { option_map due_shown result ≡ due_in (changed step.now (row_shown row.now)) }
+{
+    match step {
+        Step::Create(arguments) => create_due(&row.name, arguments, known_for(row, &Goal::Create)),
+        Step::Want(goal) => due_at(row, goal),
+        Step::TimeOut => due_timed_out(row),
+        Step::Succeed { kind, id } => due_after(row, *kind, *id),
+        Step::Fail => due_failed(row),
+    }
+}

@@ -1,0 +1,56 @@
+//! A call to send, and what its row keeps of it.
+ghost use Rattle.std.specs.Prelude.{◌≡◌, None, Ok, option_map, IfOk, IfErr, IsOk};
+ghost use Rattle.csi_orchestrator.specs.Commands.{next_number as number_after};
+ghost use Rattle.csi_orchestrator.specs.Shown.{row_shown};
+ghost use Rattle.csi_orchestrator.specs.Found.{due_shown, IsQuiet};
+ghost use Rattle.csi_orchestrator.specs.RowMoves.{IsRefusal};
+ghost use Rattle.csi_orchestrator.specs.CoreMoves.{outgoing_by, gone_on};
+
+use crate::calls::frame_of;
+use crate::changes::{drop_goal, send};
+use crate::due::{Due, next_number};
+use crate::fault::OrchFault;
+use crate::row::Row;
+use csi_types::{Frame, Kind, Number};
+
+/// A call to send: its frame, and what the row keeps of it.
+#[derive(Drop)]
+pub(crate) struct Outgoing {
+    pub frame: Frame,
+    pub number: Number,
+    pub kind: Kind,
+}
+
+/// The call to send, if one is due and a number is left. For a delete it takes no memory.
+pub(crate) fn outgoing_for(
+    last: Number,
+    due: &Option<Due<'_>>,
+) -> Result<Option<Outgoing>, OrchFault>
+    ensures ok { IfOk result (λ next. outgoing_by (option_map due_shown due.now) (number_after last) ≡ Ok next) }
+    ensures err { IfErr result (IsRefusal (outgoing_by (option_map due_shown due.now) (number_after last))) }
+    ensures quiet { outgoing_by (option_map due_shown due.now) (number_after last) ≡ Ok None → IsOk result }
+    ensures delete { IsQuiet (option_map due_shown due.now) → IfErr result (λ fault. fault ≡ OrchFault.NoMemory → ⊥) }
+{
+    let Some(due) = due else {
+        return Ok(None);
+    };
+    let Some(number) = next_number(last) else {
+        return Err(OrchFault::NumbersSpent);
+    };
+    let frame = frame_of(number, due)?;
+    Ok(Some(Outgoing {
+        frame,
+        number,
+        kind: due.kind(),
+    }))
+}
+
+/// Keeps that the call is sent. Where none is due, the goal is dropped.
+pub(crate) fn send_or_drop(row: &mut Row, next: &Option<Outgoing>)
+    ensures { row_shown row.new ≡ gone_on next.now (row_shown row.old) }
+{
+    match next {
+        Some(next) => send(row, next.number, next.kind),
+        None => drop_goal(row),
+    }
+}

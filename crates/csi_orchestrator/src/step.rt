@@ -1,0 +1,153 @@
+//! What is asked of a volume or comes for it, and what becomes of its row.
+ghost use Rattle.std.specs.Prelude.{◌≡◌, false, Ok, Some, IfOk, IfErr, IsOk, OnOk, OnErr};
+ghost use Rattle.csi_orchestrator.specs.Found.{without_rows};
+ghost use Rattle.csi_orchestrator.specs.RowMoves.{IsRefusal};
+ghost use Rattle.csi_orchestrator.specs.CoreMoves.{is_met as is_so, waits as is_left, is_given_up as gives_up, timed_out, failed, changed, needs_entry, row_goes_on, row_step, SendsNothing, Fits};
+ghost use Rattle.csi_orchestrator.specs.Shown.{row_shown, due_in};
+
+use crate::changes::{add_entry, close, stop_use, succeed, want, want_anew};
+use crate::fault::OrchFault;
+use crate::next_call::{due_at, due_then, is_given_up};
+use crate::refusals::{late_fault, step_fault};
+use crate::row::{Arguments, Goal, Row};
+use crate::sending::{Outgoing, outgoing_for, send_or_drop};
+use csi_types::{Kind, NodeId, Number, VolumeId};
+use std::alloc::Global;
+
+/// What is asked of a volume, or comes for it.
+#[derive(Drop)]
+pub(crate) enum Step {
+    /// That it is created by these arguments, though its name has a row.
+    Create(Arguments),
+    /// That this is brought about.
+    Want(Goal),
+    /// Its open call timed out.
+    TimeOut,
+    /// Its open call, of this kind, succeeded; the id that the reply brought.
+    Succeed { kind: Kind, id: Option<VolumeId> },
+    /// Its open call had another status.
+    Fail,
+}
+
+// Whether it is so already.
+fn is_met(row: &Row, step: &Step) -> bool
+    ensures { result ≡ is_so step.now (row_shown row.now) }
+{
+    match step {
+        Step::Want(goal) => match goal {
+            Goal::Use(_) => due_at(row, goal).is_none(),
+            Goal::Delete => row.exists.is_no(),
+            Goal::Create | Goal::Stop { .. } => false,
+        },
+        _ => false,
+    }
+}
+
+// Whether the row's call failed and is sent again only once it times out.
+fn waits(row: &Row, step: &Step) -> bool
+    ensures { result ≡ is_left step.now (row_shown row.now) }
+{
+    match step {
+        Step::Fail => !matches!(row.goal, Some(Goal::Create | Goal::Use(_))),
+        _ => false,
+    }
+}
+
+// The open call timed out: it is given up, and after three tries the use that it is for is too.
+fn time_out(row: &mut Row)
+    ensures { row_shown row.new ≡ timed_out (row_shown row.old) row.old.goal }
+{
+    if is_given_up(row) {
+        stop_use(row);
+    } else {
+        close(row);
+    }
+}
+
+// The open call had another status than `Ok`: a use that didn't come about is stopped.
+fn fail(row: &mut Row)
+    ensures { row_shown row.new ≡ failed (row_shown row.old) row.old.goal }
+{
+    match &row.goal {
+        Some(goal) => match goal {
+            Goal::Create => row.goal = None,
+            Goal::Use(_) => stop_use(row),
+            Goal::Stop { .. } | Goal::Delete => close(row),
+        },
+        None => close(row),
+    }
+}
+
+// The row takes the step. A refusal changes nothing; only a use takes memory.
+fn change(alloc: Global, row: &mut Row, step: Step) -> Result<(), OrchFault>
+    ensures ok { OnOk result (row_shown row.new ≡ changed step (row_shown row.old)) }
+    ensures stays { OnErr result (row_shown row.new ≡ row_shown row.old) }
+    ensures memory { IfErr result (λ fault. fault ≡ OrchFault.NoMemory) }
+    ensures sure { needs_entry step ≡ false → IsOk result }
+{
+    match step {
+        Step::Create(arguments) => want_anew(row, arguments),
+        Step::Want(goal) => {
+            if let Goal::Use(usage) = &goal {
+                add_entry(alloc, row, usage)?;
+            }
+            want(row, goal);
+        }
+        Step::TimeOut => time_out(row),
+        Step::Succeed { kind, id } => succeed(row, kind, id),
+        Step::Fail => fail(row),
+    }
+    Ok(())
+}
+
+// The row takes the step, and its due call is sent.
+fn go_on(
+    alloc: Global,
+    row: &mut Row,
+    last: Number,
+    step: Step,
+) -> Result<Option<Outgoing>, OrchFault>
+    requires { Fits step (row_shown row.old) }
+    ensures ok { IfOk result (λ next. row_goes_on last (changed step (row_shown row.old)) ≡ Ok (record { outgoing = next; row = row_shown row.new })) }
+    ensures err { IfErr result (IsRefusal (row_goes_on last (changed step (row_shown row.old)))) }
+    ensures stays { OnErr result (row_shown row.new ≡ row_shown row.old) }
+    ensures quiet { needs_entry step ≡ false → SendsNothing (row_goes_on last (changed step (row_shown row.old))) → IsOk result }
+    ensures delete { step ≡ Step.Want Goal.Delete → IfErr result (λ fault. fault ≡ OrchFault.NoMemory → ⊥) }
+{
+    let next = outgoing_for(last, &due_then(row, &step))?;
+    change(alloc, row, step)?;
+    send_or_drop(row, &next);
+    Ok(next)
+}
+
+/// What a step makes of the row, and what is sent for it. A refusal changes nothing. Where nothing is sent, and for a delete,
+/// it takes no memory.
+pub(crate) fn take(
+    alloc: Global,
+    row: &mut Row,
+    nodes: &[NodeId],
+    last: Number,
+    step: Step,
+) -> Result<Option<Outgoing>, OrchFault>
+    requires { Fits step (row_shown row.old) }
+    ensures ok { IfOk result (λ next. row_step (without_rows nodes.now last) step (row_shown row.old) ≡ Ok (record { outgoing = next; row = row_shown row.new })) }
+    ensures err { IfErr result (IsRefusal (row_step (without_rows nodes.now last) step (row_shown row.old))) }
+    ensures stays { OnErr result (row_shown row.new ≡ row_shown row.old) }
+    ensures quiet { SendsNothing (row_step (without_rows nodes.now last) step (row_shown row.old)) → IsOk result }
+    ensures delete { step ≡ Step.Want Goal.Delete → IfErr result (λ fault. fault ≡ OrchFault.NoMemory → ⊥) }
+{
+    if let Some(fault) = step_fault(nodes, last, row, &step) {
+        return Err(fault);
+    }
+    if is_met(row, &step) {
+        return Ok(None);
+    }
+    if waits(row, &step) {
+        close(row);
+        return Ok(None);
+    }
+    if let Some(fault) = late_fault(last, row, &step) {
+        return Err(fault);
+    }
+    go_on(alloc, row, last, step)
+}
