@@ -21,7 +21,7 @@ use Rattle.csi_node.specs.Table.{Outcome, lifecycle_row, node_row, has_no_room, 
 use Rattle.csi_node.specs.Fenced.{Fenced, answer_frame, keep, answered_only, carried_out, judged, fenced_call, kept_for}
 use Rattle.csi_node.specs.OneRow.{RowShown, alone, row_anew, IsAfter, RowAnswers}
 use Rattle.csi_node.proofs.StateChanges.{lifecycle-part}
-use Rattle.csi_node.proofs.Steps.{ShowsAll, RowsAfter, grown, answered_of, row_of, alone_in, part_of, kept-shown_by, room-by, shows_then, state_then}
+use Rattle.csi_node.proofs.ShownAfter.{ShowsAll, RowsAfter, grown, answered_of, row_of, alone_in, part_of, kept-shown_by, room-by, shows_then, state_then}
 
 -- the rows are those after a frame that was answered so
 pub record GivesAll (rows : List RowShown) (frame : Frame) (fenced : Fenced) : Type 0 where

@@ -6,9 +6,9 @@ use Rattle.csi_node.specs.State.{NodeState, row_with_id}
 use Rattle.csi_node.specs.Shown.{Shows, row_in, answered_of_row}
 use Rattle.csi_node.specs.OneRow.{shown}
 use Rattle.csi_node.specs.Record.{parts, IsGapFor}
-use Rattle.csi_node.proofs.Steps.{ShowsAll, answered_of, row_of-shown, kept-shown, all-from_shows, shows-from_all}
+use Rattle.csi_node.proofs.ShownAfter.{ShowsAll, answered_of, row_of-shown, kept-shown, all-from_shows, shows-from_all}
 use Rattle.csi_node.proofs.RecordRules.{absent-gap}
-use Rattle.csi_node.proofs.Calls.{There}
+use Rattle.csi_node.proofs.AtRow.{There}
 
 -- rows that are as they were
 pub shows-same : (old new : List NodeRow) (state : NodeState) → Shows old state → parts new ≡ parts old → Shows new state

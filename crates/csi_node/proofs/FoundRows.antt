@@ -5,7 +5,7 @@ use Rattle.std.specs.List.{insert}
 use Rattle.std.proofs.lemmas.Bool.Decides.{nat_tests}
 use Rattle.csi_node.specs.OneRow.{RowShown}
 use Rattle.csi_node.specs.Record.{id_at, IsAt}
-use Rattle.csi_node.proofs.Steps.{row_of}
+use Rattle.csi_node.proofs.ShownAfter.{row_of}
 
 -- no row before the place has the id
 abbrev pub NoneBefore : List RowShown → ℕ → ℕ → Type 0

@@ -14,7 +14,7 @@ use Rattle.csi_node.specs.Table.{Outcome, refused, publish, publish_at_target, p
 use Rattle.csi_node.specs.OneRow.{RowShown, IsNew, HasRoomFor, alone, staged_by, published_so, published_by, target_in, publish_by_row, unpublish_by_row}
 use Rattle.csi_node.specs.declared.line.Line.{Line}
 use Rattle.csi_node.specs.declared.line.Line.TheVariants.{Refused, Met, Done}
-use Rattle.csi_node.specs.Lines.{WhereDone}
+use Rattle.csi_node.specs.Line.{WhereDone}
 
 -- an id is equal to itself, and below: asking that too asks nothing more
 pub itself : (id : ℕ) → (id == id) ≡ true

@@ -21,7 +21,7 @@ use Rattle.csi_node.specs.OneVolume.{row_by_id, last_of, put_row, IsOneRowPut, A
 use Rattle.csi_node.specs.Record.{parts, id_at, IsAt, IsGapFor, IsRecord}
 use Rattle.csi_node.proofs.SpentNumbers.{answered_spent}
 use Rattle.csi_node.proofs.RecordRules.{IsRising, found-at, absent-gap, after-set, after-insert}
-use Rattle.csi_node.proofs.Calls.{There, parts-at, parts-insert, answers-id}
+use Rattle.csi_node.proofs.AtRow.{There, parts-at, parts-insert, answers-id}
 
 -- ids below a place that has the id, or would have it, are lower
 abbrev AreLower : List RowShown → ℕ → ℕ → Type 0

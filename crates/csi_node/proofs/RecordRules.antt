@@ -14,7 +14,7 @@ use Rattle.csi_node.specs.declared.row.NodeRow.{NodeRow}
 use Rattle.csi_node.specs.OneRow.{RowShown, shown, IsRow}
 use Rattle.csi_node.specs.Record.{parts, id_at, ids, IsAt, IsGapFor, IsRecord}
 use Rattle.csi_node.proofs.OneRow.{itself}
-use Rattle.csi_node.proofs.Steps.{RowsAfter, grown, row_of}
+use Rattle.csi_node.proofs.ShownAfter.{RowsAfter, grown, row_of}
 use Rattle.csi_node.proofs.FoundRows.{NoneBefore, row_of-absent, row_of-present, row_of-set, row_of-insert}
 
 -- the id at a place is that of the row there

@@ -26,7 +26,7 @@ use Rattle.csi_node.specs.declared.line.Line.{Line}
 use Rattle.csi_node.specs.declared.line.Line.TheVariants.{Refused, Met, Done}
 use Rattle.csi_node.specs.State.{NodeState, StagedVolume, PublishedVolume, is_published_at, volume_of}
 use Rattle.csi_node.specs.Table.{Change, Outcome, lifecycle_row, changed, begins_with_slash}
-use Rattle.csi_node.specs.Lines.{outcome_shown, reply_shown, WhereDone, is_done}
+use Rattle.csi_node.specs.Line.{outcome_shown, reply_shown, WhereDone, is_done}
 use Rattle.csi_node.specs.OneRow.{RowShown, alone, staged_by, published_so, published_by, target_among, row_changed, change_of, CanChange, AreDistinct, AreAbsolute, TargetsFit, IsRow, IsAfter}
 use Rattle.csi_node.proofs.OneRow.{itself, itself_and}
 

@@ -19,7 +19,7 @@ use Rattle.csi_node.specs.Record.{parts, IsRecord}
 use Rattle.csi_node.specs.Safe.{AllowTwo, IsPublishedRight}
 use Rattle.csi_node.proofs.OneRow.{staged_of-alone}
 use Rattle.csi_node.proofs.StateChanges.{part-staged}
-use Rattle.csi_node.proofs.Steps.{ShowsAll, row_of, alone_in, part_of, all-from_shows}
+use Rattle.csi_node.proofs.ShownAfter.{ShowsAll, row_of, alone_in, part_of, all-from_shows}
 
 none_some : {X : Type 0} {Y : Type 0} (x : X) → None ≡ Some x → Y
 none_some x h = cc

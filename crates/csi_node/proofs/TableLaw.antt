@@ -19,7 +19,7 @@ use Rattle.csi_node.specs.Fenced.{Fenced, fenced, fenced_call, kept_for, kept_ro
 use Rattle.csi_node.specs.Laws.{IsLetThrough, IsSameApart, IsDone, IsIdempotent, LeavesOthers, IsLawful, HasAtMostOneMore, is_another, reply_at, state_after}
 use Rattle.csi_node.proofs.LastCalls.{keep-staged, keep-published, keep-others, keep-own, keep-rows, changed-rows}
 use Rattle.csi_node.proofs.FencedCalls.{kept_of, state_then, done_then}
-use Rattle.csi_node.proofs.Facts.{IsReady, lifecycle_facts, ready_met, ready_kept, ready_volume, ready_done}
+use Rattle.csi_node.proofs.OutcomeFacts.{IsReady, lifecycle_facts, ready_met, ready_kept, ready_volume, ready_done}
 
 -- a number that is let through leads to the table, whatever is kept in the row
 let_through : (node : List ℕ) (state : NodeState) (number : Number) (call : Call) (kept : Option Kept) → verdict_of (option_map (λ k. k.number) kept) number ≡ Fresh

@@ -3,11 +3,11 @@ pub mod Table
 pub mod Fenced
 pub mod Shown
 pub mod OneRow
-pub mod Lines
+pub mod Line
 pub mod Record
 pub mod Views
 pub mod Laws
-pub mod Rows
+pub mod WorkedRows
 pub mod Safe
 pub mod View
 pub mod SoundRow

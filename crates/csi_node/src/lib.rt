@@ -2,7 +2,7 @@
 //! call, and what it keeps.
 #![tactic(auto)]
 
-mod answers;
+mod at_row;
 mod changes;
 mod copies;
 mod entries;
@@ -11,14 +11,14 @@ mod finding;
 mod judging;
 mod laws;
 mod line;
-mod lines;
 mod node;
 mod record;
 mod row;
-mod rows;
+mod row_table;
 mod sound_row;
 mod step;
 mod views;
+mod worked_rows;
 
 pub use entries::{Published, Staged};
 pub use fault::{CoreFault, RecordFault};

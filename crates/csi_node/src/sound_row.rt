@@ -4,8 +4,8 @@ ghost use Rattle.csi_types.specs.Call.{is_node_kind as is_own_kind};
 ghost use Rattle.csi_node.specs.OneRow.{shown};
 ghost use Rattle.csi_node.specs.SoundRow.{has_own_reply as is_own_reply, fits_mode as is_fit_for, has_target as is_target_in, are_distinct as is_each_once, are_absolute as is_each_absolute, has_fit_targets as are_fit_targets, is_sound_row as is_sound};
 
-use crate::lines::{MAX_TARGETS, is_absolute};
 use crate::row::{NodeRow, NodeTarget};
+use crate::row_table::{MAX_TARGETS, is_absolute};
 use csi_types::{Capability, Kind, Target, allows_one_target};
 
 // Whether calls of this kind are for a node.

@@ -9,7 +9,7 @@ ghost use Rattle.csi_node.specs.Record.{parts, IsRecord, IsAt, IsGapFor, Gives};
 ghost use Rattle.csi_node.specs.Shown.{Shows};
 ghost use Rattle.csi_node.specs.State.{NodeState, volume_of};
 
-use crate::answers::{answer_at_row, answer_with_new_row, refusal};
+use crate::at_row::{answer_at_row, answer_with_new_row, refusal};
 use crate::fault::CoreFault;
 use crate::row::NodeRow;
 use csi_types::{CallRef, Kind, Number, Reply, Status, VolumeId};

@@ -1,4 +1,4 @@
-use Rattle.csi_node.proofs.Calls.{there}
+use Rattle.csi_node.proofs.AtRow.{there}
 use Rattle.csi_node.proofs.CopiedRows.{row-there, row-nowhere, row-clash}
 use Rattle.csi_node.proofs.copies.copy_in.Goals as goal
 

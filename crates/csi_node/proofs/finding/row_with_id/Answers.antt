@@ -1,5 +1,5 @@
 use Rattle.std.proofs.Common.{sym}
-use Rattle.csi_node.proofs.Calls.{there}
+use Rattle.csi_node.proofs.AtRow.{there}
 use Rattle.csi_node.proofs.RecordRules.{absent-gap}
 use Rattle.csi_node.specs.Record.{parts}
 use Rattle.csi_node.proofs.finding.row_with_id.Goals as goal

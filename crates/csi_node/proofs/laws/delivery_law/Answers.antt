@@ -1,7 +1,7 @@
 -- In every state, whether or not frames lead to it, by what the fence and then the table make of the call.
 use Rattle.csi_node.specs.State.{empty_node}
 use Rattle.csi_node.specs.Fenced.{after_frames}
-use Rattle.csi_node.proofs.Delivered.{empty, closed, delivered}
+use Rattle.csi_node.proofs.DeliveryLaw.{empty, closed, delivered}
 use Rattle.csi_node.proofs.StagedOnce.{all_found}
 use Rattle.csi_node.proofs.laws.delivery_law.Goals as goal
 

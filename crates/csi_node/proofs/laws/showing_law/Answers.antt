@@ -1,5 +1,5 @@
 -- By the rules of a record.
-use Rattle.csi_node.proofs.ListedRows.{shows-a_state}
+use Rattle.csi_node.proofs.ShowingLaw.{shows-a_state}
 use Rattle.csi_node.proofs.laws.showing_law.Goals as goal
 
 pub returns : goal.returns

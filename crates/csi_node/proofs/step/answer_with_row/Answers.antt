@@ -3,7 +3,7 @@ use Rattle.std.proofs.lemmas.Result.{IfOk-weaker, on_err_weaker}
 use Rattle.std.proofs.Math.Seq.{map-set_same}
 use Rattle.csi_types.specs.Lent.{lent_call}
 use Rattle.csi_node.specs.OneRow.{shown}
-use Rattle.csi_node.proofs.Calls.{there, gives-there, rules-there, kept_id}
+use Rattle.csi_node.proofs.AtRow.{there, gives-there, rules-there, kept_id}
 use Rattle.csi_node.proofs.OneVolume.{one-there, on_ok_of}
 use Rattle.csi_node.proofs.step.answer_with_row.Goals as goal
 

@@ -4,7 +4,7 @@ use Rattle.csi_types.specs.Lent.{lent_call}
 use Rattle.csi_node.specs.declared.row.NodeRow.{NodeRow}
 use Rattle.csi_node.specs.Record.{parts, IsRecord, Gives}
 use Rattle.csi_node.specs.Fenced.{answer_frame, fenced_call, kept_for}
-use Rattle.csi_node.proofs.Calls.{gives-first, rules-first, gives-none}
+use Rattle.csi_node.proofs.AtRow.{gives-first, rules-first, gives-none}
 use Rattle.csi_node.specs.OneVolume.{IsOneRowPut}
 use Rattle.csi_node.proofs.OneVolume.{put-nowhere, one-first, on_ok_holds}
 use Rattle.csi_node.proofs.step.answer_without_row.Goals as goal

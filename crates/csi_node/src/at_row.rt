@@ -11,8 +11,8 @@ ghost use Rattle.csi_node.specs.OneRow.{shown, alone, row_anew, IsRow, IsAfter, 
 use crate::changes::change_where;
 use crate::fault::CoreFault;
 use crate::line::Line;
-use crate::lines::line;
 use crate::row::NodeRow;
+use crate::row_table::line;
 use csi_types::{CallRef, Kind, Number, Reply, Status, Verdict, VolumeId, verdict_of};
 use std::alloc::Global;
 

@@ -4,7 +4,7 @@ ghost use Rattle.csi_types.specs.Call.{kind_of, is_node_kind};
 ghost use Rattle.csi_types.specs.Lent.{lent_capability, lent_call};
 ghost use Rattle.csi_types.specs.Sharing.{allows_one_target as allows_one};
 ghost use Rattle.csi_types.specs.declared.status.Status.TheVariants.{AlreadyExists};
-ghost use Rattle.csi_node.specs.Lines.{outcome_shown, WhereDone};
+ghost use Rattle.csi_node.specs.Line.{outcome_shown, WhereDone};
 ghost use Rattle.csi_node.specs.OneRow.{shown, alone, target_in, published_by, publish_by_row, change_of, CanChange, HasRoomFor, IsNew, IsRow};
 ghost use Rattle.csi_node.specs.State.{volume_of, published_at, PublishedVolume};
 ghost use Rattle.csi_node.specs.Table.{Change, Stages, Unstages, Publishes, Unpublishes, stage, unstage, refused, met, publish, publish_new, unpublish, lifecycle_row, begins_with_slash};

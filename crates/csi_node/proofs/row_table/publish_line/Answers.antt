@@ -2,7 +2,7 @@ use Rattle.std.proofs.Common.{◌∙◌, sym}
 use Rattle.csi_types.specs.Lent.{lent_capability}
 use Rattle.csi_node.specs.OneRow.{shown}
 use Rattle.csi_node.proofs.OneRow.{publish-row, WhereDone-weaker, has_room}
-use Rattle.csi_node.proofs.lines.publish_line.Goals as goal
+use Rattle.csi_node.proofs.row_table.publish_line.Goals as goal
 
 pub returns-in-Some-clause-line : goal.returns-in-Some-clause-line
 returns-in-Some-clause-line c =

@@ -22,7 +22,7 @@ use Rattle.csi_node.specs.Fenced.{Fenced, answer_frame, fenced_call, kept_for}
 use Rattle.csi_node.specs.Shown.{Shows}
 use Rattle.csi_node.specs.OneRow.{RowShown, shown, alone, row_anew, IsRow, IsAfter, RowAnswers}
 use Rattle.csi_node.specs.Record.{parts, id_at, IsAt, IsGapFor, IsRecord, Gives}
-use Rattle.csi_node.proofs.Steps.{row_of, all-from_shows, shows-from_all}
+use Rattle.csi_node.proofs.ShownAfter.{row_of, all-from_shows, shows-from_all}
 use Rattle.csi_node.proofs.AnsweredRows.{GivesAll, gives-again, gives-anew, gives-full}
 use Rattle.csi_node.proofs.RecordRules.{id_at-parts, found-at, absent-gap, after-set, after-insert, rules-set, rules-insert}
 

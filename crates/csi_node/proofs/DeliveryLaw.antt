@@ -19,7 +19,7 @@ use Rattle.csi_node.specs.State.{NodeState, Answered, empty_node, row_of_volume}
 use Rattle.csi_node.specs.Table.{Outcome, lifecycle_row, changed}
 use Rattle.csi_node.specs.Fenced.{Fenced, fenced, kept_for, keep}
 use Rattle.csi_node.specs.View.{held_on, kept_on, view_of, key_of, IsDeliveredTo}
-use Rattle.csi_node.proofs.Effects.{Effect, EffectAt, effect}
+use Rattle.csi_node.proofs.ThingMoves.{Effect, EffectAt, effect}
 use Rattle.csi_node.proofs.LastCalls.{keep-own, changed-rows}
 use Rattle.csi_node.proofs.Moves.{Move, refuses, was_staged, stages, unstages, was_published, publishes, was_unpublished, unpublishes, lifecycle_moves}
 use Rattle.csi_node.proofs.FencedCalls.{Passage, stale, repeated, no_room, carried, passes, kept_of, state_then}

@@ -19,7 +19,7 @@ use Rattle.csi_node.specs.Fenced.{kept_in, kept_rows, keep, kept_for}
 use Rattle.csi_node.specs.Laws.{is_another}
 use Rattle.csi_node.specs.Shown.{Shows, answered_of_row, published_in, staged_in, row_in}
 use Rattle.csi_node.specs.OneRow.{RowShown, shown, alone}
-use Rattle.csi_node.proofs.Facts.{lifecycle_facts}
+use Rattle.csi_node.proofs.OutcomeFacts.{lifecycle_facts}
 use Rattle.csi_node.proofs.LastCalls.{changed-rows, kept_in-id}
 use Rattle.csi_node.proofs.OneRow.{itself}
 use Rattle.csi_node.proofs.StateChanges.{IsPart, IsAbout, lifecycle-part, lifecycle-about, changed-published, changed-staged}

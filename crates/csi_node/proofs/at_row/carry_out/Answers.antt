@@ -2,7 +2,7 @@ use Rattle.std.proofs.Common.{◌∙◌, ap, Bool, cond}
 use Rattle.csi_types.specs.Lent.{lent_call}
 use Rattle.csi_node.specs.OneRow.{shown, row_changed}
 use Rattle.csi_node.proofs.RowChanges.{after-line, row-line}
-use Rattle.csi_node.proofs.answers.carry_out.Goals as goal
+use Rattle.csi_node.proofs.at_row.carry_out.Goals as goal
 
 pub returns-clause-row : goal.returns-clause-row
 returns-clause-row c =

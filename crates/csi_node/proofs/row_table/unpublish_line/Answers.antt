@@ -1,7 +1,7 @@
 use Rattle.std.proofs.Common.{◌∙◌, ap, sym}
 use Rattle.csi_node.specs.OneRow.{shown, unpublish_by_row}
 use Rattle.csi_node.proofs.OneRow.{unpublish-row}
-use Rattle.csi_node.proofs.lines.unpublish_line.Goals as goal
+use Rattle.csi_node.proofs.row_table.unpublish_line.Goals as goal
 
 pub returns-in-None : goal.returns-in-None
 returns-in-None c =

@@ -3,7 +3,7 @@ use Rattle.std.proofs.Common.{◌≡◌, ℕ, suc, ◌<◌, List, [], ◌∷◌,
 use Rattle.std.specs.Prelude.{Option, Some, None, filter, ◌==◌}
 use Rattle.std.specs.List.{flat_map, AllByRecursion}
 use Rattle.std.proofs.lemmas.Bool.{eq-eqb, eqb-true, ne_eqb}
-use Rattle.std.proofs.lemmas.List.{append-nil, length-map}
+use Rattle.std.proofs.lemmas.List.{append-nil}
 use Rattle.std.proofs.lemmas.List.Elements.{filter-append}
 use Rattle.std.proofs.lemmas.List.Folds.{flat_map-map}
 use Rattle.csi_types.specs.declared.capability.Capability.{Capability}
@@ -14,13 +14,12 @@ use Rattle.csi_lists.proofs.Pairs.{two-joined}
 use Rattle.csi_lists.proofs.Filters.{filter-each, filter-no_one, each-passes}
 use Rattle.csi_node.specs.declared.row.NodeRow.{NodeRow}
 use Rattle.csi_node.specs.declared.row.NodeTarget.{NodeTarget}
-use Rattle.csi_node.specs.State.{NodeState, Answered, StagedVolume, PublishedVolume}
+use Rattle.csi_node.specs.State.{NodeState, StagedVolume, PublishedVolume}
 use Rattle.csi_node.specs.Shown.{Shows}
 use Rattle.csi_node.specs.OneRow.{RowShown, shown, alone, staged_by, published_by, published_so}
 use Rattle.csi_node.specs.Record.{parts, id_at, IsRecord}
 use Rattle.csi_node.specs.Views.{IsStagedBefore, IsPublishedBefore, ListsStaged, ListsPublished}
-use Rattle.csi_lists.proofs.Searches.{find-of_map}
-use Rattle.csi_node.proofs.Steps.{ShowsAll, row_of, alone_in, answered_of, all-from_shows, shows-from_all}
+use Rattle.csi_node.proofs.ShownAfter.{ShowsAll, row_of, alone_in, all-from_shows}
 use Rattle.csi_node.proofs.RecordRules.{IsRising}
 
 -- the first has the lower id
@@ -33,7 +32,7 @@ above_first id [] above = tt
 above_first id (row ∷ rows) above = (above 0 (omega arith), above_first id rows (λ place within. above (suc place) (omega arith)))
 
 -- rows with rising ids have the lower id before the higher, any two of them
-rows_rise : (rows : List RowShown) → IsRising rows → EachTwo IsRowBefore rows
+pub rows_rise : (rows : List RowShown) → IsRising rows → EachTwo IsRowBefore rows
 rows_rise [] rising = tt
 rows_rise (row ∷ rows) rising = (
   above_first row.id rows (λ place within. rising 0 (suc place) (omega arith) (omega arith)),
@@ -86,7 +85,7 @@ module _ {X : Type 0} (volume : X → ℕ) (part : RowShown → List X) (own : (
       ap (λ (first : List X). first ++ filter (λ x. volume x == id) rest) (filter_other volume id row.id (part row) other (own row)) ∙ here
 
   -- of one volume there is what its row has
-  of_one : (id : ℕ) (rows : List RowShown) → EachTwo IsRowBefore rows → filter (λ x. volume x == id) (flat_map part rows) ≡ part_in (row_of id rows)
+  pub of_one : (id : ℕ) (rows : List RowShown) → EachTwo IsRowBefore rows → filter (λ x. volume x == id) (flat_map part rows) ≡ part_in (row_of id rows)
   of_one id [] rise = refl
   of_one id (row ∷ rows) rise =
       filter-append (λ x. volume x == id) (part row) (flat_map part rows)
@@ -102,7 +101,7 @@ module _ {X : Type 0} (volume : X → ℕ) (part : RowShown → List X) (own : (
       lower x y (omega (arith, own, above)))
 
 -- what a row has staged is of its volume
-staged_own : (id : ℕ) (o : Option Capability) → AreOf (λ (s : StagedVolume). s.volume) id (staged_by id o)
+pub staged_own : (id : ℕ) (o : Option Capability) → AreOf (λ (s : StagedVolume). s.volume) id (staged_by id o)
 staged_own id None = tt
 staged_own id (Some capability) = (refl, tt)
 
@@ -117,7 +116,7 @@ targets_own id capability [] = tt
 targets_own id capability (target ∷ targets) = (refl, targets_own id capability targets)
 
 -- what a row has published is of its volume
-published_own : (id : ℕ) (o : Option Capability) (targets : List NodeTarget) → AreOf (λ (p : PublishedVolume). p.volume) id (published_by id o targets)
+pub published_own : (id : ℕ) (o : Option Capability) (targets : List NodeTarget) → AreOf (λ (p : PublishedVolume). p.volume) id (published_by id o targets)
 published_own id None targets = tt
 published_own id (Some capability) targets = targets_own id capability targets
 
@@ -151,12 +150,12 @@ staged_same id (x ∷ xs) (y ∷ ys) own other same = joined (first same) (own.0
     joined capability volume rest = λ i. (record { volume = volume i; capability = capability i }) ∷ rest i
 
 -- what is listed as staged for a volume is what its row alone has staged
-staged_part : (o : Option RowShown) → part_in (λ (s : StagedVolume). s.volume) (λ row. (alone row).staged) (λ row. staged_own row.id row.staged) o ≡ (alone_in o).staged
+pub staged_part : (o : Option RowShown) → part_in (λ (s : StagedVolume). s.volume) (λ row. (alone row).staged) (λ row. staged_own row.id row.staged) o ≡ (alone_in o).staged
 staged_part None = refl
 staged_part (Some row) = refl
 
 -- what is listed as published for a volume is what its row alone has published
-published_part : (o : Option RowShown) → part_in (λ (p : PublishedVolume). p.volume) (λ row. (alone row).published) (λ row. published_own row.id row.staged row.targets) o ≡ (alone_in o).published
+pub published_part : (o : Option RowShown) → part_in (λ (p : PublishedVolume). p.volume) (λ row. (alone row).published) (λ row. published_own row.id row.staged row.targets) o ≡ (alone_in o).published
 published_part None = refl
 published_part (Some row) = refl
 
@@ -195,23 +194,3 @@ pub lists-published : (rows : List NodeRow) (state : NodeState) (list : List Pub
 lists-published rows state list rules shows is =
     subst (λ (l : List PublishedVolume). ListsPublished l state) (flat_map-map (λ (row : RowShown). (alone row).published) shown rows ∙ sym is)
     (published_listed (parts rows) state (rows_rise (parts rows) rules.rising) (all-from_shows rows state shows))
-
--- the state in which the volumes stand by rising id
-abbrev state_by_id : List RowShown → NodeState
-state_by_id rows = record {
-  rows = map answered_of rows;
-  staged = flat_map (λ (row : RowShown). (alone row).staged) rows;
-  published = flat_map (λ (row : RowShown). (alone row).published) rows;
-}
-
--- rows that keep the rules of a record show a state
-pub shows-a_state : (rows : List NodeRow) → IsRecord (parts rows) → (state : NodeState) × Shows rows state
-shows-a_state rows rules = (
-  state_by_id (parts rows),
-  shows-from_all rows (state_by_id (parts rows)) (record {
-    count = sym (length-map (parts rows) answered_of);
-    kept = λ id. sym (find-of_map (λ (row : Answered). row.id == id) answered_of (parts rows));
-    staged = λ id. ap (map (λ (s : StagedVolume). s.capability)) (sym (of_one (λ (s : StagedVolume). s.volume) (λ row. (alone row).staged) (λ row. staged_own row.id row.staged) id (parts rows) (rows_rise (parts rows) rules.rising) ∙ staged_part (row_of id (parts rows))));
-    published = λ id. sym (of_one (λ (p : PublishedVolume). p.volume) (λ row. (alone row).published) (λ row. published_own row.id row.staged row.targets) id (parts rows) (rows_rise (parts rows) rules.rising) ∙ published_part (row_of id (parts rows)));
-  }),
-)

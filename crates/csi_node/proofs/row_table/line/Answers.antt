@@ -2,7 +2,7 @@ use Rattle.std.proofs.Common.{◌≡◌, ◌∙◌, ap}
 use Rattle.csi_node.specs.OneRow.{shown}
 use Rattle.csi_node.specs.Table.{unstage}
 use Rattle.csi_node.proofs.OneRow.{published_of-alone}
-use Rattle.csi_node.proofs.lines.line.Goals as goal
+use Rattle.csi_node.proofs.row_table.line.Goals as goal
 
 pub returns-in-NodeUnstageVolume-clause-line : goal.returns-in-NodeUnstageVolume-clause-line
 returns-in-NodeUnstageVolume-clause-line c =
