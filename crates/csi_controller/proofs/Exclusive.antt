@@ -12,7 +12,7 @@ use Rattle.csi_controller.specs.declared.row.NodeHolding.{NodeHolding}
 use Rattle.csi_controller.specs.declared.row.ControllerRow.{ControllerRow}
 use Rattle.csi_controller.specs.Core.{AreCompatible, IsSoundRow, held_by}
 use Rattle.csi_controller.specs.Exclusive.{IsRowExclusive}
-use Rattle.csi_controller.proofs.Apart.{apart, turned}
+use Rattle.csi_controller.proofs.HoldingsApart.{apart, turned}
 
 -- no later one is at the same node
 pub other_nodes : (node : List ℕ) (later : List NodeHolding) → find (λ (h : NodeHolding). same_text h.node node) later ≡ None → AllByRecursion (λ (h : NodeHolding). same_text h.node node ≡ false) later

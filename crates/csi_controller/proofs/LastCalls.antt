@@ -19,8 +19,8 @@ use Rattle.csi_controller.specs.Table.{Outcome, Change, Stays, Makes, Ends, Atta
 use Rattle.csi_controller.specs.Fenced.{kept_in, keep}
 use Rattle.csi_controller.specs.View.{kept_in_row, key_of}
 use Rattle.csi_controller.proofs.Moves.{Move, was_refused, was_found, was_made, was_ended, was_ended_before, was_attached, was_attached_before, was_detached, was_detached_before}
-use Rattle.csi_controller.proofs.Orderly.{IsOrderly, LeavesNames, keep_leaves, end_leaves, same_row, with_id_by_name}
-use Rattle.csi_controller.proofs.Things.{at_key, by_volume}
+use Rattle.csi_controller.proofs.OrderlyStates.{IsOrderly, LeavesNames, keep_leaves, end_leaves, same_row, with_id_by_name}
+use Rattle.csi_controller.proofs.ThingMoves.{at_key, by_volume}
 
 -- the row of a thing's volume
 abbrev pub row_of : ControllerState → Key → Option Volume

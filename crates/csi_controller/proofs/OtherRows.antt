@@ -32,8 +32,8 @@ use Rattle.csi_controller.specs.Shown.{volume_of_row, holdings_in}
 use Rattle.csi_controller.specs.Core.{Parts, IsShown}
 use Rattle.csi_controller.specs.RowsLaw.{AreOf, ChangesOnly, last_call, after_frame, ControllerRowsLaw}
 use Rattle.csi_controller.proofs.Moves.{Judgement, was_first, was_fresh, was_repeated, was_stale, was_judged}
-use Rattle.csi_controller.proofs.OneRow.{AreHeldReal, row-carried, judged-nowhere, judged-spent}
-use Rattle.csi_controller.proofs.Orderly.{IsOrderly, is_row}
+use Rattle.csi_controller.proofs.OwnRow.{AreHeldReal, row-carried, judged-nowhere, judged-spent}
+use Rattle.csi_controller.proofs.OrderlyStates.{IsOrderly, is_row}
 use Rattle.csi_controller.proofs.RowsTold.{next_id-told, rows-told, orderly-shown, same-at, with_id-shown}
 use Rattle.csi_controller.proofs.TableLaw.{is_lawful, is_carried_out}
 

@@ -17,7 +17,7 @@ use Rattle.csi_controller.specs.Shown.{volume_of_row, holdings_in, holdings_in_r
 use Rattle.csi_controller.specs.Core.{Parts, IsShown, IsSoundRow, IsRising, IsSameRow, held_by}
 use Rattle.csi_controller.specs.Views.{AreSameRows, IsCopyOf}
 use Rattle.csi_controller.specs.RowsLaw.{AreOf, IsSameAt}
-use Rattle.csi_controller.proofs.Orderly.{IsOwn, IsOrderly}
+use Rattle.csi_controller.proofs.OrderlyStates.{IsOwn, IsOrderly}
 use Rattle.csi_controller.proofs.Sound.{rising-one}
 
 -- ---- a row is its volume and its holdings

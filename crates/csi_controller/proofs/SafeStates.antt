@@ -21,8 +21,8 @@ use Rattle.csi_controller.specs.State.{Volume, ControllerState, empty_controller
 use Rattle.csi_controller.specs.Table.{Outcome, Change, Stays, Makes, Ends, Attaches, Detaches, controller_row, ended, changed}
 use Rattle.csi_controller.specs.Fenced.{kept_in, keep, carried_out, fenced, after_frames}
 use Rattle.csi_controller.specs.Safe.{AreExclusive, IsExclusive}
-use Rattle.csi_controller.proofs.Apart.{apart}
-use Rattle.csi_controller.proofs.Frames as each
+use Rattle.csi_controller.proofs.HoldingsApart.{apart}
+use Rattle.csi_controller.proofs.FramesKeep as each
 use Rattle.csi_controller.proofs.Moves.{Move, was_refused, was_found, was_made, was_ended, was_ended_before, was_attached, was_attached_before, was_detached, was_detached_before, moved}
 
 -- a change keeps that

@@ -29,7 +29,7 @@ use Rattle.csi_controller.specs.State.{Volume}
 use Rattle.csi_controller.specs.Shown.{volume_of_row}
 use Rattle.csi_controller.specs.Core.{IsRising, AreCompatible, IsSoundRow, IsSound, held_by, next_shown}
 use Rattle.csi_controller.specs.OneRow.{IsFit, RowChange, RowStays, RowEnds, RowAttaches, RowDetaches, RowOutcome, live_after, items_after}
-use Rattle.csi_controller.specs.Fence.{RowGives, row_after}
+use Rattle.csi_controller.specs.AtRow.{RowGives, row_after}
 
 false_is_true : false ≡ true → ⊥
 false_is_true h = cc

@@ -26,8 +26,8 @@ use Rattle.csi_controller.specs.State.{Volume, ControllerState, volume_named, li
 use Rattle.csi_controller.specs.Table.{Outcome, Change, Stays, Makes, refused, create_named, delete, publish, controller_row, changed}
 use Rattle.csi_controller.specs.Fenced.{Fenced, fenced, fenced_call, kept_for, kept_in, keep, carried_out}
 use Rattle.csi_controller.specs.Laws.{IsLetThrough, IsSameApart, IsDone, IsMadeAs, IsIdempotent, LeavesOthers, IsLawful, reply_at, state_after, keeping}
-use Rattle.csi_controller.proofs.Orderly.{IsOrderly, kept_same, kept_in-row}
-use Rattle.csi_controller.proofs.Facts.{IsReady, row_facts}
+use Rattle.csi_controller.proofs.OrderlyStates.{IsOrderly, kept_same, kept_in-row}
+use Rattle.csi_controller.proofs.OutcomeFacts.{IsReady, row_facts}
 
 -- what is kept changes no answer of the table
 length-map : (f : Volume → Volume) (xs : List Volume) → length (map f xs) ≡ length xs

@@ -1,5 +1,5 @@
 -- The parts of the controller's core.
-use Rattle.csi_controller.specs.declared.controller.state.Core.{Core}
+use Rattle.csi_controller.specs.declared.controller.core_parts.Core.{Core}
 use Rattle.csi_controller.specs.Catalog.{rows_of, IsIndexed}
 use Rattle.csi_controller.specs.Counts.{AreCounted}
 use Rattle.csi_controller.specs.Core.{Parts, IsSound}

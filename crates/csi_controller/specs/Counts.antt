@@ -3,7 +3,7 @@ use Rattle.std.specs.Prelude.{◌≡◌, ℕ, ◌+◌, ◌%◌, ◌^◌, ◌≤�
 use Rattle.std.specs.List.{list_any}
 use Rattle.csi_types.specs.declared.config.NodeSlots.{NodeSlots}
 use Rattle.csi_types.specs.Same.{same_text}
-use Rattle.csi_controller.specs.declared.controller.counts.Moved.{Moved}
+use Rattle.csi_controller.specs.declared.controller.counts.CountChange.{CountChange}
 use Rattle.csi_controller.specs.declared.row.NodeHolding.{NodeHolding}
 use Rattle.csi_controller.specs.declared.row.ControllerRow.{ControllerRow}
 
@@ -43,9 +43,9 @@ counted_at None is counts = counts
 counted_at (Some place) is counts = slice_set counts place (count_after is (slice_index counts place))
 
 -- a node, and whether a volume came to be held there, or ceases to be
-abbrev pub moved_told : Option Moved → Option (List ℕ × Bool)
-moved_told None = None
-moved_told (Some moved) = Some (moved.node.now, moved.is_held)
+abbrev pub count_change_told : Option CountChange → Option (List ℕ × Bool)
+count_change_told None = None
+count_change_told (Some change) = Some (change.node.now, change.is_held)
 
 -- the counts after that
 abbrev pub recounted : List NodeSlots → Option (List ℕ × Bool) → List ℕ → List ℕ

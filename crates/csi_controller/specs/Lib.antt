@@ -2,12 +2,12 @@ pub mod State
 pub mod Table
 pub mod Fenced
 pub mod Shown
-pub mod Rows
+pub mod WorkedRows
 pub mod Laws
 pub mod Core
 pub mod OneRow
-pub mod Lines
-pub mod Fence
+pub mod RowTable
+pub mod AtRow
 pub mod Making
 pub mod Step
 pub mod Line

@@ -10,7 +10,7 @@ use Rattle.csi_controller.specs.declared.row.ControllerRow.{ControllerRow}
 use Rattle.csi_controller.specs.State.{Volume}
 use Rattle.csi_controller.specs.Table.{Outcome, Makes, refused}
 use Rattle.csi_controller.specs.Shown.{volume_of_row}
-use Rattle.csi_controller.specs.declared.controller.state.Core.{Core}
+use Rattle.csi_controller.specs.declared.controller.core_parts.Core.{Core}
 use Rattle.csi_controller.specs.Catalog.{rows_of}
 
 -- a volume that was just made

@@ -67,8 +67,8 @@ IsFit row (RowAttaches held) =
 IsFit row (RowDetaches node) = Unit {0}
 
 -- the node at which the volume comes to be held, or ceases to be
-abbrev pub moved_by : RowChange → Option (List ℕ × Bool)
-moved_by RowStays = None
-moved_by RowEnds = None
-moved_by (RowAttaches held) = Some (held.node, true)
-moved_by (RowDetaches node) = Some (node, false)
+abbrev pub count_change_by : RowChange → Option (List ℕ × Bool)
+count_change_by RowStays = None
+count_change_by RowEnds = None
+count_change_by (RowAttaches held) = Some (held.node, true)
+count_change_by (RowDetaches node) = Some (node, false)

@@ -8,37 +8,37 @@ ghost use Rattle.csi_types.specs.Frame.{IsAllowed};
 ghost use Rattle.csi_types.specs.Lent.{lent_call, HasFitTexts};
 ghost use Rattle.csi_types.specs.Replies.{call_frame};
 
+mod at_row;
+mod attached;
 mod changes;
 pub(crate) mod copies;
+mod core_parts;
 mod counts;
 mod create_lines;
-mod fence;
 mod finding;
 pub(crate) mod holdings;
 mod line;
-mod lines;
 mod listing;
 mod making;
 mod new_row;
 mod readers;
 mod replies;
-mod state;
+mod row_table;
 mod step;
-mod views;
 
 use crate::catalog::Catalog;
 use crate::fault::CoreFault;
 use crate::record::ControllerRecord;
 use crate::row::ControllerRow;
+use attached::attachments;
+use core_parts::Core;
 use counts::counted;
 use csi_types::{
     Body, Call, CallRef, CapabilityList, CapabilityRef, Config, Frame, Holding, Kind, Name, Number,
     Party, Reply, VolumeId,
 };
-use state::Core;
 use std::alloc::Global;
 use std::marker::Model;
-use views::attachments;
 
 /// The controller plugin of CSI's spec.md, "Controller Service RPC": the volumes that it made, the nodes at
 /// which each is published, and the last call that it answered for each. A contract sees its configuration,

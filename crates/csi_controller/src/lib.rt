@@ -9,8 +9,8 @@ mod judging;
 mod laws;
 mod record;
 mod row;
-mod rows;
 mod sound_row;
+mod worked_rows;
 
 pub use controller::Controller;
 pub use fault::{CoreFault, RecordFault};

@@ -3,12 +3,12 @@ ghost use Rattle.std.specs.Prelude.{◌≡◌, [], ◌∷◌, ◌++◌, not, fil
 ghost use Rattle.csi_types.specs.Lent.{lent_call};
 ghost use Rattle.csi_types.specs.Same.{same_text};
 ghost use Rattle.csi_controller.specs.Core.{IsSameRow, IsUndoing};
-ghost use Rattle.csi_controller.specs.OneRow.{live_after, items_after, held_so, moved_by};
-ghost use Rattle.csi_controller.specs.Lines.{row_change};
-ghost use Rattle.csi_controller.specs.Counts.{moved_told};
+ghost use Rattle.csi_controller.specs.OneRow.{live_after, items_after, held_so, count_change_by};
+ghost use Rattle.csi_controller.specs.RowTable.{row_change};
+ghost use Rattle.csi_controller.specs.Counts.{count_change_told};
 ghost use Rattle.csi_controller.specs.Shown.{volume_of_row};
 
-use super::counts::Moved;
+use super::counts::CountChange;
 use crate::fault::CoreFault;
 use crate::row::{ControllerRow, NodeHolding};
 use csi_types::{CallRef, NodeId, NodeUse};
@@ -49,16 +49,16 @@ fn take_out(holdings: &mut Vec<NodeHolding>, node: &str)
     holdings.retain(|held| held.node.as_str() != node);
 }
 
-/// Makes the call's change to the row, and says where the volume is held from now on, or isn't. An `Err` changes nothing.
+/// Makes the call's change to the row, and says at which node it is held from now on, or isn't any longer, if that changed. An `Err` changes nothing.
 /// A DeleteVolume and a ControllerUnpublishVolume take no memory.
 pub fn change<'a>(
     row: &mut ControllerRow,
     alloc: Global,
     call: &CallRef<'a>,
-) -> Result<Option<Moved<'a>>, CoreFault>
+) -> Result<Option<CountChange<'a>>, CoreFault>
     ensures volume { OnOk result (volume_of_row row.new ≡ record (volume_of_row row.old) { is_live = live_after (row_change (lent_call call.now)) row.old.live }) }
     ensures items { OnOk result (row.new.holdings.items ≡ items_after (row_change (lent_call call.now)) row.old.holdings.items) }
-    ensures moved { IfOk result (λ moved. moved_told moved ≡ moved_by (row_change (lent_call call.now))) }
+    ensures counts { IfOk result (λ counted. count_change_told counted ≡ count_change_by (row_change (lent_call call.now))) }
     ensures err { OnErr result (IsSameRow row.old row.new) }
     ensures undone { IsUndoing (lent_call call.now) → IsOk result }
 {
@@ -79,7 +79,7 @@ pub fn change<'a>(
                 readonly: *readonly,
             };
             match add(&mut row.holdings, alloc, wanted) {
-                Ok(()) => Ok(Some(Moved {
+                Ok(()) => Ok(Some(CountChange {
                     node,
                     is_held: true,
                 })),
@@ -88,7 +88,7 @@ pub fn change<'a>(
         }
         CallRef::ControllerUnpublishVolume { node, .. } => {
             take_out(&mut row.holdings, node);
-            Ok(Some(Moved {
+            Ok(Some(CountChange {
                 node,
                 is_held: false,
             }))

@@ -3,7 +3,7 @@ ghost use Rattle.std.specs.Prelude.{◌≡◌, ◌≤◌, ◌&&◌, nat_le, leng
 ghost use Rattle.std.specs.List.{list_any};
 ghost use Rattle.csi_types.specs.Config.{has_node as is_configured};
 ghost use Rattle.csi_types.specs.Same.{same_text};
-ghost use Rattle.csi_controller.specs.Counts.{place_of, count_held, count_at as count_told, is_node_full, AreCounted, moved_told, recounted};
+ghost use Rattle.csi_controller.specs.Counts.{place_of, count_held, count_at as count_told, is_node_full, AreCounted, count_change_told, recounted};
 
 use super::holdings::is_held_at;
 use crate::row::ControllerRow;
@@ -14,7 +14,7 @@ pub const MAX_NODES: usize = 64;
 
 /// The node at which a volume came to be held, or ceased to be.
 #[derive(Clone, Copy)]
-pub struct Moved<'a> {
+pub struct CountChange<'a> {
     pub node: &'a str,
     pub is_held: bool,
 }
@@ -81,16 +81,16 @@ pub fn is_full(counts: &[u64; MAX_NODES], nodes: &[NodeSlots], node: &str) -> bo
 }
 
 /// Counts a volume that came to be held at a node, or ceased to be, if one did.
-pub fn recount(counts: &mut [u64; MAX_NODES], nodes: &[NodeSlots], moved: &Option<Moved>)
+pub fn recount(counts: &mut [u64; MAX_NODES], nodes: &[NodeSlots], change: &Option<CountChange>)
     requires { length nodes.now ≤ 64 }
-    ensures { counts.new ≡ recounted nodes.now (moved_told moved.now) counts.old }
+    ensures { counts.new ≡ recounted nodes.now (count_change_told change.now) counts.old }
 {
-    let Some(moved) = moved else {
+    let Some(change) = change else {
         return;
     };
-    if let Some(place) = place_of_node(nodes, moved.node) {
+    if let Some(place) = place_of_node(nodes, change.node) {
         let count = counts[place];
-        counts[place] = if moved.is_held {
+        counts[place] = if change.is_held {
             count.wrapping_add(1)
         } else {
             count.wrapping_sub(1)

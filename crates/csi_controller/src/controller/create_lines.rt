@@ -7,7 +7,7 @@ ghost use Rattle.csi_types.specs.Reply.{has_id_by_rule};
 ghost use Rattle.csi_controller.specs.Table.{serves as is_served};
 ghost use Rattle.csi_controller.specs.Shown.{volume_of_row};
 ghost use Rattle.csi_controller.specs.Line.{line_told};
-ghost use Rattle.csi_controller.specs.Lines.{again_line as again_told, create_line as create_told, argument_fault as fault_told};
+ghost use Rattle.csi_controller.specs.RowTable.{again_line as again_told, create_line as create_told, argument_fault as fault_told};
 ghost use Rattle.csi_controller.specs.OneRow.RowChange.{RowStays};
 
 use super::line::{Line, met, refused};

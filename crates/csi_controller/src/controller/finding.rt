@@ -10,7 +10,7 @@ ghost use Rattle.csi_controller.specs.CoreParts.{parts_of, IsKept};
 ghost use Rattle.csi_controller.specs.Shown.{volume_of_row};
 ghost use Rattle.csi_controller.specs.State.{is_row_for};
 
-use super::state::Core;
+use super::core_parts::Core;
 use csi_types::{CallRef, Number, VolumeId};
 
 /// Whether it is a call for the controller.

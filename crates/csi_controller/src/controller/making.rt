@@ -9,11 +9,11 @@ ghost use Rattle.csi_types.specs.Replies.{ok_reply_with, reply_frame};
 ghost use Rattle.csi_types.specs.Same.{same_text};
 ghost use Rattle.csi_controller.specs.Line.{line_told};
 
+use super::core_parts::Core;
 use super::create_lines::argument_fault;
 use super::line::{Line, refused};
 use super::new_row::new_row;
 use super::replies::{done, reply_of};
-use super::state::Core;
 use crate::fault::CoreFault;
 use csi_types::{Call, CapabilityList, Number, Reply, Status, VolumeId, wanted_capacity};
 

@@ -4,7 +4,7 @@ ghost use Rattle.csi_types.specs.Same.{same_text};
 ghost use Rattle.csi_controller.specs.Views.{row_if_live, IsCopyOf};
 
 use super::copies::copied_row;
-use super::state::Core;
+use super::core_parts::Core;
 use crate::fault::CoreFault;
 use crate::row::ControllerRow;
 use csi_types::VolumeId;

@@ -10,11 +10,11 @@ ghost use Rattle.csi_types.specs.Lent.{lent_call};
 ghost use Rattle.csi_types.specs.Reply.{has_id_by_rule};
 ghost use Rattle.csi_types.specs.Replies.{call_frame, reply_frame};
 
-use super::fence::answer_at_row;
+use super::at_row::answer_at_row;
+use super::core_parts::Core;
 use super::finding::is_own;
 use super::line::refused;
 use super::replies::{done, reply_of};
-use super::state::Core;
 use crate::fault::CoreFault;
 use csi_types::{
     Body, CallRef, CapabilityList, CapabilityRef, Frame, Kind, Number, Party, Reply, Status,

@@ -1,8 +1,8 @@
 -- The law holds in every orderly and safe state, and frames lead to no other.
 use Rattle.csi_controller.specs.State.{empty_controller}
 use Rattle.csi_controller.specs.Fenced.{after_frames}
-use Rattle.csi_controller.proofs.Delivered.{empty_view, closed_view, delivered}
-use Rattle.csi_controller.proofs.Orderly.{reached_orderly}
+use Rattle.csi_controller.proofs.DeliveryLaw.{empty_view, closed_view, delivered}
+use Rattle.csi_controller.proofs.OrderlyStates.{reached_orderly}
 use Rattle.csi_controller.proofs.SafeStates.{frames_keep, empty_exclusive}
 use Rattle.csi_controller.proofs.laws.delivery_law.Goals as goal
 

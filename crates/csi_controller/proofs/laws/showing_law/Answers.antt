@@ -1,6 +1,6 @@
 -- By the rules of the rows.
 use Rattle.std.proofs.Common.{arith}
-use Rattle.csi_controller.proofs.Showing.{shows-a_state}
+use Rattle.csi_controller.proofs.ShowingLaw.{shows-a_state}
 use Rattle.csi_controller.proofs.laws.showing_law.Goals as goal
 
 pub returns : goal.returns

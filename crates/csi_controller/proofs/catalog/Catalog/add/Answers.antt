@@ -5,8 +5,8 @@ use Rattle.std.specs.Cmp.Lexicographic.{pointwise}
 use Rattle.csi_types.specs.Same.{same_text}
 use Rattle.csi_controller.specs.declared.row.ControllerRow.{ControllerRow}
 use Rattle.csi_controller.specs.Catalog.{rows_of, by_id}
-use Rattle.csi_controller.proofs.Finds.{text-turned}
-use Rattle.csi_controller.proofs.Indexed.{id-turned, new-entries, new-name, rows-added, indexed-added, indexed-same, popped}
+use Rattle.csi_controller.proofs.SameText.{text-turned}
+use Rattle.csi_controller.proofs.CatalogMaps.{id-turned, new-entries, new-name, rows-added, indexed-added, indexed-same, popped}
 use Rattle.csi_controller.proofs.catalog.Catalog.add.Goals as goal
 
 pub returns-in-Ok-clause-added : goal.returns-in-Ok-clause-added

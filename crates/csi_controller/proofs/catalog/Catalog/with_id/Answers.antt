@@ -4,8 +4,8 @@ use Rattle.std.specs.Prelude.{◌==◌}
 use Rattle.csi_lists.proofs.Places.{FirstAt-find}
 use Rattle.csi_controller.specs.declared.row.ControllerRow.{ControllerRow}
 use Rattle.csi_controller.specs.Catalog.{rows_of}
-use Rattle.csi_controller.proofs.Calls.{at-place, nowhere}
-use Rattle.csi_controller.proofs.Indexed.{read-at}
+use Rattle.csi_controller.proofs.AtRow.{at-place, nowhere}
+use Rattle.csi_controller.proofs.CatalogMaps.{read-at}
 use Rattle.csi_controller.proofs.catalog.Catalog.with_id.Goals as goal
 
 pub returns-in-Some : goal.returns-in-Some

@@ -5,7 +5,7 @@ use Rattle.csi_types.specs.Same.{same_text}
 use Rattle.csi_controller.specs.declared.row.ControllerRow.{ControllerRow}
 use Rattle.csi_controller.specs.Core.{Parts, IsShown}
 use Rattle.csi_controller.specs.CoreParts.{parts_of}
-use Rattle.csi_controller.proofs.Views.{id-shown}
+use Rattle.csi_controller.proofs.Readers.{id-shown}
 use Rattle.csi_controller.proofs.controller.Controller.id_of.Goals as goal
 
 pub returns : goal.returns

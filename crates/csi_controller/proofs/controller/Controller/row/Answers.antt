@@ -5,7 +5,7 @@ use Rattle.std.proofs.lemmas.Result.{IfOk-weaker}
 use Rattle.csi_controller.specs.declared.row.ControllerRow.{ControllerRow}
 use Rattle.csi_controller.specs.Core.{Parts, IsShown}
 use Rattle.csi_controller.specs.CoreParts.{parts_of}
-use Rattle.csi_controller.proofs.Views.{row-shown}
+use Rattle.csi_controller.proofs.Readers.{row-shown}
 use Rattle.csi_controller.proofs.controller.Controller.row.Goals as goal
 
 pub returns-clause-state : goal.returns-clause-state

@@ -6,7 +6,7 @@ use Rattle.csi_controller.specs.declared.row.ControllerRow.{ControllerRow}
 use Rattle.csi_controller.specs.Views.{row_if_live}
 use Rattle.csi_controller.specs.Core.{Parts, IsShown}
 use Rattle.csi_controller.specs.CoreParts.{parts_of}
-use Rattle.csi_controller.proofs.Views.{volume-shown}
+use Rattle.csi_controller.proofs.Readers.{volume-shown}
 use Rattle.csi_controller.proofs.controller.Controller.volume.Goals as goal
 
 pub returns : goal.returns

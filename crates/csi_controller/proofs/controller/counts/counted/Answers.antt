@@ -2,7 +2,7 @@
 use Rattle.std.proofs.Common.{◌≡◌, ◌∙◌, ℕ, List, subst, arith}
 use Rattle.std.proofs.lemmas.List.{length-set}
 use Rattle.csi_controller.specs.Counts.{count_held}
-use Rattle.csi_controller.proofs.Recounted.{counted-more, all-counted}
+use Rattle.csi_controller.proofs.Counts.{counted-more, all-counted}
 use Rattle.csi_controller.proofs.controller.counts.counted.Goals as goal
 
 pub loop-place-preserved : goal.loop-place-preserved

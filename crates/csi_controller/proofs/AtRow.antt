@@ -1,0 +1,179 @@
+-- Each call at its row: what the definitions answer, and the rules of the rows afterwards.
+use Rattle.std.proofs.Common.{◌≡◌, ◌≤◌, ℕ, Bool, List, [], ◌∷◌, get_or, length, refl, sym, ◌∙◌, ap, subst, arith}
+use Rattle.std.specs.Prelude.{Result, IfOk, OnErr}
+use Rattle.std.specs.declared.result.Result.TheVariants as results
+use Rattle.std.specs.Prelude.{Option, Some, None, option_map, find, position, ◌==◌, IsTrue, codes}
+use Rattle.std.specs.List.{position_or_len}
+use Rattle.std.proofs.Math.ListN.{set}
+use Rattle.std.proofs.lemmas.Bool.{eqb-true}
+use Rattle.std.proofs.lemmas.Bool.Decides.{nat_tests}
+use Rattle.csi_lists.proofs.Each.{each-at}
+use Rattle.csi_lists.proofs.Places.{FirstAt-is_at, FirstAt-passes, FirstAt-position}
+use Rattle.csi_lists.specs.Places.{AtMostOne, FirstAt}
+use Rattle.csi_types.specs.declared.number.Number.{Number}
+use Rattle.csi_types.specs.declared.call.Kind.{Kind}
+use Rattle.csi_types.specs.declared.call.Kind.TheVariants as kinds
+use Rattle.csi_types.specs.declared.call.Call.{Call}
+use Rattle.csi_types.specs.declared.call.Call.TheVariants.{CreateVolume, DeleteVolume, ControllerPublishVolume, ControllerUnpublishVolume, NodeStageVolume, NodeUnstageVolume, NodePublishVolume, NodeUnpublishVolume}
+use Rattle.csi_types.specs.declared.call.Party.TheVariants.{Controller}
+use Rattle.csi_types.specs.declared.fence.Verdict.{Verdict}
+use Rattle.csi_types.specs.declared.fence.Verdict.TheVariants.{Stale, Repeated, Fresh}
+use Rattle.csi_types.specs.Call.{kind_of, is_party_of}
+use Rattle.csi_types.specs.Config.{Config}
+use Rattle.csi_types.specs.Fence.{Kept, verdict_of}
+use Rattle.csi_types.specs.Frame.{Frame}
+use Rattle.csi_types.specs.Replies.{plain_reply, ok_reply, reply_frame}
+use Rattle.csi_types.specs.declared.status.Status.TheVariants.{Ok, NotFound}
+use Rattle.csi_controller.specs.declared.row.NodeHolding.{NodeHolding}
+use Rattle.csi_controller.specs.declared.row.ControllerRow.{ControllerRow}
+use Rattle.csi_controller.specs.Repeats.{IsPlainRepeat}
+use Rattle.csi_controller.specs.State.{Volume, ControllerState, is_row_for}
+use Rattle.csi_controller.specs.Table.{Outcome, delete, publish, unpublish}
+use Rattle.csi_controller.specs.Fenced.{fenced_call, kept_for}
+use Rattle.csi_controller.specs.Shown.{volume_of_row}
+use Rattle.csi_controller.specs.Core.{IsShown, IsSound, IsSoundRow, held_by, IsSameRow, IsAnsweredOk}
+use Rattle.csi_controller.specs.Step.{Answers}
+use Rattle.csi_controller.specs.OneRow.{RowOutcome}
+use Rattle.csi_controller.specs.AtRow.{RowGives, row_after}
+use Rattle.csi_controller.specs.RowTable.{row_line}
+use Rattle.csi_controller.specs.Counts.{AreCounted}
+use Rattle.csi_controller.proofs.RowTable.{line-told, live-nowhere, held-nowhere}
+use Rattle.csi_controller.proofs.Sound.{sound-after, sound-same, sound-set, rising-one}
+use Rattle.csi_controller.proofs.RowOutcomes.{IsGood, line-good}
+use Rattle.csi_controller.proofs.ShownAfter.{row-answers, shown-same, nowhere-answers, kept-nowhere, kept-there}
+
+-- the row that a search by position gives
+pub at-place : (p : ControllerRow → Bool) (rows : List ControllerRow) (place : ℕ) (row : ControllerRow) → Some place ≡ position p rows → row ≡ get_or rows place row → FirstAt p rows place row
+at-place p rows place row at is = FirstAt-position p rows place row (sym at) is
+
+-- the row at the place that a search gives keeps the rules
+pub sound-at : (p : ControllerRow → Bool) (n : ℕ) (rows : List ControllerRow) (place : ℕ) (row : ControllerRow) → IsSound n rows → Some place ≡ position p rows → row ≡ get_or rows place row → IsSoundRow n row
+sound-at p n rows place row sound at is = each-at (IsSoundRow n) rows place row sound.each (FirstAt-is_at p rows place row (at-place p rows place row at is))
+
+-- whatever a row answers, its id and its name stay
+pub same_id : (number : Number) (kind : Kind) (outcome : RowOutcome) (row : ControllerRow) (verdict : Verdict) → (row_after number kind outcome row verdict).volume.id ≡ row.id
+same_id number kind outcome row Stale = refl
+same_id number kind outcome row Repeated = refl
+same_id number kind outcome row Fresh = refl
+
+pub same_name : (number : Number) (kind : Kind) (outcome : RowOutcome) (row : ControllerRow) (verdict : Verdict) → (row_after number kind outcome row verdict).volume.name ≡ row.name
+same_name number kind outcome row Stale = refl
+same_name number kind outcome row Repeated = refl
+same_name number kind outcome row Fresh = refl
+
+-- the rules hold after a row's answer, and after its refusal
+pub sound-gives : (p : ControllerRow → Bool) (n : ℕ) (rows : List ControllerRow) (place : ℕ) (row new : ControllerRow) (frame : Frame) (number : Number) (kind : Kind) (outcome : RowOutcome)
+    → IsSound n rows → Some place ≡ position p rows → row ≡ get_or rows place row → IsTrue (is_party_of kind Controller) → IsGood kind row outcome
+    → (verdict : Verdict) → RowGives new frame (row_after number kind outcome row verdict) → IsSound n (set rows place new)
+sound-gives p n rows place row new frame number kind outcome sound at is party good verdict gives =
+    sound-set n rows place row new sound (FirstAt-is_at p rows place row (at-place p rows place row at is))
+    (ap (λ (v : Volume). v.id) gives.volume ∙ same_id number kind outcome row verdict)
+    (ap (λ (v : Volume). v.name) gives.volume ∙ same_name number kind outcome row verdict)
+    (sound-after n row new frame number kind outcome (sound-at p n rows place row sound at is) party good.id outcome.change refl good.fit verdict gives)
+
+pub sound-refused : (p : ControllerRow → Bool) (n : ℕ) (rows : List ControllerRow) (place : ℕ) (row new : ControllerRow) → IsSound n rows → Some place ≡ position p rows → row ≡ get_or rows place row → IsSameRow row new → IsSound n (set rows place new)
+sound-refused p n rows place row new sound at is same =
+    sound-set n rows place row new sound (FirstAt-is_at p rows place row (at-place p rows place row at is))
+    (ap (λ (v : Volume). v.id) same.volume) (ap (λ (v : Volume). v.name) same.volume)
+    (sound-same n row new (sound-at p n rows place row sound at is) same.volume same.items)
+
+-- after a refusal the rows show the state that they showed
+pub shown-refused : (p : ControllerRow → Bool) (config : Config) (n : ℕ) (rows : List ControllerRow) (state : ControllerState) (place : ℕ) (row new : ControllerRow) → IsSound n rows
+    → Some place ≡ position p rows → row ≡ get_or rows place row → IsSameRow row new → IsShown (record { config = config; next_id = n; rows = rows }) state → IsShown (record { config = config; next_id = n; rows = set rows place new }) state
+shown-refused p config n rows state place row new sound at is same shown =
+    shown-same config n rows state place row new shown (FirstAt-is_at p rows place row (at-place p rows place row at is)) (rising-one rows sound.rising) same.volume same.items
+
+-- a call finds one row at most
+pub one-row : (n : ℕ) (rows : List ControllerRow) (call : Call) → IsSound n rows → AtMostOne (λ (r : ControllerRow). is_row_for call (volume_of_row r)) rows
+one-row n rows (CreateVolume name required limit capabilities) sound = sound.names name
+one-row n rows (DeleteVolume id) sound = rising-one rows sound.rising id
+one-row n rows (ControllerPublishVolume id node capability readonly) sound = rising-one rows sound.rising id
+one-row n rows (ControllerUnpublishVolume id node) sound = rising-one rows sound.rising id
+one-row n rows (NodeStageVolume id capability) sound = rising-one rows sound.rising id
+one-row n rows (NodeUnstageVolume id) sound = rising-one rows sound.rising id
+one-row n rows (NodePublishVolume id target capability readonly) sound = rising-one rows sound.rising id
+one-row n rows (NodeUnpublishVolume id target) sound = rising-one rows sound.rising id
+
+-- a deletion is that of the row which it finds
+deletes : (rows : List ControllerRow) (place : ℕ) (row : ControllerRow) (call : Call) → FirstAt (λ (r : ControllerRow). is_row_for call (volume_of_row r)) rows place row → kind_of call ≡ kinds.DeleteVolume → call ≡ DeleteVolume row.id
+deletes rows place row (DeleteVolume id) first kind = ap DeleteVolume (sym (eqb-true row.id id (FirstAt-passes (λ (r : ControllerRow). r.id == id) rows place row first)))
+deletes rows place row (CreateVolume name required limit capabilities) first kind = absurd (let clash : kinds.CreateVolume ≡ kinds.DeleteVolume = kind in cc)
+deletes rows place row (ControllerPublishVolume id node capability readonly) first kind = absurd (let clash : kinds.ControllerPublishVolume ≡ kinds.DeleteVolume = kind in cc)
+deletes rows place row (ControllerUnpublishVolume id node) first kind = absurd (let clash : kinds.ControllerUnpublishVolume ≡ kinds.DeleteVolume = kind in cc)
+deletes rows place row (NodeStageVolume id capability) first kind = absurd (let clash : kinds.NodeStageVolume ≡ kinds.DeleteVolume = kind in cc)
+deletes rows place row (NodeUnstageVolume id) first kind = absurd (let clash : kinds.NodeUnstageVolume ≡ kinds.DeleteVolume = kind in cc)
+deletes rows place row (NodePublishVolume id target capability readonly) first kind = absurd (let clash : kinds.NodePublishVolume ≡ kinds.DeleteVolume = kind in cc)
+deletes rows place row (NodeUnpublishVolume id target) first kind = absurd (let clash : kinds.NodeUnpublishVolume ≡ kinds.DeleteVolume = kind in cc)
+
+-- a call at its row
+pub there-answers : (config : Config) (n : ℕ) (rows : List ControllerRow) (counts : List ℕ) (state : ControllerState) (number : Number) (call : Call) (place : ℕ) (row new : ControllerRow) (frame : Frame)
+    → IsSound n rows → AreCounted config.nodes rows counts → IsShown (record { config = config; next_id = n; rows = rows }) state
+    → FirstAt (λ (r : ControllerRow). is_row_for call (volume_of_row r)) rows place row
+    → RowGives new frame (row_after number (kind_of call) (row_line config.nodes counts row call) row (verdict_of (Some row.last) number))
+    → Answers (record { config = config; next_id = n; rows = set rows place new }) frame (fenced_call config state number call (kept_for call state))
+there-answers config n rows counts state number call place row new frame sound counted shown first gives =
+    row-answers config n rows state number call place row new frame (row_line config.nodes counts row call) shown first (one-row n rows call sound) (rising-one rows sound.rising)
+    (λ ends. deletes rows place row call first ((line-good config.nodes counts row call).ends ends))
+    (line-told config n rows state counts place row call sound shown.shows counted first) gives
+
+-- a search that gives no place finds nothing
+past-none : (p : ControllerRow → Bool) (rows : List ControllerRow) → length rows ≤ position_or_len p rows → find p rows ≡ None
+past-none p [] past = refl
+past-none p (x ∷ xs) past = grind (arith, past-none p xs)
+
+-- the same of a place that is an option
+pub nowhere : (p : ControllerRow → Bool) (rows : List ControllerRow) → None ≡ position p rows → find p rows ≡ None
+nowhere p rows none = let past : length rows ≤ position_or_len p rows = grind (arith, nat_tests) in past-none p rows past
+
+-- a call that has no row
+pub delete-nowhere : (config : Config) (n : ℕ) (rows : List ControllerRow) (state : ControllerState) (number : Number) (id : ℕ) (frame : Frame)
+    → IsShown (record { config = config; next_id = n; rows = rows }) state → None ≡ position (λ (r : ControllerRow). r.id == id) rows → frame ≡ reply_frame number Controller kinds.DeleteVolume ok_reply
+    → Answers (record { config = config; next_id = n; rows = rows }) frame (fenced_call config state number (DeleteVolume id) (kept_for (DeleteVolume id) state))
+delete-nowhere config n rows state number id frame shown none is =
+    let none_found = nowhere (λ (r : ControllerRow). r.id == id) rows none in
+    nowhere-answers config n rows state number (DeleteVolume id) frame ok_reply shown none_found (ap (delete state id) (live-nowhere n rows state id shown.shows none_found)) is
+
+-- ControllerUnpublishVolume of an id that no row has is answered OK, and the rows show the state after it
+pub unpublish-nowhere : (config : Config) (n : ℕ) (rows : List ControllerRow) (state : ControllerState) (number : Number) (id : ℕ) (node : List ℕ) (frame : Frame)
+    → IsShown (record { config = config; next_id = n; rows = rows }) state → None ≡ position (λ (r : ControllerRow). r.id == id) rows → frame ≡ reply_frame number Controller kinds.ControllerUnpublishVolume ok_reply
+    → Answers (record { config = config; next_id = n; rows = rows }) frame (fenced_call config state number (ControllerUnpublishVolume id node) (kept_for (ControllerUnpublishVolume id node) state))
+unpublish-nowhere config n rows state number id node frame shown none is =
+    let none_found = nowhere (λ (r : ControllerRow). r.id == id) rows none in
+    nowhere-answers config n rows state number (ControllerUnpublishVolume id node) frame ok_reply shown none_found (ap (unpublish id node) (held-nowhere n rows state id node shown.shows none_found)) is
+
+-- ControllerPublishVolume of such an id is answered that there is no such volume
+pub publish-nowhere : (config : Config) (n : ℕ) (rows : List ControllerRow) (state : ControllerState) (number : Number) (id : ℕ) (wanted : NodeHolding) (frame : Frame)
+    → IsShown (record { config = config; next_id = n; rows = rows }) state → None ≡ position (λ (r : ControllerRow). r.id == id) rows
+    → frame ≡ reply_frame number Controller kinds.ControllerPublishVolume (plain_reply NotFound (codes "volume"))
+    → Answers (record { config = config; next_id = n; rows = rows }) frame
+    (fenced_call config state number (ControllerPublishVolume id wanted.node wanted.capability wanted.readonly) (kept_for (ControllerPublishVolume id wanted.node wanted.capability wanted.readonly) state))
+publish-nowhere config n rows state number id wanted frame shown none is =
+    let none_found = nowhere (λ (r : ControllerRow). r.id == id) rows none in
+    nowhere-answers config n rows state number (ControllerPublishVolume id wanted.node wanted.capability wanted.readonly) frame (plain_reply NotFound (codes "volume")) shown none_found
+    (ap (publish config state (held_by id wanted)) (live-nowhere n rows state id shown.shows none_found)) is
+
+-- a call that the table answers with 0 is let through at its row
+pub let_through : (config : Config) (n : ℕ) (rows : List ControllerRow) (counts : List ℕ) (state : ControllerState) (number : Number) (call : Call) (place : ℕ) (row : ControllerRow)
+    → IsSound n rows → AreCounted config.nodes rows counts → IsShown (record { config = config; next_id = n; rows = rows }) state
+    → FirstAt (λ (r : ControllerRow). is_row_for call (volume_of_row r)) rows place row → IsAnsweredOk config state number call
+    → (verdict_of (Some row.last) number ≡ Fresh) × ((row_line config.nodes counts row call).reply.status ≡ Ok)
+let_through config n rows counts state number call place row sound counted shown first answered = (
+  ap (λ (k : Option Kept). verdict_of (option_map (λ (x : Kept). x.number) k) number) (sym (kept-there config n rows state call place row shown first)) ∙ answered.0,
+  ap (λ (o : Outcome). o.reply.status) (sym (line-told config n rows state counts place row call sound shown.shows counted first)) ∙ answered.1,
+)
+
+-- a call whose plain reply is kept, at its row, and without one
+pub repeat-there : (config : Config) (n : ℕ) (rows : List ControllerRow) (state : ControllerState) (number : Number) (call : Call) (place : ℕ) (row : ControllerRow)
+    → IsShown (record { config = config; next_id = n; rows = rows }) state → FirstAt (λ (r : ControllerRow). is_row_for call (volume_of_row r)) rows place row
+    → IsPlainRepeat (kept_for call state) number → (verdict_of (Some row.last) number ≡ Repeated) × (row.reply.detail ≡ [])
+repeat-there config n rows state number call place row shown first repeat = subst (λ (k : Option Kept). IsPlainRepeat k number) (kept-there config n rows state call place row shown first) repeat
+
+-- a call that has no row has no reply kept
+pub repeat-nowhere : (config : Config) (n : ℕ) (rows : List ControllerRow) (state : ControllerState) (number : Number) (call : Call)
+    → IsShown (record { config = config; next_id = n; rows = rows }) state → find (λ (r : ControllerRow). is_row_for call (volume_of_row r)) rows ≡ None → IsPlainRepeat (kept_for call state) number → ⊥
+repeat-nowhere config n rows state number call shown none repeat = subst (λ (k : Option Kept). IsPlainRepeat k number) (kept-nowhere config n rows state call shown none) repeat
+
+-- what follows from a success and from a refusal alike
+pub either_way : {T E : Type 0} (r : Result T E) (P : T → Type 0) (Q R : Type 0) → ((x : T) → P x → R) → (Q → R) → IfOk r P → OnErr r Q → R
+either_way (results.Ok x) P Q R f g p q = f x p
+either_way (results.Err e) P Q R f g p q = g q

@@ -1,0 +1,299 @@
+-- The counts of the configured nodes after a row changed.
+use Rattle.std.proofs.Common.{◌≡◌, ◌≢◌, ◌≤◌, ◌<◌, ◌+◌, ℕ, Bool, true, false, cond, not, filter, List, [], ◌∷◌, ◌++◌, length, get_or, set, refl, sym, ◌∙◌, ap, subst, slice_index, arith}
+use Rattle.std.specs.Prelude.{Option, Some, None, ◌==◌, ◌||◌, ◌&&◌, nat_le}
+use Rattle.std.specs.List.{list_any, position_or_len}
+use Rattle.std.proofs.lemmas.Bool.{true≢false, eq-eqb, eqb-true}
+use Rattle.std.proofs.lemmas.Bool.Decides.{nat_tests}
+use Rattle.std.proofs.lemmas.Grind.{get_or-set_at}
+use Rattle.std.proofs.lemmas.List.{get_or-set_other, length-set}
+use Rattle.std.proofs.lemmas.List.Quantifiers.{position-Some}
+use Rattle.std.proofs.lemmas.List.Sums.{sum_by-set, count_by-le-length}
+use Rattle.std.proofs.lemmas.Map.Views.{any-filter_same}
+use Rattle.csi_lists.proofs.Counts.{count-cons}
+use Rattle.csi_lists.proofs.Options.{some_is_not_none}
+use Rattle.csi_types.proofs.Equality.{same_text-tells}
+use Rattle.csi_types.specs.declared.number.Number.{Number}
+use Rattle.csi_types.specs.declared.call.Call.{Call}
+use Rattle.csi_types.specs.declared.config.NodeSlots.{NodeSlots}
+use Rattle.csi_types.specs.declared.fence.Verdict.{Verdict}
+use Rattle.csi_types.specs.declared.fence.Verdict.TheVariants.{Stale, Repeated, Fresh}
+use Rattle.csi_types.specs.Config.{Config}
+use Rattle.csi_types.specs.Frame.{Frame}
+use Rattle.csi_types.specs.Same.{same_text}
+use Rattle.csi_controller.specs.declared.row.NodeHolding.{NodeHolding}
+use Rattle.csi_controller.specs.declared.row.ControllerRow.{ControllerRow}
+use Rattle.csi_controller.specs.declared.controller.core_parts.Core.{Core}
+use Rattle.csi_controller.specs.Catalog.{rows_of}
+use Rattle.csi_controller.specs.Core.{Parts}
+use Rattle.csi_controller.specs.OneRow.{RowChange, RowStays, RowEnds, RowAttaches, RowDetaches, items_after, count_change_by}
+use Rattle.csi_controller.specs.AtRow.{RowAnswers}
+use Rattle.csi_controller.specs.RowTable.{row_line}
+use Rattle.csi_controller.specs.CoreParts.{parts_of}
+use Rattle.csi_controller.specs.Counts.{is_held, count_held, place_of, AreCounted, count_at, is_node_full, count_after, counted_at, recounted}
+
+-- ---- where a node is configured
+
+some_node : NodeSlots
+some_node = record { id = []; slots = 0 }
+
+-- a node's place is within the list, and the entry there is that node's
+stands : (node : List ℕ) (nodes : List NodeSlots) (place : ℕ) (other : NodeSlots) → place_of node nodes ≡ Some place → (place < length nodes) × ((get_or nodes place other).id ≡ node)
+stands node nodes place other at =
+    let found = position-Some (λ (entry : NodeSlots). same_text entry.id node) nodes place other at in
+    (found.0, (same_text-tells (get_or nodes place other).id node).0 found.1)
+
+-- two nodes that have one place are the same
+same-node : (a b : List ℕ) (nodes : List NodeSlots) (place : ℕ) → place_of a nodes ≡ Some place → place_of b nodes ≡ Some place → a ≡ b
+same-node a b nodes place at other = sym (stands a nodes place some_node at).1 ∙ (stands b nodes place some_node other).1
+
+-- ---- one more node is counted
+
+-- where the counts before a place are right, and the node's there is put at it, the counts up to it are right
+pub counted-more : (nodes : List NodeSlots) (rows : List ControllerRow) (counts : List ℕ) (i : ℕ) (entry : NodeSlots) (count : ℕ) → i < length counts → entry ≡ get_or nodes i entry → count ≡ count_held entry.id rows
+    → ((node : List ℕ) (place : ℕ) → place_of node nodes ≡ Some place → place < i → slice_index counts place ≡ count_held node rows)
+    → (node : List ℕ) (place : ℕ) → place_of node nodes ≡ Some place → place < i + 1 → slice_index (set counts i count) place ≡ count_held node rows
+counted-more nodes rows counts i entry count inside is told before node place at below = by (place == i) refl
+  where
+    by : (b : Bool) → (place == i) ≡ b → slice_index (set counts i count) place ≡ count_held node rows
+    by true e =
+        let same : place ≡ i = eqb-true place i e in
+        let own : entry.id ≡ node = ap (λ (x : NodeSlots). x.id) (is ∙ ap (λ k. get_or nodes k entry) (sym same)) ∙ (stands node nodes place entry at).1 in
+        get_or-set_at counts i place count 0 same inside ∙ told ∙ ap (λ n. count_held n rows) own
+    by false e =
+        let other : place ≢ i = λ same. true≢false (sym (eq-eqb place i same) ∙ e) in
+        get_or-set_other counts i place count 0 other ∙ before node place at (omega (arith, below, other))
+
+-- ---- a row changed
+
+-- rows that are held alike are counted alike
+pub counted-alike : (nodes : List NodeSlots) (rows after : List ControllerRow) (counts : List ℕ) → ((node : List ℕ) → count_held node after ≡ count_held node rows) → AreCounted nodes rows counts → AreCounted nodes after counts
+counted-alike nodes rows after counts alike counted = record { few = counted.few; fits = counted.fits; each = λ node place at. counted.each node place at ∙ sym (alike node) }
+
+-- the counts are right once one node's went up or down by one, where no other node's changes
+at-node : (nodes : List NodeSlots) (rows after : List ControllerRow) (node : List ℕ) (is : Bool) (counts : List ℕ) → AreCounted nodes rows counts → count_after is (count_held node rows) ≡ count_held node after
+    → ((other : List ℕ) → same_text node other ≡ false → count_held other after ≡ count_held other rows) → (found : Option ℕ) → place_of node nodes ≡ found → AreCounted nodes after (counted_at found is counts)
+at-node nodes rows after node is counts counted own others None none = record { few = counted.few; fits = counted.fits; each = each }
+  where
+    other_node : (other : List ℕ) (place : ℕ) → place_of other nodes ≡ Some place → (b : Bool) → same_text node other ≡ b → same_text node other ≡ false
+    other_node other place at true e = absurd (some_is_not_none place (sym (ap (λ n. place_of n nodes) ((same_text-tells node other).0 e) ∙ at) ∙ none))
+    other_node other place at false e = e
+
+    each : (other : List ℕ) (place : ℕ) → place_of other nodes ≡ Some place → slice_index counts place ≡ count_held other after
+    each other place at = counted.each other place at ∙ sym (others other (other_node other place at (same_text node other) refl))
+at-node nodes rows after node is counts counted own others (Some found) here =
+    record { few = counted.few; fits = let long = length-set counts found value in let fits = counted.fits in omega (arith, long, fits); each = λ other place at. each other place at (same_text node other) refl }
+  where
+    value : ℕ
+    value = count_after is (slice_index counts found)
+
+    same_place : (a b : ℕ) → Some a ≡ Some b → a ≡ b
+    same_place a b h = cc
+
+    inside : found < length counts
+    inside = let within = (stands node nodes found some_node here).0 in let fits = counted.fits in omega (arith, within, fits)
+
+    each : (other : List ℕ) (place : ℕ) → place_of other nodes ≡ Some place → (b : Bool) → same_text node other ≡ b → slice_index (set counts found value) place ≡ count_held other after
+    each other place at true e =
+        let same : node ≡ other = (same_text-tells node other).0 e in
+        let place_is : place ≡ found = same_place place found (sym at ∙ ap (λ n. place_of n nodes) (sym same) ∙ here) in
+        get_or-set_at counts found place value 0 place_is inside ∙ ap (count_after is) (counted.each node found here) ∙ own ∙ ap (λ n. count_held n after) same
+    each other place at false e =
+        let apart : place ≢ found = λ same. true≢false (sym ((same_text-tells node other).1 (same-node node other nodes found here (at ∙ ap Some same))) ∙ e) in
+        get_or-set_other counts found place value 0 apart ∙ counted.each other place at ∙ sym (others other e)
+
+-- what another row in its place adds or takes
+changes : (node : List ℕ) (rows : List ControllerRow) (place : ℕ) (row new : ControllerRow) → place < length rows → row ≡ get_or rows place row
+    → count_held node (set rows place new) + cond (is_held node row) 1 0 ≡ count_held node rows + cond (is_held node new) 1 0
+changes node rows place row new inside is =
+    ap (λ (r : ControllerRow). count_held node (set rows place new) + cond (is_held node r) 1 0) is
+    ∙ sum_by-set (λ (r : ControllerRow). cond (is_held node r) 1 0) rows place new row inside
+
+-- another row in a row's place leaves the count of a node at which both are held, or neither is
+alike-counted : (node : List ℕ) (rows : List ControllerRow) (place : ℕ) (row new : ControllerRow) → place < length rows → row ≡ get_or rows place row → is_held node new ≡ is_held node row
+    → count_held node (set rows place new) ≡ count_held node rows
+alike-counted node rows place row new inside is same =
+    let whole = changes node rows place row new inside is ∙ ap (λ b. count_held node rows + cond b 1 0) same in
+    omega (arith, whole)
+
+-- the counts after a row came to be held at a node, or ceased to be, and is held elsewhere as before
+node-counted : (nodes : List NodeSlots) (rows : List ControllerRow) (place : ℕ) (row new : ControllerRow) (node : List ℕ) (is : Bool) (counts : List ℕ) → AreCounted nodes rows counts → length rows ≤ 4096
+    → place < length rows → row ≡ get_or rows place row → is_held node row ≡ not is → is_held node new ≡ is → ((other : List ℕ) → same_text node other ≡ false → is_held other new ≡ is_held other row)
+    → AreCounted nodes (set rows place new) (counted_at (place_of node nodes) is counts)
+node-counted nodes rows place row new node is counts counted limit inside stands was now others = by is was now
+  where
+    after : List ControllerRow
+    after = set rows place new
+
+    others_counted : (other : List ℕ) → same_text node other ≡ false → count_held other after ≡ count_held other rows
+    others_counted other e = alike-counted other rows place row new inside stands (others other e)
+
+    few : count_held node rows ≤ 4096
+    few = let most = count_by-le-length (is_held node) rows in omega (arith, most, limit)
+
+    by : (is : Bool) → is_held node row ≡ not is → is_held node new ≡ is → AreCounted nodes after (counted_at (place_of node nodes) is counts)
+    by false w n =
+        let whole = changes node rows place row new inside stands in
+        let less : count_held node after + 1 ≡ count_held node rows = (λ i. count_held node after + cond (sym w i) 1 0) ∙ whole ∙ (λ i. count_held node rows + cond (n i) 1 0) ∙ omega arith in
+        let small = few in
+        at-node nodes rows after node false counts counted (omega (arith, less, small)) others_counted (place_of node nodes) refl
+    by true w n =
+        let whole = changes node rows place row new inside stands in
+        let more : count_held node after ≡ count_held node rows + 1 = omega arith ∙ (λ i. count_held node after + cond (sym w i) 1 0) ∙ whole ∙ (λ i. count_held node rows + cond (n i) 1 0) in
+        let small = few in
+        at-node nodes rows after node true counts counted (omega (arith, more, small)) others_counted (place_of node nodes) refl
+
+-- a row that is held as before leaves all counts
+pub same-counted : (nodes : List NodeSlots) (rows : List ControllerRow) (place : ℕ) (row new : ControllerRow) (counts : List ℕ) → AreCounted nodes rows counts → place < length rows → row ≡ get_or rows place row
+    → new.holdings.items ≡ row.holdings.items → AreCounted nodes (set rows place new) counts
+same-counted nodes rows place row new counts counted inside is same =
+    counted-alike nodes rows (set rows place new) counts (λ node. alike-counted node rows place row new inside is (ap (list_any (λ held. same_text held.node node)) same)) counted
+
+-- ---- all nodes
+
+-- the counts are right once each configured node was counted
+pub all-counted : (nodes : List NodeSlots) (rows : List ControllerRow) (counts : List ℕ) (count : ℕ) → length nodes ≤ 64 → length counts ≡ 64 → length nodes ≤ count
+    → ((node : List ℕ) (place : ℕ) → place_of node nodes ≡ Some place → place < count → slice_index counts place ≡ count_held node rows) → AreCounted nodes rows counts
+all-counted nodes rows counts count few long all each =
+    record { few = few; fits = omega (arith, few, long); each = λ node place at. each node place at (let inside = (stands node nodes place some_node at).0 in omega (arith, inside, all)) }
+
+-- where the place of the first one that passes is past the end, none passes
+past-none : {X : Type 0} (p : X → Bool) (xs : List X) → length xs ≤ position_or_len p xs → list_any p xs ≡ false
+past-none p [] past = refl
+past-none p (x ∷ xs) past = grind (arith, past-none p xs)
+
+-- a node that isn't found isn't configured
+not-configured : (node : List ℕ) (nodes : List NodeSlots) → None ≡ place_of node nodes → list_any (λ (entry : NodeSlots). same_text entry.id node) nodes ≡ false
+not-configured node nodes none =
+    let past : length nodes ≤ position_or_len (λ (entry : NodeSlots). same_text entry.id node) nodes = grind (arith, nat_tests) in
+    past-none (λ (entry : NodeSlots). same_text entry.id node) nodes past
+
+-- ---- what is taken out of a row
+
+-- what is held at another node stays where a node's is taken out
+other_held : (node other : List ℕ) → same_text node other ≡ false → (held : NodeHolding) → same_text held.node other ≡ true → not (same_text held.node node) ≡ true
+other_held node other differ held here = by (same_text held.node node) refl
+  where
+    by : (b : Bool) → same_text held.node node ≡ b → not b ≡ true
+    by true e = absurd (true≢false (sym ((same_text-tells node other).1 (sym ((same_text-tells held.node node).0 e) ∙ (same_text-tells held.node other).0 here)) ∙ differ))
+    by false e = refl
+
+-- what is held at one node is taken out, and nothing else
+taken-others : (node other : List ℕ) (items : List NodeHolding) → same_text node other ≡ false
+    → list_any (λ (held : NodeHolding). same_text held.node other) (filter (λ (held : NodeHolding). not (same_text held.node node)) items) ≡ list_any (λ (held : NodeHolding). same_text held.node other) items
+taken-others node other items differ =
+    any-filter_same (λ (held : NodeHolding). same_text held.node other) (λ (held : NodeHolding). not (same_text held.node node)) true (other_held node other differ) items
+
+-- once what is held at a node is taken out, nothing is held there
+here_none : (node : List ℕ) (items : List NodeHolding) → list_any (λ (held : NodeHolding). same_text held.node node) (filter (λ (held : NodeHolding). not (same_text held.node node)) items) ≡ false
+here_none node [] = refl
+here_none node (held ∷ later) = by (same_text held.node node) refl (here_none node later)
+  where
+    by : (b : Bool) → same_text held.node node ≡ b → list_any (λ (h : NodeHolding). same_text h.node node) (filter (λ (h : NodeHolding). not (same_text h.node node)) later) ≡ false
+        → list_any (λ (h : NodeHolding). same_text h.node node) (cond (not b) (held ∷ filter (λ (h : NodeHolding). not (same_text h.node node)) later) (filter (λ (h : NodeHolding). not (same_text h.node node)) later)) ≡ false
+    by true e rest = rest
+    by false e rest = rw e rest
+
+-- ---- what is added to a row
+
+-- one of a list with one more at its end passes where one did before, or the new one does
+one_more : (p : NodeHolding → Bool) (items : List NodeHolding) (held : NodeHolding) (b : Bool) → p held ≡ b → list_any p (items ++ held ∷ []) ≡ (list_any p items || b)
+one_more p [] held true e = rw e refl
+one_more p [] held false e = rw e refl
+one_more p (first ∷ later) held b e = by (p first) (one_more p later held b e)
+  where
+    by : (t : Bool) → list_any p (later ++ held ∷ []) ≡ (list_any p later || b) → (t || list_any p (later ++ held ∷ [])) ≡ ((t || list_any p later) || b)
+    by true rest = refl
+    by false rest = rest
+
+or_false : (b : Bool) → (b || false) ≡ b
+or_false true = refl
+or_false false = refl
+
+or_true : (b : Bool) → (b || true) ≡ true
+or_true true = refl
+or_true false = refl
+
+-- ---- a row that a call changed
+
+-- what a row of these holdings may add or take out
+abbrev pub IsCountChange : ControllerRow → RowChange → Type 0
+IsCountChange row RowStays = Unit {0}
+IsCountChange row RowEnds = Unit {0}
+IsCountChange row (RowAttaches held) = is_held held.node row ≡ false
+IsCountChange row (RowDetaches node) = is_held node row ≡ true
+
+-- the counts are right after a row's change, once they are counted again for the node that it moves
+changed-counted : (nodes : List NodeSlots) (rows : List ControllerRow) (place : ℕ) (row new : ControllerRow) (change : RowChange) (counts : List ℕ) → AreCounted nodes rows counts → length rows ≤ 4096
+    → place < length rows → row ≡ get_or rows place row → IsCountChange row change → new.holdings.items ≡ items_after change row.holdings.items
+    → AreCounted nodes (set rows place new) (recounted nodes (count_change_by change) counts)
+changed-counted nodes rows place row new RowStays counts counted limit inside stands move items = same-counted nodes rows place row new counts counted inside stands items
+changed-counted nodes rows place row new RowEnds counts counted limit inside stands move items = same-counted nodes rows place row new counts counted inside stands items
+changed-counted nodes rows place row new (RowAttaches held) counts counted limit inside stands move items =
+    node-counted nodes rows place row new held.node true counts counted limit inside stands move
+    (ap (list_any (λ (other : NodeHolding). same_text other.node held.node)) items
+    ∙ one_more (λ (other : NodeHolding). same_text other.node held.node) row.holdings.items held true ((same_text-tells held.node held.node).1 refl) ∙ or_true (is_held held.node row))
+    (λ other differ. ap (list_any (λ (h : NodeHolding). same_text h.node other)) items
+    ∙ one_more (λ (h : NodeHolding). same_text h.node other) row.holdings.items held false differ ∙ or_false (is_held other row))
+changed-counted nodes rows place row new (RowDetaches node) counts counted limit inside stands move items =
+    node-counted nodes rows place row new node false counts counted limit inside stands move
+    (ap (list_any (λ (held : NodeHolding). same_text held.node node)) items ∙ here_none node row.holdings.items)
+    (λ other differ. ap (list_any (λ (held : NodeHolding). same_text held.node other)) items ∙ taken-others node other row.holdings.items differ)
+
+-- by what the fence says
+pub answered-counted : (nodes : List NodeSlots) (rows : List ControllerRow) (place : ℕ) (row new : ControllerRow) (counts after : List ℕ) (number : Number) (call : Call) (verdict : Verdict) (frame : Frame)
+    → AreCounted nodes rows counts → length rows ≤ 4096 → place < length rows → row ≡ get_or rows place row → IsCountChange row (row_line nodes counts row call).change
+    → RowAnswers nodes row new counts after number call verdict frame → AreCounted nodes (set rows place new) after
+answered-counted nodes rows place row new counts after number call Stale frame counted limit inside stands move answered =
+    subst (AreCounted nodes (set rows place new)) (sym answered.counts) (same-counted nodes rows place row new counts counted inside stands answered.gives.items)
+answered-counted nodes rows place row new counts after number call Repeated frame counted limit inside stands move answered =
+    subst (AreCounted nodes (set rows place new)) (sym answered.counts) (same-counted nodes rows place row new counts counted inside stands answered.gives.items)
+answered-counted nodes rows place row new counts after number call Fresh frame counted limit inside stands move answered =
+    subst (AreCounted nodes (set rows place new)) (sym answered.counts)
+    (changed-counted nodes rows place row new (row_line nodes counts row call).change counts counted limit inside stands move answered.gives.items)
+
+-- ---- a row that is added
+
+-- one more row, without holdings, leaves every node's count
+added-one : (node : List ℕ) (rows : List ControllerRow) (row : ControllerRow) → row.holdings.items ≡ [] → count_held node (rows ++ row ∷ []) ≡ count_held node rows
+added-one node [] row empty = count-cons (is_held node) row [] ∙ ap (λ (items : List NodeHolding). cond (list_any (λ (held : NodeHolding). same_text held.node node) items) 1 0 + count_held node []) empty
+added-one node (r ∷ rs) row empty = count-cons (is_held node) r (rs ++ row ∷ []) ∙ ap (λ n. cond (is_held node r) 1 0 + n) (added-one node rs row empty) ∙ sym (count-cons (is_held node) r rs)
+
+-- the counts stay right where a row without holdings is put at the end
+pub made-counted : (old new : Core) (row : ControllerRow) → new.config ≡ old.config → rows_of new.catalog ≡ rows_of old.catalog ++ row ∷ [] → row.holdings.items ≡ [] → new.counts ≡ old.counts
+    → AreCounted old.config.nodes (rows_of old.catalog) old.counts → AreCounted new.config.nodes (rows_of new.catalog) new.counts
+made-counted old new row config rows empty counts counted =
+    subst (λ (k : Config). AreCounted k.nodes (rows_of new.catalog) new.counts) (sym config)
+    (subst (AreCounted old.config.nodes (rows_of new.catalog)) (sym counts)
+    (subst (λ (rs : List ControllerRow). AreCounted old.config.nodes rs old.counts) (sym rows)
+    (counted-alike old.config.nodes (rows_of old.catalog) (rows_of old.catalog ++ row ∷ []) old.counts (λ node. added-one node (rows_of old.catalog) row empty) counted)))
+
+-- the counts stay right where configuration and rows stay
+pub same-parts-counted : (old new : Core) → parts_of new ≡ parts_of old → new.counts ≡ old.counts → AreCounted old.config.nodes (rows_of old.catalog) old.counts → AreCounted new.config.nodes (rows_of new.catalog) new.counts
+same-parts-counted old new parts counts counted =
+    subst (λ (k : Parts). AreCounted k.config.nodes k.rows new.counts) (sym parts) (subst (AreCounted old.config.nodes (rows_of old.catalog)) (sym counts) counted)
+
+-- ---- whether a node is full
+
+-- an entry's slots are compared with the right count wherever one is compared
+full-counted : (nodes : List NodeSlots) (node : List ℕ) (count held : ℕ) → (list_any (λ (entry : NodeSlots). same_text entry.id node) nodes ≡ true → count ≡ held)
+    → list_any (λ (entry : NodeSlots). same_text entry.id node && nat_le entry.slots count) nodes ≡ list_any (λ (entry : NodeSlots). same_text entry.id node && nat_le entry.slots held) nodes
+full-counted [] node count held told = refl
+full-counted (e ∷ es) node count held told = by (same_text e.id node) told (full-counted es node count held)
+  where
+    by : (b : Bool) → ((b || list_any (λ (entry : NodeSlots). same_text entry.id node) es) ≡ true → count ≡ held)
+        → ((list_any (λ (entry : NodeSlots). same_text entry.id node) es ≡ true → count ≡ held)
+        → list_any (λ (entry : NodeSlots). same_text entry.id node && nat_le entry.slots count) es ≡ list_any (λ (entry : NodeSlots). same_text entry.id node && nat_le entry.slots held) es)
+        → ((b && nat_le e.slots count) || list_any (λ (entry : NodeSlots). same_text entry.id node && nat_le entry.slots count) es)
+        ≡ ((b && nat_le e.slots held) || list_any (λ (entry : NodeSlots). same_text entry.id node && nat_le entry.slots held) es)
+    by true told rest = let same = told refl in ap (λ n. nat_le e.slots n || list_any (λ (entry : NodeSlots). same_text entry.id node && nat_le entry.slots n) es) same
+    by false told rest = rest told
+
+-- the count at a configured node's place is the count of its volumes
+pub full-told : (nodes : List NodeSlots) (rows : List ControllerRow) (counts : List ℕ) (node : List ℕ) → AreCounted nodes rows counts
+    → list_any (λ (entry : NodeSlots). same_text entry.id node && nat_le entry.slots (count_held node rows)) nodes ≡ is_node_full nodes counts node
+full-told nodes rows counts node counted =
+    sym (full-counted nodes node (count_at (place_of node nodes) counts) (count_held node rows) (by (place_of node nodes) refl))
+  where
+    by : (found : Option ℕ) → place_of node nodes ≡ found → list_any (λ (entry : NodeSlots). same_text entry.id node) nodes ≡ true → count_at found counts ≡ count_held node rows
+    by None none any = absurd (true≢false (sym any ∙ not-configured node nodes (sym none)))
+    by (Some place) at any = counted.each node place at

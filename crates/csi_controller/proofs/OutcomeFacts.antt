@@ -1,0 +1,242 @@
+-- What is so of each outcome of the controller's table.
+use Rattle.std.proofs.Common.{◌≡◌, ◌≢◌, ◌⊎◌, ℕ, ◌≤◌, List, [], ◌∷◌, Bool, true, false, cond, not, refl, sym, ap, subst, inl, inr, arith}
+use Rattle.std.specs.Prelude.{Some, None, filter, ◌==◌, ◌&&◌, ◌||◌, nat_le, codes, IsTrue}
+use Rattle.std.specs.List.{list_all, AllByRecursion}
+use Rattle.std.proofs.lemmas.Bool.{and_parts, and_from, or_cases, eqb-true, eq-eqb, leb-true, not-true}
+use Rattle.std.proofs.lemmas.Bool.Decides.{nat_tests}
+use Rattle.csi_lists.proofs.Filters.{filter-append_one, filter-filter, filter-map}
+use Rattle.csi_lists.proofs.Searches.{find-and, find-append_one, find-filtered, find-map_none, find-passes}
+use Rattle.csi_types.proofs.Equality.{same_text-tells, same_capability-tells, same_holding-tells}
+use Rattle.csi_types.specs.declared.capability.Capability.{Capability}
+use Rattle.csi_types.specs.declared.holding.Holding.{Holding}
+use Rattle.csi_types.specs.declared.call.Call.{Call}
+use Rattle.csi_types.specs.declared.call.Call.TheVariants as calls
+use Rattle.csi_types.specs.declared.status.Status.{Status}
+use Rattle.csi_types.specs.declared.status.Status.TheVariants.{Ok, InvalidArgument, NotFound, AlreadyExists, OutOfRange}
+use Rattle.csi_types.specs.declared.reply.Reply.{Reply}
+use Rattle.csi_types.specs.Capacity.{is_bad_range, is_empty_range, wanted}
+use Rattle.csi_types.specs.Config.{Config, has_node}
+use Rattle.csi_types.specs.Fence.{Kept}
+use Rattle.csi_types.specs.Holding.{same_holding}
+use Rattle.csi_types.specs.Replies.{ok_reply, ok_reply_with}
+use Rattle.csi_types.specs.Same.{same_text, same_capability, has_capability}
+use Rattle.csi_controller.specs.State.{Volume, ControllerState, volume_named, live_volume, is_held_at, holding_at, is_row_for}
+use Rattle.csi_controller.specs.Table.{Outcome, Stays, Makes, Ends, Attaches, Detaches, refused, met, done, serves, create_named, create, delete, publish_held, publish, unpublish, controller_row, ended, changed}
+use Rattle.csi_controller.specs.Laws.{IsDone, is_of_another}
+use Rattle.csi_controller.proofs.Moves.{Move, CanAttach, publish_call, was_refused, was_found, was_made, was_ended, was_ended_before, was_attached, was_attached_before, was_detached, was_detached_before, moved}
+use Rattle.csi_controller.proofs.OrderlyStates.{IsOrderly, named_by_id, made_orderly, end_leaves}
+
+-- what the call asks is so, and the table answers it so again and changes nothing
+pub record IsReady (config : Config) (state : ControllerState) (call : Call) (reply : Reply) : Type 0 where
+  pub is_done : IsDone state reply call
+  pub again : controller_row config state call ≡ record { reply = reply; change = Stays }
+
+-- the other volumes and their holdings are as they were
+pub record LeavesRest (old new : ControllerState) (call : Call) : Type 0 where
+  pub volumes : filter (λ volume. not (is_row_for call volume)) new.volumes ≡ filter (λ volume. not (is_row_for call volume)) old.volumes
+  pub holdings : filter (is_of_another call) new.holdings ≡ filter (is_of_another call) old.holdings
+
+-- what is asked of an outcome: a refusal changes nothing, an OK can be answered so again, and the rest is left
+pub record Facts (config : Config) (state : ControllerState) (call : Call) (outcome : Outcome) : Type 0 where
+  pub stays : outcome.reply.status ≢ Ok → outcome.change ≡ Stays
+  pub ready : outcome.reply.status ≡ Ok → (kept : Kept) → IsReady config (changed state kept outcome.change) call outcome.reply
+  pub others : (kept : Kept) → LeavesRest state (changed state kept outcome.change) call
+
+-- what is so of a refusal
+refused_facts : (config : Config) (state : ControllerState) (call : Call) (status : Status) (detail : List ℕ) → (status ≡ Ok → ⊥) → Facts config state call (refused status detail)
+refused_facts config state call status detail not_ok =
+    record { stays = λ h. refl; ready = λ h. absurd (not_ok h); others = λ kept. record { volumes = refl; holdings = refl } }
+
+-- what is so of an answer that changes nothing, where the call is ready to be answered so
+same_facts : (config : Config) (state : ControllerState) (call : Call) (reply : Reply) → IsReady config state call reply → Facts config state call (record { reply = reply; change = Stays })
+same_facts config state call reply ready =
+    record { stays = λ h. refl; ready = λ h kept. ready; others = λ kept. record { volumes = refl; holdings = refl } }
+
+-- CreateVolume
+create_found : (config : Config) (state : ControllerState) (name : List ℕ) (required limit : ℕ) (first : Capability) (others : List Capability) (volume : Volume)
+    → is_bad_range required limit ≡ false → is_empty_range required limit ≡ false → volume_named name state ≡ Some volume → volume.is_live ≡ true
+    → serves volume required limit (first ∷ others) ≡ true
+    → create config state name required limit (first ∷ others) ≡ record { reply = ok_reply_with volume.id; change = Stays }
+create_found config state name required limit first others volume bad none named live serving =
+    subst (λ b. cond b (refused InvalidArgument (codes "capacity")) (cond (is_empty_range required limit) (refused OutOfRange (codes "range")) (create_named config state name required limit (first ∷ others) (volume_named name state))) ≡ record { reply = ok_reply_with volume.id; change = Stays }) (sym bad)
+    (subst (λ b. cond b (refused OutOfRange (codes "range")) (create_named config state name required limit (first ∷ others) (volume_named name state)) ≡ record { reply = ok_reply_with volume.id; change = Stays }) (sym none)
+    (subst (λ o. create_named config state name required limit (first ∷ others) o ≡ record { reply = ok_reply_with volume.id; change = Stays }) (sym named)
+    (subst (λ b. cond (not b) (refused AlreadyExists (codes "name")) (cond (serves volume required limit (first ∷ others)) (record { reply = ok_reply_with volume.id; change = Stays }) (refused AlreadyExists (codes "name"))) ≡ record { reply = ok_reply_with volume.id; change = Stays }) (sym live)
+    (subst (λ b. cond b (record { reply = ok_reply_with volume.id; change = Stays }) (refused AlreadyExists (codes "name")) ≡ record { reply = ok_reply_with volume.id; change = Stays }) (sym serving) refl))))
+
+-- where the test says that a list has each capability that is asked for, each is in it
+all_from : (list : List Capability) (asked : List Capability) → list_all (has_capability list) asked ≡ true → AllByRecursion (λ capability. IsTrue (has_capability list capability)) asked
+all_from list [] h = tt
+all_from list (x ∷ xs) h = let parts = and_parts (has_capability list x) (list_all (has_capability list) xs) h in (parts.0, all_from list xs parts.1)
+
+-- where the test of a limit passes, there is no limit, or the capacity is at most the limit
+limit_from : (limit capacity : ℕ) → ((limit == 0) || nat_le capacity limit) ≡ true → (limit ≡ 0) ⊎ (capacity ≤ limit)
+limit_from limit capacity h = by (or_cases (limit == 0) (nat_le capacity limit) h)
+  where
+    by : ((limit == 0) ≡ true) ⊎ (nat_le capacity limit ≡ true) → (limit ≡ 0) ⊎ (capacity ≤ limit)
+    by (inl e) = inl (eqb-true limit 0 e)
+    by (inr e) = inr (leb-true capacity limit e)
+
+-- CreateVolume is ready where a live volume of its name serves it, and is answered that volume's id
+create_ready : (config : Config) (state : ControllerState) (name : List ℕ) (required limit : ℕ) (first : Capability) (others : List Capability) (volume : Volume)
+    → is_bad_range required limit ≡ false → is_empty_range required limit ≡ false → volume_named name state ≡ Some volume → volume.is_live ≡ true
+    → serves volume required limit (first ∷ others) ≡ true → IsOrderly state
+    → IsReady config state (calls.CreateVolume name required limit (first ∷ others)) (ok_reply_with volume.id)
+create_ready config state name required limit first others volume bad none named live serving orderly =
+    let list = and_parts (nat_le required volume.capacity && ((limit == 0) || nat_le volume.capacity limit)) (list_all (has_capability volume.capabilities) (first ∷ others)) serving in
+    let range = and_parts (nat_le required volume.capacity) ((limit == 0) || nat_le volume.capacity limit) list.0 in
+    let passes = find-passes (λ (v : Volume). same_text v.name name) state.volumes volume named in
+    record {
+      is_done = record {
+        volume = volume;
+        is_live = find-and (λ (v : Volume). v.id == volume.id) (λ (v : Volume). v.is_live) state.volumes volume (named_by_id state name volume orderly named) live;
+        has_id = refl;
+        has_name = (same_text-tells volume.name name).0 passes;
+        not_below = leb-true required volume.capacity range.0;
+        not_above = limit_from limit volume.capacity range.1;
+        has_each = all_from volume.capabilities (first ∷ others) list.1;
+      };
+      again = create_found config state name required limit first others volume bad none named live serving;
+    }
+
+-- the wanted capacity isn't below the required one
+not_below : (required limit : ℕ) → nat_le required (wanted required limit) ≡ true
+not_below required limit = grind (arith, nat_tests)
+
+-- nor is it above the limit, unless the range is empty
+not_above : (required limit : ℕ) → is_empty_range required limit ≡ false → ((limit == 0) || nat_le (wanted required limit) limit) ≡ true
+not_above required limit h = grind (arith, nat_tests)
+
+-- where all of a list pass a test, all pass one that asks no more
+list_all-weaken : (p q : Capability → Bool) (xs : List Capability) → ((x : Capability) → p x ≡ true → q x ≡ true) → list_all p xs ≡ true → list_all q xs ≡ true
+list_all-weaken p q [] f h = refl
+list_all-weaken p q (x ∷ xs) f h = let parts = and_parts (p x) (list_all p xs) h in and_from (q x) (list_all q xs) (f x parts.0) (list_all-weaken p q xs f parts.1)
+
+-- an `or` passes where one of its two does
+or_right : (a b : Bool) → b ≡ true → (a || b) ≡ true
+or_right true b h = refl
+or_right false b h = h
+
+or_left : (a b : Bool) → a ≡ true → (a || b) ≡ true
+or_left true b h = refl
+or_left false b h = cc
+
+-- each of a list is in it
+has_own : (xs : List Capability) → list_all (has_capability xs) xs ≡ true
+has_own [] = refl
+has_own (x ∷ xs) =
+    and_from (has_capability (x ∷ xs) x) (list_all (has_capability (x ∷ xs)) xs) (or_left (same_capability x x) (has_capability xs x) ((same_capability-tells x x).1 refl))
+    (list_all-weaken (has_capability xs) (has_capability (x ∷ xs)) xs (λ y h. or_right (same_capability y x) (has_capability xs y) h) (has_own xs))
+
+-- what is so where CreateVolume of a new name makes a volume
+create_made : (config : Config) (state : ControllerState) (name : List ℕ) (required limit : ℕ) (first : Capability) (others : List Capability)
+    → is_bad_range required limit ≡ false → is_empty_range required limit ≡ false → volume_named name state ≡ None → IsOrderly state
+    → Facts config state (calls.CreateVolume name required limit (first ∷ others)) (record { reply = ok_reply_with state.next_id; change = Makes name (wanted required limit) (first ∷ others) })
+create_made config state name required limit first others bad none unnamed orderly =
+    let self : same_text name name ≡ true = (same_text-tells name name).1 refl in
+    let volume = λ (kept : Kept). let v : Volume = record { id = state.next_id; name = name; capacity = wanted required limit; capabilities = first ∷ others; is_live = true; kept = kept } in v in
+    let serving : (kept : Kept) → serves (volume kept) required limit (first ∷ others) ≡ true = λ kept.
+    and_from _ _ (and_from _ _ (not_below required limit) (not_above required limit none)) (has_own (first ∷ others)) in
+    record {
+      stays = λ h. absurd (h refl);
+      ready = λ h kept. create_ready config (changed state kept (Makes name (wanted required limit) (first ∷ others))) name required limit first others (volume kept) bad none
+          (find-append_one (λ (v : Volume). same_text v.name name) state.volumes (volume kept) self unnamed) refl (serving kept)
+          (made_orderly state (volume kept) refl unnamed orderly);
+      others = λ kept. record { volumes = filter-append_one (λ (v : Volume). not (same_text v.name name)) state.volumes (volume kept) (rw self refl); holdings = refl };
+    }
+
+-- DeleteVolume
+ended_not_live : (id : ℕ) (volume : Volume) → ((ended id volume).id == id) && (ended id volume).is_live ≡ false
+ended_not_live id volume = by (volume.id == id) refl
+  where
+    by : (b : Bool) → (volume.id == id) ≡ b → ((cond b (record volume { is_live = false }) volume).id == id) && (cond b (record volume { is_live = false }) volume).is_live ≡ false
+    by true h = rw h refl
+    by false h = rw h refl
+
+-- a deletion leaves a volume of another id as it was
+ended-other : (id : ℕ) (volume : Volume) → not (volume.id == id) ≡ true → ended id volume ≡ volume
+ended-other id volume h = let other : (volume.id == id) ≡ false = not-true (volume.id == id) h in rw other refl
+
+-- DeleteVolume is ready where no live volume has its id
+delete_ready : (config : Config) (state : ControllerState) (id : ℕ) → live_volume id state ≡ None → IsReady config state (calls.DeleteVolume id) ok_reply
+delete_ready config state id none = record { is_done = none; again = ap (delete state id) none }
+
+-- what is so where DeleteVolume ends a volume
+ended_facts : (config : Config) (state : ControllerState) (id : ℕ) → Facts config state (calls.DeleteVolume id) (done (Ends id))
+ended_facts config state id =
+    record {
+      stays = λ h. absurd (h refl);
+      ready = λ h kept. delete_ready config (changed state kept (Ends id)) id (find-map_none (λ (v : Volume). (v.id == id) && v.is_live) (ended id) state.volumes (ended_not_live id));
+      others = λ kept. record { volumes = filter-map (λ (v : Volume). not (v.id == id)) (ended id) state.volumes (λ v. ap (λ n. not (n == id)) ((end_leaves id).ids v)) (ended-other id); holdings = refl };
+    }
+
+-- ControllerPublishVolume
+publish_ready : (config : Config) (state : ControllerState) (holding : Holding) (volume : Volume) → live_volume holding.volume state ≡ Some volume → has_node holding.node config.nodes ≡ true
+    → has_capability volume.capabilities holding.capability ≡ true → holding_at holding.volume holding.node state ≡ Some holding → IsReady config state (publish_call holding) ok_reply
+publish_ready config state holding volume live node capable held =
+    let self : same_holding holding holding ≡ true = (same_holding-tells holding holding).1 refl in
+    record {
+      is_done = held;
+      again =
+          subst (λ o. publish config state holding o ≡ met) (sym live)
+          (subst (λ b. cond (not b) (refused NotFound (codes "node")) (cond (not (has_capability volume.capabilities holding.capability)) (refused InvalidArgument (codes "capability")) (publish_held config state holding (holding_at holding.volume holding.node state))) ≡ met) (sym node)
+          (subst (λ b. cond (not b) (refused InvalidArgument (codes "capability")) (publish_held config state holding (holding_at holding.volume holding.node state)) ≡ met) (sym capable)
+          (subst (λ o. publish_held config state holding o ≡ met) (sym held)
+          (subst (λ b. cond b met (refused AlreadyExists (codes "held otherwise")) ≡ met) (sym self) refl))));
+    }
+
+-- a holding is its own volume's, at its own node
+itself_at : (holding : Holding) → is_held_at holding.volume holding.node holding ≡ true
+itself_at holding = and_from _ _ (eq-eqb holding.volume holding.volume refl) ((same_text-tells holding.node holding.node).1 refl)
+
+not_another : (id : ℕ) → not (id == id) ≡ false
+not_another id = let self : (id == id) ≡ true = eq-eqb id id refl in rw self refl
+
+-- what is so where ControllerPublishVolume attaches a volume
+attached_facts : (config : Config) (state : ControllerState) (holding : Holding) (volume : Volume) → CanAttach config state holding volume → holding_at holding.volume holding.node state ≡ None
+    → Facts config state (publish_call holding) (done (Attaches holding))
+attached_facts config state holding volume can none =
+    record {
+      stays = λ h. absurd (h refl);
+      ready = λ h kept. publish_ready config (changed state kept (Attaches holding)) holding volume can.live can.node can.capable (find-append_one (is_held_at holding.volume holding.node) state.holdings holding (itself_at holding) none);
+      others = λ kept. record { volumes = refl; holdings = filter-append_one (λ (h : Holding). not (h.volume == holding.volume)) state.holdings holding (not_another holding.volume) };
+    }
+
+-- ControllerUnpublishVolume
+unpublish_ready : (config : Config) (state : ControllerState) (id : ℕ) (node : List ℕ) → holding_at id node state ≡ None → IsReady config state (calls.ControllerUnpublishVolume id node) ok_reply
+unpublish_ready config state id node none = record { is_done = none; again = ap (unpublish id node) none }
+
+not_both : (a b : Bool) → not a ≡ true → not (a && b) ≡ true
+not_both true b h = cc
+not_both false b h = refl
+
+-- what is so where ControllerUnpublishVolume detaches one
+detached_facts : (config : Config) (state : ControllerState) (id : ℕ) (node : List ℕ) → Facts config state (calls.ControllerUnpublishVolume id node) (done (Detaches id node))
+detached_facts config state id node =
+    record {
+      stays = λ h. absurd (h refl);
+      ready = λ h kept. unpublish_ready config (changed state kept (Detaches id node)) id node (find-filtered (is_held_at id node) (λ (h : Holding). not (is_held_at id node h)) state.holdings (λ h k. not-true (is_held_at id node h) k));
+      others = λ kept. record {
+        volumes = refl;
+        holdings = filter-filter (λ (h : Holding). not (h.volume == id)) (λ (h : Holding). not (is_held_at id node h)) state.holdings (λ h k. not_both (h.volume == id) (same_text h.node node) k);
+      };
+    }
+
+-- of each move
+move_facts : (config : Config) (state : ControllerState) (call : Call) (outcome : Outcome) → IsOrderly state → Move config state call outcome → Facts config state call outcome
+move_facts config state call outcome orderly (was_refused _ status detail not_ok) = refused_facts config state call status detail not_ok
+move_facts config state call outcome orderly (was_found name required limit first others volume range is live serving) =
+    same_facts config state call outcome.reply (create_ready config state name required limit first others volume range.ordered range.not_empty is live serving orderly)
+move_facts config state call outcome orderly (was_made name required limit first others range unnamed) =
+    create_made config state name required limit first others range.ordered range.not_empty unnamed orderly
+move_facts config state call outcome orderly (was_ended id volume live free) = ended_facts config state id
+move_facts config state call outcome orderly (was_ended_before id none) = same_facts config state call ok_reply (delete_ready config state id none)
+move_facts config state call outcome orderly (was_attached holding volume can free fits) = attached_facts config state holding volume can free
+move_facts config state call outcome orderly (was_attached_before holding volume can held) =
+    same_facts config state call ok_reply (publish_ready config state holding volume can.live can.node can.capable held)
+move_facts config state call outcome orderly (was_detached id node held is) = detached_facts config state id node
+move_facts config state call outcome orderly (was_detached_before id node none) = same_facts config state call ok_reply (unpublish_ready config state id node none)
+
+-- what is so of the table's outcome for any call, in an orderly state
+pub row_facts : (config : Config) (state : ControllerState) (call : Call) → IsOrderly state → Facts config state call (controller_row config state call)
+row_facts config state call orderly = move_facts config state call (controller_row config state call) orderly (moved config state call)

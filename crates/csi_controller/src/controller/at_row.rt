@@ -1,0 +1,139 @@
+//! What a row answers to the calls of its volume, behind the fence, and what it keeps.
+ghost use Rattle.std.specs.Prelude.{◌≡◌, ◌≤◌, ℕ, [], Some, length, IsTrue, IsOk, IfOk, OnOk, OnErr};
+ghost use Rattle.csi_types.specs.declared.call.Party.TheVariants.{Controller};
+ghost use Rattle.csi_types.specs.declared.fence.Verdict.TheVariants.{Fresh, Repeated};
+ghost use Rattle.csi_types.specs.declared.status.Status.TheVariants.{Ok as OkStatus};
+ghost use Rattle.csi_types.specs.Call.{kind_of, is_party_of};
+ghost use Rattle.csi_types.specs.Fence.{verdict_of as verdict_by};
+ghost use Rattle.csi_types.specs.Frame.{IsAllowed};
+ghost use Rattle.csi_types.specs.Lent.{lent_call};
+ghost use Rattle.csi_types.specs.Replies.{ok_reply, stale_reply};
+ghost use Rattle.csi_controller.specs.Core.{IsSoundRow, IsUndoing};
+ghost use Rattle.csi_controller.specs.AtRow.{RowAnswers, IsLeft};
+ghost use Rattle.csi_controller.specs.RowTable.{row_line};
+ghost use Rattle.csi_controller.specs.Step.{answer_frame};
+
+use super::changes::change;
+use super::counts::{MAX_NODES, recount};
+use super::line::refused;
+use super::replies::{copied, done, reply_of};
+use super::row_table::line;
+use crate::fault::CoreFault;
+use crate::row::ControllerRow;
+use csi_types::{Body, CallRef, Kind, NodeSlots, Number, Reply, Status, Verdict, verdict_of};
+use std::alloc::Global;
+
+// Keeps a reply in a row, and gives its kind and a copy of it. A refusal changes nothing. Without a detail it takes no memory.
+fn keep(
+    row: &mut ControllerRow,
+    alloc: Global,
+    number: Number,
+    kind: Kind,
+    reply: Reply,
+) -> Result<(Kind, Reply), CoreFault>
+    ensures answer { IfOk result (λ answer. answer ≡ (kind, reply)) }
+    ensures kept { OnOk result (row.new ≡ record row.old { last = number; kind = kind; reply = reply }) }
+    ensures err { OnErr result (row.new ≡ row.old) }
+    ensures succeeds { reply.detail ≡ [] → IsOk result }
+{
+    match copied(alloc, &reply) {
+        Ok(copy) => {
+            row.last = number;
+            row.kind = kind;
+            row.reply = reply;
+            Ok((kind, copy))
+        }
+        Err(fault) => Err(fault),
+    }
+}
+
+// Keeps in a row that a call was carried out, and gives the answer that says so. It takes no memory.
+fn keep_done(row: &mut ControllerRow, alloc: Global, number: Number, kind: Kind) -> (Kind, Reply)
+    ensures answer { result ≡ (kind, ok_reply) }
+    ensures kept { row.new ≡ record row.old { last = number; kind = kind; reply = ok_reply } }
+{
+    row.last = number;
+    row.kind = kind;
+    row.reply = done(alloc, None);
+    (kind, done(alloc, None))
+}
+
+// Answers a call by the table, keeps its number and the reply in the row, and counts the volume at a node where that changed. An
+// `Err` changes nothing. A DeleteVolume and a ControllerUnpublishVolume that are answered 0 take no memory.
+fn carry_out(
+    row: &mut ControllerRow,
+    nodes: &[NodeSlots],
+    counts: &mut [u64; MAX_NODES],
+    alloc: Global,
+    number: Number,
+    call: &CallRef<'_>,
+) -> Result<(Kind, Reply), CoreFault>
+    requires party { IsTrue (is_party_of (kind_of (lent_call call.now)) Controller) }
+    requires few { length nodes.now ≤ 64 }
+    ensures ok { IfOk result (λ answer. RowAnswers nodes.now row.old row.new counts.old counts.new number (lent_call call.now) Fresh (answer_frame number answer)) }
+    ensures allowed { IfOk result (λ answer. IsAllowed Controller (Body.Reply answer.0 answer.1)) }
+    ensures err { OnErr result (IsLeft row.old row.new counts.old counts.new) }
+    ensures undone { IsUndoing (lent_call call.now) → (row_line nodes.now counts.old row.old (lent_call call.now)).reply.status ≡ OkStatus → IsOk result }
+{
+    match line(row, nodes, counts, call) {
+        Some(line) => match reply_of(alloc, &line) {
+            Ok(reply) => keep(row, alloc, number, call.kind(), reply),
+            Err(fault) => Err(fault),
+        },
+        None => match change(row, alloc, call) {
+            Ok(counted) => {
+                recount(counts, nodes, &counted);
+                Ok(keep_done(row, alloc, number, call.kind()))
+            }
+            Err(fault) => Err(fault),
+        },
+    }
+}
+
+// The refusal of a call that came late.
+fn stale(alloc: Global, kind: Kind) -> Result<(Kind, Reply), CoreFault>
+    ensures { IfOk result (λ answer. answer ≡ (kind, stale_reply)) }
+{
+    match reply_of(alloc, &refused(Status::Aborted, "stale")) {
+        Ok(reply) => Ok((kind, reply)),
+        Err(fault) => Err(fault),
+    }
+}
+
+// The kept answer, once more. Without a detail it takes no memory.
+fn kept(alloc: Global, row: &ControllerRow) -> Result<(Kind, Reply), CoreFault>
+    ensures ok { IfOk result (λ answer. answer ≡ (row.now.kind, row.now.reply)) }
+    ensures succeeds { row.now.reply.detail ≡ [] → IsOk result }
+{
+    match copied(alloc, &row.reply) {
+        Ok(reply) => Ok((row.kind, reply)),
+        Err(fault) => Err(fault),
+    }
+}
+
+/// Answers a call of the row's volume: a refusal where a later call was answered, the kept kind and reply where this one was, and
+/// else what the table answers. An `Err` changes nothing. A kept reply without a detail takes no memory, nor does a DeleteVolume or
+/// a ControllerUnpublishVolume that the table answers 0.
+pub fn answer_at_row(
+    row: &mut ControllerRow,
+    nodes: &[NodeSlots],
+    counts: &mut [u64; MAX_NODES],
+    alloc: Global,
+    number: Number,
+    call: &CallRef<'_>,
+) -> Result<(Kind, Reply), CoreFault>
+    requires party { IsTrue (is_party_of (kind_of (lent_call call.now)) Controller) }
+    requires few { length nodes.now ≤ 64 }
+    requires sound { (next_id : ℕ) × IsSoundRow next_id row.old }
+    ensures ok { IfOk result (λ answer. RowAnswers nodes.now row.old row.new counts.old counts.new number (lent_call call.now) (verdict_by (Some row.old.last) number) (answer_frame number answer)) }
+    ensures allowed { IfOk result (λ answer. IsAllowed Controller (Body.Reply answer.0 answer.1)) }
+    ensures err { OnErr result (IsLeft row.old row.new counts.old counts.new) }
+    ensures undone { IsUndoing (lent_call call.now) → verdict_by (Some row.old.last) number ≡ Fresh → (row_line nodes.now counts.old row.old (lent_call call.now)).reply.status ≡ OkStatus → IsOk result }
+    ensures repeated { verdict_by (Some row.old.last) number ≡ Repeated → row.old.reply.detail ≡ [] → IsOk result }
+{
+    match verdict_of(Some(row.last), number) {
+        Verdict::Stale => stale(alloc, call.kind()),
+        Verdict::Repeated => kept(alloc, row),
+        Verdict::Fresh => carry_out(row, nodes, counts, alloc, number, call),
+    }
+}

@@ -1,0 +1,137 @@
+//! The controller's table, for the row of a call's volume: a reply that changes nothing, or `None` where the
+//! call is carried out.
+ghost use Rattle.std.specs.Prelude.{◌≡◌, ◌≤◌, ◌||◌, IsTrue, nat_le, length, IfSome, [], option_map};
+ghost use Rattle.csi_types.specs.declared.call.Kind.TheVariants.{DeleteVolume, ControllerPublishVolume, ControllerUnpublishVolume};
+ghost use Rattle.csi_types.specs.Call.{kind_of};
+ghost use Rattle.csi_types.specs.Config.{has_node as is_configured};
+ghost use Rattle.csi_types.specs.Lent.{lent_call};
+ghost use Rattle.csi_types.specs.Reply.{has_id_by_rule};
+ghost use Rattle.csi_controller.specs.Counts.{is_node_full};
+ghost use Rattle.csi_controller.specs.Line.{line_told};
+ghost use Rattle.csi_controller.specs.RowTable.{by_line, delete_line as delete_told, unpublish_line as unpublish_told, publish_line as publish_told, row_line, row_change};
+ghost use Rattle.csi_controller.specs.OneRow.{held_so};
+ghost use Rattle.csi_controller.specs.OneRow.RowChange.{RowEnds, RowAttaches, RowDetaches};
+
+use super::counts::{MAX_NODES, has_node, is_full};
+use super::create_lines::create_line;
+use super::holdings::{MAX_HOLDINGS, excluding, held_at, is_held_at, is_held_so};
+use super::line::{Line, met, refused};
+use crate::row::ControllerRow;
+use csi_types::{CallRef, NodeSlots, NodeUse, Status, has_capability};
+
+// DeleteVolume of this row's volume.
+fn delete_line(row: &ControllerRow) -> Option<Line<'_>>
+    ensures ok { delete_told row.now ≡ by_line RowEnds (option_map line_told result) }
+    ensures id { IfSome result (λ line. IsTrue (has_id_by_rule DeleteVolume (line_told line))) }
+    ensures plain { IfSome result (λ line. (line_told line).status ≡ Status.Ok → (line_told line).detail ≡ []) }
+{
+    if !row.live {
+        return Some(met(None));
+    }
+    match row.holdings.first() {
+        Some(held) => Some(refused(Status::FailedPrecondition, held.node.as_str())),
+        None => None,
+    }
+}
+
+// Whether the node takes no more volumes, or the volume is at as many nodes as it may be.
+fn is_full_for(
+    row: &ControllerRow,
+    nodes: &[NodeSlots],
+    counts: &[u64; MAX_NODES],
+    node: &str,
+) -> bool
+    requires { length nodes.now ≤ 64 }
+    ensures { result ≡ (is_node_full nodes.now counts.now node.now || nat_le 64 (length row.now.holdings.items)) }
+{
+    is_full(counts, nodes, node) || row.holdings.len() >= MAX_HOLDINGS
+}
+
+// ControllerPublishVolume of this row's volume.
+fn publish_line<'a>(
+    row: &'a ControllerRow,
+    nodes: &[NodeSlots],
+    counts: &[u64; MAX_NODES],
+    wanted: NodeUse,
+) -> Option<Line<'a>>
+    requires { length nodes.now ≤ 64 }
+    ensures ok { publish_told row.now (held_so wanted.entry) (is_configured wanted.entry.node.now nodes.now)
+        (is_node_full nodes.now counts.now wanted.entry.node.now || nat_le 64 (length row.now.holdings.items))
+        ≡ by_line (RowAttaches (held_so wanted.entry)) (option_map line_told result) }
+    ensures id { IfSome result (λ line. IsTrue (has_id_by_rule ControllerPublishVolume (line_told line))) }
+    ensures plain { IfSome result (λ line. (line_told line).status ≡ Status.Ok → (line_told line).detail ≡ []) }
+{
+    if !row.live {
+        return Some(refused(Status::NotFound, "volume"));
+    }
+    if !has_node(nodes, wanted.node) {
+        return Some(refused(Status::NotFound, "node"));
+    }
+    if !has_capability(row.capabilities.as_slice(), wanted.capability) {
+        return Some(refused(Status::InvalidArgument, "capability"));
+    }
+    if let Some(held) = held_at(row, wanted.node) {
+        if is_held_so(held, wanted) {
+            return Some(met(None));
+        }
+        return Some(refused(Status::AlreadyExists, "held otherwise"));
+    }
+    if let Some(other) = excluding(row, wanted) {
+        return Some(refused(Status::FailedPrecondition, other.node.as_str()));
+    }
+    if is_full_for(row, nodes, counts, wanted.node) {
+        return Some(refused(Status::ResourceExhausted, "slots"));
+    }
+    None
+}
+
+// ControllerUnpublishVolume of this row's volume.
+fn unpublish_line(row: &ControllerRow, node: &str) -> Option<Line<'static>>
+    ensures ok { unpublish_told row.now node.now ≡ by_line (RowDetaches node.now) (option_map line_told result) }
+    ensures id { IfSome result (λ line. IsTrue (has_id_by_rule ControllerUnpublishVolume (line_told line))) }
+    ensures plain { IfSome result (λ line. (line_told line).status ≡ Status.Ok → (line_told line).detail ≡ []) }
+{
+    if is_held_at(row, node) {
+        return None;
+    }
+    Some(met(None))
+}
+
+/// What the table answers to a call of this row's volume, by the nodes and how many volumes are held at each, of which
+/// ControllerPublishVolume alone asks.
+pub fn line<'a>(
+    row: &'a ControllerRow,
+    nodes: &[NodeSlots],
+    counts: &[u64; MAX_NODES],
+    call: &CallRef<'_>,
+) -> Option<Line<'a>>
+    requires { length nodes.now ≤ 64 }
+    ensures ok { row_line nodes.now counts.now row.now (lent_call call.now) ≡ by_line (row_change (lent_call call.now)) (option_map line_told result) }
+    ensures id { IfSome result (λ line. IsTrue (has_id_by_rule (kind_of (lent_call call.now)) (line_told line))) }
+    ensures plain { IfSome result (λ line. (line_told line).status ≡ Status.Ok → (line_told line).detail ≡ []) }
+{
+    match call {
+        CallRef::CreateVolume {
+            required,
+            limit,
+            capabilities,
+            ..
+        } => Some(create_line(row, *required, *limit, capabilities.as_slice())),
+        CallRef::DeleteVolume { .. } => delete_line(row),
+        CallRef::ControllerPublishVolume {
+            node,
+            capability,
+            readonly,
+            ..
+        } => {
+            let wanted = NodeUse {
+                node,
+                capability: *capability,
+                readonly: *readonly,
+            };
+            publish_line(row, nodes, counts, wanted)
+        }
+        CallRef::ControllerUnpublishVolume { node, .. } => unpublish_line(row, node),
+        _ => Some(refused(Status::Unimplemented, "")),
+    }
+}
