@@ -14,25 +14,25 @@ use Rattle.csi_controller.specs.Fenced.{Fenced, carried_out, fenced, fenced_part
 use Rattle.csi_controller.proofs.Moves.{Judgement, was_first, was_fresh, was_repeated, was_stale, was_judged}
 
 -- a call that is carried out keeps it
-abbrev pub IsKept : (ControllerState → Type 0) → Config → Type 0
-IsKept I config = (state : ControllerState) (number : Number) (call : Call) → I state → I (carried_out state number call (controller_row config state call)).state
+abbrev pub IsKeptByCalls : (ControllerState → Type 0) → Config → Type 0
+IsKeptByCalls I config = (state : ControllerState) (number : Number) (call : Call) → I state → I (carried_out state number call (controller_row config state call)).state
 
 -- then so does a call, whatever the fence says, each frame, and any list of frames
-judged_keeps : (I : ControllerState → Type 0) (config : Config) → IsKept I config → (state : ControllerState) (number : Number) (call : Call) (after : Fenced) → Judgement config state number call after → I state → I after.state
+judged_keeps : (I : ControllerState → Type 0) (config : Config) → IsKeptByCalls I config → (state : ControllerState) (number : Number) (call : Call) (after : Fenced) → Judgement config state number call after → I state → I after.state
 judged_keeps I config keeps state number call after (was_first none) so = keeps state number call so
 judged_keeps I config keeps state number call after (was_fresh row is fresh) so = keeps state number call so
 judged_keeps I config keeps state number call after (was_repeated row is spent same) so = so
 judged_keeps I config keeps state number call after (was_stale row is spent) so = so
 
-parts_keep : (I : ControllerState → Type 0) (config : Config) → IsKept I config → (state : ControllerState) (number : Number) (party : Party) (body : Body) → I state → I (fenced_parts config state number party body).state
+parts_keep : (I : ControllerState → Type 0) (config : Config) → IsKeptByCalls I config → (state : ControllerState) (number : Number) (party : Party) (body : Body) → I state → I (fenced_parts config state number party body).state
 parts_keep I config keeps state number Controller (bodies.Call call) so =
     judged_keeps I config keeps state number call (fenced_call config state number call (kept_for call state)) (was_judged config state number call) so
 parts_keep I config keeps state number Controller (bodies.Reply kind reply) so = so
 parts_keep I config keeps state number (Node id) body so = so
 
-pub frame_keeps : (I : ControllerState → Type 0) (config : Config) → IsKept I config → (state : ControllerState) (frame : Frame) → I state → I (fenced config state frame).state
+pub frame_keeps : (I : ControllerState → Type 0) (config : Config) → IsKeptByCalls I config → (state : ControllerState) (frame : Frame) → I state → I (fenced config state frame).state
 frame_keeps I config keeps state frame so = parts_keep I config keeps state frame.number frame.party frame.body so
 
-pub frames_keep : (I : ControllerState → Type 0) (config : Config) → IsKept I config → (state : ControllerState) (frames : List Frame) → I state → I (after_frames config state frames)
+pub frames_keep : (I : ControllerState → Type 0) (config : Config) → IsKeptByCalls I config → (state : ControllerState) (frames : List Frame) → I state → I (after_frames config state frames)
 frames_keep I config keeps state [] so = so
 frames_keep I config keeps state (frame ∷ frames) so = frames_keep I config keeps (fenced config state frame).state frames (frame_keeps I config keeps state frame so)
