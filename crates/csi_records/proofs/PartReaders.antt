@@ -36,9 +36,12 @@ make_volume id is_live name capacity capabilities holdings kept =
     record { volume = record { id = id; name = name; capacity = capacity; capabilities = capabilities; is_live = is_live; kept = kept }; holdings = holdings }
 
 -- a row of this id
-pub record IsVolumeOf (id : ℕ) (row : VolumeRow) : Type 0 where
-  pub has_id : row.volume.id ≡ id
-  pub fits : IsVolumeRow row
+pub record IsRowOf {R : Type 0} (IsRow : R → Type 0) (id_of : R → ℕ) (id : ℕ) (row : R) : Type 0 where
+  pub has_id : id_of row ≡ id
+  pub fits : IsRow row
+
+abbrev IsVolumeOf : ℕ → VolumeRow → Type 0
+IsVolumeOf = IsRowOf IsVolumeRow (λ row. row.volume.id)
 
 -- the fields of a volume's row behind the version, one after another
 abbrev SaysVolume : ℕ → VolumeRow → List ℕ → Type 0
@@ -144,10 +147,8 @@ answered_body row = staged_bytes row.staged ++ counted target_bytes row.targets 
 abbrev make_answered : ℕ → Option Capability → List NodeTarget → Kept → RowShown
 make_answered id staged targets kept = record { id = id; staged = staged; targets = targets; kept = kept }
 
--- a row of this id
-pub record IsAnsweredOf (id : ℕ) (row : RowShown) : Type 0 where
-  pub has_id : row.id ≡ id
-  pub fits : IsAnsweredRow row
+abbrev IsAnsweredOf : ℕ → RowShown → Type 0
+IsAnsweredOf = IsRowOf IsAnsweredRow (λ row. row.id)
 
 -- the fields of a node's row behind the version, one after another
 abbrev SaysAnswered : ℕ → RowShown → List ℕ → Type 0
@@ -250,49 +251,42 @@ nothing_read read = refl
 abbrev pub make_part : ℕ → List ℕ → StoredPart
 make_part key value = record { key = key; value = value }
 
--- the values of parts are read as what spells them: of a volume's row
-pub volume_read : IsReadWhole volume_in IsVolumeId IsVolumeRow volume_part
-volume_read = record {
+-- rows that are read behind the version, under their ids, are read as what spells them
+row_read : {R : Type 0} {row_in : ℕ → Reader R} (IsRow : R → Type 0) (id_of : R → ℕ) (body : R → List ℕ) → ((id : ℕ) → IsVolumeId id → Reads (row_in id) (Spelled (IsRowOf IsRow id_of id) body))
+    → ((row : R) → IsRow row → IsVolumeId (id_of row)) → IsReadWhole row_in IsVolumeId IsRow (λ row. make_part (id_of row) (1 ∷ body row))
+row_read IsRow id_of body reads ids = record {
   takes = λ id value row is_id fits e.
-      let read = whole-takes (IsVolumeOf id) volume_body (volume_reads id is_id) value fits row e in
-      (read.0.fits, ap (λ k. make_part k (volume_bytes row)) read.0.has_id ∙ ap (make_part id) (sym read.1));
-  has_key = λ row fits. fits.id;
-  again = λ row fits. whole-again (IsVolumeOf row.volume.id) volume_body (volume_reads row.volume.id fits.id) row (record { has_id = refl; fits = fits });
+      let read = whole-takes (IsRowOf IsRow id_of id) body (reads id is_id) value fits row e in
+      (read.0.fits, ap (λ k. make_part k (1 ∷ body row)) read.0.has_id ∙ ap (make_part id) (sym read.1));
+  has_key = ids;
+  again = λ row fits. whole-again (IsRowOf IsRow id_of (id_of row)) body (reads (id_of row) (ids row fits)) row (record { has_id = refl; fits = fits });
 }
 
--- of a node's row
+pub volume_read : IsReadWhole volume_in IsVolumeId IsVolumeRow volume_part
+volume_read = row_read IsVolumeRow (λ row. row.volume.id) volume_body volume_reads (λ row fits. fits.id)
+
 pub answered_read : IsReadWhole answered_in IsVolumeId IsAnsweredRow answered_part
-answered_read = record {
-  takes = λ id value row is_id fits e.
-      let read = whole-takes (IsAnsweredOf id) answered_body (answered_reads id is_id) value fits row e in
-      (read.0.fits, ap (λ k. make_part k (answered_bytes row)) read.0.has_id ∙ ap (make_part id) (sym read.1));
-  has_key = λ row fits. fits.id;
-  again = λ row fits. whole-again (IsAnsweredOf row.id) answered_body (answered_reads row.id fits.id) row (record { has_id = refl; fits = fits });
-}
+answered_read = row_read IsAnsweredRow (λ row. row.id) answered_body answered_reads (λ row fits. fits.id)
 
 -- the key of a head
 abbrev pub IsHeadKey : ℕ → Type 0
 IsHeadKey key = 0 ≡ key
 
--- of a controller's head
-pub controller_head_read : IsReadWhole (λ key. controller_head_in) IsHeadKey IsWord controller_head
-controller_head_read = record {
-  takes = λ key value next_id is fits e.
-      let read = whole-takes IsWord (λ n. 0 ∷ spelling.word n) controller_head_reads value fits next_id e in
+-- heads that are read behind the version are read as what spells them
+head_read : {H : Type 0} {read : Reader H} (IsHead : H → Type 0) (body : H → List ℕ) → Reads read (Spelled IsHead body) → IsReadWhole (λ key. read) IsHeadKey IsHead (λ first. make_part 0 (1 ∷ body first))
+head_read IsHead body reads = record {
+  takes = λ key value first is fits e.
+      let read = whole-takes IsHead body reads value fits first e in
       (read.0, ap (make_part 0) (sym read.1) ∙ ap (λ k. make_part k value) is);
-  has_key = λ next_id fits. refl;
-  again = λ next_id fits. whole-again IsWord (λ n. 0 ∷ spelling.word n) controller_head_reads next_id fits;
+  has_key = λ first fits. refl;
+  again = λ first fits. whole-again IsHead body reads first fits;
 }
 
--- of a node's head
+pub controller_head_read : IsReadWhole (λ key. controller_head_in) IsHeadKey IsWord controller_head
+controller_head_read = head_read IsWord (λ n. 0 ∷ spelling.word n) controller_head_reads
+
 pub node_head_read : IsReadWhole (λ key. node_head_in) IsHeadKey IsNodeId node_head
-node_head_read = record {
-  takes = λ key value node is fits e.
-      let read = whole-takes IsNodeId (λ n. 1 ∷ spelling.text n) node_head_reads value fits node e in
-      (read.0, ap (make_part 0) (sym read.1) ∙ ap (λ k. make_part k value) is);
-  has_key = λ node fits. refl;
-  again = λ node fits. whole-again IsNodeId (λ n. 1 ∷ spelling.text n) node_head_reads node fits;
-}
+node_head_read = head_read IsNodeId (λ n. 1 ∷ spelling.text n) node_head_reads
 
 module _ {R : Type 0} {row_in : ℕ → Reader R} {IsKey : ℕ → Type 0} {IsRow : R → Type 0} {row_part : R → StoredPart} (is_read : IsReadWhole row_in IsKey IsRow row_part) where
   -- what is read of a part's value, as a part tells it
