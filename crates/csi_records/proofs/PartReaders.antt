@@ -18,7 +18,7 @@ use Rattle.std.specs.Global.{Vec}
 use Rattle.csi_records.specs.declared.part.Part.{Part}
 use Rattle.csi_records.specs.Part.{StoredPart, stored_in, value_in}
 use Rattle.csi_records.specs.Reading.{Reader, go_on, ended, whole, IsReadWhole, byte_in, tag_in, volume_in, answered_in, controller_head_in, node_head_in}
-use Rattle.csi_records.specs.Spelling.{VolumeRow, state_byte, counted, holding_bytes, target_bytes, kept_bytes, staged_bytes, volume_bytes, answered_bytes, volume_part, answered_part, controller_head, node_head}
+use Rattle.csi_records.specs.Spelling.{VolumeRow, state_byte, counted, holding_bytes, target_bytes, kept_bytes, staged_bytes, volume_part, answered_part, controller_head, node_head}
 use Rattle.csi_records.specs.Records.{IsKept, IsHolding, IsVolumeRow, IsTargetRow, IsStagedSo, IsAnsweredRow}
 use Rattle.csi_records.proofs.Readers.{Reads, then, in_words, Spelled, After, Made, after, makes, Always}
 use Rattle.csi_records.proofs.FieldReaders.{live_reads, word_reads, text_reads, tag_reads}
