@@ -67,7 +67,7 @@ sent-right laws config world call right may =
           names = well.names;
           heard = heard;
           stands = stands-sent world.history.items call (view_of world) well.stands
-              (leaves-guarded world.history world.frames (view_of world) world.controller call well may.allowed.guarded) (stages-guarded world.history world.frames (view_of world) world.controller call well may.allowed.guarded);
+              (leaves-guarded world.history world.frames (view_of world) world.controller well call may.allowed.guarded) (stages-guarded world.history world.frames (view_of world) world.controller well call may.allowed.guarded);
         };
       };
       last = λ other among. ⊎_elim (λ e. inl (ap (λ (x : Issued). x.number) e)) (λ there. inr (later other there)) among;
@@ -80,7 +80,7 @@ sent-right laws config world call right may =
     later = after-all world.history call.number right.last may.numbered.later
 
     own : (other : Issued) → IsAmong other (call ∷ issued_in world.history.items) → IsOwn world.controller other.name other.party other.call
-    own other (inl e) = subst (λ (x : Issued). IsOwn world.controller x.name x.party x.call) (sym e) (own-guarded world.history world.frames (view_of world) world.controller call.name call.party call.call well may.allowed.guarded)
+    own other (inl e) = subst (λ (x : Issued). IsOwn world.controller x.name x.party x.call) (sym e) (own-guarded world.history world.frames (view_of world) world.controller well call.name call.party call.call may.allowed.guarded)
     own other (inr there) = well.named.own other there
 
     made : (other : Issued) (reply : Reply) (id : ℕ) (create : List ℕ) (required limit : ℕ) (capabilities : List Capability) → IsAmong other (call ∷ issued_in world.history.items)

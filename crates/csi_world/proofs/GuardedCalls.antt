@@ -1,6 +1,6 @@
 -- Why a call that keeps the guards leaves what stands: it is for its own volume, it is of no attachment below which
 -- something stands, and it stages only what is attached so.
-use Rattle.std.proofs.Common.{◌≡◌, ℕ, List, [], ◌∷◌, Bool, true, false, cond, Some, None, find, filter, filter_map, ◌==◌, ◌&&◌, refl, sym, ◌∙◌, ap, subst, inl, inr, ⊎_elim}
+use Rattle.std.proofs.Common.{◌≡◌, ℕ, List, [], ◌∷◌, Bool, true, false, cond, Option, Some, None, find, filter, filter_map, ◌==◌, ◌&&◌, refl, sym, ◌∙◌, ap, subst, inl, inr, ⊎_elim}
 use Rattle.std.proofs.lemmas.Bool.{and_parts, and_from, eqb-true, eq-eqb, false≢true, false_from_ne_true}
 use Rattle.csi_types.specs.declared.capability.Capability.{Capability}
 use Rattle.csi_types.specs.declared.call.Call.{Call}
@@ -39,36 +39,6 @@ pub record IsSoFar (history : History) (frames : List Frame) (view : View) (cont
   pub heard : IsHeard history.items (issued_in history.items) frames
   pub stands : Stands history.items view
 
--- an id that the orchestrator heard for a name is the one that the controller gave it
-pub given-id : (history : History) (frames : List Frame) (view : View) (controller : ControllerState) (name : List ℕ) (id : ℕ) → IsSoFar history frames view controller → HasId history name id → HasName controller name id
-given-id history frames view controller name id so has = id-given history frames controller name id so.heard so.truth.numbers so.named has
-
--- a guarded call is for its own volume
-pub own-guarded : (history : History) (frames : List Frame) (view : View) (controller : ControllerState) (name : List ℕ) (party : Party) (call : Call) → IsSoFar history frames view controller
-    → IsGuarded history name party call → IsOwn controller name party call
-own-guarded history frames view controller name Controller (calls.CreateVolume create required limit capabilities) so guard = guard.own_name
-own-guarded history frames view controller name Controller (calls.DeleteVolume id) so guard = given-id history frames view controller name id so guard.0
-own-guarded history frames view controller name Controller (calls.ControllerPublishVolume id node capability readonly) so guard = given-id history frames view controller name id so guard.0
-own-guarded history frames view controller name Controller (calls.ControllerUnpublishVolume id node) so guard = given-id history frames view controller name id so guard.0
-own-guarded history frames view controller name (Node node) (calls.NodeStageVolume id capability) so guard = given-id history frames view controller name id so guard.0
-own-guarded history frames view controller name (Node node) (calls.NodeUnstageVolume id) so guard = given-id history frames view controller name id so guard.0
-own-guarded history frames view controller name (Node node) (calls.NodePublishVolume id target capability readonly) so guard = given-id history frames view controller name id so guard.0
-own-guarded history frames view controller name (Node node) (calls.NodeUnpublishVolume id target) so guard = given-id history frames view controller name id so guard
-own-guarded history frames view controller name party call so guard = absurd guard
-
--- the latest call of a thing, by its name and by its id
-pub found-one : (history : History) (frames : List Frame) (view : View) (controller : ControllerState) (thing : Thing) (key : Key) → IsSoFar history frames view controller → IsOne controller thing key
-    → find (touches thing) (issued_in history.items) ≡ find (is_of key) (issued_in history.items)
-found-one history frames view controller thing key so one =
-    find-same_among (touches thing) (is_of key) (issued_in history.items) (λ call among. touches-key controller thing key call so.names one (so.named.own call among))
-
--- what stands is known to be attached
-attached-known : (history : History) (frames : List Frame) (view : View) (controller : ControllerState) (name node : List ℕ) (id : ℕ) (capability : Capability) → IsSoFar history frames view controller → HasName controller name id
-    → IsAttachedSo history.items id node capability → known history (things.Attached name node) ≡ Yes
-attached-known history frames view controller name node id capability so has attached =
-    latest-known history (things.Attached name node) attached.call
-    (record { found = found-one history frames view controller (things.Attached name node) (Attached id node) so (Attachment name node id has) ∙ attached.found; success = attached.success; is_so = ap is_doing attached.publishes })
-
 -- a call that undoes asks for nothing
 asked-undoing : (c : Call) (reply : Reply) → is_doing c ≡ false → asked c reply ≡ None
 asked-undoing (calls.DeleteVolume id) reply h = refl
@@ -76,79 +46,6 @@ asked-undoing (calls.ControllerUnpublishVolume id node) reply h = refl
 asked-undoing (calls.NodeUnstageVolume id) reply h = refl
 asked-undoing (calls.NodeUnpublishVolume id target) reply h = refl
 asked-undoing c reply h = absurd (false≢true (sym h))
-
--- the latest call of a thing, where its success was heard, was answered OK and left the thing as it asks
-pub latest-told : (history : History) (frames : List Frame) (view : View) (controller : ControllerState) (thing : Thing) (key : Key) (call : Issued) (doing : Bool)
-    → IsSoFar history frames view controller
-    → IsOne controller thing key → IsLatest history.items thing call doing
-    → (reply : Reply) × IsAnsweredOk frames call reply × (find (is_of key) (issued_in history.items) ≡ Some call) × (view.held key ≡ asked call.call reply)
-latest-told history frames view controller thing key call doing so one latest =
-    let found = sym (found-one history frames view controller thing key so one) ∙ latest.found in
-    let ok = success-ok history.items (issued_in history.items) frames call so.heard so.truth.numbers (among-find (is_of key) (issued_in history.items) call found) latest.success in
-    (ok.0, ok.1, found, so.truth.told call key ok.0 found ok.1)
-
--- what is known not to be so isn't there
-pub not-there : (history : History) (frames : List Frame) (view : View) (controller : ControllerState) (thing : Thing) (key : Key) → IsSoFar history frames view controller → IsOne controller thing key
-    → known history thing ≡ No → view.held key ≡ None
-not-there history frames view controller thing key so one is_no =
-    ⊎_elim (λ none. so.truth.untouched key (sym (found-one history frames view controller thing key so one) ∙ none)) (λ latest.
-    let told = latest-told history frames view controller thing key latest.0 false so one latest.1 in
-    told.3 ∙ asked-undoing (latest.0).call told.0 latest.1.is_so) (known-no history thing is_no)
-
--- where a volume is known not to be staged at a node, nothing stands there
-none-stands : (history : History) (frames : List Frame) (view : View) (controller : ControllerState) (name node : List ℕ) (id : ℕ) (capability : Capability) → IsSoFar history frames view controller → HasName controller name id
-    → known history (things.Staged name node) ≡ No → IsStanding (issued_in history.items) view id node capability → ⊥
-none-stands history frames view controller name node id capability so has is_no (inl held) =
-    none-some (StagedAs capability) (sym (not-there history frames view controller (things.Staged name node) (Staged id node) so (Staging name node id has) is_no) ∙ held)
-none-stands history frames view controller name node id capability so has is_no (inr may) =
-    ⊎_elim (λ none. false≢true (sym (none_passes p issued call (sym (found-one history frames view controller thing (Staged id node) so one) ∙ none) may.among) ∙ of)) (λ latest.
-    let told = latest-told history frames view controller thing (Staged id node) latest.0 false so one latest.1 in
-    let spent = so.truth.spent latest.0 (Staged id node) told.0 (among-find p issued latest.0 told.2) (find-passes p issued latest.0 told.2) told.1 in
-    ⊎_elim (λ e. false≢true (sym latest.1.is_so ∙ ap (λ (x : Issued). is_doing x.call) (sym e)))
-    (λ before. false≢true (sym may.unspent ∙ so.closed (Staged id node) may.number (latest.0).number before spent))
-    (latest-last (Staged id node) issued latest.0 call so.truth.numbers told.2 may.among of)) (known-no history thing is_no)
-  where
-    issued : List Issued
-    issued = issued_in history.items
-
-    thing : Thing
-    thing = things.Staged name node
-
-    one : IsOne controller thing (Staged id node)
-    one = Staging name node id has
-
-    call : Issued
-    call = staging may.name may.number id node capability
-
-    p : Issued → Bool
-    p = is_of (Staged id node)
-
-    of : p call ≡ true
-    of = and_from (id == id) (same_text node node) (eq-eqb id id refl) ((same_text-tells node node).1 refl)
-
--- a guarded call is of no attachment below which something stands
-pub leaves-guarded : (history : History) (frames : List Frame) (view : View) (controller : ControllerState) (call : Issued) → IsSoFar history frames view controller → IsGuarded history call.name call.party call.call
-    → (id : ℕ) (node : List ℕ) (capability : Capability) → IsStanding (issued_in history.items) view id node capability → is_of (Attached id node) call ≡ false
-leaves-guarded history frames view controller call so guard id node capability standing = by call.party call.call guard
-  where
-    -- of the same volume and node
-    apart : (i : ℕ) (there : List ℕ) → ((id ≡ i) → (node ≡ there) → ⊥) → ((id == i) && same_text node there) ≡ false
-    apart i there differ =
-        false_from_ne_true ((id == i) && same_text node there)
-        (λ e. let parts = and_parts (id == i) (same_text node there) e in differ (eqb-true id i parts.0) ((same_text-tells node there).0 parts.1))
-
-    by : (party : Party) (c : Call) → IsGuarded history call.name party c → is_key (Attached id node) (key_at call.name party c) ≡ false
-    by Controller (calls.ControllerPublishVolume i there other readonly) guard =
-        apart i there (λ volume at.
-        let has : HasName controller call.name id = subst (HasName controller call.name) (sym volume) (given-id history frames view controller call.name i so guard.0) in
-        guard.1.not_attached (subst (λ n. known history (things.Attached call.name n) ≡ Yes) at (attached-known history frames view controller call.name node id capability so has (so.stands id node capability standing))))
-    by Controller (calls.ControllerUnpublishVolume i there) guard =
-        apart i there (λ volume at.
-        let has : HasName controller call.name id = subst (HasName controller call.name) (sym volume) (given-id history frames view controller call.name i so guard.0) in
-        none-stands history frames view controller call.name node id capability so has (subst (λ n. known history (things.Staged call.name n) ≡ No) (sym at) guard.1.not_staged) standing)
-    by (Node here) (calls.ControllerPublishVolume i there other readonly) guard = absurd guard
-    by (Node here) (calls.ControllerUnpublishVolume i there) guard = absurd guard
-    by party c guard = refl
 
 -- the latest call that attached a volume tells how it is held
 attached-call : (name : List ℕ) (party : Party) (c : Call) (id : ℕ) (node : List ℕ) → is_key (Attached id node) (key_at name party c) ≡ true → is_doing c ≡ true
@@ -181,46 +78,150 @@ held-none name node x other named = by x.party x.call other
         at true e = absurd (false≢true (sym other ∙ and_from (same_text name x.name) (same_text node there) (turned x.name name named) (turned there node e)))
     by party c other = refl
 
+-- how the calls of a name hold the volume at a node, by the newest of them that tells it
+abbrev held_among : List ℕ → List ℕ → List Issued → Option Held
+held_among name node xs = newest (filter_map (λ (issued : Issued). held_by node issued.call) (filter (λ (issued : Issued). same_text issued.name name) xs))
+
 -- where the latest call of an attachment put the volume there, it tells how the volume is held
-held-latest : (name node : List ℕ) (id : ℕ) (call : Issued) (here : Held) (xs : List Issued) → call.call ≡ calls.ControllerPublishVolume id node here.capability here.readonly → find (touches (things.Attached name node)) xs ≡ Some call
-    → newest (filter_map (λ (issued : Issued). held_by node issued.call) (filter (λ (issued : Issued). same_text issued.name name) xs)) ≡ Some here
+held-latest : (name node : List ℕ) (id : ℕ) (call : Issued) (here : Held) (xs : List Issued) → call.call ≡ calls.ControllerPublishVolume id node here.capability here.readonly
+    → find (touches (things.Attached name node)) xs ≡ Some call → held_among name node xs ≡ Some here
 held-latest name node id call here [] publishes found = absurd (none-some call found)
 held-latest name node id call here (x ∷ xs) publishes found = by (touches (things.Attached name node) x) refl found (held-latest name node id call here xs publishes)
   where
+    others : List Issued
+    others = filter (λ (issued : Issued). same_text issued.name name) xs
+
     -- the call itself
-    told : (y : Issued) → y.call ≡ calls.ControllerPublishVolume id node here.capability here.readonly → touches (things.Attached name node) y ≡ true → (same_text y.name name ≡ true) × (held_by node y.call ≡ Some here)
+    told : (y : Issued) → y.call ≡ calls.ControllerPublishVolume id node here.capability here.readonly → touches (things.Attached name node) y ≡ true
+        → (same_text y.name name ≡ true) × (held_by node y.call ≡ Some here)
     told y is of =
         let whole : (same_text name y.name && same_text node node) ≡ true = sym (ap (λ c. is_thing (things.Attached name node) (thing_at y.name y.party c)) is) ∙ of in
-        let self : same_text node node ≡ true = (same_text-tells node node).1 refl in (
-          turned name y.name (and_parts (same_text name y.name) (same_text node node) whole).0,
-          ap (held_by node) is ∙ ap (λ b. cond b (Some here) None) self,
-        )
+        let parts = and_parts (same_text name y.name) (same_text node node) whole in
+        (turned name y.name parts.0, ap (held_by node) is ∙ ap (λ b. cond b (Some here) None) parts.1)
 
-    skip : (b : Bool) → same_text x.name name ≡ b → touches (things.Attached name node) x ≡ false
-        → newest (filter_map (λ (issued : Issued). held_by node issued.call) (filter (λ (issued : Issued). same_text issued.name name) xs)) ≡ Some here
-        → newest (filter_map (λ (issued : Issued). held_by node issued.call) (cond b (x ∷ filter (λ (issued : Issued). same_text issued.name name) xs) (filter (λ (issued : Issued). same_text issued.name name) xs))) ≡ Some here
+    skip : (b : Bool) → same_text x.name name ≡ b → touches (things.Attached name node) x ≡ false → held_among name node xs ≡ Some here
+        → newest (filter_map (λ (issued : Issued). held_by node issued.call) (cond b (x ∷ others) others)) ≡ Some here
     skip false e other rest = rest
     skip true e other rest = rw (held-none name node x other e) rest
 
     by : (b : Bool) → touches (things.Attached name node) x ≡ b → cond b (Some x) (find (touches (things.Attached name node)) xs) ≡ Some call
-        → (find (touches (things.Attached name node)) xs ≡ Some call → newest (filter_map (λ (issued : Issued). held_by node issued.call) (filter (λ (issued : Issued). same_text issued.name name) xs)) ≡ Some here)
-        → newest (filter_map (λ (issued : Issued). held_by node issued.call) (filter (λ (issued : Issued). same_text issued.name name) (x ∷ xs))) ≡ Some here
+        → (find (touches (things.Attached name node)) xs ≡ Some call → held_among name node xs ≡ Some here) → held_among name node (x ∷ xs) ≡ Some here
     by true e found rest =
         let is = told x (subst (λ (y : Issued). y.call ≡ calls.ControllerPublishVolume id node here.capability here.readonly) (sym (same_Some x call found)) publishes) e in
         rw (is.0, is.1) refl
     by false e found rest = skip (same_text x.name name) refl e (rest found)
 
--- a guarded call stages only what is attached so
-pub stages-guarded : (history : History) (frames : List Frame) (view : View) (controller : ControllerState) (call : Issued) → IsSoFar history frames view controller → IsGuarded history call.name call.party call.call
-    → (id : ℕ) (node : List ℕ) (capability : Capability) → call.party ≡ Node node → call.call ≡ calls.NodeStageVolume id capability → IsAttachedSo history.items id node capability
-stages-guarded history frames view controller call so guard id node capability of_node stages =
-    let own = subst (λ c. IsGuarded history call.name (Node node) c) stages (subst (λ p. IsGuarded history call.name p call.call) of_node guard) in
-    let has : HasName controller call.name id = given-id history frames view controller call.name id so own.0 in
-    let latest = known-yes history (things.Attached call.name node) own.1.attached in
-    let found : find (is_of (Attached id node)) (issued_in history.items) ≡ Some latest.0 = sym (found-one history frames view controller (things.Attached call.name node) (Attached id node) so (Attachment call.name node id has)) ∙ latest.1.found in
-    let by = attached-call latest.0.name latest.0.party latest.0.call id node (find-passes (is_of (Attached id node)) (issued_in history.items) latest.0 found) latest.1.is_so in
-    let is_held : held history call.name node ≡ Some by.0 = held-latest call.name node id latest.0 by.0 (issued_in history.items) by.1 latest.1.found in
-    let guarded = own.1.as_held in
-    let one : by.0 ≡ guarded.0 = same_Some by.0 guarded.0 (sym is_held ∙ guarded.1) in
-    let alike : by.0.capability ≡ capability = ap (λ (h : Held). h.capability) one ∙ guarded.2 in
-    record { call = latest.0; readonly = by.0.readonly; found = found; publishes = by.1 ∙ ap (λ c. calls.ControllerPublishVolume id node c by.0.readonly) alike; success = latest.1.success }
+-- what is so of a history and of what came of it
+module _ (history : History) (frames : List Frame) (view : View) (controller : ControllerState) (so : IsSoFar history frames view controller) where
+  -- an id that the orchestrator heard for a name is the one that the controller gave it
+  pub given-id : (name : List ℕ) (id : ℕ) → HasId history name id → HasName controller name id
+  given-id name id has = id-given history frames controller name id so.heard so.truth.numbers so.named has
+
+  -- a guarded call is for its own volume
+  pub own-guarded : (name : List ℕ) (party : Party) (call : Call) → IsGuarded history name party call → IsOwn controller name party call
+  own-guarded name Controller (calls.CreateVolume create required limit capabilities) guard = guard.own_name
+  own-guarded name Controller (calls.DeleteVolume id) guard = given-id name id guard.0
+  own-guarded name Controller (calls.ControllerPublishVolume id node capability readonly) guard = given-id name id guard.0
+  own-guarded name Controller (calls.ControllerUnpublishVolume id node) guard = given-id name id guard.0
+  own-guarded name (Node node) (calls.NodeStageVolume id capability) guard = given-id name id guard.0
+  own-guarded name (Node node) (calls.NodeUnstageVolume id) guard = given-id name id guard.0
+  own-guarded name (Node node) (calls.NodePublishVolume id target capability readonly) guard = given-id name id guard.0
+  own-guarded name (Node node) (calls.NodeUnpublishVolume id target) guard = given-id name id guard
+  own-guarded name party call guard = absurd guard
+
+  -- the latest call of a thing, by its name and by its id
+  pub found-one : (thing : Thing) (key : Key) → IsOne controller thing key → find (touches thing) (issued_in history.items) ≡ find (is_of key) (issued_in history.items)
+  found-one thing key one =
+      find-same_among (touches thing) (is_of key) (issued_in history.items) (λ call among. touches-key controller thing key call so.names one (so.named.own call among))
+
+  -- what stands is known to be attached
+  attached-known : (name node : List ℕ) (id : ℕ) (capability : Capability) → HasName controller name id → IsAttachedSo history.items id node capability → known history (things.Attached name node) ≡ Yes
+  attached-known name node id capability has attached =
+      latest-known history (things.Attached name node) attached.call
+      (record { found = found-one (things.Attached name node) (Attached id node) (Attachment name node id has) ∙ attached.found; success = attached.success; is_so = ap is_doing attached.publishes })
+
+  -- the latest call of a thing, where its success was heard, was answered OK and left the thing as it asks
+  pub latest-told : (thing : Thing) (key : Key) (call : Issued) (doing : Bool) → IsOne controller thing key → IsLatest history.items thing call doing
+      → (reply : Reply) × IsAnsweredOk frames call reply × (find (is_of key) (issued_in history.items) ≡ Some call) × (view.held key ≡ asked call.call reply)
+  latest-told thing key call doing one latest =
+      let found = sym (found-one thing key one) ∙ latest.found in
+      let ok = success-ok history.items (issued_in history.items) frames call so.heard so.truth.numbers (among-find (is_of key) (issued_in history.items) call found) latest.success in
+      (ok.0, ok.1, found, so.truth.told call key ok.0 found ok.1)
+
+  -- what is known not to be so isn't there
+  pub not-there : (thing : Thing) (key : Key) → IsOne controller thing key → known history thing ≡ No → view.held key ≡ None
+  not-there thing key one is_no =
+      ⊎_elim (λ none. so.truth.untouched key (sym (found-one thing key one) ∙ none)) (λ latest.
+      let told = latest-told thing key latest.0 false one latest.1 in
+      told.3 ∙ asked-undoing (latest.0).call told.0 latest.1.is_so) (known-no history thing is_no)
+
+  -- where a volume is known not to be staged at a node, nothing stands there
+  none-stands : (name node : List ℕ) (id : ℕ) (capability : Capability) → HasName controller name id
+      → known history (things.Staged name node) ≡ No → IsStanding (issued_in history.items) view id node capability → ⊥
+  none-stands name node id capability has is_no (inl held) =
+      none-some (StagedAs capability) (sym (not-there (things.Staged name node) (Staged id node) (Staging name node id has) is_no) ∙ held)
+  none-stands name node id capability has is_no (inr may) =
+      ⊎_elim (λ none. false≢true (sym (none_passes p issued call (sym (found-one thing (Staged id node) one) ∙ none) may.among) ∙ of)) (λ latest.
+      let told = latest-told thing (Staged id node) latest.0 false one latest.1 in
+      let spent = so.truth.spent latest.0 (Staged id node) told.0 (among-find p issued latest.0 told.2) (find-passes p issued latest.0 told.2) told.1 in
+      ⊎_elim (λ e. false≢true (sym latest.1.is_so ∙ ap (λ (x : Issued). is_doing x.call) (sym e)))
+      (λ before. false≢true (sym may.unspent ∙ so.closed (Staged id node) may.number (latest.0).number before spent))
+      (latest-last (Staged id node) issued latest.0 call so.truth.numbers told.2 may.among of)) (known-no history thing is_no)
+    where
+      issued : List Issued
+      issued = issued_in history.items
+
+      thing : Thing
+      thing = things.Staged name node
+
+      one : IsOne controller thing (Staged id node)
+      one = Staging name node id has
+
+      call : Issued
+      call = staging may.name may.number id node capability
+
+      p : Issued → Bool
+      p = is_of (Staged id node)
+
+      of : p call ≡ true
+      of = and_from (id == id) (same_text node node) (eq-eqb id id refl) ((same_text-tells node node).1 refl)
+
+  -- a guarded call is of no attachment below which something stands
+  pub leaves-guarded : (call : Issued) → IsGuarded history call.name call.party call.call
+      → (id : ℕ) (node : List ℕ) (capability : Capability) → IsStanding (issued_in history.items) view id node capability → is_of (Attached id node) call ≡ false
+  leaves-guarded call guard id node capability standing = by call.party call.call guard
+    where
+      -- of the same volume and node
+      apart : (i : ℕ) (there : List ℕ) → ((id ≡ i) → (node ≡ there) → ⊥) → ((id == i) && same_text node there) ≡ false
+      apart i there differ =
+          false_from_ne_true ((id == i) && same_text node there)
+          (λ e. let parts = and_parts (id == i) (same_text node there) e in differ (eqb-true id i parts.0) ((same_text-tells node there).0 parts.1))
+
+      by : (party : Party) (c : Call) → IsGuarded history call.name party c → is_key (Attached id node) (key_at call.name party c) ≡ false
+      by Controller (calls.ControllerPublishVolume i there other readonly) guard =
+          apart i there (λ volume at.
+          let has : HasName controller call.name id = subst (HasName controller call.name) (sym volume) (given-id call.name i guard.0) in
+          guard.1.not_attached (subst (λ n. known history (things.Attached call.name n) ≡ Yes) at (attached-known call.name node id capability has (so.stands id node capability standing))))
+      by Controller (calls.ControllerUnpublishVolume i there) guard =
+          apart i there (λ volume at.
+          let has : HasName controller call.name id = subst (HasName controller call.name) (sym volume) (given-id call.name i guard.0) in
+          none-stands call.name node id capability has (subst (λ n. known history (things.Staged call.name n) ≡ No) (sym at) guard.1.not_staged) standing)
+      by (Node here) (calls.ControllerPublishVolume i there other readonly) guard = absurd guard
+      by (Node here) (calls.ControllerUnpublishVolume i there) guard = absurd guard
+      by party c guard = refl
+
+  -- a guarded call stages only what is attached so
+  pub stages-guarded : (call : Issued) → IsGuarded history call.name call.party call.call
+      → (id : ℕ) (node : List ℕ) (capability : Capability) → call.party ≡ Node node → call.call ≡ calls.NodeStageVolume id capability → IsAttachedSo history.items id node capability
+  stages-guarded call guard id node capability of_node stages =
+      let own = subst (λ c. IsGuarded history call.name (Node node) c) stages (subst (λ p. IsGuarded history call.name p call.call) of_node guard) in
+      let has : HasName controller call.name id = given-id call.name id own.0 in
+      let latest = known-yes history (things.Attached call.name node) own.1.attached in
+      let found = sym (found-one (things.Attached call.name node) (Attached id node) (Attachment call.name node id has)) ∙ latest.1.found in
+      let by = attached-call latest.0.name latest.0.party latest.0.call id node (find-passes (is_of (Attached id node)) (issued_in history.items) latest.0 found) latest.1.is_so in
+      let is_held : held history call.name node ≡ Some by.0 = held-latest call.name node id latest.0 by.0 (issued_in history.items) by.1 latest.1.found in
+      let guarded = own.1.as_held in
+      let one : by.0 ≡ guarded.0 = same_Some by.0 guarded.0 (sym is_held ∙ guarded.1) in
+      let alike : by.0.capability ≡ capability = ap (λ (h : Held). h.capability) one ∙ guarded.2 in
+      let publishes = by.1 ∙ ap (λ c. calls.ControllerPublishVolume id node c by.0.readonly) alike in
+      record { call = latest.0; readonly = by.0.readonly; found = found; publishes = publishes; success = latest.1.success }

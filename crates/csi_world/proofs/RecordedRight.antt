@@ -49,7 +49,7 @@ asked-doing c reply doing ok rule = absurd (false≢true doing)
 is_there : (world : World) (thing : Thing) (key : Key) → IsWell world → IsOne world.controller thing key → known world.history thing ≡ Yes → is_some ((view_of world).held key) ≡ true
 is_there world thing key well one h =
     let latest = known-yes world.history thing h in
-    let told = latest-told world.history world.frames (view_of world) world.controller thing key latest.0 true well one latest.1 in
+    let told = latest-told world.history world.frames (view_of world) world.controller well thing key latest.0 true one latest.1 in
     let rule = well.truth.ids (latest.0).number (latest.0).party (kind_of (latest.0).call) told.0 told.1.0 told.1.1 in
     ap is_some told.3 ∙ asked-doing (latest.0).call told.0 latest.1.is_so told.1.1 rule
 
@@ -132,4 +132,4 @@ recorded world well thing =
   where
     by : known world.history thing ≡ No → IsOneOrNone world thing → holds world thing ≡ false
     by h (inl none) = none
-    by h (inr given) = holds-one world thing given.0 given.1 ∙ ap is_some (not-there world.history world.frames (view_of world) world.controller thing given.0 well given.1 h)
+    by h (inr given) = holds-one world thing given.0 given.1 ∙ ap is_some (not-there world.history world.frames (view_of world) world.controller well thing given.0 given.1 h)
