@@ -2,13 +2,12 @@
 use Rattle.std.proofs.Common.{◌≡◌, ◌⊎◌, ℕ, ◌<◌, List, [], ◌∷◌, ◌++◌, true, Option, Some, None, refl, sym, ◌∙◌, ap, subst, inl, inr, ⊎_elim, arith}
 use Rattle.std.proofs.lemmas.Bool.Decides.{nat_tests}
 use Rattle.std.proofs.lemmas.Option.{none-some}
-use Rattle.csi_types.specs.declared.capability.Capability.{Capability}
 use Rattle.csi_types.specs.declared.number.Number.{Number}
-use Rattle.csi_types.specs.declared.call.Call.TheVariants as calls
 use Rattle.csi_types.specs.declared.reply.Reply.{Reply}
 use Rattle.csi_types.specs.declared.status.Status.{Status}
 use Rattle.csi_types.specs.Call.{kind_of}
 use Rattle.csi_types.specs.Config.{Config}
+use Rattle.csi_types.specs.Frame.{Frame}
 use Rattle.csi_lists.specs.Members.{IsAmong}
 use Rattle.csi_types.specs.Number.{is_before, IsBefore}
 use Rattle.csi_types.proofs.Order.{before-trans}
@@ -24,7 +23,7 @@ use Rattle.csi_orchestrator.proofs.Numbers.{open-sent}
 use Rattle.csi_world.specs.World.{World, empty_world, node_state, with_history}
 use Rattle.csi_world.specs.Step.{Choice, Sends, Closes, Takes, Notes, Starts, Answers, frame_of, MaySend, MayTake, MayChoose, MayChooseAll, chosen, chosen_all}
 use Rattle.csi_world.proofs.WorldView.{party_of, node_view, plugin_view, view_of}
-use Rattle.csi_world.proofs.KeyedCalls.{HasName, IsOwn, IsAnsweredOk, Named}
+use Rattle.csi_world.proofs.KeyedCalls.{IsOwn, IsAnsweredOk, Named}
 use Rattle.csi_world.proofs.HeardReplies.{WasSent, sent-more}
 use Rattle.csi_world.proofs.RepliesTold.{Truth, unanswered, before_call, truth-sent}
 use Rattle.csi_world.proofs.StagedAttached.{stands-sent, stands-noted}
@@ -54,76 +53,74 @@ after-all : (history : History) (number : Number) → IsLast history → IsBefor
 after-all history number last next older among =
     ⊎_elim (λ e. subst (λ n. IsBefore n number) (sym e) next) (λ before. then-before older.number (last_number history) number before next) (last older among)
 
--- a call is sent
-sent-right : PluginLaws → (config : Config) (world : World) (call : Issued) → IsRight config world → MaySend world call → IsRight config (chosen config world (Sends call))
-sent-right laws config world call right may =
-    record {
-      good = record {
-        reached = still-reached config world (world.frames ++ frame_of call ∷ []) (with_items world.history (Sent call ∷ [])) right.good.reached;
-        well = record {
-          truth = truth-sent (issued_in world.history.items) world.frames (view_of world) call well.truth later;
-          closed = all-closed laws world;
-          named = record { own = own; made = made };
-          names = well.names;
-          heard = heard;
-          stands = stands-sent world.history.items call (view_of world) well.stands
-              (leaves-guarded world.history world.frames (view_of world) world.controller well call may.allowed.guarded) (stages-guarded world.history world.frames (view_of world) world.controller well call may.allowed.guarded);
-        };
-      };
-      last = λ other among. ⊎_elim (λ e. inl (ap (λ (x : Issued). x.number) e)) (λ there. inr (later other there)) among;
-    }
-  where
-    well : IsWell world
-    well = right.good.well
-
-    later : (older : Issued) → IsAmong older (issued_in world.history.items) → IsBefore older.number call.number
-    later = after-all world.history call.number right.last may.numbered.later
-
-    own : (other : Issued) → IsAmong other (call ∷ issued_in world.history.items) → IsOwn world.controller other.name other.party other.call
-    own other (inl e) = subst (λ (x : Issued). IsOwn world.controller x.name x.party x.call) (sym e) (own-guarded world.history world.frames (view_of world) world.controller well call.name call.party call.call may.allowed.guarded)
-    own other (inr there) = well.named.own other there
-
-    made : (other : Issued) (reply : Reply) (id : ℕ) (create : List ℕ) (required limit : ℕ) (capabilities : List Capability) → IsAmong other (call ∷ issued_in world.history.items)
-        → other.call ≡ calls.CreateVolume create required limit capabilities → IsAnsweredOk (world.frames ++ frame_of call ∷ []) other reply → reply.id ≡ Some id → HasName world.controller other.name id
-    made other reply id create required limit capabilities (inl e) is ok given =
-        absurd (unanswered (issued_in world.history.items) world.frames (view_of world) call reply well.truth later (subst (λ (x : Issued). IsAnsweredOk (world.frames ++ frame_of call ∷ []) x reply) e ok))
-    made other reply id create required limit capabilities (inr there) is ok given =
-        well.named.made other reply id create required limit capabilities there is (before_call world.frames call other.number other.party (kind_of other.call) reply ok.0, ok.1) given
-
-    heard : (number : Number) (status : Status) (id : Option ℕ) → IsAmong (Accepted number status id) (Sent call ∷ world.history.items) → WasSent (call ∷ issued_in world.history.items) (world.frames ++ frame_of call ∷ []) number status id
-    heard number status id (inl e) = absurd (let clash : Accepted number status id ≡ Sent call → ⊥ = (λ h. cc) in clash e)
-    heard number status id (inr there) = sent-more (issued_in world.history.items) (call ∷ issued_in world.history.items) world.frames (frame_of call) number status id (λ c among. inr among) (well.heard number status id there)
-
 -- what an item says was heard was sent
 abbrev IsTold : World → Item → Type 0
 IsTold world (Accepted number status id) = WasSent (issued_in world.history.items) world.frames number status id
 IsTold world item = Unit {0}
 
--- an item that sends nothing is added
-noted-right : (config : Config) (world : World) (item : Item) → issued_in (item ∷ world.history.items) ≡ issued_in world.history.items → IsRight config world → IsTold world item → IsLast (with_items world.history (item ∷ []))
-    → IsRight config (with_history (item ∷ []) world)
-noted-right config world item same right told last =
-    record {
-      good = record {
-        reached = still-reached config world world.frames (with_items world.history (item ∷ [])) right.good.reached;
-        well = record {
-          truth = subst (λ (list : List Issued). Truth list world.frames (view_of world)) (sym same) well.truth;
-          closed = well.closed;
-          named = subst (λ (list : List Issued). Named list world.frames world.controller) (sym same) well.named;
-          names = well.names;
-          heard = λ number status id among. subst (λ (list : List Issued). WasSent list world.frames number status id) (sym same) (heard number status id among);
-          stands = stands-noted world.history.items item (view_of world) same well.stands;
-        };
-      };
-      last = last;
-    }
-  where
-    well : IsWell world
-    well = right.good.well
+-- a world of which all is so that is kept of every world
+module _ (config : Config) (world : World) (right : IsRight config world) where
+  abbrev well : IsWell world
+  well = right.good.well
 
-    heard : (number : Number) (status : Status) (id : Option ℕ) → IsAmong (Accepted number status id) (item ∷ world.history.items) → WasSent (issued_in world.history.items) world.frames number status id
-    heard number status id (inl e) = subst (IsTold world) (sym e) told
-    heard number status id (inr there) = well.heard number status id there
+  abbrev issued : List Issued
+  issued = issued_in world.history.items
+
+  -- a call is sent
+  sent-right : PluginLaws → (call : Issued) → MaySend world call → IsRight config (chosen config world (Sends call))
+  sent-right laws call may =
+      let guarded = may.allowed.guarded in
+      let frames : List Frame = world.frames ++ frame_of call ∷ [] in
+      let later = after-all world.history call.number right.last may.numbered.later in
+      let own = own-guarded world.history world.frames (view_of world) world.controller well call.name call.party call.call guarded in
+      record {
+        good = record {
+          reached = still-reached config world frames (with_items world.history (Sent call ∷ [])) right.good.reached;
+          well = record {
+            truth = truth-sent issued world.frames (view_of world) call well.truth later;
+            closed = all-closed laws world;
+            named = record {
+              own = λ other among. ⊎_elim (λ e. subst (λ (x : Issued). IsOwn world.controller x.name x.party x.call) (sym e) own) (well.named.own other) among;
+              made = λ other reply id create required limit capabilities among is ok given.
+                  ⊎_elim (λ e. absurd (unanswered issued world.frames (view_of world) call reply well.truth later (subst (λ (x : Issued). IsAnsweredOk frames x reply) e ok)))
+                  (λ there.
+                  let before = before_call world.frames call other.number other.party (kind_of other.call) reply ok.0 in
+                  well.named.made other reply id create required limit capabilities there is (before, ok.1) given) among;
+            };
+            names = well.names;
+            heard = λ number status id among.
+                ⊎_elim (λ e. absurd (clash number status id call e))
+                (λ there. sent-more issued (call ∷ issued) world.frames (frame_of call) number status id (λ c among. inr among) (well.heard number status id there)) among;
+            stands = stands-sent world.history.items call (view_of world) well.stands
+                (leaves-guarded world.history world.frames (view_of world) world.controller well call guarded)
+                (stages-guarded world.history world.frames (view_of world) world.controller well call guarded);
+          };
+        };
+        last = λ other among. ⊎_elim (λ e. inl (ap (λ (x : Issued). x.number) e)) (λ there. inr (later other there)) among;
+      }
+    where
+      clash : (number : Number) (status : Status) (id : Option ℕ) (call : Issued) → Accepted number status id ≡ Sent call → ⊥
+      clash number status id call h = cc
+
+  -- an item that sends nothing is added
+  noted-right : (item : Item) → issued_in (item ∷ world.history.items) ≡ issued → IsTold world item → IsLast (with_items world.history (item ∷ [])) → IsRight config (with_history (item ∷ []) world)
+  noted-right item same told last =
+      record {
+        good = record {
+          reached = still-reached config world world.frames (with_items world.history (item ∷ [])) right.good.reached;
+          well = record {
+            truth = subst (λ (list : List Issued). Truth list world.frames (view_of world)) (sym same) well.truth;
+            closed = well.closed;
+            named = subst (λ (list : List Issued). Named list world.frames world.controller) (sym same) well.named;
+            names = well.names;
+            heard = λ number status id among.
+                subst (λ (list : List Issued). WasSent list world.frames number status id) (sym same)
+                (⊎_elim (λ e. subst (IsTold world) (sym e) told) (well.heard number status id) among);
+            stands = stands-noted world.history.items item (view_of world) same well.stands;
+          };
+        };
+        last = last;
+      }
 
 -- the last number of a new session
 started-last : (history : History) (session : ℕ) → IsLast history → (last_number history).session < session
@@ -140,12 +137,12 @@ taken-sent world call reply may =
 
 -- what is kept of every world is kept by each choice that may be made
 pub chosen-right : PluginLaws → (config : Config) (world : World) (choice : Choice) → IsRight config world → MayChoose world choice → IsRight config (chosen config world choice)
-chosen-right laws config world (Sends call) right may = sent-right laws config world call right may
-chosen-right laws config world (Closes number) right may = noted-right config world (Closed number) refl right tt right.last
-chosen-right laws config world (Takes call reply) right may = noted-right config world (Accepted call.number reply.status reply.id) refl right (taken-sent world call reply may) right.last
-chosen-right laws config world (Notes name goal) right may = noted-right config world (Noted name goal) refl right tt right.last
+chosen-right laws config world (Sends call) right may = sent-right config world right laws call may
+chosen-right laws config world (Closes number) right may = noted-right config world right (Closed number) refl tt right.last
+chosen-right laws config world (Takes call reply) right may = noted-right config world right (Accepted call.number reply.status reply.id) refl (taken-sent world call reply may) right.last
+chosen-right laws config world (Notes name goal) right may = noted-right config world right (Noted name goal) refl tt right.last
 chosen-right laws config world (Starts session) right may =
-    noted-right config world (Started session) refl right tt (λ call among. inr (started-last world.history session right.last may call among))
+    noted-right config world right (Started session) refl tt (λ call among. inr (started-last world.history session right.last may call among))
 chosen-right laws config world (Answers frame) right may =
     record { good = frame-got laws config world frame right.good may; last = subst IsLast (sym (answered-history config world frame)) right.last }
 
