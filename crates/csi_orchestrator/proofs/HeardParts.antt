@@ -13,7 +13,6 @@ use Rattle.csi_types.specs.Frame.{Frame}
 use Rattle.csi_lists.specs.Members.{EachTwo}
 use Rattle.csi_lists.specs.Places.{IsAt, FirstAt}
 use Rattle.csi_lists.proofs.Places.{position-first}
-use Rattle.csi_lists.proofs.Searches.{find-passes}
 use Rattle.csi_types.specs.Reply.{is_ok_status}
 use Rattle.csi_types.specs.Same.{same_text, same_number, same_party, same_kind}
 use Rattle.csi_types.proofs.Equality.{same_text-tells, same_kind-tells}

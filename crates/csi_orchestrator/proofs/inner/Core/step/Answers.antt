@@ -1,5 +1,5 @@
 -- By the row at the place.
-use Rattle.std.proofs.Common.{◌≡◌, ℕ, List, sym, ◌∙◌, ap, subst}
+use Rattle.std.proofs.Common.{ℕ, List, sym, ◌∙◌, ap, subst}
 use Rattle.csi_orchestrator.specs.Core.{parts_of}
 use Rattle.csi_orchestrator.specs.CoreMoves.{row_step, SendsNothing}
 use Rattle.csi_orchestrator.specs.Found.{without_rows}
