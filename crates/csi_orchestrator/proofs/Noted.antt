@@ -46,25 +46,6 @@ pub record Renewed (old : Catalog) (k : ℕ) (now : Catalog) : Type 0 where
   pub count : index_map_len now.calls ≤ k
   pub room : index_map_len old.calls + spare old.calls ≤ index_map_len now.calls + spare now.calls
 
--- where no call is noted, and there is no less room, those of no row are
-pub renewed-none : (old now : Catalog) → now.rows ≡ old.rows → now.calls.entries ≡ [] → index_map_len now.calls ≡ 0 → index_map_len old.calls + spare old.calls ≤ spare now.calls → Renewed old 0 now
-renewed-none old now rows empty none room =
-    record {
-      rows = rows;
-      all = λ place row number at is_open below. absurd (omega (arith, below));
-      only = λ call place noted. absurd (none-some place (sym (ap (lookup (nat_eq call)) empty) ∙ noted));
-      count = omega (arith, none);
-      room = omega (arith, none, room);
-    }
-
--- while a row is left, there is room for one more call
-pub renewed-free : (old now : Catalog) (k : ℕ) → IsNoted old → Renewed old k now → k < length (rows_of old) → 0 < spare now.calls
-renewed-free old now k noted renewed inside =
-    let least = noted.room (omega (arith, inside)) in
-    let count = renewed.count in
-    let room = renewed.room in
-    omega (arith, least, count, room, inside)
-
 -- another call of the map has no place that the call of this row has
 unnoted : (old now : Catalog) (k : ℕ) (row : Row) (number : Number) → IsNoted old → Renewed old k now → IsAt (rows_of old) k row → row.open_number ≡ Some number → place_noted now number.call ≡ None
 unnoted old now k row number noted renewed at is_open = by (place_noted now number.call) refl
@@ -156,40 +137,7 @@ renewed-noted old now k noted renewed over =
       room = λ some. let long = ap length same in let least = noted.room (omega (arith, long, some)) in let room = renewed.room in omega (arith, long, least, room);
     }
 
--- however many rows' calls are noted, there is room for one more, if there are rows
-pub renewed-roomy : (old now : Catalog) (k : ℕ) → IsNoted old → Renewed old k now → k ≤ length (rows_of old) → 0 < length (rows_of old) → 0 < spare now.calls
-renewed-roomy old now k noted renewed within some =
-    let least = noted.room some in
-    let count = renewed.count in
-    let room = renewed.room in
-    omega (arith, least, count, room, within)
-
 -- ---- one more call
-
--- once the one call that wasn't noted is, each open call is noted
-pub noted-more : (old now : Catalog) (place call : ℕ) → IsReady old place (Some call) → now.rows ≡ old.rows → Updates nat_eq old.calls now.calls call (Some place) → spare old.calls ≤ spare now.calls + 1
-    → index_map_len now.calls ≡ index_map_len old.calls + 1 → IsNoted now
-noted-more old now place call ready rows updates used long =
-    let same : rows_of now ≡ rows_of old = ap values rows in
-    record {
-      found = λ other row number at is_open. by other number (ready.found other row number (subst (λ (rs : List Row). IsAt rs other row) same at) is_open) (noted-cases old.calls now.calls call place number.call updates);
-      room = λ some. let length_same = ap length same in let least = ready.room (omega (arith, length_same, some)) in omega (arith, length_same, least, used, long);
-    }
-  where
-    by : (other : ℕ) (number : Number) → (place_noted old number.call ≡ Some other) ⊎ ((other ≡ place) × (Some call ≡ Some number.call))
-        → ((call ≡ number.call) × (place_noted now number.call ≡ Some place)) ⊎ ((call ≡ number.call → ⊥) × (place_noted now number.call ≡ place_noted old number.call)) → place_noted now number.call ≡ Some other
-    by other number (inl noted) (inl p) = absurd (none-some other (sym (ready.new call refl) ∙ ap (place_noted old) p.0 ∙ noted))
-    by other number (inl noted) (inr p) = p.1 ∙ noted
-    by other number (inr own) (inl p) = p.1 ∙ ap Some (sym own.0)
-    by other number (inr own) (inr p) = absurd (p.0 (same_Some call number.call own.1))
-
--- once a later call is noted, no call after that one is
-pub up-to-more : (old now : Catalog) (place call last : ℕ) → Updates nat_eq old.calls now.calls call (Some place) → AreUpTo last old → last < call → AreUpTo call now
-up-to-more old now place call last updates known later = λ other there is. by other there is (noted-cases old.calls now.calls call place other updates)
-  where
-    by : (other there : ℕ) → place_noted now other ≡ Some there → ((call ≡ other) × (place_noted now other ≡ Some place)) ⊎ ((call ≡ other → ⊥) × (place_noted now other ≡ place_noted old other)) → other ≤ call
-    by other there is (inl p) = let same = p.0 in omega (arith, same)
-    by other there is (inr p) = let least = known other there (sym p.1 ∙ is) in omega (arith, least, later)
 
 -- ---- every call is closed
 
@@ -200,16 +148,6 @@ pub record ClosedBefore (old : Catalog) (turn : ℕ) (now : Catalog) : Type 0 wh
       → IsAt (rows_of now) place (without_call row) ⊎ (IsAt (rows_of now) place row × ((i : ℕ) → i < turn → slice_get (values old.calls) i ≡ Some place → ⊥))
   pub calls : now.calls ≡ old.calls
   pub names : now.rows.entries ≡ map by_name (rows_of now)
-
--- before the first turn nothing is closed
-pub closed-none : (catalog : Catalog) → IsIndexed catalog → ClosedBefore catalog 0 catalog
-closed-none catalog indexed =
-    record {
-      long = refl;
-      each = λ place row at. inr (at, λ i below is. absurd (omega (arith, below)));
-      calls = refl;
-      names = indexed.rows;
-    }
 
 -- a turn closes the row at its place
 pub closed-more : (old now then : Catalog) (turn place : ℕ) → ClosedBefore old turn now → slice_get (values now.calls) turn ≡ Some place → IsClosedAt place (rows_of now) (rows_of then) → then.calls ≡ now.calls
