@@ -1,6 +1,7 @@
 -- The eight ways in which a call is due for a row.
 use Rattle.std.proofs.Common.{◌≡◌, ℕ, List, Bool, true, false, cond, not, refl, subst}
 use Rattle.std.specs.Prelude.{Option, Some, None, option_and_then}
+use Rattle.std.proofs.lemmas.Option.{same_Some, none-some}
 use Rattle.csi_types.specs.declared.call.Call.TheVariants as calls
 use Rattle.csi_types.specs.declared.call.Party.TheVariants.{Controller, Node}
 use Rattle.csi_orchestrator.specs.declared.row.Goal.{Goal}
@@ -57,17 +58,11 @@ pub data IsDueFor (row : RowShown) : Due → Type 0 where
       → (marks_for row (Stop node target)).others ≡ false → is_no (marks_for row (Stop node target)).staged ≡ true → is_no (marks_for row (Stop node target)).attached ≡ false
       → IsDueFor row (detaching node id)
 
-none-some : (due : Due) → None ≡ Some due → ⊥
-none-some due e = cc
-
-is-some : (P : Due → Type 0) (a b : Due) → Some a ≡ Some b → P a → P b
-is-some P a b e p = let same : a ≡ b = cc in subst P same p
-
 -- goal by goal
 by-create : (row : RowShown) (due : Due) → row.goal ≡ Some Create → (b : Bool) → is_yes row.exists ≡ b
     → cond b None (Some (making row)) ≡ Some due → IsDueFor row due
 by-create row due goal true e is = absurd (none-some due is)
-by-create row due goal false e is = is-some (IsDueFor row) _ due is (ToMake goal e)
+by-create row due goal false e is = subst (IsDueFor row) (same_Some _ due is) (ToMake goal e)
 
 by-delete : (row : RowShown) (due : Due) → row.goal ≡ Some Delete → (id : Option ℕ) → row.id ≡ id → option_and_then (delete_due (marks_for row Delete)) id ≡ Some due → IsDueFor row due
 by-delete row due goal None own is = absurd (none-some due is)
@@ -75,7 +70,7 @@ by-delete row due goal (Some id) own is = by (is_no row.exists) refl is
   where
     by : (b : Bool) → is_no row.exists ≡ b → cond b None (Some (removing id)) ≡ Some due → IsDueFor row due
     by true e is = absurd (none-some due is)
-    by false e is = is-some (IsDueFor row) _ due is (ToRemove id goal own e)
+    by false e is = subst (IsDueFor row) (same_Some _ due is) (ToRemove id goal own e)
 
 by-use : (row : RowShown) (due : Due) (usage : Usage) → row.goal ≡ Some (Use usage) → (id : Option ℕ) → row.id ≡ id → option_and_then (use_due usage (marks_for row (Use usage))) id ≡ Some due → IsDueFor row due
 by-use row due usage goal None own is = absurd (none-some due is)
@@ -86,9 +81,9 @@ by-use row due usage goal (Some id) own is = by (is_yes (marks_for row (Use usag
         (cond (not s) (Some (staging usage id))
         (cond (not p) (Some (publishing usage id)) None)) ≡ Some due
         → IsDueFor row due
-    by false a s e p f is = is-some (IsDueFor row) _ due is (ToAttach usage id goal own a)
-    by true a false e p f is = is-some (IsDueFor row) _ due is (ToStage usage id goal own a e)
-    by true a true e false f is = is-some (IsDueFor row) _ due is (ToPublish usage id goal own a e f)
+    by false a s e p f is = subst (IsDueFor row) (same_Some _ due is) (ToAttach usage id goal own a)
+    by true a false e p f is = subst (IsDueFor row) (same_Some _ due is) (ToStage usage id goal own a e)
+    by true a true e false f is = subst (IsDueFor row) (same_Some _ due is) (ToPublish usage id goal own a e f)
     by true a true e true f is = absurd (none-some due is)
 
 by-stop : (row : RowShown) (due : Due) (node target : List ℕ) → row.goal ≡ Some (Stop node target) → (id : Option ℕ) → row.id ≡ id → option_and_then (stop_due node target (marks_for row (Stop node target))) id ≡ Some due → IsDueFor row due
@@ -103,10 +98,10 @@ by-stop row due node target goal (Some id) own is =
         (cond (not s) (Some (unstaging node id))
         (cond (not a) (Some (detaching node id)) None))) ≡ Some due
         → IsDueFor row due
-    by false p o e s f a g is = is-some (IsDueFor row) _ due is (ToUnpublish node target id goal own p)
+    by false p o e s f a g is = subst (IsDueFor row) (same_Some _ due is) (ToUnpublish node target id goal own p)
     by true p true e s f a g is = absurd (none-some due is)
-    by true p false e false f a g is = is-some (IsDueFor row) _ due is (ToUnstage node target id goal own p e f)
-    by true p false e true f false g is = is-some (IsDueFor row) _ due is (ToDetach node target id goal own p e f g)
+    by true p false e false f a g is = subst (IsDueFor row) (same_Some _ due is) (ToUnstage node target id goal own p e f)
+    by true p false e true f false g is = subst (IsDueFor row) (same_Some _ due is) (ToDetach node target id goal own p e f g)
     by true p false e true f true g is = absurd (none-some due is)
 
 -- each call that is due for a row is so in one of the eight ways

@@ -2,7 +2,7 @@
 use Rattle.std.proofs.Common.{◌≡◌, ℕ, List, [], ◌∷◌, ◌++◌, Bool, true, false, cond, not, refl, sym, ◌∙◌, ap}
 use Rattle.std.specs.Prelude.{Option, Some, None, find, is_some, ◌&&◌}
 use Rattle.std.specs.List.{AllByRecursion, list_any}
-use Rattle.std.proofs.lemmas.Bool.{false≢true, and_parts}
+use Rattle.std.proofs.lemmas.Bool.{false≢true, and_parts, not-false}
 use Rattle.csi_types.specs.Same.{same_text, same_flag, same_capability}
 use Rattle.csi_lists.proofs.Members.{each_of, among-find, none_passes}
 use Rattle.csi_lists.proofs.Pairs.{two-append}
@@ -57,10 +57,6 @@ flag-same true b h = sym h
 flag-same false true h = absurd (false≢true h)
 flag-same false false h = refl
 
-not_false : (b : Bool) → not b ≡ false → b ≡ true
-not_false true e = refl
-not_false false e = sym e
-
 -- how a place is held for a use, where it isn't held otherwise
 pub record IsHeldFor (usage : Usage) (place held : PlaceShown) : Type 0 where
   pub same_node : held.node ≡ place.node
@@ -75,7 +71,7 @@ held-for usage place fits = by (is_no place.attached) fits
         → IsHeldFor usage place (cond b (record place { capability = usage.capability; readonly = usage.readonly }) place)
     by true e = record { same_node = refl; as_capable = refl; as_flagged = refl }
     by false e =
-        let both = and_parts (same_capability place.capability usage.capability) (same_flag place.readonly usage.readonly) (not_false _ e) in
+        let both = and_parts (same_capability place.capability usage.capability) (same_flag place.readonly usage.readonly) (not-false _ e) in
         record { same_node = refl; as_capable = (same_capability-tells place.capability usage.capability).0 both.0; as_flagged = flag-same place.readonly usage.readonly both.1 }
 
 -- the entry for a use serves it

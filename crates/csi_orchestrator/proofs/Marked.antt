@@ -162,9 +162,7 @@ pub record IsMarked (row after : RowShown) (due : Due) (mark : Known) : Type 0 w
 -- where the volume's own mark is set, no other thing of its name is marked
 exists-mark : (row : RowShown) (mark : Known) (thing : Thing) → name_in thing ≡ row.name → mark_of thing (let r : RowShown = record row { exists = mark } in r) ≡ cond (same_thing thing (Exists row.name)) mark (mark_of thing row)
 exists-mark row mark (Exists name) is = sym (ap (λ b. cond b mark row.exists) ((same_text-tells name row.name).1 is))
-exists-mark row mark (Attached name other) is = refl
-exists-mark row mark (Staged name other) is = refl
-exists-mark row mark (Published name other aim) is = refl
+exists-mark row mark thing is = refl
 
 -- where a mark isn't No there is an entry
 has-place : (read : PlaceShown → Known) (o : Option PlaceShown) → is_no (mark_in read o) ≡ false → (place : PlaceShown) × (o ≡ Some place)

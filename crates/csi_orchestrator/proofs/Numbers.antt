@@ -2,6 +2,7 @@
 -- was sent.
 use Rattle.std.proofs.Common.{◌≡◌, ◌⊎◌, ℕ, List, [], ◌∷◌, Bool, true, false, cond, refl, sym, ◌∙◌, ap, subst, inl, inr, arith}
 use Rattle.std.specs.Prelude.{Option, Some, None, filter_map}
+use Rattle.std.proofs.lemmas.Bool.{false_from_ne_true}
 use Rattle.std.proofs.lemmas.Bool.Decides.{nat_tests}
 use Rattle.csi_types.specs.declared.number.Number.{Number}
 use Rattle.csi_lists.specs.Members.{IsAmong}
@@ -30,40 +31,26 @@ not-before-itself a h = let t : is_before a a ≡ true = is_before-then a a h in
 
 -- a number that is before another one isn't it
 pub other-number : (a b : Number) → IsBefore a b → same_number a b ≡ false
-other-number a b h = by (same_number a b) refl
-  where
-    by : (t : Bool) → same_number a b ≡ t → same_number a b ≡ false
-    by true e = absurd (not-before-itself b (subst (λ n. IsBefore n b) ((same_number-tells a b).0 e) h))
-    by false e = e
+other-number a b h = false_from_ne_true (same_number a b) (λ e. not-before-itself b (subst (λ n. IsBefore n b) ((same_number-tells a b).0 e) h))
 
--- each call's number is the last one, or before it
-AtMost : Number → Number → Type 0
+-- the number is the other one, or before it, and goes on with one that comes after that
+abbrev AtMost : Number → Number → Type 0
 AtMost a b = (a ≡ b) ⊎ IsBefore a b
 
--- it goes on with a number that is before another one, and holds of a number itself and of one that is before it
 most-before : (a b c : Number) → AtMost a b → IsBefore b c → IsBefore a c
-unfolding AtMost
 most-before a b c (inl e) h = subst (λ n. IsBefore n c) (sym e) h
 most-before a b c (inr k) h = then-before a b c k h
-
-is-most : (a b : Number) → a ≡ b → AtMost a b
-unfolding AtMost
-is-most a b e = inl e
-
-below-most : (a b : Number) → IsBefore a b → AtMost a b
-unfolding AtMost
-below-most a b h = inr h
 
 -- the number of each call that was sent is the last one, or before it
 sent-most : (began : Number) (items : List Item) (call : Issued) → AreWellFormed began items → IsAmong call (issued_in items) → AtMost call.number (last_in began items)
 sent-most began [] call form among = absurd among
 sent-most began (Started session ∷ older) call form among =
     let started : Number = record { session = session; call = 0 } in
-    below-most call.number started (most-before call.number (last_in began older) started (sent-most began older call form.1 among)
+    inr (most-before call.number (last_in began older) started (sent-most began older call form.1 among)
     (is_before-from (last_in began older) started (before-from (last_in began older) started (inl form.0))))
-sent-most began (Sent issued ∷ older) call form (inl e) = is-most call.number issued.number (ap (λ (c : Issued). c.number) e)
+sent-most began (Sent issued ∷ older) call form (inl e) = inl (ap (λ (c : Issued). c.number) e)
 sent-most began (Sent issued ∷ older) call form (inr there) =
-    below-most call.number issued.number (most-before call.number (last_in began older) issued.number (sent-most began older call form.1 there) form.0.0.later)
+    inr (most-before call.number (last_in began older) issued.number (sent-most began older call form.1 there) form.0.0.later)
 sent-most began (Accepted number status id ∷ older) call form among = sent-most began older call form.1 among
 sent-most began (Closed number ∷ older) call form among = sent-most began older call form.1 among
 sent-most began (Noted name goal ∷ older) call form among = sent-most began older call form.1 among

@@ -19,12 +19,9 @@ use Rattle.csi_orchestrator.specs.Kept.{IsKept, AreKept}
 use Rattle.csi_orchestrator.specs.RowMoves.{is_last, first_fault, again_fault, use_refusal, room_refusal, due_for_use, stop_refusal, delete_refusal, busy_refusal}
 use Rattle.csi_orchestrator.proofs.DueCalls.{use-told}
 use Rattle.csi_orchestrator.proofs.InUse.{elsewhere-alike, attached-alike, otherwise-alike, others-alike, others-counted}
+use Rattle.csi_orchestrator.proofs.Keeping.{found-kept}
 use Rattle.csi_orchestrator.proofs.RowViews.{IsRowOf, is-row-of, own-name}
 use Rattle.csi_orchestrator.proofs.Texts.{text-same, distinct-once, as-many-as}
-
--- the row that is found is kept
-kept-row : (parts : Parts) (name : List ℕ) (row : RowShown) → AreKept parts.rows → row_of parts.rows name ≡ Some row → IsKept row
-kept-row parts name row are e = each_of IsKept parts.rows row are.each (among-find (λ (r : RowShown). same_text r.name name) parts.rows row e)
 
 -- something is wanted of it, or nothing, alike
 wanted-alike : (row : RowShown) (history : History) (name : List ℕ) → IsRowOf row history name → is_some (goal_of history name) ≡ is_some row.goal
@@ -77,7 +74,7 @@ pub use-refused : (parts : Parts) (history : History) (name : List ℕ) (usage :
     → use_fault parts.nodes history name usage ≡ use_refusal parts.nodes usage row
 use-refused parts history name usage row are agrees e =
     let own = is-row-of parts history name row agrees e in
-    let kept = kept-row parts name row are e in
+    let kept = found-kept (λ (r : RowShown). same_text r.name name) parts.rows row are e in
     rw (
       own.there,
       sym (own.marks (Exists name) refl),
@@ -93,7 +90,7 @@ use-refused parts history name usage row are agrees e =
 pub room-refused : (parts : Parts) (history : History) (name : List ℕ) (usage : Usage) (row : RowShown) → AreKept parts.rows → AgreesWith parts history → row_of parts.rows name ≡ Some row
     → use_room_fault history name usage ≡ room_refusal parts usage row
 room-refused parts history name usage row are agrees e =
-    let aims = (kept-row parts name row are e).aims in
+    let aims = (found-kept (λ (r : RowShown). same_text r.name name) parts.rows row are e).aims in
     rw (spent-alike parts history agrees, others-alike row history name usage.node usage.target (is-row-of parts history name row agrees e) aims) refl
 
 -- the call that is due for a use is read from the row
@@ -120,7 +117,7 @@ delete-unknown parts history name are agrees e = rw (unknown parts history name 
 pub delete-refused : (parts : Parts) (history : History) (name : List ℕ) (row : RowShown) → AreKept parts.rows → AgreesWith parts history → row_of parts.rows name ≡ Some row → delete_fault history name ≡ delete_refusal row
 delete-refused parts history name row are agrees e =
     let own = is-row-of parts history name row agrees e in
-    rw (own.there, sym own.ids, attached-alike row history name own (kept-row parts name row are e).places) refl
+    rw (own.there, sym own.ids, attached-alike row history name own (found-kept (λ (r : RowShown). same_text r.name name) parts.rows row are e).places) refl
 
 -- one that isn't met yet is refused for another goal or for want of numbers as the row tells
 pub busy-refused : (parts : Parts) (history : History) (name : List ℕ) (row : RowShown) → AreKept parts.rows → AgreesWith parts history → row_of parts.rows name ≡ Some row → delete_busy_fault history name ≡ busy_refusal parts row
