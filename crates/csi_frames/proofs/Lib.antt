@@ -18,3 +18,4 @@ pub mod Written
 pub mod NeverShort
 pub mod Splitting
 pub mod Streams
+mod NoCreate

@@ -12,7 +12,7 @@ use Rattle.csi_types.specs.Frame.{Frame}
 use Rattle.csi_types.specs.Lent.{lent_capability}
 use Rattle.csi_frames.specs.declared.borrowed.CapabilitiesRef.{CapabilitiesRef}
 use Rattle.csi_frames.specs.declared.fields.Stop.{Stop}
-use Rattle.csi_frames.specs.Reading.{capabilities_at}
+use Rattle.csi_frames.specs.Reading.{capabilities_at, fields_at}
 use Rattle.csi_frames.specs.declared.borrowed.PartyRef.{PartyRef}
 use Rattle.csi_frames.specs.declared.borrowed.PartyRef.TheVariants.{Controller, Node}
 use Rattle.csi_frames.specs.declared.borrowed.BorrowedCall.{BorrowedCall}
@@ -20,6 +20,7 @@ use Rattle.csi_frames.specs.declared.borrowed.BorrowedCall.TheVariants.{CreateVo
 use Rattle.csi_frames.specs.declared.borrowed.ReplyRef.{ReplyRef}
 use Rattle.csi_frames.specs.declared.borrowed.BodyRef.{BodyRef}
 use Rattle.csi_frames.specs.declared.borrowed.BodyRef.TheVariants as refs
+use Rattle.csi_frames.specs.declared.borrowed.FieldsRef.{FieldsRef}
 use Rattle.csi_frames.specs.declared.borrowed.BorrowedFrame.{BorrowedFrame}
 
 -- the capabilities that are read from their bytes
@@ -51,5 +52,13 @@ abbrev pub owned_body : BodyRef → Body
 owned_body (refs.Call call) = bodies.Call (owned_call call)
 owned_body (refs.Reply kind reply) = bodies.Reply kind (owned_reply reply)
 
+-- the body that is read from its fields; where they stop, which fields that are kept don't, any one
+abbrev pub body_in : Result (Body × List ℕ) Stop → Body
+body_in (Ok read) = read.0
+body_in (Err stop) = bodies.Call (calls.DeleteVolume 0)
+
+abbrev pub owned_fields : FieldsRef → Body
+owned_fields fields = body_in (fields_at fields.kind fields.bytes.now)
+
 abbrev pub owned : BorrowedFrame → Frame
-owned frame = record { number = frame.number; party = owned_party frame.party; body = owned_body frame.body }
+owned frame = record { number = frame.number; party = owned_party frame.party; body = owned_fields frame.fields }

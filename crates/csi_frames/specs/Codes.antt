@@ -1,5 +1,5 @@
 -- What the bytes that stand for one of a few values stand for. This profile's own.
-use Rattle.std.specs.Prelude.{ℕ, zero, suc, ◌-◌, nat_lt, Bool, if◌then◌else◌, Option, Some, None, is_some, unwrap_or, option_map}
+use Rattle.std.specs.Prelude.{ℕ, zero, suc, ◌-◌, nat_lt, Bool, false, if◌then◌else◌, Option, Some, None, is_some, unwrap_or, option_map}
 use Rattle.csi_types.specs.declared.mode.Mode.{Mode}
 use Rattle.csi_types.specs.declared.mode.Mode.TheVariants.{SingleNodeWriter}
 use Rattle.csi_types.specs.declared.status.Status.{Status}
@@ -9,6 +9,7 @@ use Rattle.csi_types.specs.declared.call.Kind.TheVariants as kinds
 use Rattle.csi_frames.specs.declared.body_kind.BodyKind.{BodyKind}
 use Rattle.csi_frames.specs.declared.body_kind.BodyKind.TheVariants.{Call, Reply}
 use Rattle.csi_types.specs.Mode.{mode_from_number}
+use Rattle.csi_types.specs.Reply.{is_create}
 use Rattle.csi_types.specs.Status.{status_from_code}
 
 -- A byte that isn't allowed is nobody's number: what it stands for is any value.
@@ -28,6 +29,10 @@ status_of n = unwrap_or (status_from_code n) statuses.Ok
 abbrev pub kind_in : BodyKind → Kind
 kind_in (Call kind) = kind
 kind_in (Reply kind) = kind
+
+abbrev pub is_create_call : BodyKind → Bool
+is_create_call (Call kind) = is_create kind
+is_create_call (Reply kind) = false
 
 -- the kinds from 1 on
 abbrev pub kind_from_number : ℕ → Option Kind

@@ -1,11 +1,11 @@
 //! A whole body, and the frame at the front of bytes.
 ghost use Rattle.std.specs.Prelude.{◌≡◌, ◌≤◌, IfErr, length};
-ghost use Rattle.csi_frames.specs.Borrowed.{owned, owned_party, owned_body};
+ghost use Rattle.csi_frames.specs.Borrowed.{owned, owned_party, owned_body, owned_fields};
 ghost use Rattle.csi_frames.specs.Gives.{Gives, Answers};
 ghost use Rattle.csi_frames.specs.Reading.{party_at, number_at, head_at, fields_at, frame_at, all_of, first_frame};
 
 use crate::body_kind::BodyKind;
-use crate::borrowed::{BodyRef, BorrowedFrame, PartyRef};
+use crate::borrowed::{BodyRef, BorrowedFrame, FieldsRef, PartyRef};
 use crate::calls::{call_at, reply_at};
 use crate::fault::{FaultKind, FrameFault};
 use crate::fields::{Fields, Stop};
@@ -52,6 +52,8 @@ fn party_at<'a>(fields: &mut Fields<'a>, kind: BodyKind) -> Result<PartyRef<'a>,
     Ok(PartyRef::Node(id))
 }
 
+// It is inlined, so that where the body is dropped none is made.
+#[inline(always)]
 #[tactic(auto, unfolding(crate::specs::Reading::fields_at))]
 fn fields_at<'a>(fields: &mut Fields<'a>, kind: BodyKind) -> Result<BodyRef<'a>, Stop>
     ensures { Gives owned_body result fields.new (fields_at kind fields.old.bytes.now) }
@@ -68,6 +70,29 @@ fn fields_at<'a>(fields: &mut Fields<'a>, kind: BodyKind) -> Result<BodyRef<'a>,
     }
 }
 
+// The same, kept as the bytes that they are read from.
+fn kept_fields_at<'a>(fields: &mut Fields<'a>, kind: BodyKind) -> Result<FieldsRef<'a>, Stop>
+    ensures { Gives owned_fields result fields.new (fields_at kind fields.old.bytes.now) }
+{
+    let bytes = fields.bytes;
+    match fields_at(fields, kind) {
+        Ok(_) => Ok(FieldsRef { kind, bytes }),
+        Err(stop) => Err(stop),
+    }
+}
+
+/// The body that has these fields. They were read before, so that reading them again stops nowhere.
+#[inline(always)]
+pub(crate) fn body_of(from: FieldsRef<'_>) -> BodyRef<'_>
+    ensures { owned_body result ≡ owned_fields from.entry }
+{
+    let mut fields = Fields { bytes: from.bytes };
+    match fields_at(&mut fields, from.kind) {
+        Ok(body) => body,
+        Err(_) => unreachable!(),
+    }
+}
+
 #[tactic(auto, unfolding(crate::specs::Reading::frame_at))]
 fn frame_at<'a>(fields: &mut Fields<'a>) -> Result<BorrowedFrame<'a>, Stop>
     ensures { Gives owned result fields.new (frame_at fields.old.bytes.now) }
@@ -75,14 +100,12 @@ fn frame_at<'a>(fields: &mut Fields<'a>) -> Result<BorrowedFrame<'a>, Stop>
     let kind = head_at(fields)?;
     let number = number_at(fields)?;
     let party = party_at(fields, kind)?;
-    match fields_at(fields, kind) {
-        Ok(body) => Ok(BorrowedFrame {
-            number,
-            party,
-            body,
-        }),
-        Err(stop) => Err(stop),
-    }
+    let fields = kept_fields_at(fields, kind)?;
+    Ok(BorrowedFrame {
+        number,
+        party,
+        fields,
+    })
 }
 
 /// The frame whose body these bytes are, all of them.

@@ -1,6 +1,6 @@
 //! The kind byte of a body.
 ghost use Rattle.std.specs.Prelude.{◌≡◌};
-ghost use Rattle.csi_frames.specs.Codes.{body_kind_from_number, kind_from_number, kind_in};
+ghost use Rattle.csi_frames.specs.Codes.{body_kind_from_number, is_create_call, kind_from_number, kind_in};
 ghost use Rattle.csi_frames.specs.Grammar.{party_number};
 ghost use Rattle.csi_types.specs.Same.{kind_number};
 
@@ -39,6 +39,16 @@ impl BodyKind {
             kind_from_number(number).map(BodyKind::Call)
         } else {
             kind_from_number(number - 128).map(BodyKind::Reply)
+        }
+    }
+
+    /// Whether it is a call to CreateVolume.
+    pub fn is_create(self) -> bool
+        ensures { result ≡ is_create_call self }
+    {
+        match self {
+            BodyKind::Call(kind) => kind == Kind::CreateVolume,
+            BodyKind::Reply(_) => false,
         }
     }
 

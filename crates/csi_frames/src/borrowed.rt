@@ -1,8 +1,9 @@
 //! A frame that borrows its texts from the bytes that it was read from. No type in it has a model, since what is lent by a
 //! `&mut` may have none. So an id is a number here, which a call has only from 1 on.
 ghost use Rattle.std.specs.Prelude.{◌≡◌, true, is_ok};
-ghost use Rattle.csi_frames.specs.Reading.{capabilities_at};
+ghost use Rattle.csi_frames.specs.Reading.{capabilities_at, fields_at};
 
+use crate::body_kind::BodyKind;
 use csi_types::{CapabilityRef, Kind, Number, Status};
 
 /// Capabilities one after another, at the front of these bytes.
@@ -19,7 +20,7 @@ pub(crate) enum PartyRef<'a> {
     Node(&'a str),
 }
 
-#[derive(Drop)]
+#[derive(Clone, Copy)]
 pub(crate) enum BorrowedCall<'a> {
     CreateVolume {
         name: &'a str,
@@ -66,16 +67,25 @@ pub(crate) struct ReplyRef<'a> {
     pub detail: &'a str,
 }
 
-#[derive(Drop)]
+#[derive(Clone, Copy)]
 pub(crate) enum BodyRef<'a> {
     Call(BorrowedCall<'a>),
     Reply(Kind, ReplyRef<'a>),
 }
 
-/// A frame whose texts are slices of the bytes that it was read from.
-#[derive(Drop)]
+/// The fields of a call or of a reply, at the front of these bytes.
+#[derive(Clone, Copy)]
+pub(crate) struct FieldsRef<'a> {
+    pub kind: BodyKind,
+    pub bytes: &'a [u8],
+    ghost read: { is_ok (fields_at kind bytes.now) ≡ true },
+}
+
+/// A frame whose texts are slices of the bytes that it was read from. Its fields are kept as bytes, from which they are read
+/// once more where they are wanted: a value of so many shapes is dearer to hand on than to read.
+#[derive(Clone, Copy)]
 pub(crate) struct BorrowedFrame<'a> {
     pub number: Number,
     pub party: PartyRef<'a>,
-    pub body: BodyRef<'a>,
+    pub fields: FieldsRef<'a>,
 }

@@ -13,6 +13,7 @@ use csi_types::{
     AccessRef, CapabilityRef, Detail, FsType, Kind, Mode, Name, NodeId, Status, Target,
 };
 
+#[inline(always)]
 #[tactic(auto, unfolding(crate::specs::Reading::access_at))]
 fn access_at<'a>(fields: &mut Fields<'a>) -> Result<AccessRef<'a>, Stop>
     ensures { Gives lent_access result fields.new (access_at fields.old.bytes.now) }
@@ -25,6 +26,7 @@ fn access_at<'a>(fields: &mut Fields<'a>) -> Result<AccessRef<'a>, Stop>
     Ok(AccessRef::Mount(fs_type))
 }
 
+#[inline(always)]
 #[tactic(auto, unfolding(crate::specs::Reading::byte_at, crate::specs::Reading::mode_at))]
 fn mode_at(fields: &mut Fields<'_>) -> Result<Mode, Stop>
     ensures { Gives (λ mode. mode) result fields.new (mode_at fields.old.bytes.now) }
@@ -34,6 +36,7 @@ fn mode_at(fields: &mut Fields<'_>) -> Result<Mode, Stop>
     Mode::from_number(byte).ok_or(bad)
 }
 
+#[inline(always)]
 #[tactic(auto, unfolding(crate::specs::Reading::capability_at))]
 pub(crate) fn capability_at<'a>(fields: &mut Fields<'a>) -> Result<CapabilityRef<'a>, Stop>
     ensures { Gives lent_capability result fields.new (capability_at fields.old.bytes.now) }
@@ -54,6 +57,7 @@ fn capabilities_at<'a>(fields: &mut Fields<'a>, count: u8) -> Result<Capabilitie
     Ok(CapabilitiesRef { bytes, count })
 }
 
+#[inline(always)]
 #[tactic(auto, unfolding(crate::specs::Reading::create_at))]
 fn create_at<'a>(fields: &mut Fields<'a>) -> Result<BorrowedCall<'a>, Stop>
     ensures { Gives owned_call result fields.new (create_at fields.old.bytes.now) }
@@ -71,6 +75,7 @@ fn create_at<'a>(fields: &mut Fields<'a>) -> Result<BorrowedCall<'a>, Stop>
     })
 }
 
+#[inline(always)]
 #[tactic(auto, unfolding(crate::specs::Reading::call_at, crate::specs::Reading::publish_at))]
 fn controller_publish_at<'a>(fields: &mut Fields<'a>) -> Result<BorrowedCall<'a>, Stop>
     ensures { Gives owned_call result fields.new (call_at Kind.ControllerPublishVolume fields.old.bytes.now) }
@@ -87,6 +92,7 @@ fn controller_publish_at<'a>(fields: &mut Fields<'a>) -> Result<BorrowedCall<'a>
     })
 }
 
+#[inline(always)]
 #[tactic(auto, unfolding(crate::specs::Reading::call_at, crate::specs::Reading::publish_at))]
 fn node_publish_at<'a>(fields: &mut Fields<'a>) -> Result<BorrowedCall<'a>, Stop>
     ensures { Gives owned_call result fields.new (call_at Kind.NodePublishVolume fields.old.bytes.now) }
@@ -103,6 +109,8 @@ fn node_publish_at<'a>(fields: &mut Fields<'a>) -> Result<BorrowedCall<'a>, Stop
     })
 }
 
+// It is inlined, so that where the call is dropped none is made.
+#[inline(always)]
 #[tactic(auto, unfolding(crate::specs::Reading::call_at, crate::specs::Reading::id_alone_at, crate::specs::Reading::id_and_text_at, crate::specs::Reading::stage_at))]
 pub(crate) fn call_at<'a>(fields: &mut Fields<'a>, kind: Kind) -> Result<BorrowedCall<'a>, Stop>
     ensures { Gives owned_call result fields.new (call_at kind fields.old.bytes.now) }

@@ -5,6 +5,7 @@ ghost use Rattle.csi_frames.specs.Bytes.{AreBytes};
 ghost use Rattle.csi_frames.specs.Reading.{first_frame};
 ghost use Rattle.csi_frames.specs.Spelling.{spelling};
 
+use crate::body::body_of;
 use crate::borrowed::{BodyRef, BorrowedFrame};
 use crate::{lending, owned};
 use csi_types::{CallRef, CapabilityList, Frame, NoMemory, Number};
@@ -63,7 +64,11 @@ impl<'a> FrameRef<'a> {
         ensures value { IfOk result (λ list. list ≡ capabilities_of (lent self.now)) }
         ensures others { IsNoCreate (lent self.now).body → IsOk result }
     {
-        owned::capabilities_in(alloc, &self.frame.body)
+        if !self.frame.fields.kind.is_create() {
+            return Ok(CapabilityList::try_new(Vec::new(alloc)).unwrap());
+        }
+        let body = body_of(self.frame.fields);
+        owned::capabilities_in(alloc, &body)
     }
 
     /// The call, with texts that lie in the bytes that the frame was read from and are within their limits; a CreateVolume has the
@@ -74,7 +79,7 @@ impl<'a> FrameRef<'a> {
         ensures texts { IfSome result (λ call. HasFitTexts (lent_call call)) }
         ensures limits { IsFrame (lent self.now) }
     {
-        match &self.frame.body {
+        match body_of(self.frame.fields) {
             BodyRef::Call(call) => Some(lending::call(call, capabilities)),
             BodyRef::Reply(..) => None,
         }

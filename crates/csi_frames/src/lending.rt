@@ -10,9 +10,10 @@ use crate::owned::volume_id;
 use csi_types::{CallRef, CapabilityList};
 
 /// The call with these capabilities, if it is a CreateVolume.
-pub(crate) fn call<'b>(from: &'b BorrowedCall<'_>, capabilities: &'b CapabilityList) -> CallRef<'b>
-    requires { IsCall (owned_call from.now) }
-    ensures value { capabilities.now ≡ capabilities_in (owned_call from.now) → lent_call result ≡ owned_call from.now }
+#[inline(always)]
+pub(crate) fn call<'a>(from: BorrowedCall<'a>, capabilities: &'a CapabilityList) -> CallRef<'a>
+    requires { IsCall (owned_call from) }
+    ensures value { capabilities.now ≡ capabilities_in (owned_call from.entry) → lent_call result ≡ owned_call from.entry }
     ensures texts { HasFitTexts (lent_call result) }
 {
     match from {
@@ -23,44 +24,44 @@ pub(crate) fn call<'b>(from: &'b BorrowedCall<'_>, capabilities: &'b CapabilityL
             ..
         } => CallRef::CreateVolume {
             name,
-            required: *required,
-            limit: *limit,
+            required,
+            limit,
             capabilities,
         },
-        BorrowedCall::DeleteVolume { id } => CallRef::DeleteVolume { id: volume_id(*id) },
+        BorrowedCall::DeleteVolume { id } => CallRef::DeleteVolume { id: volume_id(id) },
         BorrowedCall::ControllerPublishVolume {
             id,
             node,
             capability,
             readonly,
         } => CallRef::ControllerPublishVolume {
-            id: volume_id(*id),
+            id: volume_id(id),
             node,
-            capability: *capability,
-            readonly: *readonly,
+            capability,
+            readonly,
         },
         BorrowedCall::ControllerUnpublishVolume { id, node } => CallRef::ControllerUnpublishVolume {
-            id: volume_id(*id),
+            id: volume_id(id),
             node,
         },
         BorrowedCall::NodeStageVolume { id, capability } => CallRef::NodeStageVolume {
-            id: volume_id(*id),
-            capability: *capability,
+            id: volume_id(id),
+            capability,
         },
-        BorrowedCall::NodeUnstageVolume { id } => CallRef::NodeUnstageVolume { id: volume_id(*id) },
+        BorrowedCall::NodeUnstageVolume { id } => CallRef::NodeUnstageVolume { id: volume_id(id) },
         BorrowedCall::NodePublishVolume {
             id,
             target,
             capability,
             readonly,
         } => CallRef::NodePublishVolume {
-            id: volume_id(*id),
+            id: volume_id(id),
             target,
-            capability: *capability,
-            readonly: *readonly,
+            capability,
+            readonly,
         },
         BorrowedCall::NodeUnpublishVolume { id, target } => CallRef::NodeUnpublishVolume {
-            id: volume_id(*id),
+            id: volume_id(id),
             target,
         },
     }

@@ -8,6 +8,7 @@ ghost use Rattle.csi_frames.specs.Borrowed.{owned_capabilities, owned_party, own
 ghost use Rattle.csi_frames.specs.Lent.{capabilities_in_body, IsNoCreate};
 ghost use Rattle.csi_frames.specs.Texts.{AreEmpty, access_texts, capability_texts, party_texts, call_texts, body_texts, IsTextless};
 
+use crate::body::body_of;
 use crate::borrowed::{BodyRef, BorrowedCall, BorrowedFrame, CapabilitiesRef, PartyRef, ReplyRef};
 use crate::calls::capability_at;
 use crate::fields::Fields;
@@ -234,7 +235,8 @@ pub(crate) fn frame(alloc: Global, from: &BorrowedFrame<'_>) -> Result<Frame, No
     ensures textless { IsTextless (owned from.now) → IsOk result }
 {
     let party = party(alloc, &from.party)?;
-    match body(alloc, &from.body)? {
+    let read = body_of(from.fields);
+    match body(alloc, &read)? {
         Body::Call(call) => Ok(Frame::call(from.number, party, call).unwrap()),
         Body::Reply(kind, reply) => Ok(Frame::reply(from.number, party, kind, reply).unwrap()),
     }
