@@ -1,12 +1,16 @@
 //! A stream of frames, answered by a new controller.
-ghost use Rattle.std.specs.Prelude.{◌≡◌, ◌++◌, ℕ, List, IfOk, IfErr, OnOk, OnErr};
+ghost use Rattle.std.specs.Prelude.{◌≡◌, ◌++◌, ℕ, List, IfOk, IfErr, OnOk, OnErr, option_map};
 ghost use Rattle.std.specs.Option.{option_to_list, option_copied};
 ghost use Rattle.std.specs.List.{flat_map};
 ghost use Rattle.csi_frames.specs.Spelling.{spelling};
-ghost use Rattle.csi_types.specs.Frame.{Frame as FrameParts};
+ghost use Rattle.csi_types.specs.declared.call.Party.{Party as OneParty};
+ghost use Rattle.csi_types.specs.Frame.{Frame as FrameParts, IsAllowed};
+ghost use Rattle.csi_types.specs.Lent.{lent_call, HasFitTexts};
+ghost use Rattle.csi_types.specs.Replies.{call_frame};
 ghost use Rattle.csi_frames.specs.Stream.{FramesOf};
 ghost use Rattle.csi_controller.specs.State.{ControllerState, empty_controller};
 ghost use Rattle.csi_controller.specs.Core.{IsShown};
+ghost use Rattle.csi_controller.specs.Step.{answer_frame};
 ghost use Rattle.csi_streams.specs.Replay.{replay_config, AnswersAll, Fails};
 ghost use Rattle.csi_streams.specs.Answering.{HasAnswered};
 ghost use Rattle.csi_streams.specs.Streaming.{AreReplies, Streams};
@@ -16,8 +20,8 @@ use crate::handler::Handler;
 use crate::slices::handle_slice;
 use crate::streaming::{StreamFault, handle_stream};
 use csi_controller::{Controller, CoreFault};
-use csi_frames::{FaultKind, FrameRef, encode};
-use csi_types::{Config, Frame, MAX_CAPACITY, NoMemory};
+use csi_frames::{FaultKind, FrameRef, encode_reply};
+use csi_types::{Body, CallRef, Config, Kind, MAX_CAPACITY, NoMemory, Number, Party, Reply};
 use std::alloc::{AllocError, Global};
 use std::io::{Read, Write};
 use thiserror::Error;
@@ -69,33 +73,35 @@ impl From<AllocError> for AnswerFault {
     }
 }
 
-// Appends the reply, if there is one. An `Err` appends nothing.
-fn append(reply: Option<&Frame>, out: &mut Vec<u8>) -> Result<(), NoMemory>
-    ensures ok { OnOk result (out.new.items ≡ out.old.items ++ flat_map spelling (option_to_list (option_copied reply.entry))) }
+// Appends the frame of the controller's answer, if there is one. An `Err` appends nothing.
+fn append(number: Number, answer: Option<&(Kind, Reply)>, out: &mut Vec<u8>) -> Result<(), NoMemory>
+    ensures ok { OnOk result (out.new.items ≡ out.old.items ++ flat_map spelling (option_to_list (option_map (answer_frame number) (option_copied answer.entry)))) }
     ensures err { OnErr result (out.new.items ≡ out.old.items) }
 {
-    match reply {
-        Some(reply) => encode(reply, out),
+    match answer {
+        Some((kind, reply)) => encode_reply(number, &Party::Controller, *kind, reply, out),
         None => Ok(()),
     }
 }
 
-// Answers a frame. An `Err` appends nothing.
-fn answer_frame(
+// Answers a call. An `Err` appends nothing.
+fn answer_call(
     controller: &mut Controller,
-    frame: &Frame,
+    number: Number,
+    call: &CallRef<'_>,
     out: &mut Vec<u8>,
 ) -> Result<(), AnswerFault>
-    ensures ok { (frames : List FrameParts) → HasAnswered controller.old frames → OnOk result (Handles HasAnswered AreReplies frames frame.now controller.new out.old.items out.new.items) }
+    ensures ok { (frames : List FrameParts) (party : OneParty) → HasAnswered controller.old frames → IsAllowed party (Body.Call (lent_call call.now)) → HasFitTexts (lent_call call.now)
+        → OnOk result (Handles HasAnswered AreReplies frames (call_frame number party (lent_call call.now)) controller.new out.old.items out.new.items) }
     ensures fault { IfErr result (λ fault. fault ≡ AnswerFault.NoMemory) }
     ensures err { OnErr result (out.new.items ≡ out.old.items) }
 {
-    let reply = controller.step(frame)?;
-    append(reply.as_ref(), out)?;
+    let answer = controller.answer(number, call)?;
+    append(number, answer.as_ref(), out)?;
     Ok(())
 }
 
-// Each frame is answered, and its reply is given, if there is one.
+// Each call is answered, and its reply is given, if there is one. A reply gets none.
 impl Handler for Controller {
     ghost has_handled = { HasAnswered };
 
@@ -108,8 +114,11 @@ impl Handler for Controller {
         frame: &FrameRef<'_>,
         out: &mut Vec<u8>,
     ) -> Result<(), AnswerFault> {
-        let frame = frame.to_frame(alloc)?;
-        answer_frame(self, &frame, out)
+        let capabilities = frame.capabilities(alloc)?;
+        match frame.call(&capabilities) {
+            Some(call) => answer_call(self, frame.number(), &call, out),
+            None => Ok(()),
+        }
     }
 }
 
