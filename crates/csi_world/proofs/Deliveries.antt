@@ -33,7 +33,7 @@ use Rattle.csi_node.specs.View as nodes
 use Rattle.csi_orchestrator.specs.Thing.{Issued}
 use Rattle.csi_orchestrator.specs.Readings.{issued_in}
 use Rattle.csi_world.specs.World.{NodeAt, World, node_state, with_node, with_frame}
-use Rattle.csi_world.specs.Step.{frame_of, answered_by_node, answered_by, answered}
+use Rattle.csi_world.specs.Step.{answered_by_node, answered}
 use Rattle.csi_world.proofs.WorldView.{party_of, node_view, plugin_view, view_of, ChangesOnly, acts-all, rests-all, closed-all}
 use Rattle.csi_world.proofs.KeyedCalls.{HasName, IsKeyed, key_at, is_key, is_of, keyed, KeepsIds, own-kept}
 use Rattle.csi_world.proofs.HeardReplies.{sent-more}
@@ -163,11 +163,10 @@ module _ (laws : PluginLaws) (config : Config) (world : World) (controller : Con
           effect-rests issued world.frames (view_of world) (view_of next) call key kind reply well.truth among of keyed_call.of_party
           (rests-all world next key (delivery_of call kind reply) others rests)) becomes
 
--- the controller got a call
-controller-got : PluginLaws → (config : Config) (world : World) (number : Number) (name : List ℕ) (c : Call) → IsGood config world
-    → IsAmong {X = Issued} (record { name = name; number = number; party = Controller; call = c }) (issued_in world.history.items)
-    → IsGood config (answered_by config world (call_frame number Controller c) Controller)
-controller-got laws config world number name c good among =
+-- a plugin got a sent call
+call-got : PluginLaws → (config : Config) (world : World) (name : List ℕ) (number : Number) (party : Party) (c : Call) → IsGood config world
+    → IsAmong {X = Issued} (record { name = name; number = number; party = party; call = c }) (issued_in world.history.items) → IsGood config (answered config world (call_frame number party c))
+call-got laws config world name number Controller c good among =
     let call : Issued = record { name = name; number = number; party = Controller; call = c } in
     let frame : Frame = call_frame number Controller c in
     let after : controller.Fenced = controller.fenced config world.controller frame in
@@ -182,62 +181,42 @@ controller-got laws config world number name c good among =
     others : (s : ControllerState) → ChangesOnly Controller world (record world { controller = s })
     others s Controller e = absurd (false≢true (sym e))
     others s (Node id) e = refl
-
--- a node got a call
-node-got : PluginLaws → (config : Config) (world : World) (number : Number) (name id : List ℕ) (c : Call) → IsGood config world
-    → IsAmong {X = Issued} (record { name = name; number = number; party = Node id; call = c }) (issued_in world.history.items)
-    → (o : Option NodeState) → node_state id world ≡ o → IsGood config (answered_by_node id world (call_frame number (Node id) c) o)
-node-got laws config world number name id c good among None is = good
-node-got laws config world number name id c good among (Some state) is =
-    let call : Issued = record { name = name; number = number; party = Node id; call = c } in
-    let after : node.Fenced = node.fenced id state (call_frame number (Node id) c) in
-    let changed : World = with_node id after.state world in
-    let frames = node-of-frames config world id state good.reached is in
-    let key = keyed world.controller name (Node id) c good.well.names (good.well.named.own call among) in
-    let delivered = subst (λ (s : NodeState). nodes.IsDeliveredTo id s number c) (sym frames.1) (laws.node.delivered id frames.0 number c key.of_kind) in
-    let at_key = subst (λ k. IsDelivered (Node id) number c k (nodes.view_of id state) (nodes.view_of id after.state) after.reply) key.seen delivered in
-    let now = subst (λ v. IsDelivered (Node id) number c (Some key.key) (nodes.view_of id state) v after.reply) (ap (node_view id) (sym (node_state-same id state after.state world is))) at_key in
-    good-delivered laws config world world.controller changed.nodes call good among (node-next config world id state (call_frame number (Node id) c) good.reached is)
-    (λ n i h. h) good.well.names key (others after.state) after.reply
-    (subst (λ v. IsDelivered (Node id) number c (Some key.key) v (plugin_view changed (Node id)) after.reply) (ap (node_view id) (sym is)) now)
+call-got laws config world name number (Node id) c good among = by (node_state id world) refl
   where
     others : (s : NodeState) → ChangesOnly (Node id) world (with_node id s world)
     others s Controller e = refl
     others s (Node there) e = ap (node_view there) (node_state-other id there s world e)
 
--- a sent call came
-call-got : PluginLaws → (config : Config) (world : World) (call : Issued) (party : Party) → IsGood config world → IsAmong call (issued_in world.history.items) → call.party ≡ party
-    → IsGood config (answered config world (frame_of call))
-call-got laws config world call Controller good among is =
-    subst (λ p. IsGood config (answered_by config world (call_frame call.number p call.call) p)) (sym is)
-    (controller-got laws config world call.number call.name call.call good (subst (λ p. IsAmong {X = Issued} (record { name = call.name; number = call.number; party = p; call = call.call }) (issued_in world.history.items)) is among))
-call-got laws config world call (Node id) good among is =
-    subst (λ p. IsGood config (answered_by config world (call_frame call.number p call.call) p)) (sym is)
-    (node-got laws config world call.number call.name id call.call good (subst (λ p. IsAmong {X = Issued} (record { name = call.name; number = call.number; party = p; call = call.call }) (issued_in world.history.items)) is among)
-    (node_state id world) refl)
+    by : (o : Option NodeState) → node_state id world ≡ o → IsGood config (answered_by_node id world (call_frame number (Node id) c) o)
+    by None is = good
+    by (Some state) is =
+        let call : Issued = record { name = name; number = number; party = Node id; call = c } in
+        let after : node.Fenced = node.fenced id state (call_frame number (Node id) c) in
+        let changed : World = with_node id after.state world in
+        let frames = node-of-frames config world id state good.reached is in
+        let key = keyed world.controller name (Node id) c good.well.names (good.well.named.own call among) in
+        let delivered = subst (λ (s : NodeState). nodes.IsDeliveredTo id s number c) (sym frames.1) (laws.node.delivered id frames.0 number c key.of_kind) in
+        let at_key = subst (λ k. IsDelivered (Node id) number c k (nodes.view_of id state) (nodes.view_of id after.state) after.reply) key.seen delivered in
+        let new_view = ap (node_view id) (sym (node_state-same id state after.state world is)) in
+        let now = subst (λ v. IsDelivered (Node id) number c (Some key.key) (nodes.view_of id state) v after.reply) new_view at_key in
+        good-delivered laws config world world.controller changed.nodes call good among (node-next config world id state (call_frame number (Node id) c) good.reached is)
+        (λ n i h. h) good.well.names key (others after.state) after.reply
+        (subst (λ v. IsDelivered (Node id) number c (Some key.key) v (plugin_view changed (Node id)) after.reply) (ap (node_view id) (sym is)) now)
 
--- a reply came: plugins answer none
-reply-got : (config : Config) (world : World) (frame : Frame) (kind : Kind) (reply : Reply) → IsGood config world → frame.body ≡ bodies.Reply kind reply → IsGood config (answered config world frame)
-reply-got config world frame kind reply good is =
-    subst (λ (f : Frame). IsGood config (answered config world f)) (sym whole) (by frame.party)
+-- a frame came that was sent; plugins answer no reply
+got : PluginLaws → (config : Config) (world : World) (number : Number) (party : Party) (body : Body) → IsGood config world
+    → IsAmong {X = Frame} (record { number = number; party = party; body = body }) world.frames → IsGood config (answered config world (record { number = number; party = party; body = body }))
+got laws config world number party (bodies.Call c) good among =
+    let of = good.well.truth.calls (record { number = number; party = party; body = bodies.Call c }) c among refl in
+    let call : Issued = of.call in
+    subst (λ (f : Frame). IsGood config (answered config world f)) (sym of.is) (call-got laws config world call.name call.number call.party call.call good of.among)
+got laws config world number Controller (bodies.Reply kind reply) good among = good
+got laws config world number (Node id) (bodies.Reply kind reply) good among = by (node_state id world) refl
   where
-    whole : frame ≡ record { number = frame.number; party = frame.party; body = bodies.Reply kind reply }
-    whole = ap (λ (b : Body). let f : Frame = record { number = frame.number; party = frame.party; body = b } in f) is
-
-    at_node : (id : List ℕ) (o : Option NodeState) → node_state id world ≡ o → IsGood config (answered_by_node id world (record { number = frame.number; party = Node id; body = bodies.Reply kind reply }) o)
-    at_node id None e = good
-    at_node id (Some state) e = subst (IsGood config) (sym (with_node-same config world id state good.reached e)) good
-
-    by : (party : Party) → IsGood config (answered config world (record { number = frame.number; party = party; body = bodies.Reply kind reply }))
-    by Controller = good
-    by (Node id) = at_node id (node_state id world) refl
+    by : (o : Option NodeState) → node_state id world ≡ o → IsGood config (answered_by_node id world (record { number = number; party = Node id; body = bodies.Reply kind reply }) o)
+    by None e = good
+    by (Some state) e = subst (IsGood config) (sym (with_node-same config world id state good.reached e)) good
 
 -- what is kept of every world is so after a frame that was sent came
 pub frame-got : PluginLaws → (config : Config) (world : World) (frame : Frame) → IsGood config world → IsAmong frame world.frames → IsGood config (answered config world frame)
-frame-got laws config world frame good among = by frame.body refl
-  where
-    by : (body : Body) → frame.body ≡ body → IsGood config (answered config world frame)
-    by (bodies.Reply kind reply) is = reply-got config world frame kind reply good is
-    by (bodies.Call c) is =
-        let of = good.well.truth.calls frame c among is in
-        subst (λ (f : Frame). IsGood config (answered config world f)) (sym of.is) (call-got laws config world of.call (of.call).party good of.among refl)
+frame-got laws config world frame good among = got laws config world frame.number frame.party frame.body good among
