@@ -135,7 +135,8 @@ module _ (history : History) (frames : List Frame) (view : View) (controller : C
       find-same_among (touches thing) (is_of key) (issued_in history.items) (λ call among. touches-key controller thing key call so.names one (so.named.own call among))
 
   -- what stands is known to be attached
-  attached-known : (name node : List ℕ) (id : ℕ) (capability : Capability) → HasName controller name id → IsAttachedSo history.items id node capability → known history (things.Attached name node) ≡ Yes
+  attached-known : (name node : List ℕ) (id : ℕ) (capability : Capability) → HasName controller name id → IsAttachedSo history.items id node capability
+      → known history (things.Attached name node) ≡ Yes
   attached-known name node id capability has attached =
       latest-known history (things.Attached name node) attached.call
       (record { found = found-one (things.Attached name node) (Attached id node) (Attachment name node id has) ∙ attached.found; success = attached.success; is_so = ap is_doing attached.publishes })

@@ -1,5 +1,5 @@
 -- What is known of a thing is so.
-use Rattle.std.proofs.Common.{◌≡◌, ◌⊎◌, ℕ, List, true, false, cond, Option, Some, None, option_map, is_some, IsTrue, refl, sym, ◌∙◌, ap, subst, inl, inr}
+use Rattle.std.proofs.Common.{◌≡◌, ◌⊎◌, ℕ, List, true, false, cond, Option, Some, None, option_map, is_some, IsTrue, refl, sym, ◌∙◌, ap, subst, inl, inr, ⊎_elim}
 use Rattle.std.proofs.lemmas.Bool.{false≢true}
 use Rattle.csi_types.specs.declared.call.Call.{Call}
 use Rattle.csi_types.specs.declared.call.Call.TheVariants as calls
@@ -18,7 +18,7 @@ use Rattle.csi_controller.specs.View as controllers
 use Rattle.csi_node.specs.State.{NodeState, PublishedVolume, staged_of, published_at}
 use Rattle.csi_orchestrator.specs.declared.thing.Thing.{Thing}
 use Rattle.csi_orchestrator.specs.declared.thing.Thing.TheVariants as things
-use Rattle.csi_orchestrator.specs.declared.thing.Known.TheVariants.{Yes, No}
+use Rattle.csi_orchestrator.specs.declared.thing.Known.TheVariants.{Yes}
 use Rattle.csi_orchestrator.specs.Thing.{Issued, same_thing, touches, is_thing, is_doing}
 use Rattle.csi_orchestrator.specs.Readings.{issued_in, known}
 use Rattle.csi_world.specs.World.{World, node_state}
@@ -127,9 +127,8 @@ pub recorded : (world : World) → IsWell world → (thing : Thing) → IsRecord
 recorded world well thing =
     record {
       yes = λ h. let given = known-one world thing well h in holds-one world thing given.0 given.1 ∙ is_there world thing given.0 well given.1 h;
-      no = λ h. by h (one-or-none world thing);
+      no = λ h.
+          ⊎_elim (λ none. none) (λ given.
+          let gone = not-there world.history world.frames (view_of world) world.controller well thing given.0 given.1 h in
+          holds-one world thing given.0 given.1 ∙ ap is_some gone) (one-or-none world thing);
     }
-  where
-    by : known world.history thing ≡ No → IsOneOrNone world thing → holds world thing ≡ false
-    by h (inl none) = none
-    by h (inr given) = holds-one world thing given.0 given.1 ∙ ap is_some (not-there world.history world.frames (view_of world) world.controller well thing given.0 given.1 h)
