@@ -2,7 +2,7 @@ pub mod State
 pub mod Table
 pub mod Fenced
 pub mod Shown
-pub mod WorkedRows
+pub mod Worked
 pub mod Laws
 pub mod Core
 pub mod OneRow

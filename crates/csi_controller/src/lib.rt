@@ -10,7 +10,7 @@ mod laws;
 mod record;
 mod row;
 mod sound_row;
-mod worked_rows;
+mod worked;
 
 pub use controller::Controller;
 pub use fault::{CoreFault, RecordFault};

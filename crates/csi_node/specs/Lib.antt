@@ -7,7 +7,7 @@ pub mod Line
 pub mod Record
 pub mod Views
 pub mod Laws
-pub mod WorkedRows
+pub mod Worked
 pub mod Safe
 pub mod View
 pub mod SoundRow

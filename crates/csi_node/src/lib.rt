@@ -18,7 +18,7 @@ mod row_table;
 mod sound_row;
 mod step;
 mod views;
-mod worked_rows;
+mod worked;
 
 pub use entries::{Published, Staged};
 pub use fault::{CoreFault, RecordFault};

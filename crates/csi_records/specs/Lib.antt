@@ -6,4 +6,4 @@ pub mod Stopping
 pub mod Writing
 pub mod Places
 pub mod Laws
-pub mod Rows
+pub mod Worked

@@ -12,11 +12,11 @@ mod part;
 mod plugin_rows;
 mod record;
 mod row_values;
-mod rows;
 mod splitting;
 mod texts;
 mod values;
 mod volumes;
+mod worked;
 mod writing;
 
 pub use fault::RecordStop;

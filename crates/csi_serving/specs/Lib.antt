@@ -9,7 +9,7 @@ pub mod Serving
 pub mod Answering
 pub mod Stopping
 pub mod Ending
-pub mod Rows
+pub mod Worked
 pub mod Opening
 pub mod Services
 pub mod NodeServices

@@ -11,9 +11,9 @@ mod node_service;
 mod opening;
 mod parts;
 mod plugin_core;
-mod rows;
 mod serving;
 mod whole_records;
+mod worked;
 
 pub use controller_service::ControllerService;
 pub use counted::Counted;

@@ -13,7 +13,7 @@ pub mod Number
 pub mod Holding
 pub mod Fence
 pub mod Config
-pub mod Rows
+pub mod Worked
 pub mod Replies
 pub mod Key
 pub mod Delivery

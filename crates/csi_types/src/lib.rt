@@ -15,11 +15,11 @@ mod mode;
 mod node_use;
 mod number;
 mod reply;
-mod rows;
 mod sharing;
 mod status;
 mod text;
 mod volume_id;
+mod worked;
 
 pub use call::{Call, Kind, Party};
 pub use capability::{Access, Capability, CapabilityList, has_capability, same_capability};

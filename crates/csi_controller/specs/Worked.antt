@@ -1,4 +1,4 @@
--- Worked rows of the controller's table and fence, which the checker computes.
+-- Worked examples of the controller's table and fence, which the checker computes.
 use Rattle.std.specs.Prelude.{◌≡◌, ℕ, List, [], ◌∷◌, ◌++◌, Bool, true, false, Option, Some, None, codes}
 use Rattle.csi_types.specs.declared.number.Number.{Number}
 use Rattle.csi_types.specs.declared.mode.Mode.{Mode}

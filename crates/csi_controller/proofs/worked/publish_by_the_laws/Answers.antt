@@ -1,7 +1,7 @@
 -- The law, at the state after the volume was made, and at its publish.
 use Rattle.std.proofs.Common.{refl}
-use Rattle.csi_controller.specs.WorkedRows.{four_nodes, made_v, second, publish_v}
-use Rattle.csi_controller.proofs.worked_rows.publish_by_the_laws.Goals as goal
+use Rattle.csi_controller.specs.Worked.{four_nodes, made_v, second, publish_v}
+use Rattle.csi_controller.proofs.worked.publish_by_the_laws.Goals as goal
 
 pub returns : goal.returns
 returns c law = (law four_nodes made_v second publish_v refl).done refl

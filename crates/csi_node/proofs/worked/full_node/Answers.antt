@@ -2,7 +2,7 @@
 use Rattle.std.proofs.Common.{◌≡◌, true, refl}
 use Rattle.std.specs.Cmp.Lexicographic.{bytes_decides}
 use Rattle.csi_types.specs.Same.{same_text}
-use Rattle.csi_node.proofs.worked_rows.full_node.Goals as goal
+use Rattle.csi_node.proofs.worked.full_node.Goals as goal
 
 pub returns : goal.returns
 returns c node state number call full none =

@@ -1,4 +1,4 @@
--- A worked row of the room in a store, which the checker computes.
+-- A worked example of the room in a store, which the checker computes.
 use Rattle.std.specs.Prelude.{◌≡◌}
 use Rattle.csi_controller.specs.State.{empty_controller}
 use Rattle.csi_records.specs.Rows.{parts_of_state}

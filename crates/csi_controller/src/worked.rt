@@ -1,5 +1,5 @@
-//! Worked rows of the controller's table and fence. Each function proves a statement, and does nothing.
-ghost use Rattle.csi_controller.specs.WorkedRows.{OneNodeRow, BothModesRow, SingleWriterRow, SlotsRow, NameRow, FenceRow, EmptyIsShown, LawsTellPublish};
+//! Worked examples of the controller's table and fence. Each function proves a statement, and does nothing.
+ghost use Rattle.csi_controller.specs.Worked.{OneNodeRow, BothModesRow, SingleWriterRow, SlotsRow, NameRow, FenceRow, EmptyIsShown, LawsTellPublish};
 
 fn one_node()
     ensures { OneNodeRow }

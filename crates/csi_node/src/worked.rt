@@ -1,6 +1,6 @@
-//! Worked rows of the node's table and fence, and the law of a full node. Each function proves a statement,
+//! Worked examples of the node's table and fence, and the law of a full node. Each function proves a statement,
 //! and does nothing.
-ghost use Rattle.csi_node.specs.WorkedRows.{OneTargetRow, TwoTargetsRow, ManyTargetsRow, LateStageRow, KeptRefusalRow, OtherNodeRow, FullNodeRefuses, EmptyIsShown, LawsTellPublish};
+ghost use Rattle.csi_node.specs.Worked.{OneTargetRow, TwoTargetsRow, ManyTargetsRow, LateStageRow, KeptRefusalRow, OtherNodeRow, FullNodeRefuses, EmptyIsShown, LawsTellPublish};
 
 fn one_target()
     ensures { OneTargetRow }

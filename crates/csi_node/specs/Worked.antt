@@ -1,4 +1,4 @@
--- Worked rows of the node's table and fence, which the checker computes, and the law of a full node.
+-- Worked examples of the node's table and fence, which the checker computes, and the law of a full node.
 use Rattle.std.specs.Prelude.{◌≡◌, ℕ, List, [], ◌∷◌, ◌++◌, map, length, Bool, true, false, Option, Some, None, codes, replicate}
 use Rattle.std.specs.List.{range_with_len}
 use Rattle.csi_types.specs.declared.number.Number.{Number}

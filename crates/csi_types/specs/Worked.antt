@@ -1,4 +1,4 @@
--- Worked rows of the values' rules, which the checker computes, and what the tests of equality tell.
+-- Worked examples of the values' rules, which the checker computes, and what the tests of equality tell.
 use Rattle.std.specs.Prelude.{◌≡◌, ◌↔◌, ℕ, true, false, List, IsTrue, Some, None, Ok, Err}
 use Rattle.csi_types.specs.declared.number.Number.{Number}
 use Rattle.csi_types.specs.declared.capability.Capability.{Capability}

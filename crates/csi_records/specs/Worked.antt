@@ -1,4 +1,4 @@
--- Worked rows of the spelling of records, which the checker computes.
+-- Worked examples of the spelling of records, which the checker computes.
 use Rattle.std.specs.Prelude.{◌≡◌, [], ◌∷◌, List, length, codes}
 use Rattle.csi_types.specs.declared.mode.Mode.TheVariants.{SingleNodeWriter}
 use Rattle.csi_types.specs.declared.capability.Access.TheVariants.{Block}

@@ -1,0 +1,10 @@
+//! Worked examples of the spelling of records. Each function proves a statement, and does nothing.
+ghost use Rattle.csi_records.specs.Worked.{CreatedRow, EmptyRow};
+
+fn created()
+    ensures { CreatedRow }
+{}
+
+fn empty()
+    ensures { EmptyRow }
+{}
