@@ -10,7 +10,7 @@ use Rattle.csi_types.specs.declared.number.Number.{Number}
 use Rattle.csi_types.specs.Frame.{Frame}
 use Rattle.csi_types.specs.Same.{same_text}
 use Rattle.csi_orchestrator.specs.declared.fault.OrchFault.{OrchFault}
-use Rattle.csi_orchestrator.specs.declared.inner.Core.{Core}
+use Rattle.csi_orchestrator.specs.declared.state.Core.{Core}
 use Rattle.csi_orchestrator.specs.declared.row.Row.{Row}
 use Rattle.csi_orchestrator.specs.declared.sending.Outgoing.{Outgoing}
 use Rattle.csi_orchestrator.specs.declared.step.Step.{Step}
@@ -22,7 +22,7 @@ use Rattle.csi_orchestrator.specs.Moves.{Answer, Sends}
 use Rattle.csi_orchestrator.specs.RowChanges.{new_row}
 use Rattle.csi_orchestrator.specs.RowMoves.{told, put, goes_on, unless_refused, first_fault, creates, IsRefusal, IsToldAs}
 use Rattle.csi_orchestrator.specs.Shown.{RowShown, Parts, row_shown, row_of}
-use Rattle.csi_orchestrator.specs.CoreMoves.{RowTold, row_goes_on, row_step, frame_in, last_after, placed, steps_at, SendsNothing}
+use Rattle.csi_orchestrator.specs.RowSteps.{RowTold, row_goes_on, row_step, frame_in, last_after, placed, steps_at, SendsNothing}
 use Rattle.csi_orchestrator.proofs.ChangedEntries.{find-place, find-none_placed, put-place, put-none_placed}
 use Rattle.csi_orchestrator.proofs.Indexed.{catalog_with, read-at, parts-set}
 use Rattle.csi_orchestrator.proofs.Opened.{GoesOn, step-goes}

@@ -18,7 +18,7 @@ use Rattle.csi_types.specs.Same.{same_text, same_number, same_party, same_kind}
 use Rattle.csi_types.proofs.Equality.{same_text-tells, same_kind-tells}
 use Rattle.csi_orchestrator.specs.declared.fault.Heard.TheVariants.{Ignored}
 use Rattle.csi_orchestrator.specs.declared.fault.OrchFault.{OrchFault}
-use Rattle.csi_orchestrator.specs.declared.inner.Core.{Core}
+use Rattle.csi_orchestrator.specs.declared.state.Core.{Core}
 use Rattle.csi_orchestrator.specs.declared.row.Goal.{Goal}
 use Rattle.csi_orchestrator.specs.declared.row.Goal.TheVariants.{Use, Stop}
 use Rattle.csi_orchestrator.specs.declared.row.Row.{Row}
@@ -33,7 +33,7 @@ use Rattle.csi_orchestrator.specs.Shown.{RowShown, Parts, row_shown, due_in, iss
 use Rattle.csi_orchestrator.specs.RowChanges.{succeeded, wanted}
 use Rattle.csi_orchestrator.specs.RowMoves.{Told, goes_on, is_issued_as, stops_after, hears_refusal, hears_reply, row_replied, IsToldAs}
 use Rattle.csi_orchestrator.specs.Found.{kind_due}
-use Rattle.csi_orchestrator.specs.CoreMoves.{RowTold, row_goes_on, row_rests, waits_for, failed, row_step, Fits, frame_in, placed, steps_at}
+use Rattle.csi_orchestrator.specs.RowSteps.{RowTold, row_goes_on, row_rests, waits_for, failed, row_step, Fits, frame_in, placed, steps_at}
 use Rattle.csi_orchestrator.specs.Hearing.{step_heard}
 use Rattle.csi_orchestrator.specs.Kept.{IsKept, AreKept}
 use Rattle.csi_orchestrator.proofs.CalledRows.{row-at, shown-there}

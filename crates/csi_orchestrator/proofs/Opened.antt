@@ -13,7 +13,7 @@ use Rattle.csi_orchestrator.specs.declared.step.Step.TheVariants as steps
 use Rattle.csi_orchestrator.specs.declared.catalog.Catalog.{Catalog}
 use Rattle.csi_orchestrator.specs.Catalog.{rows_of, IsIndexed, IsReady, IsNextFor, AreUpTo, call_in, IsAfter}
 use Rattle.csi_orchestrator.specs.Commands.{next_number}
-use Rattle.csi_orchestrator.specs.CoreMoves.{RowTold, outgoing_by, gone_on, row_after, row_goes_on, row_rests, row_unless, step_refusal, is_met, waits, late_refusal, is_given_up, timed_out, failed, changed, row_step}
+use Rattle.csi_orchestrator.specs.RowSteps.{RowTold, outgoing_by, gone_on, row_after, row_goes_on, row_rests, row_unless, step_refusal, is_met, waits, late_refusal, is_given_up, timed_out, failed, changed, row_step}
 use Rattle.csi_orchestrator.specs.Due.{Due}
 use Rattle.csi_orchestrator.specs.History.{Arguments}
 use Rattle.csi_orchestrator.specs.RowChanges.{new_row, wanted, stopped_goal}

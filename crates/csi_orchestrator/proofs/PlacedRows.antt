@@ -22,7 +22,7 @@ use Rattle.csi_orchestrator.specs.Moves.{Input, Answer, Sends}
 use Rattle.csi_orchestrator.specs.RowChanges.{wanted, wanted_anew, stopped_goal, with_entry}
 use Rattle.csi_orchestrator.specs.RowMoves.{Told, told, put, sends_as, goes_on, unless_refused, again_fault, creates, use_refusal, room_refusal, due_for_use, uses, stop_refusal, stops, delete_refusal, busy_refusal, deletes, times_out_with, times_out, row_moves, IsToldAs}
 use Rattle.csi_orchestrator.specs.Shown.{RowShown, Parts, row_of, due_in, closed}
-use Rattle.csi_orchestrator.specs.CoreMoves.{RowTold, outgoing_by, row_after, row_goes_on, row_rests, row_unless, idle_refusal, is_given_up, timed_out, frame_in, placed, steps_at, asked_by, SendsNothing}
+use Rattle.csi_orchestrator.specs.RowSteps.{RowTold, outgoing_by, row_after, row_goes_on, row_rests, row_unless, idle_refusal, is_given_up, timed_out, frame_in, placed, steps_at, asked_by, SendsNothing}
 
 pub some-is : {X : Type 0} (a b : X) → Some a ≡ Some b → a ≡ b
 some-is a b h = cc

@@ -12,10 +12,10 @@ use Rattle.csi_orchestrator.specs.Moves.{Restarts, Restarted}
 use Rattle.csi_orchestrator.specs.Agrees.{Agrees}
 use Rattle.csi_orchestrator.specs.Following.{after_started}
 use Rattle.csi_orchestrator.specs.Shown.{RowShown, Parts, row_of, mark_in, mark_of, goal_in, held_in, open_in_row, tries_in, closed, without_call, row_shown, view_of, AgreesWith, in_session}
-use Rattle.csi_orchestrator.specs.declared.inner.Core.{Core}
+use Rattle.csi_orchestrator.specs.declared.state.Core.{Core}
 use Rattle.csi_orchestrator.specs.Catalog.{rows_of}
 use Rattle.csi_orchestrator.specs.Core.{parts_of}
-use Rattle.csi_orchestrator.specs.CoreMoves.{IsTold}
+use Rattle.csi_orchestrator.specs.RowSteps.{IsTold}
 use Rattle.csi_orchestrator.specs.RowMoves.{Told, told, row_moves, IsRefusal}
 use Rattle.csi_orchestrator.proofs.Entries.{shown-closed}
 use Rattle.csi_orchestrator.proofs.SentRow.{goals-same, mark-same}

@@ -19,7 +19,7 @@ use Rattle.csi_orchestrator.specs.Commands.{next_number}
 use Rattle.csi_orchestrator.specs.Due.{Due}
 use Rattle.csi_orchestrator.specs.RowChanges.{wanted, with_entry, entry_for, with_aim, new_aim}
 use Rattle.csi_orchestrator.specs.Shown.{PlaceShown, RowShown, Parts, place_of, others_in, marks_at, marks_for, due_with, due_in, closed}
-use Rattle.csi_orchestrator.specs.CoreMoves.{outgoing_by, row_after, row_goes_on, row_rests, row_unless, with_entry_for, needs_entry, step_refusal, is_met, waits, late_refusal, changed, row_step, SendsNothing}
+use Rattle.csi_orchestrator.specs.RowSteps.{outgoing_by, row_after, row_goes_on, row_rests, row_unless, with_entry_for, needs_entry, step_refusal, is_met, waits, late_refusal, changed, row_step, SendsNothing}
 use Rattle.csi_orchestrator.proofs.Texts.{text-same}
 use Rattle.csi_orchestrator.proofs.NotedRow.{mark-with-entry, entry-there}
 

@@ -1,6 +1,6 @@
 -- The parts of the orchestrator's core.
 use Rattle.std.specs.Prelude.{map}
-use Rattle.csi_orchestrator.specs.declared.inner.Core.{Core}
+use Rattle.csi_orchestrator.specs.declared.state.Core.{Core}
 use Rattle.csi_orchestrator.specs.Catalog.{rows_of, IsIndexed, AreUpTo}
 use Rattle.csi_orchestrator.specs.Shown.{Parts, row_shown}
 

@@ -22,5 +22,5 @@ pub mod Found
 pub mod Hearing
 pub mod Laws
 pub mod Rows
-pub mod CoreMoves
+pub mod RowSteps
 pub mod Refusals

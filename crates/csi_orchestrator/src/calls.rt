@@ -9,80 +9,7 @@ ghost use Rattle.csi_orchestrator.specs.Found.{node_due, party_at, call_due};
 
 use crate::due::Due;
 use crate::fault::OrchFault;
-use crate::row::{Arguments, Usage};
-use csi_types::{Call, Frame, Name, NodeId, Number, Party, Target, VolumeId};
-
-// CreateVolume by these arguments.
-fn create_call(name: &Name, arguments: &Arguments) -> Result<Call, OrchFault>
-    ensures ok { IfOk result (λ call. call ≡ Call.CreateVolume name.now arguments.now.required arguments.now.limit arguments.now.capabilities) }
-    ensures err { IfErr result (λ fault. fault ≡ Fault.NoMemory) }
-{
-    let name = name.clone()?;
-    let capabilities = arguments.capabilities.clone()?;
-    Ok(Call::CreateVolume {
-        name,
-        required: arguments.required,
-        limit: arguments.limit,
-        capabilities,
-    })
-}
-
-// ControllerPublishVolume for this use.
-fn attach_call(id: VolumeId, usage: &Usage) -> Result<Call, OrchFault>
-    ensures ok { IfOk result (λ call. call ≡ Call.ControllerPublishVolume id usage.now.node usage.now.capability usage.now.readonly) }
-    ensures err { IfErr result (λ fault. fault ≡ Fault.NoMemory) }
-{
-    let node = usage.node.clone()?;
-    let capability = usage.capability.clone()?;
-    Ok(Call::ControllerPublishVolume {
-        id,
-        node,
-        capability,
-        readonly: usage.readonly,
-    })
-}
-
-// NodeStageVolume for this use.
-fn stage_call(id: VolumeId, usage: &Usage) -> Result<Call, OrchFault>
-    ensures ok { IfOk result (λ call. call ≡ Call.NodeStageVolume id usage.now.capability) }
-    ensures err { IfErr result (λ fault. fault ≡ Fault.NoMemory) }
-{
-    let capability = usage.capability.clone()?;
-    Ok(Call::NodeStageVolume { id, capability })
-}
-
-// NodePublishVolume for this use.
-fn publish_call(id: VolumeId, usage: &Usage) -> Result<Call, OrchFault>
-    ensures ok { IfOk result (λ call. call ≡ Call.NodePublishVolume id usage.now.target usage.now.capability usage.now.readonly) }
-    ensures err { IfErr result (λ fault. fault ≡ Fault.NoMemory) }
-{
-    let target = usage.target.clone()?;
-    let capability = usage.capability.clone()?;
-    Ok(Call::NodePublishVolume {
-        id,
-        target,
-        capability,
-        readonly: usage.readonly,
-    })
-}
-
-// ControllerUnpublishVolume at this node.
-fn detach_call(id: VolumeId, node: &NodeId) -> Result<Call, OrchFault>
-    ensures ok { IfOk result (λ call. call ≡ Call.ControllerUnpublishVolume id node.now) }
-    ensures err { IfErr result (λ fault. fault ≡ Fault.NoMemory) }
-{
-    let node = node.clone()?;
-    Ok(Call::ControllerUnpublishVolume { id, node })
-}
-
-// NodeUnpublishVolume at this target.
-fn unpublish_call(id: VolumeId, target: &Target) -> Result<Call, OrchFault>
-    ensures ok { IfOk result (λ call. call ≡ Call.NodeUnpublishVolume id target.now) }
-    ensures err { IfErr result (λ fault. fault ≡ Fault.NoMemory) }
-{
-    let target = target.clone()?;
-    Ok(Call::NodeUnpublishVolume { id, target })
-}
+use csi_types::{Call, Frame, NodeId, Number, Party};
 
 // The call, spelled. For a delete it takes no memory.
 fn call_of(due: &Due<'_>) -> Result<Call, OrchFault>
@@ -91,14 +18,53 @@ fn call_of(due: &Due<'_>) -> Result<Call, OrchFault>
     ensures delete { kind_of (call_due due.now) ≡ kinds.DeleteVolume → IsOk result }
 {
     match due {
-        Due::Create { name, arguments } => create_call(name, arguments),
+        Due::Create { name, arguments } => {
+            let name = (*name).clone()?;
+            let capabilities = arguments.capabilities.clone()?;
+            Ok(Call::CreateVolume {
+                name,
+                required: arguments.required,
+                limit: arguments.limit,
+                capabilities,
+            })
+        }
         Due::Delete { id } => Ok(Call::DeleteVolume { id: *id }),
-        Due::Attach { id, usage } => attach_call(*id, usage),
-        Due::Detach { id, node } => detach_call(*id, node),
-        Due::Stage { id, usage } => stage_call(*id, usage),
+        Due::Attach { id, usage } => {
+            let node = usage.node.clone()?;
+            let capability = usage.capability.clone()?;
+            Ok(Call::ControllerPublishVolume {
+                id: *id,
+                node,
+                capability,
+                readonly: usage.readonly,
+            })
+        }
+        Due::Detach { id, node } => {
+            let node = (*node).clone()?;
+            Ok(Call::ControllerUnpublishVolume { id: *id, node })
+        }
+        Due::Stage { id, usage } => {
+            let capability = usage.capability.clone()?;
+            Ok(Call::NodeStageVolume {
+                id: *id,
+                capability,
+            })
+        }
         Due::Unstage { id, .. } => Ok(Call::NodeUnstageVolume { id: *id }),
-        Due::Publish { id, usage } => publish_call(*id, usage),
-        Due::Unpublish { id, target, .. } => unpublish_call(*id, target),
+        Due::Publish { id, usage } => {
+            let target = usage.target.clone()?;
+            let capability = usage.capability.clone()?;
+            Ok(Call::NodePublishVolume {
+                id: *id,
+                target,
+                capability,
+                readonly: usage.readonly,
+            })
+        }
+        Due::Unpublish { id, target, .. } => {
+            let target = (*target).clone()?;
+            Ok(Call::NodeUnpublishVolume { id: *id, target })
+        }
     }
 }
 

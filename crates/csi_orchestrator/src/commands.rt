@@ -6,40 +6,20 @@ ghost use Rattle.csi_types.specs.Same.{same_text};
 ghost use Rattle.csi_orchestrator.specs.declared.row.Goal.{Goal};
 ghost use Rattle.csi_orchestrator.specs.Catalog.{rows_of, IsReady, AreUpTo, call_in, IsAfter};
 ghost use Rattle.csi_orchestrator.specs.Core.{parts_of, IsFiled};
-ghost use Rattle.csi_orchestrator.specs.CoreMoves.{frame_in, last_after, steps_at, row_goes_on, Fits, asked_by, IsTold};
+ghost use Rattle.csi_orchestrator.specs.RowSteps.{frame_in, last_after, steps_at, Fits, asked_by, IsTold};
 ghost use Rattle.csi_orchestrator.specs.Moves.{Input, ToCreate, Answer, Sends};
-ghost use Rattle.csi_orchestrator.specs.RowChanges.{new_row as new_row_shown};
 ghost use Rattle.csi_orchestrator.specs.RowMoves.{IsRefusal, IsToldAs, creates, row_moves};
 ghost use Rattle.csi_orchestrator.specs.Shown.{RowShown, row_shown, row_of};
 
 use crate::changes::new_row;
 use crate::fault::OrchFault;
-use crate::inner::Core;
 use crate::next_call::due_now;
 use crate::refusals::first_fault;
 use crate::row::{Arguments, Row};
 use crate::sending::{Outgoing, outgoing_for, send_or_drop};
+use crate::state::Core;
 use crate::step::{Step, take};
-use csi_types::{Frame, Name, Number};
-use std::alloc::Global;
-
-// The row of a name that had none, and what is sent for it.
-#[derive(Drop)]
-struct Begun {
-    row: Row,
-    next: Option<Outgoing>,
-}
-
-// The first create of a name, where nothing refuses it.
-fn begin(alloc: Global, last: Number, name: Name, arguments: Arguments) -> Result<Begun, OrchFault>
-    ensures ok { IfOk result (λ begun. row_goes_on last (new_row_shown name arguments) ≡ Ok (record { outgoing = begun.next; row = row_shown begun.row })) }
-    ensures err { IfErr result (IsRefusal (row_goes_on last (new_row_shown name arguments))) }
-{
-    let mut row = new_row(alloc, name, arguments);
-    let next = outgoing_for(last, &due_now(&row))?;
-    send_or_drop(&mut row, &next);
-    Ok(Begun { row, next })
-}
+use csi_types::{Frame, Name};
 
 impl Core {
     // Counts the call that is sent for the row at this place, and gives its frame.
@@ -111,10 +91,12 @@ impl Core {
         if let Some(fault) = first_fault(self.catalog.rows(), self.last) {
             return Err(fault);
         }
-        let begun = begin(self.alloc, self.last, name, arguments)?;
+        let mut row = new_row(self.alloc, name, arguments);
+        let next = outgoing_for(self.last, &due_now(&row))?;
+        send_or_drop(&mut row, &next);
         let place = self.catalog.rows.len();
-        self.catalog.add(begun.row)?;
-        Ok(self.issue(place, begun.next))
+        self.catalog.add(row)?;
+        Ok(self.issue(place, next))
     }
 
     /// Requests creation of a volume of this name.

@@ -8,7 +8,6 @@ mod changes;
 mod commands;
 mod due;
 mod fault;
-mod inner;
 mod laws;
 mod listing;
 mod marks;
@@ -22,6 +21,7 @@ mod rows;
 mod sending;
 mod sharing;
 mod sorting;
+mod state;
 mod step;
 mod thing;
 

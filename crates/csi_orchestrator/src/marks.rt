@@ -4,8 +4,8 @@ ghost use Rattle.csi_types.specs.Same.{same_text};
 ghost use Rattle.csi_orchestrator.specs.Thing.{is_no};
 ghost use Rattle.csi_orchestrator.specs.Shown.{row_shown, marks_of_volume, marks_at, marks_for};
 
-use crate::inner::{place_at, published_at};
 use crate::row::{Aim, Goal, Row};
+use crate::state::{place_at, published_at};
 use crate::thing::Known;
 use csi_types::{NodeId, Target};
 

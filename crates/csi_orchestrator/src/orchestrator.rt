@@ -7,9 +7,9 @@ ghost use Rattle.csi_orchestrator.specs.declared.thing.Thing.{Thing as ThingShow
 
 use crate::catalog::Catalog;
 use crate::fault::{Heard, OrchFault};
-use crate::inner::{Core, known_in};
 use crate::listing::things_in;
 use crate::row::{Arguments, Goal, Usage};
+use crate::state::{Core, known_in};
 use crate::step::Step;
 use crate::thing::{Known, Thing};
 use csi_types::{Capability, CapabilityList, Frame, Name, NodeId, Number, Target};

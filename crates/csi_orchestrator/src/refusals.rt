@@ -4,7 +4,7 @@ ghost use Rattle.csi_orchestrator.specs.Commands.{next_number as number_after};
 ghost use Rattle.csi_orchestrator.specs.Shown.{row_shown};
 ghost use Rattle.csi_orchestrator.specs.RowMoves.{first_fault as first_refusal, again_fault as again_refusal, use_refusal, room_refusal, stop_refusal, delete_refusal, busy_refusal};
 ghost use Rattle.csi_orchestrator.specs.Found.{without_rows, with_last, with_rows};
-ghost use Rattle.csi_orchestrator.specs.CoreMoves.{goal_refusal, step_refusal, late_refusal};
+ghost use Rattle.csi_orchestrator.specs.RowSteps.{goal_refusal, step_refusal, late_refusal};
 
 use crate::due::next_number;
 use crate::fault::OrchFault;

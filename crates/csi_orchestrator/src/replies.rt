@@ -7,7 +7,7 @@ ghost use Rattle.csi_orchestrator.specs.declared.fault.Heard.TheVariants.{Ignore
 ghost use Rattle.csi_orchestrator.specs.Moves.{Comes, Hears, hears};
 ghost use Rattle.csi_orchestrator.specs.Shown.{row_shown, due_in, open_in_row};
 ghost use Rattle.csi_orchestrator.specs.RowMoves.{is_issued_as, hears_reply, row_replied, row_moves, IsRefusal, IsToldAs};
-ghost use Rattle.csi_orchestrator.specs.CoreMoves.{IsTold};
+ghost use Rattle.csi_orchestrator.specs.RowSteps.{IsTold};
 ghost use Rattle.csi_orchestrator.specs.Hearing.{is_due_as as is_told_as, step_heard};
 ghost use Rattle.csi_orchestrator.specs.Kept.{AreKept};
 ghost use Rattle.csi_orchestrator.specs.Catalog.{rows_of, IsIndexed};
@@ -15,9 +15,9 @@ ghost use Rattle.csi_orchestrator.specs.Core.{parts_of, IsFiled};
 
 use crate::catalog::Catalog;
 use crate::fault::{Heard, OrchFault};
-use crate::inner::Core;
 use crate::next_call::due_now;
 use crate::row::Row;
+use crate::state::Core;
 use crate::step::Step;
 use csi_types::{Body, Frame, Kind, Number, Party, Reply, Status};
 

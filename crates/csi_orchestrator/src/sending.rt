@@ -4,7 +4,7 @@ ghost use Rattle.csi_orchestrator.specs.Commands.{next_number as number_after};
 ghost use Rattle.csi_orchestrator.specs.Shown.{row_shown};
 ghost use Rattle.csi_orchestrator.specs.Found.{due_shown, IsQuiet};
 ghost use Rattle.csi_orchestrator.specs.RowMoves.{IsRefusal};
-ghost use Rattle.csi_orchestrator.specs.CoreMoves.{outgoing_by, gone_on};
+ghost use Rattle.csi_orchestrator.specs.RowSteps.{outgoing_by, gone_on};
 
 use crate::calls::frame_of;
 use crate::changes::{drop_goal, send};

@@ -8,9 +8,9 @@ ghost use Rattle.csi_orchestrator.specs.Commands.{is_for_one_node as is_one_node
 ghost use Rattle.csi_orchestrator.specs.Shown.{row_shown, place_shown, place_of, mark_in, published_in, others_in, held_at};
 ghost use Rattle.csi_orchestrator.specs.RowMoves.{is_so_elsewhere, is_place_otherwise, others_count as count_others};
 
-use crate::inner::{place_at, published_at};
 use crate::marks::others_of;
 use crate::row::{Place, Row, Usage};
+use crate::state::{place_at, published_at};
 use csi_types::{NodeId, Target, allows_one_target, same_way, single_node, two_writers};
 
 /// Whether the node is one of these.

@@ -2,7 +2,7 @@
 ghost use Rattle.std.specs.Prelude.{◌≡◌, false, Ok, Some, IfOk, IfErr, IsOk, OnOk, OnErr};
 ghost use Rattle.csi_orchestrator.specs.Found.{without_rows};
 ghost use Rattle.csi_orchestrator.specs.RowMoves.{IsRefusal};
-ghost use Rattle.csi_orchestrator.specs.CoreMoves.{is_met as is_so, waits as is_left, is_given_up as gives_up, timed_out, failed, changed, needs_entry, row_goes_on, row_step, SendsNothing, Fits};
+ghost use Rattle.csi_orchestrator.specs.RowSteps.{is_met as is_so, waits as is_left, is_given_up as gives_up, timed_out, failed, changed, needs_entry, row_goes_on, row_step, SendsNothing, Fits};
 ghost use Rattle.csi_orchestrator.specs.Shown.{row_shown, due_in};
 
 use crate::changes::{add_entry, close, stop_use, succeed, want, want_anew};

@@ -1,6 +1,6 @@
 -- An entry for a use tells nothing that wasn't known.
 use Rattle.std.proofs.Common.{sym, ◌∙◌, ap}
-use Rattle.csi_orchestrator.specs.CoreMoves.{changed}
+use Rattle.csi_orchestrator.specs.RowSteps.{changed}
 use Rattle.csi_orchestrator.specs.Shown.{row_shown, due_in}
 use Rattle.csi_orchestrator.proofs.RowsGoOn.{due-wanted}
 use Rattle.csi_orchestrator.proofs.next_call.due_then.Goals as goal

@@ -1,7 +1,7 @@
 -- The call is noted, and is the last one then.
 use Rattle.std.proofs.Common.{ap, arith}
 use Rattle.csi_orchestrator.specs.Catalog.{call_in}
-use Rattle.csi_orchestrator.proofs.inner.Core.issue.Goals as goal
+use Rattle.csi_orchestrator.proofs.state.Core.issue.Goals as goal
 
 pub returns-in-Some-clause-filed : goal.returns-in-Some-clause-filed
 returns-in-Some-clause-filed c =

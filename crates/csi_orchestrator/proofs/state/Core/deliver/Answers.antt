@@ -10,7 +10,7 @@ use Rattle.csi_orchestrator.specs.Core.{parts_of}
 use Rattle.csi_orchestrator.specs.Moves.{Hears, hears}
 use Rattle.csi_orchestrator.specs.RowMoves.{receives, IsToldAs}
 use Rattle.csi_orchestrator.specs.Shown.{Parts}
-use Rattle.csi_orchestrator.proofs.inner.Core.deliver.Goals as goal
+use Rattle.csi_orchestrator.proofs.state.Core.deliver.Goals as goal
 
 -- a frame by its parts
 by-parts : (parts : Parts) (frame : Frame) (number : Number) (party : Party) (reply body : Body) → number ≡ frame.number → party ≡ frame.party → body ≡ frame.body → body ≡ reply

@@ -3,7 +3,7 @@ use Rattle.std.proofs.Common.{sym}
 use Rattle.csi_types.specs.Same.{same_text}
 use Rattle.csi_orchestrator.specs.Shown.{PlaceShown, place_shown}
 use Rattle.csi_orchestrator.proofs.ChangedEntries.{find-place, find-none_placed}
-use Rattle.csi_orchestrator.proofs.inner.place_at.Goals as goal
+use Rattle.csi_orchestrator.proofs.state.place_at.Goals as goal
 
 pub returns-in-Some : goal.returns-in-Some
 returns-in-Some c = sym (find-place place_shown (λ (place : PlaceShown). same_text place.node c.args.node.now) c.args.row.now.places.items c.in-Some.index c.index.result.now (cc) (cc))

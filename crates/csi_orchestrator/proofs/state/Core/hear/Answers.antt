@@ -4,13 +4,13 @@ use Rattle.csi_types.specs.Frame.{Frame}
 use Rattle.csi_orchestrator.specs.declared.fault.Heard.TheVariants.{Ignored}
 use Rattle.csi_orchestrator.specs.Catalog.{rows_of}
 use Rattle.csi_orchestrator.specs.Core.{parts_of}
-use Rattle.csi_orchestrator.specs.CoreMoves.{Fits}
+use Rattle.csi_orchestrator.specs.RowSteps.{Fits}
 use Rattle.csi_orchestrator.specs.Moves.{Hears, hears}
 use Rattle.csi_orchestrator.specs.RowMoves.{hears_reply, IsRefusal, IsToldAs}
 use Rattle.csi_orchestrator.specs.Shown.{row_shown}
 use Rattle.csi_orchestrator.proofs.HeardParts.{replied-at, reply-fits, reply-told, never-ignored, unfound}
 use Rattle.csi_orchestrator.proofs.RowsGoOn.{passed-on}
-use Rattle.csi_orchestrator.proofs.inner.Core.hear.Goals as goal
+use Rattle.csi_orchestrator.proofs.state.Core.hear.Goals as goal
 
 pub step-requires-clause-fits : goal.step-requires-clause-fits
 step-requires-clause-fits c = λ row there.

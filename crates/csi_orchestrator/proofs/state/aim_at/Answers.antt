@@ -4,7 +4,7 @@ use Rattle.csi_lists.proofs.Searches.{find-no_place}
 use Rattle.csi_types.specs.Same.{same_text}
 use Rattle.csi_orchestrator.specs.declared.row.Aim.{Aim}
 use Rattle.csi_orchestrator.proofs.ChangedEntries.{find-placed}
-use Rattle.csi_orchestrator.proofs.inner.aim_at.Goals as goal
+use Rattle.csi_orchestrator.proofs.state.aim_at.Goals as goal
 
 pub returns-in-Some : goal.returns-in-Some
 returns-in-Some c = sym (find-placed (λ (aim : Aim). same_text aim.target c.args.target.now) c.args.place.now.aims.items c.in-Some.index c.index.result.now (cc) (cc))

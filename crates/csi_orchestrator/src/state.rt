@@ -1,4 +1,4 @@
-//! The orchestrator's parts, what its rows know of a thing, and its restart.
+//! The state of an orchestrator: its parts, what its rows know of a thing, and its restart.
 ghost use Rattle.std.specs.Prelude.{◌≡◌, ◌+◌, ◌<◌, ◌^◌, IfErr, OnErr, OnOk, None, IsTrue, not, nat_lt, map, option_map};
 ghost use Rattle.std.specs.Option.{option_copied};
 ghost use Rattle.csi_orchestrator.specs.declared.fault.OrchFault.{OrchFault as Fault};

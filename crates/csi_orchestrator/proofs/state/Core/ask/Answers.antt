@@ -6,12 +6,12 @@ use Rattle.csi_orchestrator.specs.declared.fault.OrchFault.{OrchFault}
 use Rattle.csi_orchestrator.specs.declared.fault.OrchFault.TheVariants.{NoSuchVolume}
 use Rattle.csi_orchestrator.specs.Catalog.{rows_of}
 use Rattle.csi_orchestrator.specs.Core.{parts_of}
-use Rattle.csi_orchestrator.specs.CoreMoves.{steps_at}
+use Rattle.csi_orchestrator.specs.RowSteps.{steps_at}
 use Rattle.csi_orchestrator.specs.Moves.{Sends}
 use Rattle.csi_orchestrator.specs.RowMoves.{Told, told, IsRefusal, IsToldAs}
 use Rattle.csi_orchestrator.proofs.CalledRows.{shown-nowhere}
 use Rattle.csi_orchestrator.proofs.PlacedRows.{asked}
-use Rattle.csi_orchestrator.proofs.inner.Core.ask.Goals as goal
+use Rattle.csi_orchestrator.proofs.state.Core.ask.Goals as goal
 
 pub returns-in-Some-clause-told : goal.returns-in-Some-clause-told
 returns-in-Some-clause-told c = λ input is.

@@ -1,7 +1,7 @@
 -- By the row at the place.
 use Rattle.std.proofs.Common.{ℕ, List, sym, ◌∙◌, ap, subst}
 use Rattle.csi_orchestrator.specs.Core.{parts_of}
-use Rattle.csi_orchestrator.specs.CoreMoves.{row_step, SendsNothing}
+use Rattle.csi_orchestrator.specs.RowSteps.{row_step, SendsNothing}
 use Rattle.csi_orchestrator.specs.Found.{without_rows}
 use Rattle.csi_orchestrator.specs.RowMoves.{IsRefusal}
 use Rattle.csi_orchestrator.specs.Shown.{row_shown}
@@ -9,7 +9,7 @@ use Rattle.csi_orchestrator.proofs.CalledRows.{step-refused, step-told, step-qui
 use Rattle.csi_orchestrator.proofs.Indexed.{within-set, indexed-refused}
 use Rattle.csi_orchestrator.proofs.Opened.{ready-told}
 use Rattle.csi_orchestrator.proofs.RowsGoOn.{passed-on, holds-at_err}
-use Rattle.csi_orchestrator.proofs.inner.Core.step.Goals as goal
+use Rattle.csi_orchestrator.proofs.state.Core.step.Goals as goal
 
 pub returns-in_err-next-clause-err : goal.returns-in_err-next-clause-err
 returns-in_err-next-clause-err c = λ name answer at.

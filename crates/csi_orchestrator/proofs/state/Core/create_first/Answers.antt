@@ -1,0 +1,52 @@
+-- The new row comes last.
+use Rattle.std.proofs.Common.{◌≡◌, ℕ, List, length, map, sym, ◌∙◌, ap, subst}
+use Rattle.std.specs.Prelude.{Option, Ok, option_map}
+use Rattle.std.proofs.lemmas.List.{length-map}
+use Rattle.csi_types.specs.declared.number.Number.{Number}
+use Rattle.csi_orchestrator.specs.declared.row.Row.{Row}
+use Rattle.csi_orchestrator.specs.declared.sending.Outgoing.{Outgoing}
+use Rattle.csi_orchestrator.specs.Catalog.{rows_of, IsReady, call_in}
+use Rattle.csi_orchestrator.specs.Commands.{next_number}
+use Rattle.csi_orchestrator.specs.Core.{parts_of}
+use Rattle.csi_orchestrator.specs.RowSteps.{RowTold, outgoing_by, gone_on, row_after, row_goes_on, last_after}
+use Rattle.csi_orchestrator.specs.Due.{Due}
+use Rattle.csi_orchestrator.specs.Found.{due_shown, with_rows}
+use Rattle.csi_orchestrator.specs.RowChanges.{new_row}
+use Rattle.csi_orchestrator.specs.RowMoves.{first_fault}
+use Rattle.csi_orchestrator.specs.Shown.{RowShown, Parts, row_shown, due_in}
+use Rattle.csi_orchestrator.proofs.CalledRows.{first-told}
+use Rattle.csi_orchestrator.proofs.Opened.{next-created}
+use Rattle.csi_orchestrator.proofs.state.Core.create_first.Goals as goal
+
+-- the row goes on by what is found of the one that was made
+goes-on : (last : Number) (row made sent : RowShown) (due : Option Due) (next : Option Outgoing) → made ≡ row → due ≡ due_in made → outgoing_by due (next_number last) ≡ Ok next → sent ≡ gone_on next made
+    → row_goes_on last row ≡ Ok (record { outgoing = next; row = sent })
+goes-on last row made sent due next same is found then =
+    ap (row_after row) (ap (λ d. outgoing_by d (next_number last)) (ap due_in (sym same) ∙ sym is) ∙ found)
+    ∙ ap (λ r. let told : RowTold = record { outgoing = next; row = r } in Ok told) (ap (gone_on next) (sym same) ∙ sym then)
+
+pub issue-requires-clause-ready : goal.issue-requires-clause-ready
+issue-requires-clause-ready c =
+    let core = c.args.self.now in
+    let next = c.in_ok-next.next in
+    let sent = c.send_or_drop.new.row in
+    let on = goes-on core.last (new_row c.args.name c.args.arguments) (row_shown c.new_row-row.result) (row_shown sent) (option_map due_shown c.due_now.result) next
+    c.new_row-row.ensures c.due_now.ensures c.in_ok-next.ensures.ok c.send_or_drop.ensures in
+    let long : length (rows_of core.catalog) ≡ c.len-place.result = length-map core.catalog.rows.entries (λ (e : List ℕ × Row). e.1) ∙ sym c.len-place.ensures.len in
+    subst (λ (n : ℕ). IsReady c.add.new.self n (call_in next)) long
+    (c.in_ok-add.ensures.ready (call_in next) (next-created core.catalog core.last c.args.name c.args.arguments sent next c.requires.filed.known on).0)
+
+pub returns-clause-ok : goal.returns-clause-ok
+returns-clause-ok c =
+    let core = c.args.self.now in
+    let next = c.in_ok-next.next in
+    let sent = c.send_or_drop.new.row in
+    let on = goes-on core.last (new_row c.args.name c.args.arguments) (row_shown c.new_row-row.result) (row_shown sent) (option_map due_shown c.due_now.result) next
+    c.new_row-row.ensures c.due_now.ensures c.in_ok-next.ensures.ok c.send_or_drop.ensures in
+    let made = next-created core.catalog core.last c.args.name c.args.arguments sent next c.requires.filed.known on in
+    let fits = ap (λ (rows : List Row). first_fault (with_rows core.last (map row_shown rows))) (sym c.rows.ensures) ∙ sym c.first_fault.ensures ∙ c.in_default.is in
+    first-told core.nodes.items core.last (rows_of core.catalog) c.args.name c.args.arguments sent next c.issue.result (parts_of c.issue.new.self)
+    c.requires.new_name fits on made.1 c.issue.ensures.frame
+    (c.issue.ensures.parts
+    ∙ ap (λ (rows : List Row). let parts : Parts = record { nodes = core.nodes.items; last = last_after core.last next; rows = map row_shown rows } in parts)
+    c.in_ok-add.ensures.added)
