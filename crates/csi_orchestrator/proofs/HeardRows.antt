@@ -13,7 +13,7 @@ use Rattle.csi_orchestrator.specs.RowChanges.{marked, told_of, id_told, succeede
 use Rattle.csi_orchestrator.specs.Shown.{RowShown, due_with, due_by, due_in}
 use Rattle.csi_orchestrator.proofs.DueCases.{due-cases}
 use Rattle.csi_orchestrator.proofs.GoingOn.{has-entry}
-use Rattle.csi_orchestrator.proofs.Marked.{marks-then}
+use Rattle.csi_orchestrator.proofs.RowMarks.{marks-then}
 use Rattle.csi_orchestrator.proofs.SentRow.{marks-same}
 
 -- the call that is due once the due call succeeded, by what was known before; and the same by that call's kind

@@ -27,7 +27,7 @@ use Rattle.csi_orchestrator.specs.Commands.{held_elsewhere, is_otherwise, is_hel
 use Rattle.csi_orchestrator.specs.Shown.{PlaceShown, RowShown, place_of, aim_of, mark_in, published_in, held_at, others_in, AreTargetsApart}
 use Rattle.csi_orchestrator.specs.Kept.{ArePlacesApart}
 use Rattle.csi_orchestrator.specs.RowMoves.{is_so_elsewhere, has_elsewhere, is_place_otherwise, others_count, is_attached_somewhere}
-use Rattle.csi_orchestrator.proofs.Following.{touches-name}
+use Rattle.csi_orchestrator.proofs.ViewsFollow.{touches-name}
 use Rattle.csi_orchestrator.proofs.Joined.{own-entry}
 use Rattle.csi_orchestrator.proofs.RowViews.{IsRowOf}
 use Rattle.csi_orchestrator.proofs.Texts.{among-distinct, distinct-once, as-many-as}

@@ -1,10 +1,10 @@
 pub mod AddedItems
 pub mod Numbers
-pub mod Following
+pub mod ViewsFollow
 pub mod Keyed
 pub mod RowViews
 pub mod DueCases
-pub mod Marked
+pub mod RowMarks
 pub mod SentRow
 pub mod NotedRow
 pub mod Entries
@@ -39,6 +39,6 @@ pub mod HeardRows
 pub mod HeardParts
 pub mod Indexed
 pub mod Standing
-pub mod Noted
+pub mod NotedCalls
 pub mod Opened
 pub mod FoundRows

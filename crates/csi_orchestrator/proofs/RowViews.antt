@@ -18,7 +18,7 @@ use Rattle.csi_orchestrator.specs.Agrees.{View, Agrees}
 use Rattle.csi_orchestrator.specs.Following.{after_sent, after_accepted, after_closed, after_noted}
 use Rattle.csi_orchestrator.specs.Shown.{RowShown, Parts, row_of, mark_in, mark_of, goal_in, held_in, open_in_row, tries_in, view_of, AgreesWith}
 use Rattle.csi_orchestrator.specs.RowMoves.{put}
-use Rattle.csi_orchestrator.proofs.Following.{touches-name, and-false}
+use Rattle.csi_orchestrator.proofs.ViewsFollow.{touches-name, and-false}
 use Rattle.csi_orchestrator.proofs.Keyed.{find-put}
 
 -- the row tells what is shown of a name

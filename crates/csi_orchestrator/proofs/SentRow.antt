@@ -33,8 +33,8 @@ use Rattle.csi_orchestrator.specs.Shown.{RowShown, place_of, mark_in, mark_of, h
 use Rattle.csi_orchestrator.proofs.Texts.{text-same}
 use Rattle.csi_orchestrator.proofs.DueCases.{attaching, staging, publishing, unpublishing, unstaging, detaching, IsDueFor, ToMake, ToRemove, ToAttach, ToStage, ToPublish, ToUnpublish, ToUnstage, ToDetach}
 use Rattle.csi_orchestrator.proofs.Texts.{same_text-flip}
-use Rattle.csi_orchestrator.proofs.Following.{and-false}
-use Rattle.csi_orchestrator.proofs.Marked.{IsMarked, GoalHasEntry, at-work, is-marked, marks-then}
+use Rattle.csi_orchestrator.proofs.ViewsFollow.{and-false}
+use Rattle.csi_orchestrator.proofs.RowMarks.{IsMarked, GoalHasEntry, at-work, is-marked, marks-then}
 use Rattle.csi_orchestrator.proofs.RowViews.{Reads}
 use Rattle.csi_orchestrator.proofs.KnownTests.{not_no}
 

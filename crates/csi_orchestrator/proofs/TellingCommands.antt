@@ -25,7 +25,7 @@ use Rattle.csi_orchestrator.specs.Shown.{RowShown, Parts, row_of, place_of, due_
 use Rattle.csi_orchestrator.specs.RowChanges.{wanted, new_row, wanted_anew, with_entry}
 use Rattle.csi_orchestrator.specs.RowMoves.{Told, goes_on, unless_refused, first_fault, again_fault, creates, has_elsewhere, is_place_otherwise, use_refusal, room_refusal, due_for_use, use_or_met, uses, stop_refusal, stops, is_attached_somewhere, delete_refusal, busy_refusal, delete_or_met, deletes}
 use Rattle.csi_orchestrator.specs.Kept.{MayBeWanted, IsKept, AreKept}
-use Rattle.csi_orchestrator.proofs.Following.{noted-follows}
+use Rattle.csi_orchestrator.proofs.ViewsFollow.{noted-follows}
 use Rattle.csi_orchestrator.proofs.GoingOn.{Tells, IsReady, goes-on-tells}
 use Rattle.csi_orchestrator.proofs.Keeping.{first-held, is-made, found-kept, all-detached}
 use Rattle.csi_orchestrator.proofs.KeptRows.{AreDistinct, kept-distinct}

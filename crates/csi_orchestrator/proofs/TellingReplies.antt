@@ -39,7 +39,7 @@ use Rattle.csi_orchestrator.specs.Kept.{IsKept, AreKept, AreGuarded, RowsTell, M
 use Rattle.csi_orchestrator.proofs.Texts.{text-same}
 use Rattle.csi_orchestrator.proofs.DueCalls.{due-of-row}
 use Rattle.csi_orchestrator.proofs.DueCases.{IsDueFor, due-cases, ToAttach, ToStage, ToPublish}
-use Rattle.csi_orchestrator.proofs.Following.{accepted-follows, closed-follows, noted-follows, started-follows}
+use Rattle.csi_orchestrator.proofs.ViewsFollow.{accepted-follows, closed-follows, noted-follows, started-follows}
 use Rattle.csi_orchestrator.proofs.GoingOn.{Guards, Tells, IsReady, has-entry, then-dropped, goes-on-tells}
 use Rattle.csi_orchestrator.proofs.Keeping.{found-kept}
 use Rattle.csi_orchestrator.proofs.KeptRows.{kept-distinct, due-fits-goal, marked-distinct, kept-closed, wanted-succeeded}

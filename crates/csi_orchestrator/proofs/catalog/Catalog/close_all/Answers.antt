@@ -2,7 +2,7 @@
 use Rattle.std.proofs.Common.{refl, arith}
 use Rattle.csi_orchestrator.specs.Catalog.{rows_of}
 use Rattle.csi_orchestrator.specs.declared.catalog.Catalog.{Catalog}
-use Rattle.csi_orchestrator.proofs.Noted.{turn-closed, closed-all, emptied-indexed, emptied-free, emptied-room}
+use Rattle.csi_orchestrator.proofs.NotedCalls.{turn-closed, closed-all, emptied-indexed, emptied-room}
 use Rattle.csi_orchestrator.proofs.catalog.Catalog.close_all.Goals as goal
 
 pub loop-turn-preserved : goal.loop-turn-preserved
@@ -26,4 +26,3 @@ returns-clause-indexed c =
     (closed-all c.args.self.now c.loop-turn.self c.loop-turn.turn c.requires.noted c.loop-turn.invariant (omega (arith, long, over)))
     c.loop-turn.invariant.names refl c.clear.ensures.empty
     (emptied-room c.args.self.now c.loop-turn.self then c.loop-turn.turn c.requires.noted c.loop-turn.invariant refl c.clear.ensures.capacity)
-    (emptied-free c.args.self.now c.loop-turn.self then c.loop-turn.turn c.requires.noted c.loop-turn.invariant refl c.clear.ensures.capacity)

@@ -1,5 +1,5 @@
 -- The calls before this turn are closed.
-use Rattle.csi_orchestrator.proofs.Noted.{ClosedBefore}
+use Rattle.csi_orchestrator.proofs.NotedCalls.{ClosedBefore}
 use Rattle.csi_orchestrator.proofs.catalog.Catalog.close_all.Given as goal
 
 abbrev pub invariant-loop-turn : goal.invariant-loop-turn

@@ -3,7 +3,7 @@ use Rattle.std.proofs.Common.{sym, ◌∙◌, subst, refl}
 use Rattle.std.specs.Prelude.{Option}
 use Rattle.csi_types.specs.declared.number.Number.{Number}
 use Rattle.csi_orchestrator.specs.Catalog.{rows_of, IsNotedWith}
-use Rattle.csi_orchestrator.proofs.Noted.{held-ok, grown, open-there}
+use Rattle.csi_orchestrator.proofs.NotedCalls.{held-ok, grown, open-there}
 use Rattle.csi_orchestrator.proofs.catalog.Catalog.note_open.Goals as goal
 
 pub returns-in-Some-clause-noted : goal.returns-in-Some-clause-noted

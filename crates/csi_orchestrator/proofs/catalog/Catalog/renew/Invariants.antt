@@ -1,7 +1,7 @@
 -- The open calls of the rows before this place are noted, and no other.
 use Rattle.std.proofs.Common.{◌≤◌, length}
 use Rattle.csi_orchestrator.specs.Catalog.{rows_of}
-use Rattle.csi_orchestrator.proofs.Noted.{Renewed}
+use Rattle.csi_orchestrator.proofs.NotedCalls.{Renewed}
 use Rattle.csi_orchestrator.proofs.catalog.Catalog.renew.Given as goal
 
 abbrev pub invariant-loop-place : goal.invariant-loop-place

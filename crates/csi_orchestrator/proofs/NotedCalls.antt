@@ -1,4 +1,4 @@
--- The calls that are noted: what stays so when one more is noted, when the open ones are noted anew, and when all are closed.
+-- The calls that are noted: what stays so when the open ones are noted anew, and when all are closed.
 use Rattle.std.proofs.Common.{◌≡◌, ◌<◌, ◌≤◌, ◌+◌, ◌⊎◌, inl, inr, ℕ, zero, suc, Bool, true, false, cond, List, [], ◌∷◌, length, get_or, map, refl, sym, ◌∙◌, ap, subst, arith}
 use Rattle.std.specs.Prelude.{Option, Some, None, is_some, slice_get, nat_eq, Result, Ok, Err, IsOk, IfOk, OnOk}
 use Rattle.std.specs.Map.{values_of, lookup}
@@ -137,8 +137,6 @@ renewed-noted old now k noted renewed over =
       room = λ some. let long = ap length same in let least = noted.room (omega (arith, long, some)) in let room = renewed.room in omega (arith, long, least, room);
     }
 
--- ---- one more call
-
 -- ---- every call is closed
 
 -- those that were noted in the first turns are closed, and no row is otherwise
@@ -209,8 +207,8 @@ closed-all old now turn noted closed over = all-mapped without_call (rows_of old
 
 -- no call is noted after that
 pub emptied-indexed : (rows : List Row) (now then : Catalog) → rows_of now ≡ map without_call rows → now.rows.entries ≡ map by_name (rows_of now) → then.rows ≡ now.rows → then.calls.entries ≡ []
-    → HasRoom then → (0 < length (rows_of then) → 0 < spare then.calls) → IsIndexed then
-emptied-indexed rows now then closed names same empty room free =
+    → HasRoom then → IsIndexed then
+emptied-indexed rows now then closed names same empty room =
     let rows_same : rows_of then ≡ rows_of now = ap values same in
     record {
       rows = subst (λ (m : IndexMap (List ℕ) Row _). m.entries ≡ map by_name (values m)) (sym same) names;
@@ -218,7 +216,7 @@ emptied-indexed rows now then closed names same empty room free =
         found = λ place row number at is_open. absurd (none-open place row number rows (subst (λ (rs : List Row). IsAt rs place row) (rows_same ∙ closed) at) is_open);
         room = room;
       };
-      free = free;
+      free = λ some. let least = room some in let none = ap length empty in omega (arith, least, none);
     }
   where
     none-open : (place : ℕ) (row : Row) (number : Number) (rs : List Row) → IsAt (map without_call rs) place row → row.open_number ≡ Some number → ⊥
@@ -243,14 +241,6 @@ renewed-step old now then k last noted renewed is below rows more = by (slice_ge
         let there = at-of_get (rows_of old) k at.0 at.2 in
         renewed-more old now then k at.0 noted renewed there rows (more at.0 (subst (λ (rs : List Row). IsAt rs k at.0) (sym same) there))
     by (inr past) inside = let over = past.0 in absurd (omega (arith, over, inside))
-
--- what room there is once no call is noted
-pub emptied-free : (old now then : Catalog) (turn : ℕ) → IsNoted old → ClosedBefore old turn now → then.rows ≡ now.rows → index_map_len now.calls + spare now.calls ≤ spare then.calls → 0 < length (rows_of then) → 0 < spare then.calls
-emptied-free old now then turn noted closed same room some =
-    let long : length (rows_of then) ≡ length (rows_of old) = ap (λ (m : IndexMap (List ℕ) Row _). length (values m)) same ∙ closed.long in
-    let before = subst (λ (m : IndexMap ℕ ℕ _). index_map_len m + spare m ≤ spare then.calls) closed.calls room in
-    let least = noted.room (omega (arith, long, some)) in
-    omega (arith, least, before)
 
 -- more calls can be noted then than there are rows
 pub emptied-room : (old now then : Catalog) (turn : ℕ) → IsNoted old → ClosedBefore old turn now → then.rows ≡ now.rows → index_map_len now.calls + spare now.calls ≤ spare then.calls → HasRoom then
