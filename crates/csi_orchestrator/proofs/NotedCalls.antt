@@ -12,7 +12,7 @@ use Rattle.csi_lists.proofs.Places.{same-at}
 use Rattle.csi_types.specs.declared.number.Number.{Number}
 use Rattle.csi_orchestrator.specs.declared.row.Row.{Row}
 use Rattle.csi_orchestrator.specs.declared.catalog.Catalog.{Catalog}
-use Rattle.csi_orchestrator.specs.Catalog.{rows_of, by_name, place_noted, HasRoom, IsNoted, IsNotedWith, IsIndexed, IsReady, IsClosedAt, AreUpTo}
+use Rattle.csi_orchestrator.specs.Catalog.{rows_of, by_name, place_noted, HasRoom, IsNoted, IsNotedWith, IsIndexed, IsClosedAt}
 use Rattle.csi_orchestrator.specs.Shown.{without_call}
 use Rattle.csi_orchestrator.proofs.Indexed.{rows-within}
 use Rattle.csi_orchestrator.proofs.Standing.{at-of_get, get-of_at, at-within, all-mapped}

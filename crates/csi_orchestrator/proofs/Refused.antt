@@ -3,7 +3,7 @@ use Rattle.std.proofs.Common.{◌≡◌, ℕ, List, true, false, cond, length, r
 use Rattle.std.specs.Prelude.{Option, Some, None, is_some, is_none, option_and_then, filter_map, nat_lt}
 use Rattle.std.proofs.lemmas.Bool.{false≢true}
 use Rattle.csi_lists.specs.Members.{IsAmong}
-use Rattle.csi_lists.proofs.Members.{among-find, each_of, some-found}
+use Rattle.csi_lists.proofs.Members.{among-find, some-found}
 use Rattle.csi_lists.proofs.Options.{is_some-map}
 use Rattle.csi_lists.proofs.Tests.{then-any, any-then}
 use Rattle.csi_types.specs.Same.{same_text}
@@ -15,7 +15,7 @@ use Rattle.csi_orchestrator.specs.Readings.{id_of, goal_of, name_noted, names_of
 use Rattle.csi_orchestrator.specs.Due.{due_use}
 use Rattle.csi_orchestrator.specs.Commands.{next_number, is_spent, create_fault, is_for_one_node, is_second_writer, use_fault, use_room_fault, stop_fault, delete_fault, delete_busy_fault, timeout_fault}
 use Rattle.csi_orchestrator.specs.Shown.{RowShown, Parts, row_of, place_of, goal_shown, goal_in, AgreesWith}
-use Rattle.csi_orchestrator.specs.Kept.{IsKept, AreKept}
+use Rattle.csi_orchestrator.specs.Kept.{AreKept}
 use Rattle.csi_orchestrator.specs.RowMoves.{is_last, first_fault, again_fault, use_refusal, room_refusal, due_for_use, stop_refusal, delete_refusal, busy_refusal}
 use Rattle.csi_orchestrator.proofs.DueCalls.{use-told}
 use Rattle.csi_orchestrator.proofs.InUse.{elsewhere-alike, attached-alike, otherwise-alike, others-alike, others-counted}
