@@ -39,11 +39,13 @@ pub shown-nowhere : (rows : List Row) (name : List ℕ) → position (λ (row : 
 shown-nowhere rows name none = find-none_placed row_shown (λ (row : RowShown). same_text row.name name) rows none
 
 -- the row that is found under a name, as it is kept
-pub shown-there : (rows : List Row) (name : List ℕ) (i : ℕ) (r : Row) → position (λ (row : Row). same_text row.name name) rows ≡ Some i → slice_get rows i ≡ Some r → row_of (map row_shown rows) name ≡ Some (row_shown r)
+pub shown-there : (rows : List Row) (name : List ℕ) (i : ℕ) (r : Row) → position (λ (row : Row). same_text row.name name) rows ≡ Some i → slice_get rows i ≡ Some r
+    → row_of (map row_shown rows) name ≡ Some (row_shown r)
 shown-there rows name i r at stands = find-place row_shown (λ (row : RowShown). same_text row.name name) rows i r at (read-at rows i r stands)
 
 -- a step is told by the row that stands there
-stepped-there : (core : Core) (answer : Option Frame → Answer) (step : Step) (name : List ℕ) (i : ℕ) (r : Row) → position (λ (row : Row). same_text row.name name) (rows_of core.catalog) ≡ Some i → slice_get (rows_of core.catalog) i ≡ Some r
+stepped-there : (core : Core) (answer : Option Frame → Answer) (step : Step) (name : List ℕ) (i : ℕ) (r : Row) → position (λ (row : Row). same_text row.name name) (rows_of core.catalog) ≡ Some i
+    → slice_get (rows_of core.catalog) i ≡ Some r
     → steps_at (parts_of core) answer step (row_of (map row_shown (rows_of core.catalog)) name) ≡ placed (parts_of core) answer (row_step (parts_of core) step (row_shown r))
 stepped-there core answer step name i r at stands = ap (steps_at (parts_of core) answer step) (shown-there (rows_of core.catalog) name i r at stands)
 
@@ -59,13 +61,16 @@ step-refused core answer step name i r fault stands refused at =
     by (Err other) is = is
 
 -- where it is told that nothing is sent, the row sends nothing
-pub step-quiet : (core : Core) (answer : Option Frame → Answer) (step : Step) (name : List ℕ) (i : ℕ) (r : Row) → slice_get (rows_of core.catalog) i ≡ Some r → position (λ (row : Row). same_text row.name name) (rows_of core.catalog) ≡ Some i
-    → ((frame : Frame) → answer (Some frame) ≡ answer None → ⊥) → IsToldAs (answer None) (steps_at (parts_of core) answer step (row_of (map row_shown (rows_of core.catalog)) name)) → SendsNothing (row_step (parts_of core) step (row_shown r))
+pub step-quiet : (core : Core) (answer : Option Frame → Answer) (step : Step) (name : List ℕ) (i : ℕ) (r : Row) → slice_get (rows_of core.catalog) i ≡ Some r
+    → position (λ (row : Row). same_text row.name name) (rows_of core.catalog) ≡ Some i
+    → ((frame : Frame) → answer (Some frame) ≡ answer None → ⊥) → IsToldAs (answer None) (steps_at (parts_of core) answer step (row_of (map row_shown (rows_of core.catalog)) name))
+    → SendsNothing (row_step (parts_of core) step (row_shown r))
 step-quiet core answer step name i r stands at apart told =
     nothing-sent (parts_of core) answer (row_step (parts_of core) step (row_shown r)) apart (subst (IsToldAs (answer None)) (stepped-there core answer step name i r at stands) told)
 
 -- where the row takes it, its frame is answered, and the row is shown in its place
-pub step-told : (core : Core) (answer : Option Frame → Answer) (step : Step) (name : List ℕ) (i : ℕ) (r s : Row) (next : Option Outgoing) (sends : Option Frame) (after : Parts) → slice_get (rows_of core.catalog) i ≡ Some r
+pub step-told : (core : Core) (answer : Option Frame → Answer) (step : Step) (name : List ℕ) (i : ℕ) (r s : Row) (next : Option Outgoing) (sends : Option Frame) (after : Parts)
+    → slice_get (rows_of core.catalog) i ≡ Some r
     → row_step (parts_of core) step (row_shown r) ≡ Ok (record { outgoing = next; row = row_shown s }) → sends ≡ frame_in next
     → after ≡ record { nodes = core.nodes.items; last = last_after core.last next; rows = map row_shown (rows_of (catalog_with core.catalog i s)) }
     → position (λ (row : Row). same_text row.name name) (rows_of core.catalog) ≡ Some i
@@ -89,15 +94,18 @@ rows-stay core i r s stands same =
 
 -- what another create of a name is told by
 pub create-asked : (core : Core) (name : List ℕ) (arguments : Arguments) (i : ℕ) → position (λ (row : Row). same_text row.name name) (rows_of core.catalog) ≡ Some i
-    → steps_at (parts_of core) Sends (steps.Create arguments) (row_of (map row_shown (rows_of core.catalog)) name) ≡ creates (parts_of core) name arguments (row_of (map row_shown (rows_of core.catalog)) name)
+    → steps_at (parts_of core) Sends (steps.Create arguments) (row_of (map row_shown (rows_of core.catalog)) name) ≡ creates (parts_of core) name arguments
+    (row_of (map row_shown (rows_of core.catalog)) name)
 create-asked core name arguments i at =
     let there = row-at (λ (row : Row). same_text row.name name) (rows_of core.catalog) i at in
     let found = shown-there (rows_of core.catalog) name i there.0 at (get-of_at (rows_of core.catalog) i there.0 there.1.0) in
     ap (steps_at (parts_of core) Sends (steps.Create arguments)) found ∙ sym (create-at (parts_of core) name arguments (row_shown there.0)) ∙ sym (ap (creates (parts_of core) name arguments) found)
 
 -- the first create of a name
-pub first-told : (nodes : List (List ℕ)) (last : Number) (rows : List Row) (name : List ℕ) (arguments : Arguments) (s : Row) (next : Option Outgoing) (sends : Option Frame) (after : Parts) → position (λ (row : Row). same_text row.name name) rows ≡ None
-    → first_fault (record { nodes = nodes; last = last; rows = map row_shown rows }) ≡ None → row_goes_on last (new_row name arguments) ≡ Ok (record { outgoing = next; row = row_shown s }) → s.name ≡ name → sends ≡ frame_in next
+pub first-told : (nodes : List (List ℕ)) (last : Number) (rows : List Row) (name : List ℕ) (arguments : Arguments) (s : Row) (next : Option Outgoing) (sends : Option Frame) (after : Parts)
+    → position (λ (row : Row). same_text row.name name) rows ≡ None
+    → first_fault (record { nodes = nodes; last = last; rows = map row_shown rows }) ≡ None → row_goes_on last (new_row name arguments) ≡ Ok (record { outgoing = next; row = row_shown s })
+    → s.name ≡ name → sends ≡ frame_in next
     → after ≡ record { nodes = nodes; last = last_after last next; rows = map row_shown (rows ++ s ∷ []) }
     → creates (record { nodes = nodes; last = last; rows = map row_shown rows }) name arguments None ≡ Ok (record { answer = Sends sends; parts = after })
 first-told nodes last rows name arguments s next sends after none fits is own frame then =

@@ -45,7 +45,8 @@ use Rattle.csi_orchestrator.proofs.PlacedRows.{some-is, placed-on}
 use Rattle.csi_orchestrator.proofs.Standing.{get-of_at}
 
 -- the due call of the row that a reply is to is of its kind
-issued-kind : (number : Number) (party : Party) (kind : Kind) (name : List ℕ) (own : Option Number) (due : Option Due) → is_issued_as number party kind (issued_as name own due) ≡ true → kind_due due ≡ Some kind
+issued-kind : (number : Number) (party : Party) (kind : Kind) (name : List ℕ) (own : Option Number) (due : Option Due) → is_issued_as number party kind (issued_as name own due) ≡ true
+    → kind_due due ≡ Some kind
 issued-kind number party kind name None due e = absurd (false≢true e)
 issued-kind number party kind name (Some own) None e = absurd (false≢true e)
 issued-kind number party kind name (Some own) (Some due) e =
@@ -87,7 +88,8 @@ refused-by-kind parts row kind (Some due) e is =
     subst (λ k. Refused parts row k row.goal) own (refused-heard parts row due (due-cases row due e))
 
 -- after a reply
-reply-at : (parts : Parts) (row : RowShown) (kind : Kind) (reply : Reply) → kind_due (due_in row) ≡ Some kind → hears_reply parts kind reply (Some row) ≡ steps_at parts hears (step_heard kind reply) (Some row)
+reply-at : (parts : Parts) (row : RowShown) (kind : Kind) (reply : Reply) → kind_due (due_in row) ≡ Some kind
+    → hears_reply parts kind reply (Some row) ≡ steps_at parts hears (step_heard kind reply) (Some row)
 unfolding Refused Fails
 reply-at parts row kind reply is = by (is_ok_status reply.status)
   where
@@ -102,7 +104,8 @@ each-at P (x ∷ rows) zero row all at = subst (λ (r : Row). P (row_shown r)) a
 each-at P (x ∷ rows) (suc i) row all at = each-at P rows i row all.1 at
 
 -- the place of a row is the one of its name
-first-own : (rows : List Row) (i : ℕ) (row : Row) → EachTwo (λ (a b : RowShown). same_text a.name b.name ≡ false) (map row_shown rows) → IsAt rows i row → FirstAt (λ (r : Row). same_text r.name row.name) rows i row
+first-own : (rows : List Row) (i : ℕ) (row : Row) → EachTwo (λ (a b : RowShown). same_text a.name b.name ≡ false) (map row_shown rows) → IsAt rows i row
+    → FirstAt (λ (r : Row). same_text r.name row.name) rows i row
 first-own [] i row apart at = absurd at
 first-own (x ∷ rows) zero row apart at = ((same_text-tells x.name row.name).1 (ap (λ (r : Row). r.name) at), at)
 first-own (x ∷ rows) (suc i) row apart at = (each-at (λ (b : RowShown). same_text x.name b.name ≡ false) rows i row apart.0 at, first-own rows i row apart.1 at)
@@ -133,7 +136,8 @@ replied-at core place number party kind kept at =
     }
 
 -- what the reply brings fits the row
-pub reply-fits : (core : Core) (place : ℕ) (number : Number) (party : Party) (kind : Kind) (reply : Reply) → IsReplied core place number party kind → (row : Row) → slice_get (rows_of core.catalog) place ≡ Some row
+pub reply-fits : (core : Core) (place : ℕ) (number : Number) (party : Party) (kind : Kind) (reply : Reply) → IsReplied core place number party kind → (row : Row)
+    → slice_get (rows_of core.catalog) place ≡ Some row
     → Fits (step_heard kind reply) (row_shown row)
 reply-fits core place number party kind reply of row there = subst (λ (r : Row). Fits (step_heard kind reply) (row_shown r)) same (by (is_ok_status reply.status))
   where
@@ -146,7 +150,8 @@ reply-fits core place number party kind reply of row there = subst (λ (r : Row)
 
 -- what is told of the reply is what is told by the step
 pub reply-told : (core : Core) (place : ℕ) (number : Number) (party : Party) (kind : Kind) (reply : Reply) (step : Step) (of : IsReplied core place number party kind) → step ≡ step_heard kind reply
-    → hears_reply (parts_of core) kind reply (row_replied (map row_shown (rows_of core.catalog)) number party kind) ≡ steps_at (parts_of core) hears step (row_of (map row_shown (rows_of core.catalog)) (of.row).name)
+    → hears_reply (parts_of core) kind reply (row_replied (map row_shown (rows_of core.catalog)) number party kind) ≡ steps_at (parts_of core) hears step
+    (row_of (map row_shown (rows_of core.catalog)) (of.row).name)
 reply-told core place number party kind reply step of is =
     ap (hears_reply (parts_of core) kind reply) of.found ∙ reply-at (parts_of core) (row_shown of.row) kind reply of.due ∙ ap (λ s. steps_at (parts_of core) hears s (Some (row_shown of.row))) (sym is)
     ∙ sym (ap (steps_at (parts_of core) hears step) (shown-there (rows_of core.catalog) (of.row).name place of.row of.named of.stands))

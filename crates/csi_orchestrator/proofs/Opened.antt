@@ -13,7 +13,8 @@ use Rattle.csi_orchestrator.specs.declared.step.Step.TheVariants as steps
 use Rattle.csi_orchestrator.specs.declared.catalog.Catalog.{Catalog}
 use Rattle.csi_orchestrator.specs.Catalog.{rows_of, IsIndexed, IsReady, IsNextFor, AreUpTo, call_in, IsAfter}
 use Rattle.csi_orchestrator.specs.Commands.{next_number}
-use Rattle.csi_orchestrator.specs.RowSteps.{RowTold, outgoing_by, gone_on, row_after, row_goes_on, row_rests, row_unless, step_refusal, is_met, waits, late_refusal, is_given_up, timed_out, failed, changed, row_step}
+use Rattle.csi_orchestrator.specs.RowSteps.{RowTold, outgoing_by, gone_on, row_after, row_goes_on, row_rests, row_unless, step_refusal}
+use Rattle.csi_orchestrator.specs.RowSteps.{is_met, waits, late_refusal, is_given_up, timed_out, failed, changed, row_step}
 use Rattle.csi_orchestrator.specs.Due.{Due}
 use Rattle.csi_orchestrator.specs.History.{Arguments}
 use Rattle.csi_orchestrator.specs.RowChanges.{new_row, wanted, stopped_goal}
@@ -103,11 +104,13 @@ pub step-goes : (parts : Parts) (step : Step) (row : RowShown) → GoesOn parts.
 step-goes parts step row =
     unless-goes parts.last row (step_refusal parts step row) _
     (by_if (GoesOn parts.last row) (is_met step row) (row_rests row) _ (λ e. record { name = refl; opened = λ number is. inl is; after = none-after parts.last.call })
-    (λ e. by_if (GoesOn parts.last row) (waits step row) (row_rests (closed row)) _ (λ f. record { name = refl; opened = λ number is. absurd (none-some number is); after = none-after parts.last.call })
+    (λ e. by_if (GoesOn parts.last row) (waits step row) (row_rests (closed row)) _
+    (λ f. record { name = refl; opened = λ number is. absurd (none-some number is); after = none-after parts.last.call })
     (λ f. unless-goes parts.last row (late_refusal parts step row) (row_goes_on parts.last (changed step row)) (on-goes parts.last row (changed step row) (changed-name step row)))))
 
 -- once a row took a step, only the call that is sent for it isn't noted yet
-pub ready-told : (catalog : Catalog) (parts : Parts) (place : ℕ) (row new : Row) (step : Step) (next : Option Outgoing) → IsIndexed catalog → AreUpTo parts.last.call catalog → slice_get (rows_of catalog) place ≡ Some row
+pub ready-told : (catalog : Catalog) (parts : Parts) (place : ℕ) (row new : Row) (step : Step) (next : Option Outgoing) → IsIndexed catalog → AreUpTo parts.last.call catalog
+    → slice_get (rows_of catalog) place ≡ Some row
     → row_step parts step (row_shown row) ≡ Ok (record { outgoing = next; row = row_shown new }) → IsReady (catalog_with catalog place new) place (call_in next) × IsAfter parts.last.call next
 ready-told catalog parts place row new step next indexed known at is =
     let on = subst (GoesOn parts.last (row_shown row)) is (step-goes parts step (row_shown row)) in

@@ -20,9 +20,11 @@ use Rattle.csi_orchestrator.specs.Commands.{next_number}
 use Rattle.csi_orchestrator.specs.Due.{Due}
 use Rattle.csi_orchestrator.specs.Moves.{Input, Answer, Sends}
 use Rattle.csi_orchestrator.specs.RowChanges.{wanted, wanted_anew, stopped_goal, with_entry}
-use Rattle.csi_orchestrator.specs.RowMoves.{Told, told, put, sends_as, goes_on, unless_refused, again_fault, creates, use_refusal, room_refusal, due_for_use, uses, stop_refusal, stops, delete_refusal, busy_refusal, deletes, times_out_with, times_out, row_moves, IsToldAs}
+use Rattle.csi_orchestrator.specs.RowMoves.{Told, told, put, sends_as, goes_on, unless_refused, again_fault, creates, use_refusal, room_refusal}
+use Rattle.csi_orchestrator.specs.RowMoves.{due_for_use, uses, stop_refusal, stops, delete_refusal, busy_refusal, deletes, times_out_with, times_out, row_moves, IsToldAs}
 use Rattle.csi_orchestrator.specs.Shown.{RowShown, Parts, row_of, due_in, closed}
-use Rattle.csi_orchestrator.specs.RowSteps.{RowTold, outgoing_by, row_after, row_goes_on, row_rests, row_unless, idle_refusal, is_given_up, timed_out, frame_in, placed, steps_at, asked_by, SendsNothing}
+use Rattle.csi_orchestrator.specs.RowSteps.{RowTold, outgoing_by, row_after, row_goes_on, row_rests, row_unless, idle_refusal}
+use Rattle.csi_orchestrator.specs.RowSteps.{is_given_up, timed_out, frame_in, placed, steps_at, asked_by, SendsNothing}
 
 pub some-is : {X : Type 0} (a b : X) → Some a ≡ Some b → a ≡ b
 some-is a b h = cc
@@ -78,7 +80,8 @@ use-at parts name usage row found =
     (placed-unless parts Sends (room_refusal parts usage row) _ on (placed-on parts Sends (wanted (Use usage) (with_entry usage row)))))
 
 stop-at : (parts : Parts) (node target : List ℕ) (row : RowShown) → stops parts node target (Some row) ≡ steps_at parts Sends (steps.Want (Stop node target)) (Some row)
-stop-at parts node target row = placed-unless parts Sends (stop_refusal parts node target row) _ (row_goes_on parts.last (wanted (Stop node target) row)) (placed-on parts Sends (wanted (Stop node target) row))
+stop-at parts node target row = placed-unless parts Sends (stop_refusal parts node target row) _ (row_goes_on parts.last (wanted (Stop node target) row))
+    (placed-on parts Sends (wanted (Stop node target) row))
 
 delete-at : (parts : Parts) (name : List ℕ) (row : RowShown) → row_of parts.rows name ≡ Some row → deletes parts (Some row) ≡ steps_at parts Sends (steps.Want Delete) (Some row)
 delete-at parts name row found =
@@ -90,7 +93,8 @@ delete-at parts name row found =
 timeout-at : (parts : Parts) (row : RowShown) → times_out parts (Some row) ≡ steps_at parts Sends steps.TimeOut (Some row)
 timeout-at parts row = by row.goal
   where
-    gives_up : (b : Bool) (goal : Goal) → cond b (goes_on parts Sends (wanted (stopped_goal goal) row)) (goes_on parts Sends (closed row)) ≡ placed parts Sends (row_goes_on parts.last (cond b (wanted (stopped_goal goal) row) (closed row)))
+    gives_up : (b : Bool) (goal : Goal) → cond b (goes_on parts Sends (wanted (stopped_goal goal) row)) (goes_on parts Sends (closed row))
+        ≡ placed parts Sends (row_goes_on parts.last (cond b (wanted (stopped_goal goal) row) (closed row)))
     gives_up true goal = placed-on parts Sends (wanted (stopped_goal goal) row)
     gives_up false goal = placed-on parts Sends (closed row)
 
@@ -99,7 +103,8 @@ timeout-at parts row = by row.goal
     by (Some goal) = gives_up (is_given_up row) goal
 
 -- the same, whether the name has a row or not
-by-row : (parts : Parts) (name : List ℕ) (f g : Option RowShown → Result Told OrchFault) → f None ≡ g None → ((row : RowShown) → row_of parts.rows name ≡ Some row → g (Some row) ≡ f (Some row)) → f (row_of parts.rows name) ≡ g (row_of parts.rows name)
+by-row : (parts : Parts) (name : List ℕ) (f g : Option RowShown → Result Told OrchFault) → f None ≡ g None → ((row : RowShown) → row_of parts.rows name ≡ Some row → g (Some row) ≡ f (Some row))
+    → f (row_of parts.rows name) ≡ g (row_of parts.rows name)
 by-row parts name f g none some = by (row_of parts.rows name) refl
   where
     by : (o : Option RowShown) → row_of parts.rows name ≡ o → f o ≡ g o
@@ -110,7 +115,8 @@ by-row parts name f g none some = by (row_of parts.rows name) refl
 pub asked : (parts : Parts) (name : List ℕ) (step : Step) (input : Input) → asked_by name step ≡ Some input → steps_at parts Sends step (row_of parts.rows name) ≡ row_moves parts input
 asked parts name (steps.Create arguments) input is = absurd (none-some input is)
 asked parts name (steps.Want Create) input is = absurd (none-some input is)
-asked parts name (steps.Want (Use usage)) input is = by-row parts name (steps_at parts Sends (steps.Want (Use usage))) (uses parts usage) refl (use-at parts name usage) ∙ ap (row_moves parts) (some-is _ input is)
+asked parts name (steps.Want (Use usage)) input is = by-row parts name (steps_at parts Sends (steps.Want (Use usage))) (uses parts usage) refl (use-at parts name usage) ∙ ap (row_moves parts)
+    (some-is _ input is)
 asked parts name (steps.Want (Stop node target)) input is =
     by-row parts name (steps_at parts Sends (steps.Want (Stop node target))) (stops parts node target) refl (λ row found. stop-at parts node target row) ∙ ap (row_moves parts) (some-is _ input is)
 asked parts name (steps.Want Delete) input is = by-row parts name (steps_at parts Sends (steps.Want Delete)) (deletes parts) refl (delete-at parts name) ∙ ap (row_moves parts) (some-is _ input is)
@@ -119,7 +125,8 @@ asked parts name (steps.Succeed kind id) input is = absurd (none-some input is)
 asked parts name steps.Fail input is = absurd (none-some input is)
 
 -- where it is told that nothing is sent, the row sends nothing
-pub nothing-sent : (parts : Parts) (answer : Option Frame → Answer) (told : Result RowTold OrchFault) → ((frame : Frame) → answer (Some frame) ≡ answer None → ⊥) → IsToldAs (answer None) (placed parts answer told) → SendsNothing told
+pub nothing-sent : (parts : Parts) (answer : Option Frame → Answer) (told : Result RowTold OrchFault) → ((frame : Frame) → answer (Some frame) ≡ answer None → ⊥)
+    → IsToldAs (answer None) (placed parts answer told) → SendsNothing told
 nothing-sent parts answer (Ok told) apart is = by told.outgoing is
   where
     by : (next : Option Outgoing) → answer (frame_in next) ≡ answer None → next ≡ None

@@ -38,24 +38,29 @@ pub is-refused : (old : Parts) (history : History) (input : Input) (fault : Orch
 is-refused old history input fault kept form agrees is = refused history (row_moves old input) (moves old.nodes history input) fault (all-tell old history input form kept agrees) is
 
 -- the same of a call's result, by the parts that are shown
-pub ok-promised : {R : Type 0} {old now new : Parts} {input : Input} {says : R → Answer} {result : Result R OrchFault} → old ≡ now → AreKept old.rows → IsTold old new input says result → (history : History) → IsWellFormed history → AgreesWith now history
+pub ok-promised : {R : Type 0} {old now new : Parts} {input : Input} {says : R → Answer} {result : Result R OrchFault} → old ≡ now → AreKept old.rows → IsTold old new input says result
+    → (history : History) → IsWellFormed history → AgreesWith now history
     → IfOk result (λ r. IsDone history (moves now.nodes history input) (says r) new)
 ok-promised {old = old} {now = now} {new = new} {input = input} {says = says} {result = Err fault} is kept told history form agrees = tt
 ok-promised {old = old} {now = now} {new = new} {input = input} {says = says} {result = Ok r} is kept told history form agrees =
     subst (λ (p : Parts). IsDone history (moves p.nodes history input) (says r) new) is
     (is-done old history input (record { answer = says r; parts = new }) kept form (subst (λ (p : Parts). AgreesWith p history) (sym is) agrees) told.ok)
 
-pub err-promised : {R : Type 0} {old now new : Parts} {input : Input} {says : R → Answer} {result : Result R OrchFault} → old ≡ now → AreKept old.rows → IsTold old new input says result → (history : History) → IsWellFormed history → AgreesWith now history
+pub err-promised : {R : Type 0} {old now new : Parts} {input : Input} {says : R → Answer} {result : Result R OrchFault} → old ≡ now → AreKept old.rows → IsTold old new input says result
+    → (history : History) → IsWellFormed history → AgreesWith now history
     → IfErr result (IsRefusal (moves now.nodes history input))
 err-promised {old = old} {now = now} {new = new} {input = input} {says = says} {result = Ok r} is kept told history form agrees = tt
 err-promised {old = old} {now = now} {new = new} {input = input} {says = says} {result = Err fault} is kept told history form agrees =
     subst (λ (p : Parts). IsRefusal (moves p.nodes history input) fault) is (is-refused old history input fault kept form (subst (λ (p : Parts). AgreesWith p history) (sym is) agrees) told.err)
 
-pub kept-promised : {R : Type 0} {old new : Parts} {input : Input} {says : R → Answer} {result : Result R OrchFault} → AreKept old.rows → IsTold old new input says result → AreKept new.rows × (new.nodes ≡ old.nodes)
+pub kept-promised : {R : Type 0} {old new : Parts} {input : Input} {says : R → Answer} {result : Result R OrchFault} → AreKept old.rows → IsTold old new input says result
+    → AreKept new.rows × (new.nodes ≡ old.nodes)
 kept-promised {old = old} {new = new} {input = input} {says = says} {result = Ok r} kept told = rows-stay-kept old input (record { answer = says r; parts = new }) kept told.ok
-kept-promised {old = old} {new = new} {input = input} {says = says} {result = Err fault} kept told = (subst (λ (p : Parts). AreKept p.rows) (sym told.stays) kept, ap (λ (p : Parts). p.nodes) told.stays)
+kept-promised {old = old} {new = new} {input = input} {says = says} {result = Err fault} kept told =
+    (subst (λ (p : Parts). AreKept p.rows) (sym told.stays) kept, ap (λ (p : Parts). p.nodes) told.stays)
 
-pub nodes-promised : {R : Type 0} {old now new : Parts} {input : Input} {says : R → Answer} {result : Result R OrchFault} → old ≡ now → AreKept old.rows → IsTold old new input says result → new.nodes ≡ now.nodes
+pub nodes-promised : {R : Type 0} {old now new : Parts} {input : Input} {says : R → Answer} {result : Result R OrchFault} → old ≡ now → AreKept old.rows → IsTold old new input says result
+    → new.nodes ≡ now.nodes
 nodes-promised is kept told = (kept-promised kept told).1 ∙ ap (λ (p : Parts). p.nodes) is
 
 -- where they do, what the history answers the rows answer
@@ -66,7 +71,8 @@ told-so history answer (Err fault) (Ok moved) tells is = absurd tells.0
 told-so history answer (Err fault) (Err other) tells is = absurd is
 
 -- as a history answers, so the rows do
-pub answered-promised : {old now : Parts} (input : Input) (answer : Answer) → old ≡ now → AreKept old.rows → (history : History) → IsWellFormed history → AgreesWith now history → IsAnsweredAs answer (moves now.nodes history input)
+pub answered-promised : {old now : Parts} (input : Input) (answer : Answer) → old ≡ now → AreKept old.rows → (history : History) → IsWellFormed history → AgreesWith now history
+    → IsAnsweredAs answer (moves now.nodes history input)
     → IsToldAs answer (row_moves old input)
 answered-promised {old = old} {now = now} input answer is kept history form agrees answered =
     told-so history answer (row_moves old input) (moves old.nodes history input) (all-tell old history input form kept (subst (λ (p : Parts). AgreesWith p history) (sym is) agrees))

@@ -19,7 +19,8 @@ use Rattle.csi_orchestrator.specs.Commands.{next_number}
 use Rattle.csi_orchestrator.specs.Due.{Due}
 use Rattle.csi_orchestrator.specs.RowChanges.{wanted, with_entry, entry_for, with_aim, new_aim}
 use Rattle.csi_orchestrator.specs.Shown.{PlaceShown, RowShown, Parts, place_of, others_in, marks_at, marks_for, due_with, due_in, closed}
-use Rattle.csi_orchestrator.specs.RowSteps.{outgoing_by, row_after, row_goes_on, row_rests, row_unless, with_entry_for, needs_entry, step_refusal, is_met, waits, late_refusal, changed, row_step, SendsNothing}
+use Rattle.csi_orchestrator.specs.RowSteps.{outgoing_by, row_after, row_goes_on, row_rests, row_unless, with_entry_for, needs_entry}
+use Rattle.csi_orchestrator.specs.RowSteps.{step_refusal, is_met, waits, late_refusal, changed, row_step, SendsNothing}
 use Rattle.csi_orchestrator.proofs.Texts.{text-same}
 use Rattle.csi_orchestrator.proofs.NotedRow.{mark-with-entry, entry-there}
 
@@ -93,12 +94,14 @@ sends-due row (Some due) (Some number) nothing = absurd (clash _ nothing)
 -- so for a use that isn't met yet one is sent
 needs-none : (last : Number) (step : Step) (row : RowShown) → is_met step row ≡ false → SendsNothing (row_goes_on last (changed step row)) → needs_entry step ≡ false
 needs-none last (steps.Want (Use usage)) row unmet nothing =
-    absurd (false≢true (sym unmet ∙ ap is_none (sym (due-wanted (Use usage) row)) ∙ sends-due (changed (steps.Want (Use usage)) row) (due_in (changed (steps.Want (Use usage)) row)) (next_number last) nothing))
+    absurd (false≢true (sym unmet ∙ ap is_none (sym (due-wanted (Use usage) row)) ∙ sends-due (changed (steps.Want (Use usage)) row) (due_in (changed (steps.Want (Use usage)) row))
+    (next_number last) nothing))
 needs-none last (steps.Want goal) row unmet nothing = refl
 needs-none last step row unmet nothing = refl
 
 -- where nothing refuses a step, it isn't met yet and its call doesn't wait, but nothing is sent for it, no entry is needed, and nothing is due
-pub goes-quietly : (parts : Parts) (step : Step) (row : RowShown) → step_refusal parts step row ≡ None → is_met step row ≡ false → waits step row ≡ false → late_refusal parts step row ≡ None → SendsNothing (row_step parts step row)
+pub goes-quietly : (parts : Parts) (step : Step) (row : RowShown) → step_refusal parts step row ≡ None → is_met step row ≡ false → waits step row ≡ false → late_refusal parts step row ≡ None
+    → SendsNothing (row_step parts step row)
     → (needs_entry step ≡ false) × SendsNothing (row_goes_on parts.last (changed step row))
 goes-quietly parts step row free unmet on late nothing =
     let goes = row_goes_on parts.last (changed step row) in

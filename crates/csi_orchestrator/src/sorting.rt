@@ -4,24 +4,11 @@ ghost use Rattle.std.specs.List.Sorted.{IsPermutation, IsSortedBy};
 ghost use Rattle.std.specs.Option.{option_copied};
 ghost use Rattle.std.specs.Ordering.{is_lt};
 ghost use Rattle.csi_orchestrator.specs.Listing.{node_in, target_in, kind_place, thing_order};
-ghost use Rattle.csi_orchestrator.specs.Thing.{name_in};
 
 use crate::thing::{Known, Thing};
 use std::cmp::Ordering;
 
-// The name of a thing's volume.
-fn name_of(thing: &Thing) -> &str
-    ensures { result.now ≡ name_in thing.now }
-{
-    match thing {
-        Thing::Exists { name } => name.as_str(),
-        Thing::Attached { name, .. } => name.as_str(),
-        Thing::Staged { name, .. } => name.as_str(),
-        Thing::Published { name, .. } => name.as_str(),
-    }
-}
-
-// Its node, if it has one.
+// A thing's node, if it has one.
 fn node_of(thing: &Thing) -> Option<&str>
     ensures { option_copied result ≡ node_in thing.now }
 {
@@ -64,7 +51,7 @@ impl Thing {
     pub fn compare(&self, other: &Thing) -> Ordering
         ensures { result ≡ thing_order self.now other.now }
     {
-        let names = name_of(self).cmp(name_of(other));
+        let names = self.name().as_str().cmp(other.name().as_str());
         let nodes = node_of(self).cmp(&node_of(other));
         let kinds = place_of_kind(self).cmp(&place_of_kind(other));
         let targets = target_of(self).cmp(&target_of(other));

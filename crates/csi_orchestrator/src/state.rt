@@ -55,33 +55,24 @@ pub(crate) fn published_at(place: &Place, target: &Target) -> Known
     }
 }
 
-// Whether it is attached to the node.
-fn attached_at(row: &Row, node: &NodeId) -> Known
-    ensures { result ≡ mark_in (λ place. place.attached) (place_of (row_shown row.now) node.now) }
+// What the row knows of a thing of its name.
+fn known_at(row: &Row, thing: &Thing) -> Known
+    ensures { result ≡ mark_of thing.now (row_shown row.now) }
 {
-    match place_at(row, node) {
-        Some(place) => place.attached,
-        None => Known::No,
-    }
-}
-
-// Whether it is staged there.
-fn staged_at(row: &Row, node: &NodeId) -> Known
-    ensures { result ≡ mark_in (λ place. place.staged) (place_of (row_shown row.now) node.now) }
-{
-    match place_at(row, node) {
-        Some(place) => place.staged,
-        None => Known::No,
-    }
-}
-
-// Whether it is published at a target there.
-fn target_at(row: &Row, node: &NodeId, target: &Target) -> Known
-    ensures { result ≡ mark_in (published_in target.now) (place_of (row_shown row.now) node.now) }
-{
-    match place_at(row, node) {
-        Some(place) => published_at(place, target),
-        None => Known::No,
+    match thing {
+        Thing::Exists { .. } => row.exists,
+        Thing::Attached { node, .. } => match place_at(row, node) {
+            Some(place) => place.attached,
+            None => Known::No,
+        },
+        Thing::Staged { node, .. } => match place_at(row, node) {
+            Some(place) => place.staged,
+            None => Known::No,
+        },
+        Thing::Published { node, target, .. } => match place_at(row, node) {
+            Some(place) => published_at(place, target),
+            None => Known::No,
+        },
     }
 }
 
@@ -90,23 +81,9 @@ pub(crate) fn known_in(catalog: &Catalog, thing: &Thing) -> Known
     requires { IsIndexed catalog.now }
     ensures { result ≡ mark_in (mark_of thing.now) (row_of (map row_shown (rows_of catalog.now)) (name_in thing.now)) }
 {
-    match thing {
-        Thing::Exists { name } => match catalog.named(name) {
-            Some(row) => row.exists,
-            None => Known::No,
-        },
-        Thing::Attached { name, node } => match catalog.named(name) {
-            Some(row) => attached_at(row, node),
-            None => Known::No,
-        },
-        Thing::Staged { name, node } => match catalog.named(name) {
-            Some(row) => staged_at(row, node),
-            None => Known::No,
-        },
-        Thing::Published { name, node, target } => match catalog.named(name) {
-            Some(row) => target_at(row, node, target),
-            None => Known::No,
-        },
+    match catalog.named(thing.name()) {
+        Some(row) => known_at(row, thing),
+        None => Known::No,
     }
 }
 

@@ -1,6 +1,6 @@
 //! What an orchestrator does and undoes.
 ghost use Rattle.std.specs.Prelude.{◌≡◌};
-ghost use Rattle.csi_orchestrator.specs.Thing.{is_yes, is_no};
+ghost use Rattle.csi_orchestrator.specs.Thing.{name_in, is_yes, is_no};
 
 use csi_types::{Name, NodeId, Target};
 
@@ -54,5 +54,19 @@ impl Known {
         ensures { result ≡ is_no self }
     {
         matches!(self, Known::No)
+    }
+}
+
+impl Thing {
+    /// The name of its volume.
+    pub(crate) fn name(&self) -> &Name
+        ensures { result.now ≡ name_in self.now }
+    {
+        match self {
+            Thing::Exists { name } => name,
+            Thing::Attached { name, .. } => name,
+            Thing::Staged { name, .. } => name,
+            Thing::Published { name, .. } => name,
+        }
     }
 }

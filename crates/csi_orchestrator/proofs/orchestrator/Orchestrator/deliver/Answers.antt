@@ -18,7 +18,8 @@ pub returns-clause-nodes : goal.returns-clause-nodes
 returns-clause-nodes c = nodes-promised c.self.view_is c.self.invariant.0 c.deliver.ensures.told
 
 pub returns-clause-ignored : goal.returns-clause-ignored
-returns-clause-ignored c = λ history form agrees heard. c.deliver.ensures.ignored (answered-promised (Comes c.args.frame.now) (Hears Ignored) c.self.view_is c.self.invariant.0 history form agrees heard)
+returns-clause-ignored c = λ history form agrees heard. c.deliver.ensures.ignored
+    (answered-promised (Comes c.args.frame.now) (Hears Ignored) c.self.view_is c.self.invariant.0 history form agrees heard)
 
 pub returns-clause-quiet : goal.returns-clause-quiet
 returns-clause-quiet c = λ history form agrees heard. c.deliver.ensures.quiet (answered-promised (Comes c.args.frame.now) (hears None) c.self.view_is c.self.invariant.0 history form agrees heard)

@@ -17,4 +17,6 @@ pub returns-clause-nodes : goal.returns-clause-nodes
 returns-clause-nodes c = nodes-promised c.self.view_is c.self.invariant.0 (c.ask.ensures.told _ refl)
 
 pub returns-clause-met : goal.returns-clause-met
-returns-clause-met c = λ history form agrees answered. c.ask.ensures.quiet _ refl (answered-promised (ToUse c.args.name.now (record { node = c.args.node; target = c.args.target; capability = c.args.capability; readonly = c.args.readonly })) (Sends None) c.self.view_is c.self.invariant.0 history form agrees answered)
+returns-clause-met c = λ history form agrees answered. c.ask.ensures.quiet _ refl
+    (answered-promised (ToUse c.args.name.now (record { node = c.args.node; target = c.args.target; capability = c.args.capability; readonly = c.args.readonly }))
+    (Sends None) c.self.view_is c.self.invariant.0 history form agrees answered)

@@ -25,7 +25,8 @@ returns-in-None-clause-told c =
     let core = c.args.self.now in
     let new = sym (shown-nowhere (rows_of core.catalog) c.args.name (sym c.in-None.ensures.place)) in
     record {
-      ok = subst (λ (row : Option RowShown). IfOk c.create_first.result (λ sent. creates (parts_of core) c.args.name c.args.arguments row ≡ told (parts_of c.create_first.new.self) (Sends sent))) new c.create_first.ensures.ok;
+      ok = subst (λ (row : Option RowShown). IfOk c.create_first.result (λ sent. creates (parts_of core) c.args.name c.args.arguments row ≡ told (parts_of c.create_first.new.self)
+          (Sends sent))) new c.create_first.ensures.ok;
       err = subst (λ (row : Option RowShown). IfErr c.create_first.result (IsRefusal (creates (parts_of core) c.args.name c.args.arguments row))) new c.create_first.ensures.err;
       stays = c.create_first.ensures.stays;
     }

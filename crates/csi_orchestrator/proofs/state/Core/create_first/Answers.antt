@@ -19,7 +19,8 @@ use Rattle.csi_orchestrator.proofs.Opened.{next-created}
 use Rattle.csi_orchestrator.proofs.state.Core.create_first.Goals as goal
 
 -- the row goes on by what is found of the one that was made
-goes-on : (last : Number) (row made sent : RowShown) (due : Option Due) (next : Option Outgoing) → made ≡ row → due ≡ due_in made → outgoing_by due (next_number last) ≡ Ok next → sent ≡ gone_on next made
+goes-on : (last : Number) (row made sent : RowShown) (due : Option Due) (next : Option Outgoing) → made ≡ row → due ≡ due_in made → outgoing_by due (next_number last) ≡ Ok next
+    → sent ≡ gone_on next made
     → row_goes_on last row ≡ Ok (record { outgoing = next; row = sent })
 goes-on last row made sent due next same is found then =
     ap (row_after row) (ap (λ d. outgoing_by d (next_number last)) (ap due_in (sym same) ∙ sym is) ∙ found)

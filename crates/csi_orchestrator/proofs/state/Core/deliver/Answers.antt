@@ -21,10 +21,12 @@ pub returns-in-Reply-clause-ignored : goal.returns-in-Reply-clause-ignored
 returns-in-Reply-clause-ignored c = λ told.
     c.hear.ensures.ignored
     (subst (IsToldAs (Hears Ignored))
-    (by-parts (parts_of c.args.self.now) c.args.frame.now c.number.result c.party.result.now (bodies.Reply c.in-Reply.kind c.in-Reply.reply) c.body.result.now c.number.ensures c.party.ensures c.body.ensures.value c.in-Reply.is) told)
+    (by-parts (parts_of c.args.self.now) c.args.frame.now c.number.result c.party.result.now
+    (bodies.Reply c.in-Reply.kind c.in-Reply.reply) c.body.result.now c.number.ensures c.party.ensures c.body.ensures.value c.in-Reply.is) told)
 
 pub returns-in-Reply-clause-quiet : goal.returns-in-Reply-clause-quiet
 returns-in-Reply-clause-quiet c = λ told.
     c.hear.ensures.quiet
     (subst (IsToldAs (hears None))
-    (by-parts (parts_of c.args.self.now) c.args.frame.now c.number.result c.party.result.now (bodies.Reply c.in-Reply.kind c.in-Reply.reply) c.body.result.now c.number.ensures c.party.ensures c.body.ensures.value c.in-Reply.is) told)
+    (by-parts (parts_of c.args.self.now) c.args.frame.now c.number.result c.party.result.now
+    (bodies.Reply c.in-Reply.kind c.in-Reply.reply) c.body.result.now c.number.ensures c.party.ensures c.body.ensures.value c.in-Reply.is) told)

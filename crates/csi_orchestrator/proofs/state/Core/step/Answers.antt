@@ -27,7 +27,8 @@ pub returns-in_err-next-clause-filed : goal.returns-in_err-next-clause-filed
 returns-in_err-next-clause-filed c =
     let core = c.args.self.now in
     record {
-      indexed = indexed-refused core.catalog core.last.call c.args.place c.index_mut-row.result.now c.take.new.row c.requires.filed.indexed c.requires.filed.known c.index_mut-row.ensures.value c.in_err-next.ensures.stays;
+      indexed = indexed-refused core.catalog core.last.call c.args.place c.index_mut-row.result.now c.take.new.row c.requires.filed.indexed c.requires.filed.known
+          c.index_mut-row.ensures.value c.in_err-next.ensures.stays;
       known = c.requires.filed.known;
     }
 
@@ -45,13 +46,15 @@ pub issue-requires-clause-ready : goal.issue-requires-clause-ready
 issue-requires-clause-ready c =
     let core = c.args.self.now in
     let row = c.index_mut-row.result.now in
-    (ready-told core.catalog (without_rows c.deref.result.now core.last) c.args.place row c.take.new.row c.args.step c.in_ok-next.next c.requires.filed.indexed c.requires.filed.known c.index_mut-row.ensures.value c.in_ok-next.ensures.ok).0
+    (ready-told core.catalog (without_rows c.deref.result.now core.last) c.args.place row c.take.new.row c.args.step c.in_ok-next.next
+    c.requires.filed.indexed c.requires.filed.known c.index_mut-row.ensures.value c.in_ok-next.ensures.ok).0
 
 pub issue-requires-clause-after : goal.issue-requires-clause-after
 issue-requires-clause-after c =
     let core = c.args.self.now in
     let row = c.index_mut-row.result.now in
-    (ready-told core.catalog (without_rows c.deref.result.now core.last) c.args.place row c.take.new.row c.args.step c.in_ok-next.next c.requires.filed.indexed c.requires.filed.known c.index_mut-row.ensures.value c.in_ok-next.ensures.ok).1
+    (ready-told core.catalog (without_rows c.deref.result.now core.last) c.args.place row c.take.new.row c.args.step c.in_ok-next.next
+    c.requires.filed.indexed c.requires.filed.known c.index_mut-row.ensures.value c.in_ok-next.ensures.ok).1
 
 pub issue-requires-clause-within : goal.issue-requires-clause-within
 issue-requires-clause-within c = within-set c.args.self.now.catalog c.args.place c.args.place c.take.new.row c.requires.within
@@ -61,4 +64,5 @@ returns-clause-ok c = λ name answer at.
     let core = c.args.self.now in
     let row = c.index_mut-row.result.now in
     step-told core answer c.args.step name c.args.place row c.take.new.row c.in_ok-next.next c.issue.result (parts_of c.issue.new.self) c.index_mut-row.ensures.value
-    (ap (λ (nodes : List (List ℕ)). row_step (without_rows nodes core.last) c.args.step (row_shown row)) (sym c.deref.ensures.value) ∙ c.in_ok-next.ensures.ok) c.issue.ensures.frame c.issue.ensures.parts at
+    (ap (λ (nodes : List (List ℕ)). row_step (without_rows nodes core.last) c.args.step (row_shown row)) (sym c.deref.ensures.value)
+    ∙ c.in_ok-next.ensures.ok) c.issue.ensures.frame c.issue.ensures.parts at
