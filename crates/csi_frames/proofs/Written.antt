@@ -1,16 +1,14 @@
 -- What was written piece by piece is the spelling of the whole.
-use Rattle.std.proofs.Common.{◌≡◌, ℕ, ◌+◌, List, [], ◌∷◌, ◌++◌, length, ap, subst, ◌∙◌, append_assoc, arith}
+use Rattle.std.proofs.Common.{◌≡◌, ℕ, ◌+◌, List, ◌++◌, length, ap, subst, ◌∙◌, append_assoc, arith}
 use Rattle.std.specs.Global.{Vec}
 use Rattle.std.proofs.lemmas.List.{length-append}
 use Rattle.byteorder.specs.Endian.{big_bytes}
-use Rattle.csi_types.specs.declared.number.Number.{Number}
-use Rattle.csi_types.specs.declared.call.Party.{Party}
 use Rattle.csi_types.specs.Frame.{Frame}
 use Rattle.csi_frames.specs.Appends.{Appends}
-use Rattle.csi_frames.specs.Spelling.{word, party, body_fields, body_kind, head, frame_body, spelling}
+use Rattle.csi_frames.specs.Spelling.{party, body_fields, body_kind, head, frame_body, spelling}
 
 -- one list of bytes was appended, and then another: both were appended, one after the other
-Appends-then : (a b c : Vec ℕ) (x y : List ℕ) → Appends a b x → Appends b c y → Appends a c (x ++ y)
+pub Appends-then : (a b c : Vec ℕ) (x y : List ℕ) → Appends a b x → Appends b c y → Appends a c (x ++ y)
 Appends-then a b c x y p q = record {
   items = q.items ∙ ap (λ (t : List ℕ). t ++ y) p.items ∙ append_assoc a.items x y;
   len = omega (arith, p.len, q.len, length-append x y);
@@ -27,15 +25,7 @@ pub length-spelling : (frame : Frame) → length (spelling frame) ≡ 4 + length
 unfolding spelling
 length-spelling frame = omega (arith, length-append (big_bytes 4 (length (frame_body frame))) (frame_body frame))
 
--- the parts of what stands before a frame's fields, appended one after another, are that
-pub Appends-head : (o0 o1 o2 o3 o4 o5 o6 : Vec ℕ) (size kind : ℕ) (number : Number) (p : Party) → Appends o0 o1 (big_bytes 4 size) → Appends o1 o2 (1 ∷ []) → Appends o2 o3 (kind ∷ []) → Appends o3 o4 (word number.session) → Appends o4 o5 (word number.call) → Appends o5 o6 (party p)
-    → Appends o0 o6 (head size kind number ++ party p)
-Appends-head o0 o1 o2 o3 o4 o5 o6 size kind number p a b c d e f =
-    Appends-then o0 o5 o6 (head size kind number) (party p)
-    (Appends-then o0 o4 o5 (big_bytes 4 size ++ 1 ∷ kind ∷ word number.session) (word number.call)
-    (Appends-then o0 o3 o4 (big_bytes 4 size ++ 1 ∷ kind ∷ []) (word number.session) (Appends-then o0 o2 o3 (big_bytes 4 size ++ 1 ∷ []) (kind ∷ []) (Appends-then o0 o1 o2 (big_bytes 4 size) (1 ∷ []) a b) c) d) e) f
-
--- that, with the count of the body's bytes and the kind byte, and the kind's fields are the frame's spelling
+-- what stands before a frame's fields, with the count of its body's bytes and its kind byte, and then the fields are the frame's spelling
 pub Appends-frame : (o0 o1 o2 : Vec ℕ) (frame : Frame) (size kind : ℕ) → size ≡ length (frame_body frame) → kind ≡ body_kind frame.body → Appends o0 o1 (head size kind frame.number ++ party frame.party) → Appends o1 o2 (body_fields frame.body)
     → Appends o0 o2 (spelling frame)
 unfolding spelling frame_body

@@ -304,6 +304,19 @@ fn kind_byte(from: &Body) -> u8
     }
 }
 
+// What stands before the party.
+fn head_bytes(size: u32, kind: u8, number: Number) -> [u8; 22]
+    ensures { result ≡ head size kind number }
+{
+    let mut head = [0; 22];
+    BigEndian::write_u32(&mut head, size);
+    head[4] = 1;
+    head[5] = kind;
+    BigEndian::write_u64(&mut head[6..], number.session);
+    BigEndian::write_u64(&mut head[14..], number.call);
+    head
+}
+
 // What stands before the kind's fields: the length of the body, which has been counted, the version, the kind byte, the number
 // and the party.
 fn put_head(out: &mut Vec<u8>, size: u32, kind: u8, number: Number, from: &Party)
@@ -312,13 +325,7 @@ fn put_head(out: &mut Vec<u8>, size: u32, kind: u8, number: Number, from: &Party
     ensures number_fits { IsNumber number }
     ensures fits { IsParty from.now }
 {
-    let mut four = [0; 4];
-    BigEndian::write_u32(&mut four, size);
-    put(out, &four);
-    put_byte(out, 1);
-    put_byte(out, kind);
-    put_word(out, number.session);
-    put_word(out, number.call);
+    put(out, &head_bytes(size, kind, number));
     put_party(out, from);
 }
 
