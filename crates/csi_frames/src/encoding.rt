@@ -5,6 +5,7 @@ ghost use Rattle.byteorder.specs.Endian.{big_bytes};
 ghost use Rattle.csi_types.specs.VolumeId.{IsVolumeId};
 ghost use Rattle.csi_types.specs.Limits.{IsNumber, IsAccess, IsCapability, IsCapabilityList, IsParty, IsCall, IsReply, IsBody, IsFrame, IsWord};
 ghost use Rattle.csi_types.specs.Replies.{reply_frame};
+ghost use Rattle.csi_types.specs.Status.{status_code};
 ghost use Rattle.csi_frames.specs.Appends.{Appends, HasRoom};
 ghost use Rattle.csi_frames.specs.Spelling.{word, text, flag, access, capability, party, reply_id, call_fields, reply_fields, body_fields, body_kind, head, frame_body, spelling, Spells};
 
@@ -256,17 +257,28 @@ fn put_call(out: &mut Vec<u8>, from: &Call)
     }
 }
 
+// A reply without the bytes of its detail.
+fn reply_bytes(from: &Reply) -> [u8; 10]
+    ensures value { result ≡ status_code from.now.status ∷ reply_id from.now.id ++ length from.now.detail ∷ [] }
+    ensures fits { IsReply from.now }
+{
+    let detail = from.detail.as_str();
+    let mut bytes = [0; 10];
+    bytes[0] = from.status.code();
+    if let Some(id) = from.id {
+        BigEndian::write_u64(&mut bytes[1..], id.number());
+    }
+    bytes[9] = detail.len() as u8;
+    bytes
+}
+
 fn put_reply(out: &mut Vec<u8>, from: &Reply)
     requires { HasRoom out.old (length (reply_fields from.now)) }
     ensures appends { Appends out.old out.new (reply_fields from.now) }
     ensures fits { IsReply from.now }
 {
-    put_byte(out, from.status.code());
-    match from.id {
-        Some(id) => put_id(out, id),
-        None => put_word(out, 0),
-    }
-    put_text(out, from.detail.as_str());
+    put(out, &reply_bytes(from));
+    put(out, from.detail.as_str().as_bytes());
 }
 
 fn put_party(out: &mut Vec<u8>, from: &Party)
