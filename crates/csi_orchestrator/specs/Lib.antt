@@ -21,6 +21,6 @@ pub mod Core
 pub mod Found
 pub mod Hearing
 pub mod Laws
-pub mod Rows
+pub mod Worked
 pub mod RowSteps
 pub mod Refusals

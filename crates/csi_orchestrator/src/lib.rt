@@ -17,13 +17,13 @@ mod places;
 mod refusals;
 mod replies;
 mod row;
-mod rows;
 mod sending;
 mod sharing;
 mod sorting;
 mod state;
 mod step;
 mod thing;
+mod worked;
 
 pub use fault::{Heard, OrchFault};
 pub use laws::{form_law, moves_law};

@@ -75,7 +75,10 @@ fn use_fault(nodes: &[NodeId], usage: &Usage, row: &Row) -> Option<OrchFault>
     if !has_node(nodes, &usage.node) {
         return Some(OrchFault::NoSuchNode);
     }
-    if !has_capability(row.arguments.capabilities.as_slice(), usage.capability.lend()) {
+    if !has_capability(
+        row.arguments.capabilities.as_slice(),
+        usage.capability.lend(),
+    ) {
         return Some(OrchFault::NotCapable);
     }
     if is_held_elsewhere(&row.places, usage) {

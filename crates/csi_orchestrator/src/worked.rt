@@ -1,7 +1,7 @@
-//! Worked rows of what an orchestrator does.
-ghost use Rattle.csi_orchestrator.specs.Rows.{PublishedRow, OneNodeRow, SingleWriterRow, LateReplyRow, RestartRow, UndoneRow, SpentRow, RefusedCreateRow, RefusedPublishRow, TwoTargetsRow, RefusedUnstageRow, MetRow, DeletedRow, NewAgrees};
+//! Worked examples of what an orchestrator does.
+ghost use Rattle.csi_orchestrator.specs.Worked.{PublishedRow, OneNodeRow, SingleWriterRow, LateReplyRow, RestartRow, UndoneRow, SpentRow, RefusedCreateRow, RefusedPublishRow, TwoTargetsRow, RefusedUnstageRow, MetRow, DeletedRow, NewAgrees};
 
-// Proves each worked row, and does nothing.
+// Proves each worked example, and does nothing.
 fn worked_rows()
     ensures published { PublishedRow }
     ensures one_node { OneNodeRow }

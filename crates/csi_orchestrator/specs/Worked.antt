@@ -1,4 +1,4 @@
--- Worked rows of what an orchestrator does, which the checker computes.
+-- Worked examples of what an orchestrator does, which the checker computes.
 use Rattle.std.specs.Prelude.{◌≡◌, ℕ, suc, List, [], ◌∷◌, ◌++◌, Bool, true, false, Some, None, Result, Ok, Err, codes}
 use Rattle.csi_types.specs.declared.number.Number.{Number}
 use Rattle.csi_types.specs.declared.mode.Mode.{Mode}
