@@ -10,6 +10,7 @@ pub mod CallReaders
 pub mod ReplyReaders
 pub mod BodyReaders
 pub mod Judge
+pub mod Known
 pub mod Lengths
 pub mod Whole
 pub mod Front

@@ -6,7 +6,7 @@ ghost use Rattle.csi_frames.specs.Reading.{party_at, number_at, head_at, fields_
 
 use crate::body_kind::BodyKind;
 use crate::borrowed::{BodyRef, BorrowedFrame, FieldsRef, PartyRef};
-use crate::calls::{call_at, reply_at};
+use crate::calls::{call_at, create_again, reply_at};
 use crate::fault::{FaultKind, FrameFault};
 use crate::fields::{Fields, Stop};
 use byteorder::{BigEndian, ByteOrder};
@@ -87,6 +87,12 @@ pub(crate) fn body_of(from: FieldsRef<'_>) -> BodyRef<'_>
     ensures { owned_body result ≡ owned_fields from.entry }
 {
     let mut fields = Fields { bytes: from.bytes };
+    if from.kind.is_create() {
+        return match create_again(&mut fields) {
+            Ok(call) => BodyRef::Call(call),
+            Err(_) => unreachable!(),
+        };
+    }
     match fields_at(&mut fields, from.kind) {
         Ok(body) => body,
         Err(_) => unreachable!(),

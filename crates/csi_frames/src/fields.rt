@@ -1,5 +1,5 @@
 //! The bytes of a body, from which its fields are read one after another.
-ghost use Rattle.std.specs.Prelude.{◌≡◌, true, false, MatchOption, length};
+ghost use Rattle.std.specs.Prelude.{◌≡◌, true, false, MatchOption, Ok, is_ok, length};
 ghost use Rattle.std.specs.Str.{is_utf8};
 
 use crate::fault::FaultKind;
@@ -120,6 +120,21 @@ impl<'a> Fields<'a> {
             }
             None => Err(self.stop(FaultKind::BadText)),
         }
+    }
+
+    /// A text of `least` to `most` bytes that was read before, so that reading it again stops nowhere. It isn't judged again.
+    #[inline(always)]
+    pub fn known_text(&mut self, least: usize, most: usize) -> &'a str
+        requires { is_ok (text_at least most self.old.bytes.now) ≡ true }
+        ensures { text_at least most self.old.bytes.now ≡ Ok (result.now, self.new.bytes.now) }
+    {
+        let [count, rest @ ..] = self.bytes else {
+            unreachable!();
+        };
+        let (text, rest) = rest.split_at(*count as usize);
+        self.bytes = rest;
+        // It was UTF-8 when it was read before.
+        unsafe { str::from_utf8_unchecked(text) }
     }
 }
 
