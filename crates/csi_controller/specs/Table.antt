@@ -115,7 +115,7 @@ abbrev pub unpublish : ℕ → List ℕ → Option Holding → Outcome
 unpublish id node (Some held) = done (Detaches id node)
 unpublish id node None = met
 
--- the table. A node's call never comes here: no frame has one for the controller
+-- the table. Its last four lines make it total: no frame for the controller has a node's call
 abbrev pub controller_row : Config → ControllerState → Call → Outcome
 controller_row config state (calls.CreateVolume name required limit capabilities) = create config state name required limit capabilities
 controller_row config state (calls.DeleteVolume id) = delete state id (live_volume id state)

@@ -58,7 +58,7 @@ abbrev pub holds_published : List ℕ → Option Volume → Option NodeState →
 holds_published target (Some volume) (Some state) = is_some (published_at volume.id target state)
 holds_published target volume state = false
 
--- the thing is so, whatever the orchestrator knows
+-- the thing is so, whatever the orchestrator knows; that a deleted volume is attached nowhere is a clause of its own
 abbrev pub holds : World → Thing → Bool
 holds world (Exists name) = is_some (find (λ volume. same_text volume.name name && volume.is_live) world.controller.volumes)
 holds world (Attached name node) = holds_attached world.controller node (volume_named name world.controller)
