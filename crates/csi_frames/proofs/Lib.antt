@@ -10,7 +10,7 @@ pub mod CallReaders
 pub mod ReplyReaders
 pub mod BodyReaders
 pub mod Judge
-pub mod Known
+pub mod KnownReaders
 pub mod Lengths
 pub mod Whole
 pub mod Front

@@ -6,9 +6,10 @@ ghost use Rattle.csi_frames.specs.Reading.{party_at, number_at, head_at, fields_
 
 use crate::body_kind::BodyKind;
 use crate::borrowed::{BodyRef, BorrowedFrame, FieldsRef, PartyRef};
-use crate::calls::{call_at, create_again, reply_at};
+use crate::calls::{call_at, reply_at};
 use crate::fault::{FaultKind, FrameFault};
 use crate::fields::{Fields, Stop};
+use crate::known::known_call;
 use byteorder::{BigEndian, ByteOrder};
 use csi_types::{NodeId, Number};
 
@@ -87,8 +88,8 @@ pub(crate) fn body_of(from: FieldsRef<'_>) -> BodyRef<'_>
     ensures { owned_body result ≡ owned_fields from.entry }
 {
     let mut fields = Fields { bytes: from.bytes };
-    if from.kind.is_create() {
-        return match create_again(&mut fields) {
+    if let BodyKind::Call(kind) = from.kind {
+        return match known_call(&mut fields, kind) {
             Ok(call) => BodyRef::Call(call),
             Err(_) => unreachable!(),
         };

@@ -1,9 +1,9 @@
 //! Capabilities, calls and replies, read from the bytes of a body.
-ghost use Rattle.std.specs.Prelude.{◌≡◌, ◌&&◌, true, is_ok};
+ghost use Rattle.std.specs.Prelude.{◌≡◌, ◌&&◌};
 ghost use Rattle.csi_types.specs.Lent.{lent_access, lent_capability};
 ghost use Rattle.csi_types.specs.Reply.{is_create, is_ok_status};
 ghost use Rattle.csi_frames.specs.Borrowed.{owned_capabilities, owned_call, owned_reply};
-ghost use Rattle.csi_frames.specs.Gives.{Gives, GivesAgain};
+ghost use Rattle.csi_frames.specs.Gives.{Gives};
 ghost use Rattle.csi_frames.specs.Reading.{access_at, mode_at, capability_at, capabilities_at, create_at, call_at, status_at, reply_id_at, reply_at};
 
 use crate::borrowed::{BorrowedCall, CapabilitiesRef, ReplyRef};
@@ -67,30 +67,6 @@ fn create_at<'a>(fields: &mut Fields<'a>) -> Result<BorrowedCall<'a>, Stop>
     let limit = fields.word()?;
     let count = fields.byte(8, FaultKind::BadCount)?;
     let capabilities = capabilities_at(fields, count)?;
-    Ok(BorrowedCall::CreateVolume {
-        name,
-        required,
-        limit,
-        capabilities,
-    })
-}
-
-// The call of fields that were read before, so that reading them again stops nowhere: the name isn't judged again, and the
-// capabilities aren't read.
-#[inline(always)]
-#[tactic(auto, unfolding(crate::specs::Reading::create_at))]
-pub(crate) fn create_again<'a>(fields: &mut Fields<'a>) -> Result<BorrowedCall<'a>, Stop>
-    requires { is_ok (create_at fields.old.bytes.now) ≡ true }
-    ensures { GivesAgain owned_call result (create_at fields.old.bytes.now) }
-{
-    let name = fields.known_text(1, Name::MAX_LEN);
-    let required = fields.word()?;
-    let limit = fields.word()?;
-    let count = fields.byte(8, FaultKind::BadCount)?;
-    let capabilities = CapabilitiesRef {
-        bytes: fields.bytes,
-        count,
-    };
     Ok(BorrowedCall::CreateVolume {
         name,
         required,

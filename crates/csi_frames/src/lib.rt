@@ -11,6 +11,7 @@ mod encoding;
 mod fault;
 mod fields;
 mod frame_ref;
+mod known;
 mod lending;
 mod owned;
 mod progress;

@@ -1,14 +1,14 @@
-use Rattle.std.proofs.Common.{sym}
 use Rattle.csi_frames.specs.Borrowed.{owned_call}
-use Rattle.csi_frames.specs.Reading.{create_at}
-use Rattle.csi_frames.proofs.Known.{create_ok, create_is, never_stops}
+use Rattle.csi_frames.specs.Reading.{call_at}
+use Rattle.csi_frames.proofs.KnownReaders.{call_ok, call_is, never_stops}
 use Rattle.csi_frames.proofs.body.body_of.Goals as goal
 
-pub create_again-requires : goal.create_again-requires
-create_again-requires c = create_ok c.args.from.kind c.args.from.bytes.now (sym c.if-is_create.ensures) c.args.from.read
+pub known_call-requires : goal.known_call-requires
+known_call-requires c = call_ok c.in-Call.kind c.args.from.bytes.now (rw c.in-Call.is at c.args.from.read)
 
 pub unreachable-requires : goal.unreachable-requires
-unreachable-requires c = never_stops (create_at c.args.from.bytes.now) c.in-Err.field-0 (create_ok c.args.from.kind c.args.from.bytes.now (sym c.if-is_create.ensures) c.args.from.read) c.in-Err.ensures
+unreachable-requires c =
+    never_stops (call_at c.in-Call.kind c.args.from.bytes.now) c.in-Err.field-0 (call_ok c.in-Call.kind c.args.from.bytes.now (rw c.in-Call.is at c.args.from.read)) c.in-Err.ensures
 
-pub returns-then-is_create : goal.returns-then-is_create
-returns-then-is_create c = create_is c.args.from.kind c.args.from.bytes.now c.in-Ok.ensures.0 (owned_call c.in-Ok.call) (sym c.if-is_create.ensures) c.in-Ok.ensures.1
+pub returns-in-Call : goal.returns-in-Call
+returns-in-Call c = rw c.in-Call.is (call_is c.in-Call.kind c.args.from.bytes.now c.in-Ok.ensures.0 (owned_call c.in-Ok.call) c.in-Ok.ensures.1)

@@ -1,5 +1,5 @@
 use Rattle.std.proofs.Common.{arith, subst, sym}
-use Rattle.csi_frames.proofs.Known.{known}
+use Rattle.csi_frames.proofs.KnownReaders.{known}
 use Rattle.csi_frames.proofs.fields.Fields.known_text.Goals as goal
 
 pub unreachable-requires : goal.unreachable-requires

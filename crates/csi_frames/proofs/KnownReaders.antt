@@ -6,16 +6,16 @@ use Rattle.std.proofs.Math.Seq.{take-length}
 use Rattle.std.proofs.lemmas.Bool.{ltb-false}
 use Rattle.std.proofs.lemmas.Str.{IsUtf8-from_is_utf8}
 use Rattle.csi_types.specs.declared.capability.Capability.{Capability}
-use Rattle.csi_types.specs.declared.call.Kind.TheVariants as kinds
+use Rattle.csi_types.specs.declared.call.Kind.{Kind}
 use Rattle.csi_types.specs.declared.call.Call.{Call}
 use Rattle.csi_types.specs.declared.call.Call.TheVariants as calls
 use Rattle.csi_types.specs.declared.frame.Body.TheVariants as bodies
-use Rattle.csi_frames.specs.declared.body_kind.BodyKind.{BodyKind}
 use Rattle.csi_frames.specs.declared.body_kind.BodyKind.TheVariants as body_kinds
 use Rattle.csi_frames.specs.declared.fields.Stop.{Stop}
+use Rattle.csi_frames.specs.declared.fields.Fields.{Fields}
 use Rattle.csi_frames.specs.Borrowed.{body_in, list_in}
-use Rattle.csi_frames.specs.Codes.{is_create_call}
-use Rattle.csi_frames.specs.Reading.{Reader, go_on, give, text_at, create_at, call_at, fields_at}
+use Rattle.csi_frames.specs.Gives.{Gives, GivesAgain}
+use Rattle.csi_frames.specs.Reading.{Reader, go_on, give, text_at, call_at, fields_at}
 
 -- where all of two readings was read, the first one was
 pub first_ok : {A B : Type 0} (read : Result (A × List ℕ) Stop) (next : A → Reader B) → is_ok (go_on read next) ≡ true → is_ok read ≡ true
@@ -57,21 +57,22 @@ known least most (n ∷ rest) ok =
     let one_less : length (n ∷ rest) - 1 ≡ length rest = omega arith in
     subst (λ (behind : List ℕ). KnownText least most (n ∷ rest) n behind) (sym (ap (λ (k : ℕ). take k rest) one_less ∙ take-length rest)) (known_behind least most n rest ok)
 
--- ---- a CreateVolume
+-- ---- a call
 
--- the fields of such a kind that were read are a CreateVolume's
-pub create_ok : (kind : BodyKind) (bytes : List ℕ) → is_create_call kind ≡ true → is_ok (fields_at kind bytes) ≡ true → is_ok (create_at bytes) ≡ true
-unfolding fields_at call_at
-create_ok (body_kinds.Call kinds.CreateVolume) bytes is ok = first_ok (create_at bytes) (λ call. give (bodies.Call call)) ok
-create_ok (body_kinds.Call _) bytes is ok = absurd cc
-create_ok (body_kinds.Reply kind) bytes is ok = absurd cc
+-- the fields of a call that were read are the call's
+pub call_ok : (kind : Kind) (bytes : List ℕ) → is_ok (fields_at (body_kinds.Call kind) bytes) ≡ true → is_ok (call_at kind bytes) ≡ true
+unfolding fields_at
+call_ok kind bytes ok = first_ok (call_at kind bytes) (λ call. give (bodies.Call call)) ok
 
 -- and the body is that call
-pub create_is : (kind : BodyKind) (bytes left : List ℕ) (call : Call) → is_create_call kind ≡ true → create_at bytes ≡ Ok (call, left) → bodies.Call call ≡ body_in (fields_at kind bytes)
-unfolding fields_at call_at
-create_is (body_kinds.Call kinds.CreateVolume) bytes left call is e = sym (ap (λ (read : Result (Call × List ℕ) Stop). body_in (go_on read (λ call. give (bodies.Call call)))) e)
-create_is (body_kinds.Call _) bytes left call is e = absurd cc
-create_is (body_kinds.Reply kind) bytes left call is e = absurd cc
+pub call_is : (kind : Kind) (bytes left : List ℕ) (call : Call) → call_at kind bytes ≡ Ok (call, left) → bodies.Call call ≡ body_in (fields_at (body_kinds.Call kind) bytes)
+unfolding fields_at
+call_is kind bytes left call e = sym (ap (λ (read : Result (Call × List ℕ) Stop). body_in (go_on read (λ call. give (bodies.Call call)))) e)
+
+-- what is read is read whatever is behind it
+pub again : {X Y : Type 0} (view : X → Y) (result : Result X Stop) (left : Fields) (read : Result (Y × List ℕ) Stop) → Gives view result left read → GivesAgain view result read
+again view (Ok x) left read e = (left.bytes.now, e)
+again view (Err stop) left read e = e
 
 -- a CreateVolume that was read is the one with what is read of its capabilities
 pub with_list : (name : List ℕ) (required limit : ℕ) (read : Result (List Capability × List ℕ) Stop) → is_ok (go_on read (λ list. give (calls.CreateVolume name required limit list))) ≡ true

@@ -1,6 +1,6 @@
 use Rattle.csi_frames.specs.Reading.{capabilities_at, create_at}
-use Rattle.csi_frames.proofs.Known.{with_list}
-use Rattle.csi_frames.proofs.calls.create_again.Goals as goal
+use Rattle.csi_frames.proofs.KnownReaders.{with_list}
+use Rattle.csi_frames.proofs.known.create.Goals as goal
 
 pub returns : goal.returns
 unfolding create_at
