@@ -45,12 +45,22 @@ is_done front count i bytes total le so_far =
 
 -- ---- a list that was read is read again
 
+-- what never stops is read
+is_read : (read : Result (Capability × List ℕ) Stop) → ((stop : Stop) → read ≡ Err stop → ⊥) → is_ok read ≡ true
+is_read (Ok x) never = refl
+is_read (Err stop) never = absurd (never stop refl)
+
 -- where the whole was read, reading doesn't stop at any of its capabilities
 pub never_ends : (stop : Stop) (front : List Capability) (count i : ℕ) (bytes : List ℕ) (total : Result (List Capability × List ℕ) Stop) → i < count → capability_at bytes ≡ Err stop
     → with_front front (capabilities_at (count - i) bytes) ≡ total → is_ok total ≡ true → ⊥
 never_ends stop front count i bytes total lt h so_far read =
     let none : is_ok total ≡ is_ok {T = List Capability × List ℕ} {E = Stop} (Err stop) = ap is_ok (ends stop front count i bytes total lt h so_far) in
     cc
+
+-- where the whole was read, its next capability is read
+pub next_ok : (front : List Capability) (count i : ℕ) (bytes : List ℕ) (total : Result (List Capability × List ℕ) Stop) → i < count
+    → with_front front (capabilities_at (count - i) bytes) ≡ total → is_ok total ≡ true → is_ok (capability_at bytes) ≡ true
+next_ok front count i bytes total lt so_far read = is_read (capability_at bytes) (λ stop h. never_ends stop front count i bytes total lt h so_far read)
 
 -- where all capabilities of a list are within their limits, one in the midst of it is
 among : (front others : List Capability) (c : Capability) → AllByRecursion IsCapability ((front ++ c ∷ []) ++ others) → IsCapability c

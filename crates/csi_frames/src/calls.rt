@@ -28,7 +28,7 @@ fn access_at<'a>(fields: &mut Fields<'a>) -> Result<AccessRef<'a>, Stop>
 
 #[inline(always)]
 #[tactic(auto, unfolding(crate::specs::Reading::byte_at, crate::specs::Reading::mode_at))]
-fn mode_at(fields: &mut Fields<'_>) -> Result<Mode, Stop>
+pub(crate) fn mode_at(fields: &mut Fields<'_>) -> Result<Mode, Stop>
     ensures { Gives (λ mode. mode) result fields.new (mode_at fields.old.bytes.now) }
 {
     let bad = fields.stop(FaultKind::BadMode);
@@ -38,7 +38,7 @@ fn mode_at(fields: &mut Fields<'_>) -> Result<Mode, Stop>
 
 #[inline(always)]
 #[tactic(auto, unfolding(crate::specs::Reading::capability_at))]
-pub(crate) fn capability_at<'a>(fields: &mut Fields<'a>) -> Result<CapabilityRef<'a>, Stop>
+fn capability_at<'a>(fields: &mut Fields<'a>) -> Result<CapabilityRef<'a>, Stop>
     ensures { Gives lent_capability result fields.new (capability_at fields.old.bytes.now) }
 {
     let access = access_at(fields)?;

@@ -1,15 +1,42 @@
-//! Calls whose fields were read before, so that reading them again stops nowhere. Their names and nodes aren't judged again, and
-//! the capabilities of a CreateVolume aren't read.
+//! Fields that were read before, so that reading them again stops nowhere. Texts of the controller's own calls aren't judged
+//! again, and the capabilities of a CreateVolume aren't read with its other fields.
 ghost use Rattle.std.specs.Prelude.{◌≡◌, true, is_ok};
+ghost use Rattle.csi_types.specs.Lent.{lent_access, lent_capability};
 ghost use Rattle.csi_frames.specs.Borrowed.{owned_call};
 ghost use Rattle.csi_frames.specs.Gives.{Gives, GivesAgain};
-ghost use Rattle.csi_frames.specs.Reading.{create_at, call_at};
+ghost use Rattle.csi_frames.specs.Reading.{access_at, capability_at, create_at, call_at};
 
 use crate::borrowed::{BorrowedCall, CapabilitiesRef};
-use crate::calls::{call_at, capability_at};
+use crate::calls::{call_at, mode_at};
 use crate::fault::FaultKind;
 use crate::fields::{Fields, Stop};
-use csi_types::{Kind, Name, NodeId};
+use csi_types::{AccessRef, CapabilityRef, FsType, Kind, Name, NodeId};
+
+#[inline(always)]
+#[tactic(auto, unfolding(crate::specs::Reading::access_at))]
+fn access<'a>(fields: &mut Fields<'a>) -> Result<AccessRef<'a>, Stop>
+    requires { is_ok (access_at fields.old.bytes.now) ≡ true }
+    ensures { Gives lent_access result fields.new (access_at fields.old.bytes.now) }
+{
+    let byte = fields.byte(1, FaultKind::BadAccess)?;
+    if byte == 0 {
+        return Ok(AccessRef::Block);
+    }
+    let fs_type = fields.known_text(0, FsType::MAX_LEN);
+    Ok(AccessRef::Mount(fs_type))
+}
+
+/// A capability that was read before.
+#[inline(always)]
+#[tactic(auto, unfolding(crate::specs::Reading::capability_at))]
+pub(crate) fn known_capability<'a>(fields: &mut Fields<'a>) -> Result<CapabilityRef<'a>, Stop>
+    requires { is_ok (capability_at fields.old.bytes.now) ≡ true }
+    ensures { Gives lent_capability result fields.new (capability_at fields.old.bytes.now) }
+{
+    let access = access(fields)?;
+    let mode = mode_at(fields)?;
+    Ok(CapabilityRef { access, mode })
+}
 
 #[inline(always)]
 #[tactic(auto, unfolding(crate::specs::Reading::create_at))]
@@ -41,7 +68,7 @@ fn controller_publish<'a>(fields: &mut Fields<'a>) -> Result<BorrowedCall<'a>, S
 {
     let id = fields.id()?;
     let node = fields.known_text(1, NodeId::MAX_LEN);
-    let capability = capability_at(fields)?;
+    let capability = known_capability(fields)?;
     let readonly = fields.flag()?;
     Ok(BorrowedCall::ControllerPublishVolume {
         id,

@@ -10,8 +10,8 @@ ghost use Rattle.csi_frames.specs.Texts.{AreEmpty, access_texts, capability_text
 
 use crate::body::body_of;
 use crate::borrowed::{BodyRef, BorrowedCall, BorrowedFrame, CapabilitiesRef, PartyRef, ReplyRef};
-use crate::calls::capability_at;
 use crate::fields::Fields;
+use crate::known::known_capability;
 use csi_types::{
     Access, AccessRef, Body, Call, Capability, CapabilityList, CapabilityRef, Detail, Frame,
     FsType, Name, NoMemory, NodeId, Party, Reply, Target, TextFault, VolumeId,
@@ -113,7 +113,7 @@ fn capabilities(alloc: Global, from: &CapabilitiesRef<'_>) -> Result<CapabilityL
     let mut items = Vec::with_capacity(alloc, from.count as usize)?;
     let mut fields = Fields { bytes: from.bytes };
     for _ in 0..from.count {
-        let Ok(one) = capability_at(&mut fields) else {
+        let Ok(one) = known_capability(&mut fields) else {
             unreachable!();
         };
         items.push(capability(alloc, &one)?)?;
