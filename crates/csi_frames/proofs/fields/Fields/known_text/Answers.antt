@@ -1,4 +1,4 @@
-use Rattle.std.proofs.Common.{arith, subst, sym}
+use Rattle.std.proofs.Common.{arith}
 use Rattle.csi_frames.proofs.KnownReaders.{known}
 use Rattle.csi_frames.proofs.fields.Fields.known_text.Goals as goal
 
