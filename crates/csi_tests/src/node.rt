@@ -1,5 +1,6 @@
 //! The node plugin. What it is to answer comes from the table of the lifecycle, written out.
 mod growths;
+mod lent;
 mod readers;
 mod rows;
 mod table;
