@@ -1,7 +1,7 @@
 //! Calls that are lent, with texts that no call has.
 use super::*;
 use crate::values::number;
-use csi_types::CallRef;
+use csi_types::{CallRef, CapabilityRef};
 
 // One byte more than a name has.
 const LONG: &str =
@@ -24,6 +24,8 @@ fn is_unanswered(
 fn a_lent_call_outside_its_limits_gets_no_answer(rt: HostRuntime) {
     let mut controller = new_answers(&rt, &[("n1", 1)], &[(1, MAKE, FIRST)]);
     let before = controller.record().expect(&rt, "memory");
+    // The proof has to be told the types of a lent call's parts.
+    let _parts: Option<CapabilityRef<'_>> = None;
     let id = volume_id(&rt, 1);
     let detach = CallRef::ControllerUnpublishVolume { id, node: "" };
     assert!(rt; is_unanswered(&rt, &mut controller, 2, &detach));

@@ -2,7 +2,7 @@
 use super::*;
 use crate::replies::tells;
 use crate::values::number;
-use csi_types::CallRef;
+use csi_types::{CallRef, CapabilityList, CapabilityRef};
 
 const LENT: &[Step] = &[
     (1, Ask::Stage(1, MANY), Status::Ok, ""),
@@ -51,6 +51,8 @@ fn lent_calls_are_answered(rt: HostRuntime) {
 #[test]
 fn a_lent_call_without_a_target_gets_no_answer(rt: HostRuntime) {
     let mut node = new_answers(&rt, &[(1, Ask::Stage(1, ONE), Status::Ok, "")]);
+    // The proof has to be told the types of a lent call's parts.
+    let _parts: Option<(&CapabilityList, CapabilityRef<'_>)> = None;
     let id = volume_id(&rt, 1);
     let outside = CallRef::NodeUnpublishVolume { id, target: "" };
     assert!(rt; is_unanswered(&rt, &mut node, 2, &outside));
