@@ -29,7 +29,7 @@ use Rattle.csi_orchestrator.specs.Commands.{next_number, create_fault, use_fault
 use Rattle.csi_orchestrator.specs.Due.{Due, due_use, due_leave, due_stop, due_delete, due_for, due_call, targets_in_use}
 use Rattle.csi_orchestrator.specs.Moves.{Input, ToCreate, ToUse, ToStop, ToDelete, TimesOut, Comes, Restarts, Answer, Sends, Moved, met, sent_as, go_on, command, use_when, delete_when, stopped, closing, is_forward_due, timeout, is_number_open, call_replied, hears, heard, heard_refusal, deliver, restart, moves, moved_to}
 use Rattle.csi_orchestrator.specs.Steps.{IsReplyTo, frame_of, frame_in, frames_in}
-use Rattle.csi_orchestrator.proofs.Replied.{own-open}
+use Rattle.csi_orchestrator.proofs.RepliedRows.{own-open}
 
 -- what is so of both is so of either
 either : {X : Type 0} (P : X → Type 0) (b : Bool) (x y : X) → P x → P y → P (cond b x y)

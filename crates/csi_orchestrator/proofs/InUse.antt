@@ -28,9 +28,9 @@ use Rattle.csi_orchestrator.specs.Shown.{PlaceShown, RowShown, place_of, aim_of,
 use Rattle.csi_orchestrator.specs.Kept.{ArePlacesApart}
 use Rattle.csi_orchestrator.specs.RowMoves.{is_so_elsewhere, has_elsewhere, is_place_otherwise, others_count, is_attached_somewhere}
 use Rattle.csi_orchestrator.proofs.ViewsFollow.{touches-name}
-use Rattle.csi_orchestrator.proofs.Joined.{own-entry}
+use Rattle.csi_orchestrator.proofs.JoinedLists.{own-entry}
 use Rattle.csi_orchestrator.proofs.RowViews.{IsRowOf}
-use Rattle.csi_orchestrator.proofs.Texts.{among-distinct, distinct-once, as-many-as}
+use Rattle.csi_orchestrator.proofs.TextLists.{among-distinct, distinct-once, as-many-as}
 
 -- a text is in use where the thing that it makes may be so: the thing's latest call is of the name, and gives the text back
 used : (history : History) (name : List ℕ) (made : List ℕ → Thing) (pick : Option Thing → Option (List ℕ)) (text : List ℕ) → name_in (made text) ≡ name

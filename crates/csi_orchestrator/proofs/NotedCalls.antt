@@ -14,8 +14,8 @@ use Rattle.csi_orchestrator.specs.declared.row.Row.{Row}
 use Rattle.csi_orchestrator.specs.declared.catalog.Catalog.{Catalog}
 use Rattle.csi_orchestrator.specs.Catalog.{rows_of, by_name, place_noted, HasRoom, IsNoted, IsNotedWith, IsIndexed, IsClosedAt}
 use Rattle.csi_orchestrator.specs.Shown.{without_call}
-use Rattle.csi_orchestrator.proofs.Indexed.{rows-within}
-use Rattle.csi_orchestrator.proofs.Standing.{at-of_get, get-of_at, at-within, all-mapped}
+use Rattle.csi_orchestrator.proofs.RowsUnderNames.{rows-within}
+use Rattle.csi_orchestrator.proofs.ListPlaces.{at-of_get, get-of_at, at-within, all-mapped}
 
 -- the result of what can't be refused
 pub held-ok : {T E P : Type 0} (r : Result T E) → IsOk r → OnOk r P → P

@@ -19,11 +19,11 @@ use Rattle.csi_orchestrator.specs.Hearing.{marks_marked}
 use Rattle.csi_orchestrator.specs.Kept.{HasEntry}
 use Rattle.csi_orchestrator.specs.RowChanges.{Aspect, Existence, Attachment, Staging, Publication, aspect_of, place_marked, marked_at, at_goal, exists_marked, places_marked, marked}
 use Rattle.csi_orchestrator.specs.Shown.{PlaceShown, RowShown, place_of, aim_of, mark_in, published_in, mark_of, held_in, held_at, others_in, marks_of_volume, marks_at, marks_for}
-use Rattle.csi_orchestrator.proofs.Texts.{text-same}
+use Rattle.csi_orchestrator.proofs.TextLists.{text-same}
 use Rattle.csi_orchestrator.proofs.DueCases.{IsDueFor, ToMake, ToRemove, ToAttach, ToStage, ToPublish, ToUnpublish, ToUnstage, ToDetach}
-use Rattle.csi_orchestrator.proofs.Texts.{same_text-flip}
-use Rattle.csi_orchestrator.proofs.KeptEntries.{any-change}
-use Rattle.csi_orchestrator.proofs.Keyed.{find-change}
+use Rattle.csi_orchestrator.proofs.TextLists.{same_text-flip}
+use Rattle.csi_orchestrator.proofs.EntryRules.{any-change}
+use Rattle.csi_orchestrator.proofs.KeyedSearches.{find-change}
 
 -- a reading that the change leaves
 unread : {R : Type 0} (read : Option PlaceShown → R) (change : PlaceShown → PlaceShown) (b : Bool) (o : Option PlaceShown) → ((place : PlaceShown) → read (Some (change place)) ≡ read (Some place))

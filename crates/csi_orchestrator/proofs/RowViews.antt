@@ -19,7 +19,7 @@ use Rattle.csi_orchestrator.specs.Following.{after_sent, after_accepted, after_c
 use Rattle.csi_orchestrator.specs.Shown.{RowShown, Parts, row_of, mark_in, mark_of, goal_in, held_in, open_in_row, tries_in, view_of, AgreesWith}
 use Rattle.csi_orchestrator.specs.RowMoves.{put}
 use Rattle.csi_orchestrator.proofs.ViewsFollow.{touches-name, and-false}
-use Rattle.csi_orchestrator.proofs.Keyed.{find-put}
+use Rattle.csi_orchestrator.proofs.KeyedSearches.{find-put}
 
 -- the row tells what is shown of a name
 pub record Reads (row : RowShown) (view : View) (name : List ℕ) : Type 0 where

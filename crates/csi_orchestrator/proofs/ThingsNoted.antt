@@ -21,7 +21,7 @@ use Rattle.csi_orchestrator.specs.Kept.{IsKept, AreKept}
 use Rattle.csi_orchestrator.specs.History.{History}
 use Rattle.csi_orchestrator.specs.Readings.{known}
 use Rattle.csi_orchestrator.specs.Listing.{known_by_rows, ListsKnown, node_in, target_in, noted, noted_of_aim, noted_of_place, noted_of_row, noted_in}
-use Rattle.csi_orchestrator.proofs.Joined.{own-entry}
+use Rattle.csi_orchestrator.proofs.JoinedLists.{own-entry}
 
 -- the entries are of two things
 abbrev pub AreTwoThings : Thing × Known → Thing × Known → Type 0

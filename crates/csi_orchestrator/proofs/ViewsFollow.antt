@@ -29,7 +29,7 @@ use Rattle.csi_orchestrator.specs.WellFormed.{IsNext, AreWellFormed, IsWellForme
 use Rattle.csi_orchestrator.specs.Agrees.{View, Agrees}
 use Rattle.csi_orchestrator.specs.Following.{after_started, after_sent, after_accepted, after_closed, after_noted, told, id_brought, DetachesSomething}
 use Rattle.csi_orchestrator.proofs.Numbers.{other-number, sent-before, one-call, unless-some, open-sent, fresh-silent, open-silent}
-use Rattle.csi_orchestrator.proofs.Texts.{same_text-flip, any-distinct}
+use Rattle.csi_orchestrator.proofs.TextLists.{same_text-flip, any-distinct}
 
 -- where two tests pass together, the left one does
 left-true : (a b : Bool) → (a && b) ≡ true → a ≡ true

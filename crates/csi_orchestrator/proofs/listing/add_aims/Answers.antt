@@ -1,7 +1,7 @@
 -- Where nothing is noted, no target is.
 use Rattle.std.proofs.Common.{◌≡◌, ◌∙◌, [], ap, arith}
 use Rattle.csi_orchestrator.specs.Listing.{noted_of_aim}
-use Rattle.csi_orchestrator.proofs.NothingNoted.{no-flat}
+use Rattle.csi_orchestrator.proofs.RowsWithoutNotes.{no-flat}
 use Rattle.csi_orchestrator.proofs.listing.add_aims.Goals as goal
 
 pub returns-in_err-add_aim-clause-empty : goal.returns-in_err-add_aim-clause-empty

@@ -3,7 +3,7 @@ use Rattle.std.proofs.Common.{◌≡◌, ◌∙◌, [], ap, arith}
 use Rattle.csi_orchestrator.specs.declared.row.Place.{Place}
 use Rattle.csi_orchestrator.specs.Listing.{noted_of_place}
 use Rattle.csi_orchestrator.specs.Shown.{place_shown}
-use Rattle.csi_orchestrator.proofs.NothingNoted.{no-flat_shown}
+use Rattle.csi_orchestrator.proofs.RowsWithoutNotes.{no-flat_shown}
 use Rattle.csi_orchestrator.proofs.listing.add_places.Goals as goal
 
 pub returns-in_err-add_place-clause-empty : goal.returns-in_err-add_place-clause-empty

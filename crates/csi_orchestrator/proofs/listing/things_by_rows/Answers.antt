@@ -3,7 +3,7 @@ use Rattle.std.proofs.Common.{◌≡◌, ◌∙◌, [], ap, arith}
 use Rattle.csi_orchestrator.specs.declared.row.Row.{Row}
 use Rattle.csi_orchestrator.specs.Listing.{noted_of_row}
 use Rattle.csi_orchestrator.specs.Shown.{row_shown}
-use Rattle.csi_orchestrator.proofs.NothingNoted.{no-flat_shown}
+use Rattle.csi_orchestrator.proofs.RowsWithoutNotes.{no-flat_shown}
 use Rattle.csi_orchestrator.proofs.listing.things_by_rows.Goals as goal
 
 pub returns-in_err-add_row-clause-empty : goal.returns-in_err-add_row-clause-empty

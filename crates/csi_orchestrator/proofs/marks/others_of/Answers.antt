@@ -4,7 +4,7 @@ use Rattle.std.specs.Prelude.{◌&&◌}
 use Rattle.csi_types.specs.Same.{same_text}
 use Rattle.csi_orchestrator.specs.declared.row.Aim.{Aim}
 use Rattle.csi_orchestrator.specs.Thing.{is_no}
-use Rattle.csi_orchestrator.proofs.PlacesSeen.{counted-more, counted-same}
+use Rattle.csi_orchestrator.proofs.EntriesShown.{counted-more, counted-same}
 use Rattle.csi_orchestrator.proofs.marks.others_of.Goals as goal
 use Rattle.csi_orchestrator.proofs.marks.others_of.Goals.{then-ne+then-not-is_no, else-ne, else-ne-via-then-ne+else-not-is_no, else-ne-via-else-ne}
 

@@ -6,7 +6,7 @@ use Rattle.csi_orchestrator.specs.declared.marks.Marks.{Marks}
 use Rattle.csi_orchestrator.specs.Hearing.{marks_heard}
 use Rattle.csi_orchestrator.specs.RowChanges.{id_told}
 use Rattle.csi_orchestrator.specs.Shown.{row_shown, due_with}
-use Rattle.csi_orchestrator.proofs.HeardRows.{due-after}
+use Rattle.csi_orchestrator.proofs.DueAfterSuccess.{due-after}
 use Rattle.csi_orchestrator.proofs.next_call.due_after.Goals as goal
 
 pub returns-in-Some : goal.returns-in-Some

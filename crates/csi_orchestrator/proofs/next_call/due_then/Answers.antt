@@ -2,7 +2,7 @@
 use Rattle.std.proofs.Common.{sym, ◌∙◌, ap}
 use Rattle.csi_orchestrator.specs.RowSteps.{changed}
 use Rattle.csi_orchestrator.specs.Shown.{row_shown, due_in}
-use Rattle.csi_orchestrator.proofs.RowsGoOn.{due-wanted}
+use Rattle.csi_orchestrator.proofs.DueAfterStep.{due-wanted}
 use Rattle.csi_orchestrator.proofs.next_call.due_then.Goals as goal
 
 pub returns-in-Want : goal.returns-in-Want

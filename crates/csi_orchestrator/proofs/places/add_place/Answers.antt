@@ -3,7 +3,7 @@ use Rattle.std.proofs.Common.{◌∙◌, ap, map}
 use Rattle.std.proofs.Math.Seq.{map-set_same}
 use Rattle.std.proofs.lemmas.Result.{on_ok_weaker, on_err_weaker}
 use Rattle.csi_orchestrator.specs.Shown.{place_shown}
-use Rattle.csi_orchestrator.proofs.AddedEntries.{added-there, added-last}
+use Rattle.csi_orchestrator.proofs.UseEntries.{added-there, added-last}
 use Rattle.csi_orchestrator.proofs.places.add_place.Goals as goal
 
 pub returns-in-Some-clause-ok : goal.returns-in-Some-clause-ok

@@ -3,7 +3,7 @@ use Rattle.std.proofs.Common.{List, length, refl, sym, ◌∙◌, ap}
 use Rattle.std.specs.Prelude.{slice_get}
 use Rattle.std.proofs.lemmas.Option.{slice_get_read, slice_get_past}
 use Rattle.csi_orchestrator.specs.declared.row.Row.{Row}
-use Rattle.csi_orchestrator.proofs.FoundRows.{replied-unnoted, replied-nowhere, replied-otherwise, replied-there}
+use Rattle.csi_orchestrator.proofs.OpenCallPlaces.{replied-unnoted, replied-nowhere, replied-otherwise, replied-there}
 use Rattle.csi_orchestrator.proofs.replies.place_replied.Goals as goal
 
 pub returns-in-None-clause-place : goal.returns-in-None-clause-place

@@ -2,7 +2,7 @@
 use Rattle.std.proofs.Common.{sym, not}
 use Rattle.csi_orchestrator.specs.Shown.{PlaceShown, place_shown}
 use Rattle.csi_orchestrator.specs.Thing.{is_no}
-use Rattle.csi_orchestrator.proofs.PlacesSeen.{one-here}
+use Rattle.csi_orchestrator.proofs.EntriesShown.{one-here}
 use Rattle.csi_orchestrator.proofs.sharing.is_attached_somewhere.Goals as goal
 
 pub returns-then-not-is_no : goal.returns-then-not-is_no

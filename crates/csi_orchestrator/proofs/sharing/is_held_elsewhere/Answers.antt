@@ -3,7 +3,7 @@ use Rattle.std.proofs.Common.{sym}
 use Rattle.csi_orchestrator.specs.Commands.{is_for_one_node}
 use Rattle.csi_orchestrator.specs.RowMoves.{is_so_elsewhere}
 use Rattle.csi_orchestrator.specs.Shown.{place_shown}
-use Rattle.csi_orchestrator.proofs.PlacesSeen.{one-here}
+use Rattle.csi_orchestrator.proofs.EntriesShown.{one-here}
 use Rattle.csi_orchestrator.proofs.sharing.is_held_elsewhere.Goals as goal
 
 pub returns-then-excludes : goal.returns-then-excludes

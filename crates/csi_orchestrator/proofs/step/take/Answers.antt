@@ -2,7 +2,7 @@
 use Rattle.std.proofs.Common.{sym, ◌∙◌}
 use Rattle.csi_orchestrator.specs.Found.{without_rows}
 use Rattle.csi_orchestrator.specs.Shown.{row_shown}
-use Rattle.csi_orchestrator.proofs.RowsGoOn.{goes-quietly}
+use Rattle.csi_orchestrator.proofs.DueAfterStep.{goes-quietly}
 use Rattle.csi_orchestrator.proofs.step.take.Goals as goal
 
 pub returns-clause-quiet : goal.returns-clause-quiet

@@ -4,7 +4,7 @@ use Rattle.std.specs.Prelude.{nat_eq}
 use Rattle.std.specs.Cmp.Lexicographic.{pointwise}
 use Rattle.indexmap.specs.IndexMap.{insert_entry, values}
 use Rattle.csi_orchestrator.specs.declared.row.Row.{Row}
-use Rattle.csi_orchestrator.proofs.Indexed.{put-last, rows-added, ready-added}
+use Rattle.csi_orchestrator.proofs.RowsUnderNames.{put-last, rows-added, ready-added}
 use Rattle.csi_orchestrator.proofs.catalog.Catalog.add.Goals as goal
 
 pub returns-clause-added : goal.returns-clause-added

@@ -2,7 +2,7 @@
 use Rattle.std.proofs.Common.{refl, arith}
 use Rattle.csi_orchestrator.specs.Catalog.{rows_of}
 use Rattle.csi_orchestrator.specs.Shown.{without_call}
-use Rattle.csi_orchestrator.proofs.Indexed.{names-set, rows-below, closed-at, closed-nowhere}
+use Rattle.csi_orchestrator.proofs.RowsUnderNames.{names-set, rows-below, closed-at, closed-nowhere}
 use Rattle.csi_orchestrator.proofs.catalog.Catalog.close_at.Goals as goal
 
 pub returns-then-place-len-clause-rows : goal.returns-then-place-len-clause-rows

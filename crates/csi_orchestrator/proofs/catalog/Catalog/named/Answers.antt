@@ -4,7 +4,7 @@ use Rattle.csi_types.specs.Same.{same_text}
 use Rattle.csi_orchestrator.specs.Catalog.{rows_of}
 use Rattle.csi_orchestrator.specs.Shown.{RowShown, row_shown}
 use Rattle.csi_orchestrator.proofs.ChangedEntries.{find-place, find-none_placed}
-use Rattle.csi_orchestrator.proofs.Indexed.{read-at}
+use Rattle.csi_orchestrator.proofs.RowsUnderNames.{read-at}
 use Rattle.csi_orchestrator.proofs.catalog.Catalog.named.Goals as goal
 
 pub returns-in-Some : goal.returns-in-Some

@@ -3,8 +3,8 @@ use Rattle.std.proofs.Common.{◌∙◌}
 use Rattle.csi_types.specs.Same.{same_text}
 use Rattle.csi_orchestrator.specs.declared.row.Row.{Row}
 use Rattle.csi_orchestrator.specs.Catalog.{rows_of, by_name}
-use Rattle.csi_orchestrator.proofs.Indexed.{position-keys}
-use Rattle.csi_orchestrator.proofs.Texts.{same_text-flip}
+use Rattle.csi_orchestrator.proofs.RowsUnderNames.{position-keys}
+use Rattle.csi_orchestrator.proofs.TextLists.{same_text-flip}
 use Rattle.csi_orchestrator.proofs.catalog.Catalog.place_of.Goals as goal
 
 pub returns-clause-place : goal.returns-clause-place

@@ -1,6 +1,6 @@
 -- One row more.
 use Rattle.std.proofs.Common.{arith}
-use Rattle.csi_orchestrator.proofs.Indexed.{rows-within, rows-below}
+use Rattle.csi_orchestrator.proofs.RowsUnderNames.{rows-within, rows-below}
 use Rattle.csi_orchestrator.proofs.NotedCalls.{renewed-step, renewed-noted}
 use Rattle.csi_orchestrator.proofs.catalog.Catalog.renew.Goals as goal
 

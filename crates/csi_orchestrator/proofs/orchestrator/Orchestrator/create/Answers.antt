@@ -1,5 +1,5 @@
 -- By the rows.
-use Rattle.csi_orchestrator.proofs.Promised.{ok-promised, err-promised, kept-promised, nodes-promised}
+use Rattle.csi_orchestrator.proofs.PromisesTold.{ok-promised, err-promised, kept-promised, nodes-promised}
 use Rattle.csi_orchestrator.proofs.orchestrator.Orchestrator.create.Goals as goal
 
 pub invariant_of-self : goal.invariant_of-self

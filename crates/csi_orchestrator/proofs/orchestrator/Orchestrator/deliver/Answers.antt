@@ -2,7 +2,7 @@
 use Rattle.std.proofs.Common.{None}
 use Rattle.csi_orchestrator.specs.declared.fault.Heard.TheVariants.{Ignored}
 use Rattle.csi_orchestrator.specs.Moves.{Comes, Hears, hears}
-use Rattle.csi_orchestrator.proofs.Promised.{ok-promised, err-promised, kept-promised, nodes-promised, answered-promised}
+use Rattle.csi_orchestrator.proofs.PromisesTold.{ok-promised, err-promised, kept-promised, nodes-promised, answered-promised}
 use Rattle.csi_orchestrator.proofs.orchestrator.Orchestrator.deliver.Goals as goal
 
 pub invariant_of-self : goal.invariant_of-self

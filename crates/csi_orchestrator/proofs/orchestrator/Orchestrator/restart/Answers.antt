@@ -1,6 +1,6 @@
 -- By the rows.
-use Rattle.csi_orchestrator.proofs.Restarting.{restart-told, only-spent}
-use Rattle.csi_orchestrator.proofs.Promised.{ok-promised, err-promised, kept-promised, nodes-promised}
+use Rattle.csi_orchestrator.proofs.RestartAgrees.{restart-told, only-spent}
+use Rattle.csi_orchestrator.proofs.PromisesTold.{ok-promised, err-promised, kept-promised, nodes-promised}
 use Rattle.csi_orchestrator.proofs.orchestrator.Orchestrator.restart.Goals as goal
 
 pub invariant_of-self : goal.invariant_of-self

@@ -1,6 +1,6 @@
 -- By the rows.
 use Rattle.std.proofs.Common.{refl}
-use Rattle.csi_orchestrator.proofs.Promised.{ok-promised, err-promised, kept-promised, nodes-promised}
+use Rattle.csi_orchestrator.proofs.PromisesTold.{ok-promised, err-promised, kept-promised, nodes-promised}
 use Rattle.csi_orchestrator.proofs.orchestrator.Orchestrator.stop.Goals as goal
 
 pub invariant_of-self : goal.invariant_of-self

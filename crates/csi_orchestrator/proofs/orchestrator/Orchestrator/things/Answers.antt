@@ -5,7 +5,7 @@ use Rattle.std.proofs.lemmas.Result.{IfOk-weaker}
 use Rattle.csi_orchestrator.specs.Shown.{RowShown, Parts, row_shown}
 use Rattle.csi_orchestrator.specs.Kept.{AreKept}
 use Rattle.csi_orchestrator.specs.Listing.{known_by_rows, ListsKnown, noted_in}
-use Rattle.csi_orchestrator.proofs.NothingNoted.{nothing-noted}
+use Rattle.csi_orchestrator.proofs.RowsWithoutNotes.{nothing-noted}
 use Rattle.csi_orchestrator.proofs.ThingsNoted.{lists-told}
 use Rattle.csi_orchestrator.proofs.orchestrator.Orchestrator.things.Goals as goal
 

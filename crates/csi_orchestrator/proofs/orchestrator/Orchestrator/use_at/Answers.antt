@@ -1,7 +1,7 @@
 -- By the rows.
 use Rattle.std.proofs.Common.{None, refl}
 use Rattle.csi_orchestrator.specs.Moves.{ToUse, Sends}
-use Rattle.csi_orchestrator.proofs.Promised.{ok-promised, err-promised, kept-promised, nodes-promised, answered-promised}
+use Rattle.csi_orchestrator.proofs.PromisesTold.{ok-promised, err-promised, kept-promised, nodes-promised, answered-promised}
 use Rattle.csi_orchestrator.proofs.orchestrator.Orchestrator.use_at.Goals as goal
 
 pub invariant_of-self : goal.invariant_of-self

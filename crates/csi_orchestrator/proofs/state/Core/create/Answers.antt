@@ -7,7 +7,7 @@ use Rattle.csi_orchestrator.specs.Core.{parts_of}
 use Rattle.csi_orchestrator.specs.Moves.{Sends}
 use Rattle.csi_orchestrator.specs.RowMoves.{Told, told, creates, IsRefusal}
 use Rattle.csi_orchestrator.specs.Shown.{RowShown}
-use Rattle.csi_orchestrator.proofs.CalledRows.{shown-nowhere, create-asked}
+use Rattle.csi_orchestrator.proofs.RowsByName.{shown-nowhere, create-asked}
 use Rattle.csi_orchestrator.proofs.state.Core.create.Goals as goal
 
 pub returns-in-Some-clause-told : goal.returns-in-Some-clause-told

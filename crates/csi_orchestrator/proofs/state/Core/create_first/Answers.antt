@@ -14,8 +14,8 @@ use Rattle.csi_orchestrator.specs.Found.{due_shown, with_rows}
 use Rattle.csi_orchestrator.specs.RowChanges.{new_row}
 use Rattle.csi_orchestrator.specs.RowMoves.{first_fault}
 use Rattle.csi_orchestrator.specs.Shown.{RowShown, Parts, row_shown, due_in}
-use Rattle.csi_orchestrator.proofs.CalledRows.{first-told}
-use Rattle.csi_orchestrator.proofs.Opened.{next-created}
+use Rattle.csi_orchestrator.proofs.RowsByName.{first-told}
+use Rattle.csi_orchestrator.proofs.OpenCalls.{next-created}
 use Rattle.csi_orchestrator.proofs.state.Core.create_first.Goals as goal
 
 -- the row goes on by what is found of the one that was made

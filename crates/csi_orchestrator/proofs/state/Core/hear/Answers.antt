@@ -8,8 +8,8 @@ use Rattle.csi_orchestrator.specs.RowSteps.{Fits}
 use Rattle.csi_orchestrator.specs.Moves.{Hears, hears}
 use Rattle.csi_orchestrator.specs.RowMoves.{hears_reply, IsRefusal, IsToldAs}
 use Rattle.csi_orchestrator.specs.Shown.{row_shown}
-use Rattle.csi_orchestrator.proofs.HeardParts.{replied-at, reply-fits, reply-told, never-ignored, unfound}
-use Rattle.csi_orchestrator.proofs.RowsGoOn.{passed-on}
+use Rattle.csi_orchestrator.proofs.RepliesAsSteps.{replied-at, reply-fits, reply-told, never-ignored, unfound}
+use Rattle.csi_orchestrator.proofs.DueAfterStep.{passed-on}
 use Rattle.csi_orchestrator.proofs.state.Core.hear.Goals as goal
 
 pub step-requires-clause-fits : goal.step-requires-clause-fits

@@ -5,10 +5,10 @@ use Rattle.csi_orchestrator.specs.RowSteps.{row_step, SendsNothing}
 use Rattle.csi_orchestrator.specs.Found.{without_rows}
 use Rattle.csi_orchestrator.specs.RowMoves.{IsRefusal}
 use Rattle.csi_orchestrator.specs.Shown.{row_shown}
-use Rattle.csi_orchestrator.proofs.CalledRows.{step-refused, step-told, step-quiet, rows-stay}
-use Rattle.csi_orchestrator.proofs.Indexed.{within-set, indexed-refused}
-use Rattle.csi_orchestrator.proofs.Opened.{ready-told}
-use Rattle.csi_orchestrator.proofs.RowsGoOn.{passed-on, holds-at_err}
+use Rattle.csi_orchestrator.proofs.RowsByName.{step-refused, step-told, step-quiet, rows-stay}
+use Rattle.csi_orchestrator.proofs.RowsUnderNames.{within-set, indexed-refused}
+use Rattle.csi_orchestrator.proofs.OpenCalls.{ready-told}
+use Rattle.csi_orchestrator.proofs.DueAfterStep.{passed-on, holds-at_err}
 use Rattle.csi_orchestrator.proofs.state.Core.step.Goals as goal
 
 pub returns-in_err-next-clause-err : goal.returns-in_err-next-clause-err

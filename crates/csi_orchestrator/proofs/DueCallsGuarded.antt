@@ -28,7 +28,7 @@ use Rattle.csi_orchestrator.proofs.DueCases.{IsDueFor, due-cases, ToMake, ToRemo
 use Rattle.csi_orchestrator.proofs.InUse.{in-use-alike, target-in-use}
 use Rattle.csi_orchestrator.proofs.KnownTests.{yes_is_yes, no_is_no, not_yes, not_no, yes_not_no, is_not_no}
 use Rattle.csi_orchestrator.proofs.RowViews.{IsRowOf}
-use Rattle.csi_orchestrator.proofs.Texts.{texts-differ}
+use Rattle.csi_orchestrator.proofs.TextLists.{texts-differ}
 
 -- what may be sent of this due call
 Guarded : History → List ℕ → Due → Type 0

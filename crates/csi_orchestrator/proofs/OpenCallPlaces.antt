@@ -15,8 +15,8 @@ use Rattle.csi_orchestrator.specs.declared.catalog.Catalog.{Catalog}
 use Rattle.csi_orchestrator.specs.Catalog.{rows_of, place_noted, IsIndexed}
 use Rattle.csi_orchestrator.specs.RowMoves.{is_issued_as}
 use Rattle.csi_orchestrator.specs.Shown.{row_shown, open_in_row}
-use Rattle.csi_orchestrator.proofs.Standing.{at-of_get, get-of_at}
-use Rattle.csi_orchestrator.proofs.Replied.{hears-it}
+use Rattle.csi_orchestrator.proofs.ListPlaces.{at-of_get, get-of_at}
+use Rattle.csi_orchestrator.proofs.RepliedRows.{hears-it}
 
 -- the row that passes a test, if it is the only one, and that none passes
 unplaced : (p : Row → Bool) (rows : List Row) → ((j : ℕ) (row : Row) → IsAt rows j row → p row ≡ true → ⊥) → None ≡ position p rows

@@ -36,20 +36,20 @@ use Rattle.csi_orchestrator.specs.Shown.{RowShown, Parts, row_of, goal_shown, he
 use Rattle.csi_orchestrator.specs.RowChanges.{told_of, succeeded, wanted, dropped, stopped_goal}
 use Rattle.csi_orchestrator.specs.RowMoves.{told, goes_on, times_out_with, times_out, row_replied, is_issued_as, takes_nothing_more, stops_after, hears_refusal, hears_reply, receives, starts_again, row_moves}
 use Rattle.csi_orchestrator.specs.Kept.{IsKept, AreKept, AreGuarded, RowsTell, MovesAreGuarded}
-use Rattle.csi_orchestrator.proofs.Texts.{text-same}
+use Rattle.csi_orchestrator.proofs.TextLists.{text-same}
 use Rattle.csi_orchestrator.proofs.DueCalls.{due-of-row}
 use Rattle.csi_orchestrator.proofs.DueCases.{IsDueFor, due-cases, ToAttach, ToStage, ToPublish}
 use Rattle.csi_orchestrator.proofs.ViewsFollow.{accepted-follows, closed-follows, noted-follows, started-follows}
-use Rattle.csi_orchestrator.proofs.GoingOn.{Guards, Tells, IsReady, has-entry, then-dropped, goes-on-tells}
-use Rattle.csi_orchestrator.proofs.Keeping.{found-kept}
-use Rattle.csi_orchestrator.proofs.KeptRows.{kept-distinct, due-fits-goal, marked-distinct, kept-closed, wanted-succeeded}
-use Rattle.csi_orchestrator.proofs.NotedRow.{reads-wanted, reads-closed, reads-quiet, reads-refused}
-use Rattle.csi_orchestrator.proofs.Refused.{timeout-unknown, timeout-refused}
-use Rattle.csi_orchestrator.proofs.Replied.{replied, found-own, hears-it}
-use Rattle.csi_orchestrator.proofs.Restarting.{session-agrees}
+use Rattle.csi_orchestrator.proofs.SendingAgrees.{Guards, Tells, IsReady, has-entry, then-dropped, goes-on-tells}
+use Rattle.csi_orchestrator.proofs.RulesStay.{found-kept}
+use Rattle.csi_orchestrator.proofs.RowRules.{kept-distinct, due-fits-goal, marked-distinct, kept-closed, wanted-succeeded}
+use Rattle.csi_orchestrator.proofs.RowsAfterNotes.{reads-wanted, reads-closed, reads-quiet, reads-refused}
+use Rattle.csi_orchestrator.proofs.RefusalsRead.{timeout-unknown, timeout-refused}
+use Rattle.csi_orchestrator.proofs.RepliedRows.{replied, found-own, hears-it}
+use Rattle.csi_orchestrator.proofs.RestartAgrees.{session-agrees}
 use Rattle.csi_orchestrator.proofs.RowViews.{Reads, SameAt, same-self, same-then, same-accepted, same-closed, same-noted, put-agrees, row-reads, IsRowOf, is-row-of}
-use Rattle.csi_orchestrator.proofs.SentRow.{issued-by, reads-succeeded}
-use Rattle.csi_orchestrator.proofs.TellingCommands.{kept-aims, own-name, either-tells, creates-tell, uses-tell, stops-tell, deletes-tell}
+use Rattle.csi_orchestrator.proofs.RowsAfterSending.{issued-by, reads-succeeded}
+use Rattle.csi_orchestrator.proofs.CommandsAgree.{kept-aims, own-name, either-tells, creates-tell, uses-tell, stops-tell, deletes-tell}
 
 -- a forward call is due for a use
 forward-goal : (row : RowShown) (due : Due) → IsDueFor row due → is_forward due.call ≡ true → (usage : Usage) × (row.goal ≡ Some (Use usage))

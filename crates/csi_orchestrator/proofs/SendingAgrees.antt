@@ -29,12 +29,12 @@ use Rattle.csi_orchestrator.proofs.DueCalls.{due-of-row}
 use Rattle.csi_orchestrator.proofs.DueCases.{IsDueFor, due-cases, ToAttach, ToDetach}
 use Rattle.csi_orchestrator.proofs.ViewsFollow.{sent-follows, noted-follows}
 use Rattle.csi_orchestrator.proofs.AddedItems.{IsNextIfSome, is_next}
-use Rattle.csi_orchestrator.proofs.Guarded.{due-guarded}
-use Rattle.csi_orchestrator.proofs.KeptRows.{AreDistinct}
+use Rattle.csi_orchestrator.proofs.DueCallsGuarded.{due-guarded}
+use Rattle.csi_orchestrator.proofs.RowRules.{AreDistinct}
 use Rattle.csi_orchestrator.proofs.RowMarks.{GoalHasEntry}
-use Rattle.csi_orchestrator.proofs.NotedRow.{reads-dropped}
+use Rattle.csi_orchestrator.proofs.RowsAfterNotes.{reads-dropped}
 use Rattle.csi_orchestrator.proofs.RowViews.{Reads, SameAt, same-then, same-sent, same-noted, put-agrees, IsRowOf, reads-history}
-use Rattle.csi_orchestrator.proofs.SentRow.{issued-by, reads-sent}
+use Rattle.csi_orchestrator.proofs.RowsAfterSending.{issued-by, reads-sent}
 use Rattle.csi_orchestrator.proofs.KnownTests.{not_no}
 
 -- each call that is sent may be sent

@@ -10,9 +10,9 @@ use Rattle.csi_orchestrator.specs.RowSteps.{IsTold}
 use Rattle.csi_orchestrator.specs.RowMoves.{Told, row_moves, IsRefusal, IsToldAs}
 use Rattle.csi_orchestrator.specs.Kept.{AreKept}
 use Rattle.csi_orchestrator.specs.Promises.{IsDone, IsAnsweredAs}
-use Rattle.csi_orchestrator.proofs.GoingOn.{Tells}
-use Rattle.csi_orchestrator.proofs.Keeping.{rows-stay-kept}
-use Rattle.csi_orchestrator.proofs.TellingReplies.{all-tell}
+use Rattle.csi_orchestrator.proofs.SendingAgrees.{Tells}
+use Rattle.csi_orchestrator.proofs.RulesStay.{rows-stay-kept}
+use Rattle.csi_orchestrator.proofs.RepliesAgree.{all-tell}
 
 -- where the rows tell what the history tells, what is told is done
 done : (history : History) (told : Told) (moved : Result Moved OrchFault) → Tells history (Ok told) moved → IsDone history moved told.answer told.parts

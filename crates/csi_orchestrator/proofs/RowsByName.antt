@@ -24,10 +24,10 @@ use Rattle.csi_orchestrator.specs.RowMoves.{told, put, goes_on, unless_refused, 
 use Rattle.csi_orchestrator.specs.Shown.{RowShown, Parts, row_shown, row_of}
 use Rattle.csi_orchestrator.specs.RowSteps.{RowTold, row_goes_on, row_step, frame_in, last_after, placed, steps_at, SendsNothing}
 use Rattle.csi_orchestrator.proofs.ChangedEntries.{find-place, find-none_placed, put-place, put-none_placed}
-use Rattle.csi_orchestrator.proofs.Indexed.{catalog_with, read-at, parts-set}
-use Rattle.csi_orchestrator.proofs.Opened.{GoesOn, step-goes}
-use Rattle.csi_orchestrator.proofs.PlacedRows.{placed-on, found-name, create-at, nothing-sent}
-use Rattle.csi_orchestrator.proofs.Standing.{get-of_at}
+use Rattle.csi_orchestrator.proofs.RowsUnderNames.{catalog_with, read-at, parts-set}
+use Rattle.csi_orchestrator.proofs.OpenCalls.{GoesOn, step-goes}
+use Rattle.csi_orchestrator.proofs.StepsAsInputs.{placed-on, found-name, create-at, nothing-sent}
+use Rattle.csi_orchestrator.proofs.ListPlaces.{get-of_at}
 
 -- the row at the place that a search gives
 pub row-at : (p : Row → Bool) (rows : List Row) (i : ℕ) → position p rows ≡ Some i → (row : Row) × (IsAt rows i row × (p row ≡ true))

@@ -36,13 +36,13 @@ use Rattle.csi_orchestrator.specs.Found.{kind_due}
 use Rattle.csi_orchestrator.specs.RowSteps.{RowTold, row_goes_on, row_rests, waits_for, failed, row_step, Fits, frame_in, placed, steps_at}
 use Rattle.csi_orchestrator.specs.Hearing.{step_heard}
 use Rattle.csi_orchestrator.specs.Kept.{IsKept, AreKept}
-use Rattle.csi_orchestrator.proofs.CalledRows.{row-at, shown-there}
+use Rattle.csi_orchestrator.proofs.RowsByName.{row-at, shown-there}
 use Rattle.csi_orchestrator.proofs.ChangedEntries.{find-place, find-none_placed}
 use Rattle.csi_orchestrator.proofs.DueCases.{IsDueFor, due-cases, ToMake, ToRemove, ToAttach, ToStage, ToPublish, ToUnpublish, ToUnstage, ToDetach}
-use Rattle.csi_orchestrator.proofs.Indexed.{read-at}
-use Rattle.csi_orchestrator.proofs.Keeping.{found-kept}
-use Rattle.csi_orchestrator.proofs.PlacedRows.{some-is, placed-on}
-use Rattle.csi_orchestrator.proofs.Standing.{get-of_at}
+use Rattle.csi_orchestrator.proofs.RowsUnderNames.{read-at}
+use Rattle.csi_orchestrator.proofs.RulesStay.{found-kept}
+use Rattle.csi_orchestrator.proofs.StepsAsInputs.{some-is, placed-on}
+use Rattle.csi_orchestrator.proofs.ListPlaces.{get-of_at}
 
 -- the due call of the row that a reply is to is of its kind
 issued-kind : (number : Number) (party : Party) (kind : Kind) (name : List ℕ) (own : Option Number) (due : Option Due) → is_issued_as number party kind (issued_as name own due) ≡ true

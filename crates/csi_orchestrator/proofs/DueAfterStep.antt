@@ -21,8 +21,8 @@ use Rattle.csi_orchestrator.specs.RowChanges.{wanted, with_entry, entry_for, wit
 use Rattle.csi_orchestrator.specs.Shown.{PlaceShown, RowShown, Parts, place_of, others_in, marks_at, marks_for, due_with, due_in, closed}
 use Rattle.csi_orchestrator.specs.RowSteps.{outgoing_by, row_after, row_goes_on, row_rests, row_unless, with_entry_for, needs_entry}
 use Rattle.csi_orchestrator.specs.RowSteps.{step_refusal, is_met, waits, late_refusal, changed, row_step, SendsNothing}
-use Rattle.csi_orchestrator.proofs.Texts.{text-same}
-use Rattle.csi_orchestrator.proofs.NotedRow.{mark-with-entry, entry-there}
+use Rattle.csi_orchestrator.proofs.TextLists.{text-same}
+use Rattle.csi_orchestrator.proofs.RowsAfterNotes.{mark-with-entry, entry-there}
 
 -- a refusal that is passed on
 pub passed-on : {T E : Type 0} {a : E} (r : Result T E) (P : E → Type 0) → IsErrAnd r (λ y. y ≡ a) → P a → IfErr r P

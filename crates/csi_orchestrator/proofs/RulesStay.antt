@@ -32,10 +32,10 @@ use Rattle.csi_orchestrator.specs.Shown.{PlaceShown, RowShown, Parts, row_of, pl
 use Rattle.csi_orchestrator.specs.RowChanges.{succeeded, told_of, wanted, dropped, stopped_goal, new_row, wanted_anew, with_entry}
 use Rattle.csi_orchestrator.specs.RowMoves.{Told, told, put, sends_as, goes_on, unless_refused, first_fault, again_fault, creates, has_elsewhere, is_place_otherwise, use_refusal, room_refusal, due_for_use, uses, stop_refusal, stops, is_attached_somewhere, delete_refusal, busy_refusal, deletes, times_out_with, times_out, is_issued_as, row_replied, stops_after, hears_refusal, hears_reply, receives, starts_again, row_moves}
 use Rattle.csi_orchestrator.specs.Kept.{MayBeWanted, IsKept, AreKept, RowsStayKept}
-use Rattle.csi_orchestrator.proofs.KeptEntries.{by_if, each-put, apart-put, apart-map}
-use Rattle.csi_orchestrator.proofs.KeptRows.{AreDistinct, kept-distinct, FitsGoal, due-fits-goal, marked-distinct, kept-sent, kept-closed, kept-dropped, wanted-stopped, wanted-succeeded}
-use Rattle.csi_orchestrator.proofs.KeptUses.{distinct-entry, usable-entry}
-use Rattle.csi_orchestrator.proofs.Replied.{hears-it}
+use Rattle.csi_orchestrator.proofs.EntryRules.{by_if, each-put, apart-put, apart-map}
+use Rattle.csi_orchestrator.proofs.RowRules.{AreDistinct, kept-distinct, FitsGoal, due-fits-goal, marked-distinct, kept-sent, kept-closed, kept-dropped, wanted-stopped, wanted-succeeded}
+use Rattle.csi_orchestrator.proofs.UseRules.{distinct-entry, usable-entry}
+use Rattle.csi_orchestrator.proofs.RepliedRows.{hears-it}
 
 -- what is told, if anything, is kept so
 abbrev pub KeptAfter : Parts → Result Told OrchFault → Type 0

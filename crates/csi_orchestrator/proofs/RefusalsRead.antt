@@ -19,9 +19,9 @@ use Rattle.csi_orchestrator.specs.Kept.{AreKept}
 use Rattle.csi_orchestrator.specs.RowMoves.{is_last, first_fault, again_fault, use_refusal, room_refusal, due_for_use, stop_refusal, delete_refusal, busy_refusal}
 use Rattle.csi_orchestrator.proofs.DueCalls.{use-told}
 use Rattle.csi_orchestrator.proofs.InUse.{elsewhere-alike, attached-alike, otherwise-alike, others-alike, others-counted}
-use Rattle.csi_orchestrator.proofs.Keeping.{found-kept}
+use Rattle.csi_orchestrator.proofs.RulesStay.{found-kept}
 use Rattle.csi_orchestrator.proofs.RowViews.{IsRowOf, is-row-of, own-name}
-use Rattle.csi_orchestrator.proofs.Texts.{text-same, distinct-once, as-many-as}
+use Rattle.csi_orchestrator.proofs.TextLists.{text-same, distinct-once, as-many-as}
 
 -- something is wanted of it, or nothing, alike
 wanted-alike : (row : RowShown) (history : History) (name : List ℕ) → IsRowOf row history name → is_some (goal_of history name) ≡ is_some row.goal

@@ -12,9 +12,9 @@ use Rattle.csi_orchestrator.specs.Kept.{IsKept}
 use Rattle.csi_orchestrator.specs.RowChanges.{marked, told_of, id_told, succeeded}
 use Rattle.csi_orchestrator.specs.Shown.{RowShown, due_with, due_by, due_in}
 use Rattle.csi_orchestrator.proofs.DueCases.{due-cases}
-use Rattle.csi_orchestrator.proofs.GoingOn.{has-entry}
+use Rattle.csi_orchestrator.proofs.SendingAgrees.{has-entry}
 use Rattle.csi_orchestrator.proofs.RowMarks.{marks-then}
-use Rattle.csi_orchestrator.proofs.SentRow.{marks-same}
+use Rattle.csi_orchestrator.proofs.RowsAfterSending.{marks-same}
 
 -- the call that is due once the due call succeeded, by what was known before; and the same by that call's kind
 due-heard : (row : RowShown) (id : Option ℕ) (goal : Goal) (due : Due) → IsKept row → due_in row ≡ Some due → row.goal ≡ Some goal

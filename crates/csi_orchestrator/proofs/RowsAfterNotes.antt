@@ -31,13 +31,13 @@ use Rattle.csi_orchestrator.specs.Following.{after_accepted, after_closed, after
 use Rattle.csi_orchestrator.specs.Kept.{ArePlacesApart}
 use Rattle.csi_orchestrator.specs.RowChanges.{wanted, wanted_anew, new_row, dropped, is_aim_kept, is_place_kept, has_aims, with_kept_aims, with_entry, entry_for, with_aim, new_aim, held_as}
 use Rattle.csi_orchestrator.specs.Shown.{PlaceShown, RowShown, Parts, row_of, place_of, aim_of, mark_in, published_in, mark_of, held_in, held_at, goal_in, goal_shown, open_in_row, issued_as, due_by, closed, view_of, AreTargetsApart}
-use Rattle.csi_orchestrator.proofs.Texts.{text-same}
+use Rattle.csi_orchestrator.proofs.TextLists.{text-same}
 use Rattle.csi_orchestrator.proofs.KnownTests.{no_is_no}
-use Rattle.csi_orchestrator.proofs.Keyed.{find-put}
+use Rattle.csi_orchestrator.proofs.KeyedSearches.{find-put}
 use Rattle.csi_orchestrator.proofs.RowViews.{Reads, Here, here}
-use Rattle.csi_orchestrator.proofs.Joined.{own-entry}
-use Rattle.csi_orchestrator.proofs.KeptEntries.{by_if}
-use Rattle.csi_orchestrator.proofs.SentRow.{goals-same, mark-same}
+use Rattle.csi_orchestrator.proofs.JoinedLists.{own-entry}
+use Rattle.csi_orchestrator.proofs.EntryRules.{by_if}
+use Rattle.csi_orchestrator.proofs.RowsAfterSending.{goals-same, mark-same}
 use Rattle.csi_types.specs.declared.status.Status.{Status}
 use Rattle.csi_types.specs.Reply.{is_ok_status}
 

@@ -17,8 +17,8 @@ use Rattle.csi_orchestrator.specs.Catalog.{rows_of}
 use Rattle.csi_orchestrator.specs.Core.{parts_of}
 use Rattle.csi_orchestrator.specs.RowSteps.{IsTold}
 use Rattle.csi_orchestrator.specs.RowMoves.{Told, told, row_moves, IsRefusal}
-use Rattle.csi_orchestrator.proofs.Entries.{shown-closed}
-use Rattle.csi_orchestrator.proofs.SentRow.{goals-same, mark-same}
+use Rattle.csi_orchestrator.proofs.ClosedRows.{shown-closed}
+use Rattle.csi_orchestrator.proofs.RowsAfterSending.{goals-same, mark-same}
 
 -- where every open call is given up, what is read of a name's row, if it has one, is what the row with its call closed tells
 closed-row : {Y : Type 0} (read told : Option RowShown → Y) (rows : List RowShown) → read None ≡ told None → ((row : RowShown) → read (Some (closed row)) ≡ told (Some row)) → (name : List ℕ)

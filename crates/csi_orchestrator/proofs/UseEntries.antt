@@ -10,7 +10,7 @@ use Rattle.csi_orchestrator.specs.Keyed.{put_by}
 use Rattle.csi_orchestrator.specs.Shown.{PlaceShown, place_shown}
 use Rattle.csi_orchestrator.specs.RowChanges.{entry_for}
 use Rattle.csi_orchestrator.proofs.ChangedEntries.{find-place, find-none_placed, put-place, put-none_placed}
-use Rattle.csi_orchestrator.proofs.NotedRow.{held-same}
+use Rattle.csi_orchestrator.proofs.RowsAfterNotes.{held-same}
 
 -- the entry of a use's node
 abbrev entry_of : Usage → List Place → Option PlaceShown

@@ -25,10 +25,10 @@ use Rattle.csi_orchestrator.specs.RowChanges.{Aspect, Existence, Publication, as
 use Rattle.csi_orchestrator.specs.RowMoves.{is_so_elsewhere}
 use Rattle.csi_orchestrator.specs.Keyed.{change_by}
 use Rattle.csi_orchestrator.specs.Kept.{ArePlacesApart, IsUsable, MayBeWanted, IsKept}
-use Rattle.csi_orchestrator.proofs.Texts.{text-same}
+use Rattle.csi_orchestrator.proofs.TextLists.{text-same}
 use Rattle.csi_orchestrator.proofs.DueCases.{IsDueFor, due-cases, ToMake, ToRemove, ToAttach, ToStage, ToPublish, ToUnpublish, ToUnstage, ToDetach}
-use Rattle.csi_orchestrator.proofs.Keyed.{find-change}
-use Rattle.csi_orchestrator.proofs.KeptEntries.{each-change, apart-change, any-change, apart-map}
+use Rattle.csi_orchestrator.proofs.KeyedSearches.{find-change}
+use Rattle.csi_orchestrator.proofs.EntryRules.{each-change, apart-change, any-change, apart-map}
 
 -- a node has one entry, and so has each target there
 pub record AreDistinct (places : List PlaceShown) : Type 0 where

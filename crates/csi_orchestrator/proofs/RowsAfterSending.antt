@@ -30,9 +30,9 @@ use Rattle.csi_orchestrator.specs.Hearing.{marks_marked}
 use Rattle.csi_orchestrator.specs.Kept.{HasEntry}
 use Rattle.csi_orchestrator.specs.RowChanges.{aspect_of, marked, sent, told_of, id_told, succeeded}
 use Rattle.csi_orchestrator.specs.Shown.{RowShown, place_of, mark_in, mark_of, held_in, held_at, goal_in, goal_shown, marks_for, due_with, due_by, due_in, issued_as}
-use Rattle.csi_orchestrator.proofs.Texts.{text-same}
+use Rattle.csi_orchestrator.proofs.TextLists.{text-same}
 use Rattle.csi_orchestrator.proofs.DueCases.{attaching, staging, publishing, unpublishing, unstaging, detaching, IsDueFor, ToMake, ToRemove, ToAttach, ToStage, ToPublish, ToUnpublish, ToUnstage, ToDetach}
-use Rattle.csi_orchestrator.proofs.Texts.{same_text-flip}
+use Rattle.csi_orchestrator.proofs.TextLists.{same_text-flip}
 use Rattle.csi_orchestrator.proofs.ViewsFollow.{and-false}
 use Rattle.csi_orchestrator.proofs.RowMarks.{IsMarked, GoalHasEntry, at-work, is-marked, marks-then}
 use Rattle.csi_orchestrator.proofs.RowViews.{Reads}

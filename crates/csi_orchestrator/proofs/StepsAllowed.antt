@@ -11,9 +11,9 @@ use Rattle.csi_orchestrator.specs.Kept.{AreKept, AreGuarded}
 use Rattle.csi_orchestrator.specs.RowMoves.{Told, row_moves}
 use Rattle.csi_orchestrator.specs.Steps.{IsReached, Begins, GoesOn, MayDoAll, AreStepwise, MovesLaw}
 use Rattle.csi_orchestrator.proofs.AddedItems.{TakesReplies, AreAdded, moves-add, stays-formed}
-use Rattle.csi_orchestrator.proofs.GoingOn.{Guards, Tells}
-use Rattle.csi_orchestrator.proofs.Keeping.{rows-stay-kept}
-use Rattle.csi_orchestrator.proofs.TellingReplies.{all-tell}
+use Rattle.csi_orchestrator.proofs.SendingAgrees.{Guards, Tells}
+use Rattle.csi_orchestrator.proofs.RulesStay.{rows-stay-kept}
+use Rattle.csi_orchestrator.proofs.RepliesAgree.{all-tell}
 
 -- form, guards and replies together
 may-do : (history : History) (input : Input) (items : List Item) → AreWellFormed history.began (items ++ history.items) → AreGuarded history items → TakesReplies history input items → MayDoAll history input items

@@ -19,8 +19,8 @@ use Rattle.csi_orchestrator.specs.Due.{Due}
 use Rattle.csi_orchestrator.specs.History.{Arguments}
 use Rattle.csi_orchestrator.specs.RowChanges.{new_row, wanted, stopped_goal}
 use Rattle.csi_orchestrator.specs.Shown.{RowShown, Parts, row_shown, due_in, closed}
-use Rattle.csi_orchestrator.proofs.Indexed.{IsOpened, catalog_with, next-unnoted, ready-set}
-use Rattle.csi_orchestrator.proofs.KeptEntries.{by_if}
+use Rattle.csi_orchestrator.proofs.RowsUnderNames.{IsOpened, catalog_with, next-unnoted, ready-set}
+use Rattle.csi_orchestrator.proofs.EntryRules.{by_if}
 
 some-is : {X : Type 0} (a b : X) → Some a ≡ Some b → a ≡ b
 some-is a b h = cc

@@ -19,8 +19,8 @@ use Rattle.csi_orchestrator.specs.declared.row.Row.{Row}
 use Rattle.csi_orchestrator.specs.declared.catalog.Catalog.{Catalog}
 use Rattle.csi_orchestrator.specs.Catalog.{rows_of, by_name, place_noted, HasRoom, IsIndexed, IsReady, IsNextFor, IsClosedAt, AreUpTo, AreNotedBefore, call_in, IsAfter}
 use Rattle.csi_orchestrator.specs.Shown.{RowShown, Parts, row_shown, without_call}
-use Rattle.csi_orchestrator.proofs.Standing.{at-of_get, at-within, at-set, at-set_same, at-set_other, at-push}
-use Rattle.csi_orchestrator.proofs.Texts.{same_text-flip}
+use Rattle.csi_orchestrator.proofs.ListPlaces.{at-of_get, at-within, at-set, at-set_same, at-set_other, at-push}
+use Rattle.csi_orchestrator.proofs.TextLists.{same_text-flip}
 
 -- ---- searches of a list that is seen through a function
 

@@ -19,10 +19,10 @@ use Rattle.csi_orchestrator.specs.RowChanges.{wanted, new_aim, with_aim, held_as
 use Rattle.csi_orchestrator.specs.RowMoves.{is_so_elsewhere, has_elsewhere, is_place_otherwise}
 use Rattle.csi_orchestrator.specs.Keyed.{put_by}
 use Rattle.csi_orchestrator.specs.Kept.{IsUsable}
-use Rattle.csi_orchestrator.proofs.Texts.{text-same}
-use Rattle.csi_orchestrator.proofs.Keyed.{find-put}
-use Rattle.csi_orchestrator.proofs.KeptEntries.{each-put, apart-put, any-put}
-use Rattle.csi_orchestrator.proofs.KeptRows.{AreDistinct, here}
+use Rattle.csi_orchestrator.proofs.TextLists.{text-same}
+use Rattle.csi_orchestrator.proofs.KeyedSearches.{find-put}
+use Rattle.csi_orchestrator.proofs.EntryRules.{each-put, apart-put, any-put}
+use Rattle.csi_orchestrator.proofs.RowRules.{AreDistinct, here}
 
 -- an entry that serves a use
 pub record Serves (usage : Usage) (place : PlaceShown) : Type 0 where

@@ -26,12 +26,12 @@ use Rattle.csi_orchestrator.specs.RowChanges.{wanted, new_row, wanted_anew, with
 use Rattle.csi_orchestrator.specs.RowMoves.{Told, goes_on, unless_refused, first_fault, again_fault, creates, has_elsewhere, is_place_otherwise, use_refusal, room_refusal, due_for_use, use_or_met, uses, stop_refusal, stops, is_attached_somewhere, delete_refusal, busy_refusal, delete_or_met, deletes}
 use Rattle.csi_orchestrator.specs.Kept.{MayBeWanted, IsKept, AreKept}
 use Rattle.csi_orchestrator.proofs.ViewsFollow.{noted-follows}
-use Rattle.csi_orchestrator.proofs.GoingOn.{Tells, IsReady, goes-on-tells}
-use Rattle.csi_orchestrator.proofs.Keeping.{first-held, is-made, found-kept, all-detached}
-use Rattle.csi_orchestrator.proofs.KeptRows.{AreDistinct, kept-distinct}
-use Rattle.csi_orchestrator.proofs.KeptUses.{distinct-entry, usable-entry}
-use Rattle.csi_orchestrator.proofs.NotedRow.{no-call, reads-wanted, reads-anew, reads-new, reads-with-entry}
-use Rattle.csi_orchestrator.proofs.Refused.{create-first, create-again, use-unknown, use-refused, room-refused, use-due, stop-unknown, stop-refused, delete-unknown, delete-refused, busy-refused}
+use Rattle.csi_orchestrator.proofs.SendingAgrees.{Tells, IsReady, goes-on-tells}
+use Rattle.csi_orchestrator.proofs.RulesStay.{first-held, is-made, found-kept, all-detached}
+use Rattle.csi_orchestrator.proofs.RowRules.{AreDistinct, kept-distinct}
+use Rattle.csi_orchestrator.proofs.UseRules.{distinct-entry, usable-entry}
+use Rattle.csi_orchestrator.proofs.RowsAfterNotes.{no-call, reads-wanted, reads-anew, reads-new, reads-with-entry}
+use Rattle.csi_orchestrator.proofs.RefusalsRead.{create-first, create-again, use-unknown, use-refused, room-refused, use-due, stop-unknown, stop-refused, delete-unknown, delete-refused, busy-refused}
 use Rattle.csi_orchestrator.proofs.RowViews.{Reads, same-noted, row-reads}
 
 -- in kept rows each target of a node has one entry

@@ -22,7 +22,7 @@ use Rattle.csi_orchestrator.specs.Shown.{RowShown, Parts, row_of, due_in, issued
 use Rattle.csi_orchestrator.specs.RowMoves.{is_issued_as, row_replied}
 use Rattle.csi_orchestrator.specs.Kept.{AreKept}
 use Rattle.csi_orchestrator.proofs.Numbers.{one-call, open-sent}
-use Rattle.csi_orchestrator.proofs.Joined.{own-entry}
+use Rattle.csi_orchestrator.proofs.JoinedLists.{own-entry}
 
 -- the call has this number, party and kind
 abbrev is-call : Number → Party → Kind → Issued → Bool
