@@ -37,7 +37,7 @@ pub(crate) fn mark(row: &mut Row, kind: Kind, known: Known)
 }
 
 /// Keeps that a call of this number and kind is sent.
-pub(crate) fn send(row: &mut Row, number: Number, kind: Kind)
+pub(crate) fn note_sent(row: &mut Row, number: Number, kind: Kind)
     ensures { row_shown row.new ≡ sent number kind (row_shown row.old) }
 {
     mark(row, kind, Known::Maybe);

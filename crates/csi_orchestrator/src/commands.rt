@@ -16,13 +16,13 @@ use crate::fault::OrchFault;
 use crate::next_call::due_now;
 use crate::refusals::first_fault;
 use crate::row::{Arguments, Row};
-use crate::sending::{Outgoing, outgoing_for, send_or_drop};
+use crate::sending::{Outgoing, note_sent_or_drop, outgoing_for};
 use crate::state::Core;
 use crate::step::{Step, take};
 use csi_types::{Frame, Name};
 
 impl Core {
-    // Counts the call that is sent for the row at this place, and gives its frame.
+    // Makes the number of the call that is sent the last one, notes it for the row at this place, and gives its frame.
     fn issue(&mut self, place: usize, next: Option<Outgoing>) -> Option<Frame>
         requires ready { IsReady self.old.catalog place (call_in next) }
         requires known { AreUpTo self.old.last.call self.old.catalog }
@@ -93,7 +93,7 @@ impl Core {
         }
         let mut row = new_row(self.alloc, name, arguments);
         let next = outgoing_for(self.last, &due_now(&row))?;
-        send_or_drop(&mut row, &next);
+        note_sent_or_drop(&mut row, &next);
         let place = self.catalog.rows.len();
         self.catalog.add(row)?;
         Ok(self.issue(place, next))

@@ -21,14 +21,14 @@ use crate::state::Core;
 use crate::step::Step;
 use csi_types::{Body, Frame, Kind, Number, Party, Reply, Status};
 
-// Whether the two are the same.
+// `==`, as the definitions test it.
 fn same_number(a: Number, b: Number) -> bool
     ensures { result ≡ is_same_number a b }
 {
     a == b
 }
 
-// Whether the two are the same.
+// `==`, as the definitions test it.
 fn same_kind(a: Kind, b: Kind) -> bool
     ensures { result ≡ is_same_kind a b }
 {
@@ -115,7 +115,8 @@ impl Core {
     }
 
     /// What becomes of a frame: the reply to an open call tells what the call did, and the next call is
-    /// sent; where none is sent it takes no memory. Whatever else comes is ignored, which takes none. A refusal changes nothing.
+    /// sent; where none is sent it takes no memory. Whatever else comes is ignored, which takes none. An
+    /// `Err` changes nothing, so that the frame can be delivered again.
     pub fn deliver(&mut self, frame: &Frame) -> Result<Heard, OrchFault>
         requires kept { AreKept (map row_shown (rows_of self.old.catalog)) }
         requires filed { IsFiled self.old }

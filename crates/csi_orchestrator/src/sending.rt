@@ -7,7 +7,7 @@ ghost use Rattle.csi_orchestrator.specs.RowMoves.{IsRefusal};
 ghost use Rattle.csi_orchestrator.specs.RowSteps.{outgoing_by, gone_on};
 
 use crate::calls::frame_of;
-use crate::changes::{drop_goal, send};
+use crate::changes::{drop_goal, note_sent};
 use crate::due::{Due, next_number};
 use crate::fault::OrchFault;
 use crate::row::Row;
@@ -45,12 +45,12 @@ pub(crate) fn outgoing_for(
     }))
 }
 
-/// Keeps that the call is sent. Where none is due, the goal is dropped.
-pub(crate) fn send_or_drop(row: &mut Row, next: &Option<Outgoing>)
+/// Records that the call is sent. Where none is due, the goal is dropped.
+pub(crate) fn note_sent_or_drop(row: &mut Row, next: &Option<Outgoing>)
     ensures { row_shown row.new ≡ gone_on next.now (row_shown row.old) }
 {
     match next {
-        Some(next) => send(row, next.number, next.kind),
+        Some(next) => note_sent(row, next.number, next.kind),
         None => drop_goal(row),
     }
 }

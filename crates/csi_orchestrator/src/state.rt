@@ -45,7 +45,7 @@ fn aim_at<'a>(place: &'a Place, target: &Target) -> Option<&'a Aim>
     }
 }
 
-// Whether the volume is published at the target.
+// What is known of the volume's publication at the target.
 pub(crate) fn published_at(place: &Place, target: &Target) -> Known
     ensures { result ≡ published_in target.now (place_shown place.now) }
 {

@@ -10,7 +10,7 @@ use crate::fault::OrchFault;
 use crate::next_call::{due_at, due_then, is_given_up};
 use crate::refusals::{late_fault, step_fault};
 use crate::row::{Arguments, Goal, Row};
-use crate::sending::{Outgoing, outgoing_for, send_or_drop};
+use crate::sending::{Outgoing, note_sent_or_drop, outgoing_for};
 use csi_types::{Kind, NodeId, Number, VolumeId};
 use std::alloc::Global;
 
@@ -19,7 +19,7 @@ use std::alloc::Global;
 pub(crate) enum Step {
     /// That it is created by these arguments, though its name has a row.
     Create(Arguments),
-    /// That this is brought about.
+    /// That this is brought about: a use, a stop or a delete.
     Want(Goal),
     /// Its open call timed out.
     TimeOut,
@@ -116,7 +116,7 @@ fn go_on(
 {
     let next = outgoing_for(last, &due_then(row, &step))?;
     change(alloc, row, step)?;
-    send_or_drop(row, &next);
+    note_sent_or_drop(row, &next);
     Ok(next)
 }
 

@@ -30,9 +30,9 @@ pub issue-requires-clause-ready : goal.issue-requires-clause-ready
 issue-requires-clause-ready c =
     let core = c.args.self.now in
     let next = c.in_ok-next.next in
-    let sent = c.send_or_drop.new.row in
+    let sent = c.note_sent_or_drop.new.row in
     let on = goes-on core.last (new_row c.args.name c.args.arguments) (row_shown c.new_row-row.result) (row_shown sent) (option_map due_shown c.due_now.result) next
-    c.new_row-row.ensures c.due_now.ensures c.in_ok-next.ensures.ok c.send_or_drop.ensures in
+    c.new_row-row.ensures c.due_now.ensures c.in_ok-next.ensures.ok c.note_sent_or_drop.ensures in
     let long : length (rows_of core.catalog) ≡ c.len-place.result = length-map core.catalog.rows.entries (λ (e : List ℕ × Row). e.1) ∙ sym c.len-place.ensures.len in
     subst (λ (n : ℕ). IsReady c.add.new.self n (call_in next)) long
     (c.in_ok-add.ensures.ready (call_in next) (next-created core.catalog core.last c.args.name c.args.arguments sent next c.requires.filed.known on).0)
@@ -41,9 +41,9 @@ pub returns-clause-ok : goal.returns-clause-ok
 returns-clause-ok c =
     let core = c.args.self.now in
     let next = c.in_ok-next.next in
-    let sent = c.send_or_drop.new.row in
+    let sent = c.note_sent_or_drop.new.row in
     let on = goes-on core.last (new_row c.args.name c.args.arguments) (row_shown c.new_row-row.result) (row_shown sent) (option_map due_shown c.due_now.result) next
-    c.new_row-row.ensures c.due_now.ensures c.in_ok-next.ensures.ok c.send_or_drop.ensures in
+    c.new_row-row.ensures c.due_now.ensures c.in_ok-next.ensures.ok c.note_sent_or_drop.ensures in
     let made = next-created core.catalog core.last c.args.name c.args.arguments sent next c.requires.filed.known on in
     let fits = ap (λ (rows : List Row). first_fault (with_rows core.last (map row_shown rows))) (sym c.rows.ensures) ∙ sym c.first_fault.ensures ∙ c.in_default.is in
     first-told core.nodes.items core.last (rows_of core.catalog) c.args.name c.args.arguments sent next c.issue.result (parts_of c.issue.new.self)
