@@ -43,7 +43,7 @@ pub(crate) fn carry_out(
     Ok((row.kind, answer))
 }
 
-// The row of a volume for which no call was answered yet.
+// The row of a volume for which no call was answered yet. What it keeps is a placeholder, which is overwritten, or the row is dropped.
 fn new_row(alloc: Global, id: VolumeId, number: Number, kind: Kind) -> Result<NodeRow, CoreFault>
     ensures { IfOk result (λ row. shown row ≡ row_anew id number kind) }
 {

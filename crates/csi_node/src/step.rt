@@ -15,7 +15,7 @@ use crate::row::NodeRow;
 use csi_types::{CallRef, Kind, Number, Reply, Status, VolumeId};
 use std::alloc::Global;
 
-/// The most rows that a node has.
+/// The most rows that a node has. A row is never taken out.
 pub(crate) const MAX_ROWS: usize = 4096;
 
 /// Where the row of this id is, or where it would go.

@@ -14,7 +14,7 @@ use std::alloc::Global;
 use std::io::{Read, Write};
 use thiserror::Error;
 
-/// More bytes than this are no stream.
+/// This many bytes or more are no stream.
 const ENDLESS: u64 = 1 << 63;
 
 /// Why a stream wasn't taken to its end. This profile's own.
