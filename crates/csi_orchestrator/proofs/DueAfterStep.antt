@@ -8,7 +8,6 @@ use Rattle.csi_types.specs.declared.number.Number.{Number}
 use Rattle.csi_types.specs.Same.{same_text}
 use Rattle.csi_orchestrator.specs.declared.sending.Outgoing.{Outgoing}
 use Rattle.csi_orchestrator.specs.declared.row.Aim.{Aim}
-use Rattle.csi_orchestrator.specs.declared.row.Goal.{Goal}
 use Rattle.csi_orchestrator.specs.declared.row.Goal.TheVariants.{Use}
 use Rattle.csi_orchestrator.specs.declared.row.Usage.{Usage}
 use Rattle.csi_orchestrator.specs.declared.step.Step.{Step}
@@ -18,9 +17,9 @@ use Rattle.csi_orchestrator.specs.Thing.{is_no}
 use Rattle.csi_orchestrator.specs.Commands.{next_number}
 use Rattle.csi_orchestrator.specs.Due.{Due}
 use Rattle.csi_orchestrator.specs.RowChanges.{wanted, with_entry, entry_for, with_aim, new_aim}
-use Rattle.csi_orchestrator.specs.Shown.{PlaceShown, RowShown, Parts, place_of, others_in, marks_at, marks_for, due_with, due_in, closed}
-use Rattle.csi_orchestrator.specs.RowSteps.{outgoing_by, row_after, row_goes_on, row_rests, row_unless, with_entry_for, needs_entry}
-use Rattle.csi_orchestrator.specs.RowSteps.{step_refusal, is_met, waits, late_refusal, changed, row_step, SendsNothing}
+use Rattle.csi_orchestrator.specs.Shown.{PlaceShown, RowShown, place_of, others_in, marks_at, due_with, due_in, closed}
+use Rattle.csi_orchestrator.specs.RowRefusals.{step_refusal, late_refusal}
+use Rattle.csi_orchestrator.specs.RowSteps.{outgoing_by, row_after, row_goes_on, row_rests, row_unless, due_for_use, is_met, waits, needs_entry, changed, row_takes, row_step, SendsNothing}
 use Rattle.csi_orchestrator.proofs.TextLists.{text-same}
 use Rattle.csi_orchestrator.proofs.RowsAfterNotes.{mark-with-entry, entry-there}
 
@@ -77,10 +76,9 @@ marks-with-entry usage row =
     let others = others-with-entry usage row in
     cc
 
--- the call that is due once something is wanted, by the row before
-pub due-wanted : (goal : Goal) (row : RowShown) → due_in (wanted goal (with_entry_for goal row)) ≡ due_with row.name row.arguments row.id (marks_for row goal) goal
-due-wanted (Use usage) row = ap (λ marks. due_with row.name row.arguments row.id marks (Use usage)) (marks-with-entry usage row)
-due-wanted goal row = refl
+-- the call that is due once a use is wanted, by the row before
+pub due-used : (usage : Usage) (row : RowShown) → due_in (wanted (Use usage) (with_entry usage row)) ≡ due_for_use usage row
+due-used usage row = ap (λ marks. due_with row.name row.arguments row.id marks (Use usage)) (marks-with-entry usage row)
 
 -- where a call is due, one is sent
 sends-due : (row : RowShown) (due : Option Due) (number : Option Number) → SendsNothing (row_after row (outgoing_by due number)) → is_none due ≡ true
@@ -93,21 +91,19 @@ sends-due row (Some due) (Some number) nothing = absurd (clash _ nothing)
 
 -- so for a use that isn't met yet one is sent
 needs-none : (last : Number) (step : Step) (row : RowShown) → is_met step row ≡ false → SendsNothing (row_goes_on last (changed step row)) → needs_entry step ≡ false
-needs-none last (steps.Want (Use usage)) row unmet nothing =
-    absurd (false≢true (sym unmet ∙ ap is_none (sym (due-wanted (Use usage) row)) ∙ sends-due (changed (steps.Want (Use usage)) row) (due_in (changed (steps.Want (Use usage)) row))
-    (next_number last) nothing))
-needs-none last (steps.Want goal) row unmet nothing = refl
+needs-none last (steps.Use usage) row unmet nothing =
+    absurd (false≢true (sym unmet ∙ ap is_none (sym (due-used usage row)) ∙ sends-due (changed (steps.Use usage) row) (due_in (changed (steps.Use usage) row)) (next_number last) nothing))
 needs-none last step row unmet nothing = refl
 
 -- where nothing refuses a step, it isn't met yet and its call doesn't wait, but nothing is sent for it, no entry is needed, and nothing is due
-pub goes-quietly : (parts : Parts) (step : Step) (row : RowShown) → step_refusal parts step row ≡ None → is_met step row ≡ false → waits step row ≡ false → late_refusal parts step row ≡ None
-    → SendsNothing (row_step parts step row)
-    → (needs_entry step ≡ false) × SendsNothing (row_goes_on parts.last (changed step row))
-goes-quietly parts step row free unmet on late nothing =
-    let goes = row_goes_on parts.last (changed step row) in
-    let is : row_step parts step row ≡ goes =
-    ap (λ f. row_unless f (cond (is_met step row) (row_rests row) (cond (waits step row) (row_rests (closed row)) (row_unless (late_refusal parts step row) goes)))) free
-    ∙ ap (λ b. cond b (row_rests row) (cond (waits step row) (row_rests (closed row)) (row_unless (late_refusal parts step row) goes))) unmet
-    ∙ ap (λ b. cond b (row_rests (closed row)) (row_unless (late_refusal parts step row) goes)) on ∙ ap (λ f. row_unless f goes) late in
+pub goes-quietly : (nodes : List (List ℕ)) (last : Number) (step : Step) (row : RowShown) → step_refusal nodes last step row ≡ None → is_met step row ≡ false → waits step row ≡ false → late_refusal last step row ≡ None
+    → SendsNothing (row_step nodes last step row)
+    → (needs_entry step ≡ false) × SendsNothing (row_goes_on last (changed step row))
+goes-quietly nodes last step row free unmet on late nothing =
+    let goes = row_goes_on last (changed step row) in
+    let is : row_step nodes last step row ≡ goes =
+    ap (λ f. row_unless f (row_takes last step row)) free
+    ∙ ap (λ b. cond b (row_rests row) (cond (waits step row) (row_rests (closed row)) (row_unless (late_refusal last step row) goes))) unmet
+    ∙ ap (λ b. cond b (row_rests (closed row)) (row_unless (late_refusal last step row) goes)) on ∙ ap (λ f. row_unless f goes) late in
     let quiet = subst SendsNothing is nothing in
-    (needs-none parts.last step row unmet quiet, quiet)
+    (needs-none last step row unmet quiet, quiet)

@@ -26,7 +26,7 @@ use Rattle.csi_orchestrator.specs.Due.{attached_node, nodes_in_use, published_ta
 use Rattle.csi_orchestrator.specs.Commands.{held_elsewhere, is_otherwise, is_held_otherwise}
 use Rattle.csi_orchestrator.specs.Shown.{PlaceShown, RowShown, place_of, aim_of, mark_in, published_in, held_at, others_in, AreTargetsApart}
 use Rattle.csi_orchestrator.specs.Kept.{ArePlacesApart}
-use Rattle.csi_orchestrator.specs.RowMoves.{is_so_elsewhere, has_elsewhere, is_place_otherwise, others_count, is_attached_somewhere}
+use Rattle.csi_orchestrator.specs.RowRefusals.{is_so_elsewhere, has_elsewhere, is_place_otherwise, others_count, is_attached_somewhere}
 use Rattle.csi_orchestrator.proofs.ViewsFollow.{touches-name}
 use Rattle.csi_orchestrator.proofs.JoinedLists.{own-entry}
 use Rattle.csi_orchestrator.proofs.RowViews.{IsRowOf}

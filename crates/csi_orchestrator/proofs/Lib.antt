@@ -29,14 +29,13 @@ pub mod PromisesTold
 pub mod ChangedEntries
 pub mod UseEntries
 pub mod DueAfterStep
-pub mod StepsAsInputs
 pub mod ThingOrder
 pub mod JoinedLists
 pub mod ThingsNoted
 pub mod RowsWithoutNotes
 pub mod RowsByName
 pub mod DueAfterSuccess
-pub mod RepliesAsSteps
+pub mod RepliedPlaces
 pub mod RowsUnderNames
 pub mod ListPlaces
 pub mod NotedCalls

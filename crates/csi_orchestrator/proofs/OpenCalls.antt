@@ -13,12 +13,12 @@ use Rattle.csi_orchestrator.specs.declared.step.Step.TheVariants as steps
 use Rattle.csi_orchestrator.specs.declared.catalog.Catalog.{Catalog}
 use Rattle.csi_orchestrator.specs.Catalog.{rows_of, IsIndexed, IsReady, IsNextFor, AreUpTo, call_in, IsAfter}
 use Rattle.csi_orchestrator.specs.Commands.{next_number}
-use Rattle.csi_orchestrator.specs.RowSteps.{RowTold, outgoing_by, gone_on, row_after, row_goes_on, row_rests, row_unless, step_refusal}
-use Rattle.csi_orchestrator.specs.RowSteps.{is_met, waits, late_refusal, is_given_up, timed_out, failed, changed, row_step}
+use Rattle.csi_orchestrator.specs.RowRefusals.{step_refusal, late_refusal}
+use Rattle.csi_orchestrator.specs.RowSteps.{RowTold, outgoing_by, gone_on, row_after, row_goes_on, row_rests, row_unless, is_met, waits, is_given_up, timed_out, failed, changed, row_takes, row_step}
 use Rattle.csi_orchestrator.specs.Due.{Due}
 use Rattle.csi_orchestrator.specs.History.{Arguments}
 use Rattle.csi_orchestrator.specs.RowChanges.{new_row, wanted, stopped_goal}
-use Rattle.csi_orchestrator.specs.Shown.{RowShown, Parts, row_shown, due_in, closed}
+use Rattle.csi_orchestrator.specs.Shown.{RowShown, row_shown, due_in, closed}
 use Rattle.csi_orchestrator.proofs.RowsUnderNames.{IsOpened, catalog_with, next-unnoted, ready-set}
 use Rattle.csi_orchestrator.proofs.EntryRules.{by_if}
 
@@ -87,34 +87,30 @@ timed-out-name row None = refl
 timed-out-name row (Some goal) = by_if (λ (r : RowShown). r.name ≡ row.name) (is_given_up row) (wanted (stopped_goal goal) row) (closed row) (λ e. refl) (λ e. refl)
 
 failed-name : (row : RowShown) (goal : Option Goal) → (failed row goal).name ≡ row.name
-failed-name row None = refl
 failed-name row (Some Create) = refl
-failed-name row (Some goal) = refl
+failed-name row goal = refl
 
 changed-name : (step : Step) (row : RowShown) → (changed step row).name ≡ row.name
-changed-name (steps.Create arguments) row = refl
-changed-name (steps.Want Create) row = refl
-changed-name (steps.Want goal) row = refl
 changed-name steps.TimeOut row = timed-out-name row row.goal
-changed-name (steps.Succeed kind id) row = refl
 changed-name steps.Fail row = failed-name row row.goal
+changed-name step row = refl
 
 -- whatever the step
-pub step-goes : (parts : Parts) (step : Step) (row : RowShown) → GoesOn parts.last row (row_step parts step row)
-step-goes parts step row =
-    unless-goes parts.last row (step_refusal parts step row) _
-    (by_if (GoesOn parts.last row) (is_met step row) (row_rests row) _ (λ e. record { name = refl; opened = λ number is. inl is; after = none-after parts.last.call })
-    (λ e. by_if (GoesOn parts.last row) (waits step row) (row_rests (closed row)) _
-    (λ f. record { name = refl; opened = λ number is. absurd (none-some number is); after = none-after parts.last.call })
-    (λ f. unless-goes parts.last row (late_refusal parts step row) (row_goes_on parts.last (changed step row)) (on-goes parts.last row (changed step row) (changed-name step row)))))
+pub step-goes : (nodes : List (List ℕ)) (last : Number) (step : Step) (row : RowShown) → GoesOn last row (row_step nodes last step row)
+step-goes nodes last step row =
+    unless-goes last row (step_refusal nodes last step row) (row_takes last step row)
+    (by_if (GoesOn last row) (is_met step row) (row_rests row) _ (λ e. record { name = refl; opened = λ number is. inl is; after = none-after last.call })
+    (λ e. by_if (GoesOn last row) (waits step row) (row_rests (closed row)) _
+    (λ f. record { name = refl; opened = λ number is. absurd (none-some number is); after = none-after last.call })
+    (λ f. unless-goes last row (late_refusal last step row) (row_goes_on last (changed step row)) (on-goes last row (changed step row) (changed-name step row)))))
 
 -- once a row took a step, only the call that is sent for it isn't noted yet
-pub ready-told : (catalog : Catalog) (parts : Parts) (place : ℕ) (row new : Row) (step : Step) (next : Option Outgoing) → IsIndexed catalog → AreUpTo parts.last.call catalog
+pub ready-told : (catalog : Catalog) (nodes : List (List ℕ)) (last : Number) (place : ℕ) (row new : Row) (step : Step) (next : Option Outgoing) → IsIndexed catalog → AreUpTo last.call catalog
     → slice_get (rows_of catalog) place ≡ Some row
-    → row_step parts step (row_shown row) ≡ Ok (record { outgoing = next; row = row_shown new }) → IsReady (catalog_with catalog place new) place (call_in next) × IsAfter parts.last.call next
-ready-told catalog parts place row new step next indexed known at is =
-    let on = subst (GoesOn parts.last (row_shown row)) is (step-goes parts step (row_shown row)) in
-    (ready-set catalog parts.last.call place row new next indexed known at on.name on.opened on.after, on.after)
+    → row_step nodes last step (row_shown row) ≡ Ok (record { outgoing = next; row = row_shown new }) → IsReady (catalog_with catalog place new) place (call_in next) × IsAfter last.call next
+ready-told catalog nodes last place row new step next indexed known at is =
+    let on = subst (GoesOn last (row_shown row)) is (step-goes nodes last step (row_shown row)) in
+    (ready-set catalog last.call place row new next indexed known at on.name on.opened on.after, on.after)
 
 -- a new row
 pub next-created : (catalog : Catalog) (last : Number) (name : List ℕ) (arguments : Arguments) (row : Row) (next : Option Outgoing) → AreUpTo last.call catalog

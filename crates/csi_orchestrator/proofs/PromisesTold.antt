@@ -6,8 +6,7 @@ use Rattle.csi_orchestrator.specs.History.{History}
 use Rattle.csi_orchestrator.specs.WellFormed.{IsWellFormed}
 use Rattle.csi_orchestrator.specs.Moves.{Input, Answer, Moved, moves}
 use Rattle.csi_orchestrator.specs.Shown.{Parts, AgreesWith}
-use Rattle.csi_orchestrator.specs.RowSteps.{IsTold}
-use Rattle.csi_orchestrator.specs.RowMoves.{Told, row_moves, IsRefusal, IsToldAs}
+use Rattle.csi_orchestrator.specs.RowMoves.{Told, row_moves, IsRefusal, IsTold, IsToldAs}
 use Rattle.csi_orchestrator.specs.Kept.{AreKept}
 use Rattle.csi_orchestrator.specs.Promises.{IsDone, IsAnsweredAs}
 use Rattle.csi_orchestrator.proofs.SendingAgrees.{Tells}

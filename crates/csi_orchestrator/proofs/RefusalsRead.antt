@@ -16,7 +16,8 @@ use Rattle.csi_orchestrator.specs.Due.{due_use}
 use Rattle.csi_orchestrator.specs.Commands.{next_number, is_spent, create_fault, is_for_one_node, is_second_writer, use_fault, use_room_fault, stop_fault, delete_fault, delete_busy_fault, timeout_fault}
 use Rattle.csi_orchestrator.specs.Shown.{RowShown, Parts, row_of, place_of, goal_shown, goal_in, AgreesWith}
 use Rattle.csi_orchestrator.specs.Kept.{AreKept}
-use Rattle.csi_orchestrator.specs.RowMoves.{is_last, first_fault, again_fault, use_refusal, room_refusal, due_for_use, stop_refusal, delete_refusal, busy_refusal}
+use Rattle.csi_orchestrator.specs.RowRefusals.{is_last, first_fault, again_fault, use_refusal, room_refusal, stop_refusal, delete_refusal, busy_refusal}
+use Rattle.csi_orchestrator.specs.RowSteps.{due_for_use}
 use Rattle.csi_orchestrator.proofs.DueCalls.{use-told}
 use Rattle.csi_orchestrator.proofs.InUse.{elsewhere-alike, attached-alike, otherwise-alike, others-alike, others-counted}
 use Rattle.csi_orchestrator.proofs.RulesStay.{found-kept}
@@ -28,7 +29,7 @@ wanted-alike : (row : RowShown) (history : History) (name : List ℕ) → IsRowO
 wanted-alike row history name own = ap is_some (sym own.goals) ∙ is_some-map (goal_shown row) row.goal
 
 -- the numbers are spent alike
-spent-alike : (parts : Parts) (history : History) → AgreesWith parts history → is_spent history ≡ is_last parts
+spent-alike : (parts : Parts) (history : History) → AgreesWith parts history → is_spent history ≡ is_last parts.last
 spent-alike parts history agrees = ap (λ last. is_none (next_number last)) (sym agrees.same_last)
 
 -- a name that has no row
@@ -53,14 +54,14 @@ names-alike parts history are agrees = as-many-as (names_of history) (λ (r : Ro
         subst (λ n. IsAmong n (names_of history)) (sym ((same_text-tells row.name noted.0).0 noted.2)) noted.1
 
 -- a create
-pub create-first : (parts : Parts) (history : History) (name : List ℕ) → AreKept parts.rows → AgreesWith parts history → row_of parts.rows name ≡ None → create_fault history name ≡ first_fault parts
+pub create-first : (parts : Parts) (history : History) (name : List ℕ) → AreKept parts.rows → AgreesWith parts history → row_of parts.rows name ≡ None → create_fault history name ≡ first_fault parts.last parts.rows
 create-first parts history name are agrees e =
     let no_id : id_of history name ≡ None = sym (agrees.same_ids name) ∙ ap (option_and_then (λ (r : RowShown). r.id)) e in
     let no_goal : goal_of history name ≡ None = sym (agrees.same_goals name) ∙ ap (option_and_then goal_in) e in
     rw (no_id, no_goal, spent-alike parts history agrees, unknown parts history name agrees e, names-alike parts history are agrees) refl
 
 -- a create of a name that has a row is refused as the row tells
-pub create-again : (parts : Parts) (history : History) (name : List ℕ) (row : RowShown) → AreKept parts.rows → AgreesWith parts history → row_of parts.rows name ≡ Some row → create_fault history name ≡ again_fault parts row
+pub create-again : (parts : Parts) (history : History) (name : List ℕ) (row : RowShown) → AreKept parts.rows → AgreesWith parts history → row_of parts.rows name ≡ Some row → create_fault history name ≡ again_fault parts.last row
 create-again parts history name row are agrees e =
     let own = is-row-of parts history name row agrees e in
     rw (sym own.ids, wanted-alike row history name own, spent-alike parts history agrees, own.there) refl
@@ -88,7 +89,7 @@ use-refused parts history name usage row are agrees e =
 
 -- one that isn't met yet is refused for want of numbers or of room as the row tells
 pub room-refused : (parts : Parts) (history : History) (name : List ℕ) (usage : Usage) (row : RowShown) → AreKept parts.rows → AgreesWith parts history → row_of parts.rows name ≡ Some row
-    → use_room_fault history name usage ≡ room_refusal parts usage row
+    → use_room_fault history name usage ≡ room_refusal parts.last usage row
 room-refused parts history name usage row are agrees e =
     let aims = (found-kept (λ (r : RowShown). same_text r.name name) parts.rows row are e).aims in
     rw (spent-alike parts history agrees, others-alike row history name usage.node usage.target (is-row-of parts history name row agrees e) aims) refl
@@ -104,7 +105,7 @@ stop-unknown parts history name node target are agrees e = rw (unknown parts his
 
 -- a stop of a name that has a row is refused as the row tells
 pub stop-refused : (parts : Parts) (history : History) (name node target : List ℕ) (row : RowShown) → AreKept parts.rows → AgreesWith parts history → row_of parts.rows name ≡ Some row
-    → stop_fault parts.nodes history name node target ≡ stop_refusal parts node target row
+    → stop_fault parts.nodes history name node target ≡ stop_refusal parts.nodes parts.last node target row
 stop-refused parts history name node target row are agrees e =
     let own = is-row-of parts history name row agrees e in
     rw (own.there, sym (own.marks (Exists name) refl), wanted-alike row history name own, sym (own.marks (Published name node target) refl), spent-alike parts history agrees) refl
@@ -120,7 +121,7 @@ delete-refused parts history name row are agrees e =
     rw (own.there, sym own.ids, attached-alike row history name own (found-kept (λ (r : RowShown). same_text r.name name) parts.rows row are e).places) refl
 
 -- one that isn't met yet is refused for another goal or for want of numbers as the row tells
-pub busy-refused : (parts : Parts) (history : History) (name : List ℕ) (row : RowShown) → AreKept parts.rows → AgreesWith parts history → row_of parts.rows name ≡ Some row → delete_busy_fault history name ≡ busy_refusal parts row
+pub busy-refused : (parts : Parts) (history : History) (name : List ℕ) (row : RowShown) → AreKept parts.rows → AgreesWith parts history → row_of parts.rows name ≡ Some row → delete_busy_fault history name ≡ busy_refusal parts.last row
 busy-refused parts history name row are agrees e = rw (wanted-alike row history name (is-row-of parts history name row agrees e), spent-alike parts history agrees) refl
 
 -- a timeout

@@ -1,10 +1,8 @@
 -- Why the rows tell what the history tells of a timeout, a reply and a restart.
-use Rattle.std.proofs.Common.{◌≡◌, ◌+◌, ◌^◌, ℕ, List, [], ◌∷◌, true, false, cond, refl, sym, ◌∙◌, ap, subst}
+use Rattle.std.proofs.Common.{◌≡◌, ◌+◌, ◌^◌, ℕ, List, [], ◌∷◌, Bool, true, false, cond, refl, sym, ◌∙◌, ap, subst}
 use Rattle.std.specs.Prelude.{Option, Some, None, nat_lt, ◌==◌, ◌&&◌, is_none, option_map, option_and_then, Result, Ok, Err}
 use Rattle.std.proofs.lemmas.Bool.{false≢true, and_parts}
 use Rattle.std.proofs.lemmas.Option.{same_Some, none-some}
-use Rattle.csi_types.specs.declared.call.Call.{Call}
-use Rattle.csi_types.specs.declared.call.Call.TheVariants as calls
 use Rattle.csi_types.specs.declared.call.Kind.{Kind}
 use Rattle.csi_types.specs.declared.call.Party.{Party}
 use Rattle.csi_types.specs.declared.frame.Body.{Body}
@@ -20,36 +18,39 @@ use Rattle.csi_orchestrator.specs.declared.fault.Heard.TheVariants.{Ignored}
 use Rattle.csi_orchestrator.specs.declared.fault.OrchFault.{OrchFault}
 use Rattle.csi_orchestrator.specs.declared.fault.OrchFault.TheVariants as faults
 use Rattle.csi_orchestrator.specs.declared.row.Goal.{Goal}
-use Rattle.csi_orchestrator.specs.declared.row.Goal.TheVariants.{Use, Stop}
+use Rattle.csi_orchestrator.specs.declared.row.Goal.TheVariants.{Create, Use, Stop, Delete}
 use Rattle.csi_orchestrator.specs.declared.row.Usage.{Usage}
+use Rattle.csi_orchestrator.specs.declared.step.Step.TheVariants.{TimeOut, Succeed, Fail}
 use Rattle.csi_orchestrator.specs.Thing.{Issued}
 use Rattle.csi_orchestrator.specs.History.{Item, Started, Accepted, Closed, Noted, History, with_items}
 use Rattle.csi_orchestrator.specs.History as wishes
 use Rattle.csi_orchestrator.specs.Readings.{goal_of, open_call, tries, last_number}
 use Rattle.csi_orchestrator.specs.WellFormed.{IsWellFormed}
 use Rattle.csi_orchestrator.specs.Commands.{timeout_fault}
-use Rattle.csi_orchestrator.specs.Due.{Due, due_call}
+use Rattle.csi_orchestrator.specs.Due.{Due}
 use Rattle.csi_orchestrator.specs.Moves.{Input, ToCreate, ToUse, ToStop, ToDelete, TimesOut, Comes, Restarts, Answer, Sends, Hears, Restarted, Moved, go_on, is_forward, is_forward_due, stopped, closing, timeout, hears, call_replied, heard, heard_refusal, deliver, restart, moves}
 use Rattle.csi_orchestrator.specs.Agrees.{View, Agrees}
 use Rattle.csi_orchestrator.specs.Following.{after_accepted, after_closed, after_noted}
 use Rattle.csi_orchestrator.specs.Shown.{RowShown, Parts, row_of, goal_shown, held_in, due_in, open_in_row, issued_as, closed, in_session, view_of, AgreesWith}
-use Rattle.csi_orchestrator.specs.RowChanges.{told_of, succeeded, wanted, dropped, stopped_goal}
-use Rattle.csi_orchestrator.specs.RowMoves.{told, goes_on, times_out_with, times_out, row_replied, is_issued_as, takes_nothing_more, stops_after, hears_refusal, hears_reply, receives, starts_again, row_moves}
+use Rattle.csi_orchestrator.specs.Found.{kind_due}
+use Rattle.csi_orchestrator.specs.RowChanges.{succeeded, wanted, stopped_goal}
+use Rattle.csi_orchestrator.specs.RowRefusals.{idle_refusal}
+use Rattle.csi_orchestrator.specs.RowSteps.{RowTold, row_goes_on, row_rests, row_unless, waits_for, is_given_up, timed_out, failed}
+use Rattle.csi_orchestrator.specs.RowMoves.{Told, told, placed, steps_at, row_replied, is_issued_as, hears_reply, receives, starts_again, row_moves}
 use Rattle.csi_orchestrator.specs.Kept.{IsKept, AreKept, AreGuarded, RowsTell, MovesAreGuarded}
 use Rattle.csi_orchestrator.proofs.TextLists.{text-same}
 use Rattle.csi_orchestrator.proofs.DueCalls.{due-of-row}
-use Rattle.csi_orchestrator.proofs.DueCases.{IsDueFor, due-cases, ToAttach, ToStage, ToPublish}
+use Rattle.csi_orchestrator.proofs.DueCases.{IsDueFor, due-cases, ToMake, ToRemove, ToAttach, ToStage, ToPublish, ToUnpublish, ToUnstage, ToDetach}
 use Rattle.csi_orchestrator.proofs.ViewsFollow.{accepted-follows, closed-follows, noted-follows, started-follows}
 use Rattle.csi_orchestrator.proofs.SendingAgrees.{Guards, Tells, IsReady, has-entry, then-dropped, goes-on-tells}
-use Rattle.csi_orchestrator.proofs.RulesStay.{found-kept}
-use Rattle.csi_orchestrator.proofs.RowRules.{kept-distinct, due-fits-goal, marked-distinct, kept-closed, wanted-succeeded}
+use Rattle.csi_orchestrator.proofs.RulesStay.{closed-may, stopped-may, changed-may}
 use Rattle.csi_orchestrator.proofs.RowsAfterNotes.{reads-wanted, reads-closed, reads-quiet, reads-refused}
 use Rattle.csi_orchestrator.proofs.RefusalsRead.{timeout-unknown, timeout-refused}
 use Rattle.csi_orchestrator.proofs.RepliedRows.{replied, found-own, hears-it}
 use Rattle.csi_orchestrator.proofs.RestartAgrees.{session-agrees}
-use Rattle.csi_orchestrator.proofs.RowViews.{Reads, SameAt, same-self, same-then, same-accepted, same-closed, same-noted, put-agrees, row-reads, IsRowOf, is-row-of}
+use Rattle.csi_orchestrator.proofs.RowViews.{Reads, SameAt, same-self, same-then, same-accepted, same-closed, same-noted, put-agrees, row-reads, own-name, IsRowOf, is-row-of}
 use Rattle.csi_orchestrator.proofs.RowsAfterSending.{issued-by, reads-succeeded}
-use Rattle.csi_orchestrator.proofs.CommandsAgree.{kept-aims, own-name, either-tells, creates-tell, uses-tell, stops-tell, deletes-tell}
+use Rattle.csi_orchestrator.proofs.CommandsAgree.{AreRight, IsFound, own-kept, own-reads, creates-tell, uses-tell, stops-tell, deletes-tell}
 
 -- a forward call is due for a use
 forward-goal : (row : RowShown) (due : Due) → IsDueFor row due → is_forward due.call ≡ true → (usage : Usage) × (row.goal ≡ Some (Use usage))
@@ -72,16 +73,6 @@ open-name name None d issued e = absurd (none-some issued e)
 open-name name (Some number) None issued e = absurd (none-some issued e)
 open-name name (Some number) (Some due) issued e = sym (ap (λ (i : Issued). i.name) (same_Some (issued-by name number due) issued e))
 
--- the row of a name, in rows that are kept and that agree with a history
-record IsFound (parts : Parts) (history : History) (name : List ℕ) (row : RowShown) : Type 0 where
-  form : IsWellFormed history
-  kept : AreKept parts.rows
-  agrees : AgreesWith parts history
-  found : row_of parts.rows name ≡ Some row
-
-own-kept : (parts : Parts) (history : History) (name : List ℕ) (row : RowShown) → IsFound parts history name row → IsKept row
-own-kept parts history name row at = found-kept (λ (r : RowShown). same_text r.name name) parts.rows row at.kept at.found
-
 -- its call was closed, by a timeout or by a refusal: it tells what is shown after these items
 record IsClosed (parts : Parts) (history : History) (name : List ℕ) (row : RowShown) (items : List Item) : Type 0 where
   view : View
@@ -96,26 +87,23 @@ record IsClosed (parts : Parts) (history : History) (name : List ℕ) (row : Row
 closed-ready : (parts : Parts) (history : History) (name : List ℕ) (row : RowShown) (items : List Item) → IsFound parts history name row → (c : IsClosed parts history name row items)
     → IsReady parts history name (closed row) c.view items
 closed-ready parts history name row items at c =
-    let own = own-kept parts history name row at in
     record {
       form = c.form;
       agrees = c.agrees;
       reads = c.reads;
       others = c.others;
       same_last = c.same_last;
-      old_last = sym (at.agrees).same_last;
+      old_last = sym ((at.right).agrees).same_last;
       quiet = sym (c.reads).open_calls;
-      distinct = kept-distinct row own;
-      aims = kept-aims parts.rows (at.kept).each;
-      may = λ due f. (kept-closed row own).goal;
+      going = closed-may row (own-kept parts history name row at);
       guarded = c.guarded;
     }
 
 use-stops : (parts : Parts) (history : History) (name : List ℕ) (row : RowShown) (items : List Item) (usage : Usage) (answer : Option Frame → Answer) → IsFound parts history name row → IsClosed parts history name row items
-    → row.goal ≡ Some (Use usage) → Tells history (goes_on parts answer (wanted (Stop usage.node usage.target) row)) (go_on history name answer (Noted name (stopped (goal_of history name)) ∷ items))
+    → row.goal ≡ Some (Use usage) → Tells history (placed parts answer (row_goes_on parts.last (wanted (Stop usage.node usage.target) row))) (go_on history name answer (Noted name (stopped (goal_of history name)) ∷ items))
 use-stops parts history name row items usage answer at c goal =
-    subst (λ g. Tells history (goes_on parts answer (wanted (Stop usage.node usage.target) row)) (go_on history name answer (Noted name (stopped g) ∷ items)))
-    (sym (ap (option_map (goal_shown row)) goal) ∙ (is-row-of parts history name row at.agrees at.found).goals)
+    subst (λ g. Tells history (placed parts answer (row_goes_on parts.last (wanted (Stop usage.node usage.target) row))) (go_on history name answer (Noted name (stopped g) ∷ items)))
+    (sym (ap (option_map (goal_shown row)) goal) ∙ (is-row-of parts history name row (at.right).agrees at.found).goals)
     (goes-on-tells parts history name (wanted (Stop usage.node usage.target) (closed row)) (after_noted name stop c.view) (Noted name stop ∷ items)
     (record {
       form = (tt, c.form);
@@ -123,11 +111,9 @@ use-stops parts history name row items usage answer at c goal =
       reads = reads-wanted (Stop usage.node usage.target) (closed row) c.view name c.reads (sym (c.reads).open_calls);
       others = λ other differs. same-then (after_noted name stop c.view) c.view (view_of parts) other (same-noted name stop c.view other differs) (c.others other differs);
       same_last = c.same_last;
-      old_last = sym (at.agrees).same_last;
+      old_last = sym ((at.right).agrees).same_last;
       quiet = sym (c.reads).open_calls;
-      distinct = kept-distinct row (own-kept parts history name row at);
-      aims = kept-aims parts.rows (at.kept).each;
-      may = λ due f. tt;
+      going = stopped-may row (Use usage) goal (own-kept parts history name row at);
       guarded = c.guarded;
     }) answer)
   where
@@ -139,9 +125,9 @@ given-up : (parts : Parts) (history : History) (name : List ℕ) (row : RowShown
 given-up parts history name row at None f =
     record {
       view = view_of parts;
-      form = at.form;
-      agrees = at.agrees;
-      reads = reads-quiet row (view_of parts) name (row-reads parts name row (own-name parts name row at.found) at.found) ((at.agrees).same_open_calls name ∙ f);
+      form = (at.right).form;
+      agrees = (at.right).agrees;
+      reads = reads-quiet row (view_of parts) name (own-reads parts history name row at) (((at.right).agrees).same_open_calls name ∙ f);
       others = λ other differs. same-self (view_of parts) other;
       same_last = refl;
       guarded = tt;
@@ -149,60 +135,60 @@ given-up parts history name row at None f =
 given-up parts history name row at (Some issued) f =
     record {
       view = after_closed issued (view_of parts);
-      form = (record { name = name; issued = issued; is_open = f; has_number = refl }, at.form);
-      agrees = closed-follows (view_of parts) history issued at.form at.agrees (ap (open_call history) its ∙ f);
-      reads = reads-closed row issued (view_of parts) name its (row-reads parts name row own at.found);
+      form = (record { name = name; issued = issued; is_open = f; has_number = refl }, (at.right).form);
+      agrees = closed-follows (view_of parts) history issued (at.right).form (at.right).agrees (ap (open_call history) its ∙ f);
+      reads = reads-closed row issued (view_of parts) name its (own-reads parts history name row at);
       others = λ other differs. same-closed issued (view_of parts) other (ap (λ n. same_text n other) its ∙ differs);
       same_last = refl;
       guarded = tt;
     }
   where
-    own : row.name ≡ name
-    own = own-name parts name row at.found
-
     its : issued.name ≡ name
-    its = open-name row.name row.open_number (due_in row) issued (sym (ap (option_and_then open_in_row) at.found) ∙ (at.agrees).same_open_calls name ∙ f) ∙ own
+    its =
+        open-name row.name row.open_number (due_in row) issued (sym (ap (option_and_then open_in_row) at.found) ∙ ((at.right).agrees).same_open_calls name ∙ f)
+        ∙ own-name parts name row at.found
 
 -- a timeout
 timeout-tells : (parts : Parts) (history : History) (name : List ℕ) (row : RowShown) → IsFound parts history name row → (goal : Option Goal) → row.goal ≡ goal
-    → Tells history (times_out_with parts row goal) (timeout history name (cond (is_none goal) (Some faults.Idle) None))
+    → Tells history (placed parts Sends (row_unless (idle_refusal goal) (row_goes_on parts.last (timed_out row goal)))) (timeout history name (cond (is_none goal) (Some faults.Idle) None))
 timeout-tells parts history name row at None g = (refl, tt)
 timeout-tells parts history name row at (Some goal) g =
-    subst (λ d. Tells history (times_out_with parts row (Some goal)) (cond (is_forward_due d && (tries history name == 3)) stop more)) (sym due-is)
-    (subst (λ t. Tells history (times_out_with parts row (Some goal)) (cond (is_forward_due (due_in row) && (t == 3)) stop more)) own.counts
-    (either-tells history (is_forward_due (due_in row) && (row.tries == 3)) (goes_on parts Sends (wanted (stopped_goal goal) row)) (goes_on parts Sends (closed row)) stop more
-    (λ spent. stops (and_parts (is_forward_due (due_in row)) (row.tries == 3) spent).0)
-    (λ left. goes-on-tells parts history name (closed row) given.view (closing (open_call history name)) (closed-ready parts history name row (closing (open_call history name)) at given) Sends)))
+    subst (λ d. Tells history (placed parts Sends on) (cond (is_forward_due d && (tries history name == 3)) stop more)) (sym (due-of-row row history name own (own-kept parts history name row at).aims))
+    (subst (λ t. Tells history (placed parts Sends on) (cond (is_forward_due (due_in row) && (t == 3)) stop more)) own.counts (by (is_given_up row) refl))
   where
-    given : IsClosed parts history name row (closing (open_call history name))
+    own : IsRowOf row history name
+    own = is-row-of parts history name row (at.right).agrees at.found
+
+    items : List Item
+    items = closing (open_call history name)
+
+    given : IsClosed parts history name row items
     given = given-up parts history name row at (open_call history name) refl
 
-    own : IsRowOf row history name
-    own = is-row-of parts history name row at.agrees at.found
+    on : Result RowTold OrchFault
+    on = row_goes_on parts.last (timed_out row (Some goal))
 
     stop : Result Moved OrchFault
-    stop = go_on history name Sends (Noted name (stopped (goal_of history name)) ∷ closing (open_call history name))
+    stop = go_on history name Sends (Noted name (stopped (goal_of history name)) ∷ items)
 
     more : Result Moved OrchFault
-    more = go_on history name Sends (closing (open_call history name))
+    more = go_on history name Sends items
 
-    due-is : due_call history name ≡ due_in row
-    due-is = due-of-row row history name own (own-kept parts history name row at).aims
-
-    stops : is_forward_due (due_in row) ≡ true → Tells history (goes_on parts Sends (wanted (stopped_goal goal) row)) stop
-    stops forward =
-        let wish = forward-due row forward in
-        subst (λ g. Tells history (goes_on parts Sends (wanted (stopped_goal g) row)) stop) (same_Some (Use wish.0) goal (sym wish.1 ∙ g))
-        (use-stops parts history name row (closing (open_call history name)) wish.0 Sends at given wish.1)
+    by : (b : Bool) → is_given_up row ≡ b → Tells history (placed parts Sends (row_goes_on parts.last (cond b (wanted (stopped_goal goal) row) (closed row)))) (cond b stop more)
+    by true spent =
+        let wish = forward-due row (and_parts (is_forward_due (due_in row)) (row.tries == 3) spent).0 in
+        subst (λ w. Tells history (placed parts Sends (row_goes_on parts.last (wanted (stopped_goal w) row))) stop) (same_Some (Use wish.0) goal (sym wish.1 ∙ g))
+        (use-stops parts history name row items wish.0 Sends at given wish.1)
+    by false left = goes-on-tells parts history name (closed row) given.view items (closed-ready parts history name row items at given) Sends
 
 -- the same, whether the name has a row or not
-timeouts-tell : (parts : Parts) (history : History) (name : List ℕ) → IsWellFormed history → AreKept parts.rows → AgreesWith parts history → (o : Option RowShown) → row_of parts.rows name ≡ o
-    → Tells history (times_out parts o) (timeout history name (timeout_fault history name))
-timeouts-tell parts history name form kept agrees None e =
-    subst (λ f. Tells history (Err faults.NoSuchVolume) (timeout history name f)) (sym (timeout-unknown parts history name agrees e)) (refl, tt)
-timeouts-tell parts history name form kept agrees (Some row) e =
-    subst (λ f. Tells history (times_out parts (Some row)) (timeout history name f)) (sym (timeout-refused history name row (is-row-of parts history name row agrees e)))
-    (timeout-tells parts history name row (record { form = form; kept = kept; agrees = agrees; found = e }) row.goal refl)
+timeouts-tell : (parts : Parts) (history : History) (name : List ℕ) → AreRight parts history → (o : Option RowShown) → row_of parts.rows name ≡ o
+    → Tells history (steps_at parts Sends TimeOut o) (timeout history name (timeout_fault history name))
+timeouts-tell parts history name right None e =
+    subst (λ f. Tells history (Err faults.NoSuchVolume) (timeout history name f)) (sym (timeout-unknown parts history name right.agrees e)) (refl, tt)
+timeouts-tell parts history name right (Some row) e =
+    subst (λ f. Tells history (steps_at parts Sends TimeOut (Some row)) (timeout history name f)) (sym (timeout-refused history name row (is-row-of parts history name row right.agrees e)))
+    (timeout-tells parts history name row (record { right = right; found = e }) row.goal refl)
 
 -- a reply comes to the due call of the row
 record IsHeardBy (parts : Parts) (history : History) (row : RowShown) (number : Number) (due : Due) : Type 0 where
@@ -220,12 +206,12 @@ heard-view parts row number due reply = after_accepted (issued-by row.name numbe
 -- the history is well-formed then, and agrees with what is shown
 heard-form : (parts : Parts) (history : History) (row : RowShown) (number : Number) (due : Due) (reply : Reply) → IsHeardBy parts history row number due → IsWellFormed (with_items history (taken number reply ∷ []))
 unfolding taken
-heard-form parts history row number due reply by = (record { name = row.name; issued = issued-by row.name number due; is_open = by.is_open; has_number = refl }, (by.at).form)
+heard-form parts history row number due reply by = (record { name = row.name; issued = issued-by row.name number due; is_open = by.is_open; has_number = refl }, (by.at.right).form)
 
 heard-agrees : (parts : Parts) (history : History) (row : RowShown) (number : Number) (due : Due) (reply : Reply) → IsHeardBy parts history row number due
     → Agrees (heard-view parts row number due reply) (with_items history (taken number reply ∷ []))
 unfolding heard-view taken
-heard-agrees parts history row number due reply by = accepted-follows (view_of parts) history (issued-by row.name number due) reply.status reply.id (by.at).form (by.at).agrees by.is_open
+heard-agrees parts history row number due reply by = accepted-follows (view_of parts) history (issued-by row.name number due) reply.status reply.id (by.at.right).form (by.at.right).agrees by.is_open
 
 -- a status other than OK
 heard-closed : (parts : Parts) (history : History) (row : RowShown) (number : Number) (due : Due) (reply : Reply) → IsHeardBy parts history row number due → is_ok_status reply.status ≡ false
@@ -244,7 +230,7 @@ heard-closed parts history row number due reply by bad =
 
 -- a success
 success-tells : (parts : Parts) (history : History) (row : RowShown) (number : Number) (due : Due) (reply : Reply) → IsHeardBy parts history row number due → is_ok_status reply.status ≡ true
-    → Tells history (goes_on parts hears (succeeded (kind_of due.call) reply.id row)) (go_on history row.name hears (taken number reply ∷ []))
+    → Tells history (placed parts hears (row_goes_on parts.last (succeeded (kind_of due.call) reply.id row))) (go_on history row.name hears (taken number reply ∷ []))
 unfolding heard-view taken
 success-tells parts history row number due reply by fine =
     goes-on-tells parts history row.name (succeeded (kind_of due.call) reply.id row) (heard-view parts row number due reply) (taken number reply ∷ [])
@@ -255,107 +241,117 @@ success-tells parts history row number due reply by fine =
           (has-entry row row.goal own.goal) (due-cases row due by.is_due) fine;
       others = λ other differs. same-accepted (issued-by row.name number due) reply.status reply.id (view_of parts) other differs;
       same_last = refl;
-      old_last = sym ((by.at).agrees).same_last;
+      old_last = sym ((by.at.right).agrees).same_last;
       quiet = ap (λ b. cond b None ((view_of parts).open_calls row.name)) (text-same row.name);
-      distinct = marked-distinct (told_of (kind_of due.call)) (kind_of due.call) row (kept-distinct row own);
-      aims = kept-aims parts.rows ((by.at).kept).each;
-      may = λ next f. wanted-succeeded (kind_of due.call) reply.id row row.goal next refl (due-fits-goal row due by.is_due) own.goal f;
+      going = changed-may parts.nodes parts.last (Succeed (kind_of due.call) reply.id) row own (own, ap kind_due by.is_due) refl;
       guarded = tt;
     }) hears
   where
     own : IsKept row
     own = own-kept parts history row.name row by.at
 
+-- what is told by a failure of the call that is due for this goal
+Fails : Parts → RowShown → Option Goal → Result Told OrchFault
+Fails parts row goal = placed parts hears (cond (waits_for goal) (row_rests (closed row)) (row_goes_on parts.last (failed row goal)))
+
 -- a refusal after which nothing is sent
-waits-tell : (parts : Parts) (history : History) (row : RowShown) (number : Number) (due : Due) (reply : Reply) → IsHeardBy parts history row number due → is_ok_status reply.status ≡ false
-    → Tells history (takes_nothing_more parts (closed row)) (Ok (let m : Moved = record { answer = hears None; items = taken number reply ∷ [] } in m))
-unfolding taken
-waits-tell parts history row number due reply by bad =
+waits-tell : (parts : Parts) (history : History) (row : RowShown) (number : Number) (due : Due) (reply : Reply) (goal : Goal) → IsHeardBy parts history row number due → is_ok_status reply.status ≡ false
+    → waits_for (Some goal) ≡ true → row.goal ≡ Some goal → Tells history (Fails parts row row.goal) (Ok (let m : Moved = record { answer = hears None; items = taken number reply ∷ [] } in m))
+unfolding taken Fails
+waits-tell parts history row number due reply goal by bad waiting wish =
     let c = heard-closed parts history row number due reply by bad in
-    ((refl, put-agrees parts parts.last row.name (closed row) c.view (with_items history (taken number reply ∷ [])) c.reads c.others c.same_last c.agrees), tt)
+    subst (λ b. Tells history (placed parts hears (cond b (row_rests (closed row)) (row_goes_on parts.last (failed row row.goal)))) (Ok (let m : Moved = record { answer = hears None; items = taken number reply ∷ [] } in m)))
+    (sym (ap waits_for wish ∙ waiting)) ((refl, put-agrees parts parts.last row.name (closed row) c.view (with_items history (taken number reply ∷ [])) c.reads c.others c.same_last c.agrees), tt)
 
 -- a create that was refused
-drops-tell : (parts : Parts) (history : History) (row : RowShown) (number : Number) (due : Due) (reply : Reply) → IsHeardBy parts history row number due → is_ok_status reply.status ≡ false
-    → Tells history (takes_nothing_more parts (dropped row)) (Ok (let m : Moved = record { answer = hears None; items = Noted row.name None ∷ taken number reply ∷ [] } in m))
-unfolding taken
-drops-tell parts history row number due reply by bad =
+drops-tell : (parts : Parts) (history : History) (row : RowShown) (number : Number) (due : Due) (reply : Reply) → IsHeardBy parts history row number due → is_ok_status reply.status ≡ false → row.goal ≡ Some Create
+    → Tells history (Fails parts row row.goal) (Ok (let m : Moved = record { answer = hears None; items = Noted row.name None ∷ taken number reply ∷ [] } in m))
+unfolding taken Fails
+drops-tell parts history row number due reply by bad wish =
     let c = heard-closed parts history row number due reply by bad in
+    subst (λ g. Tells history (Fails parts row g) (Ok (let m : Moved = record { answer = hears None; items = Noted row.name None ∷ taken number reply ∷ [] } in m))) (sym wish)
     ((refl, then-dropped parts history row.name (closed row) c.view (taken number reply ∷ []) (closed-ready parts history row.name row (taken number reply ∷ []) by.at c)), tt)
 
 -- a forward call that was refused: the use is stopped
-stops-tell-after : (parts : Parts) (history : History) (row : RowShown) (number : Number) (due : Due) (reply : Reply) → IsHeardBy parts history row number due → is_ok_status reply.status ≡ false → is_forward due.call ≡ true
-    → Tells history (stops_after parts row row.goal) (go_on history row.name hears (Noted row.name (stopped (goal_of history row.name)) ∷ taken number reply ∷ []))
-stops-tell-after parts history row number due reply by bad forward =
-    let wish = forward-goal row due (due-cases row due by.is_due) forward in
-    subst (λ g. Tells history (stops_after parts row g) (go_on history row.name hears (Noted row.name (stopped (goal_of history row.name)) ∷ taken number reply ∷ []))) (sym wish.1)
-    (use-stops parts history row.name row (taken number reply ∷ []) wish.0 hears by.at (heard-closed parts history row number due reply by bad) wish.1)
+stops-after : (parts : Parts) (history : History) (row : RowShown) (number : Number) (due : Due) (reply : Reply) (usage : Usage) → IsHeardBy parts history row number due → is_ok_status reply.status ≡ false
+    → row.goal ≡ Some (Use usage) → Tells history (Fails parts row row.goal) (go_on history row.name hears (Noted row.name (stopped (goal_of history row.name)) ∷ taken number reply ∷ []))
+unfolding Fails
+stops-after parts history row number due reply usage by bad wish =
+    subst (λ g. Tells history (Fails parts row g) (go_on history row.name hears (Noted row.name (stopped (goal_of history row.name)) ∷ taken number reply ∷ []))) (sym wish)
+    (use-stops parts history row.name row (taken number reply ∷ []) usage hears by.at (heard-closed parts history row number due reply by bad) wish)
 
--- a status other than OK, call by call
-refusal-tells : (parts : Parts) (history : History) (row : RowShown) (number : Number) (party : Party) (call : Call) (reply : Reply) → IsHeardBy parts history row number (record { party = party; call = call }) → is_ok_status reply.status ≡ false
-    → Tells history (hears_refusal parts row (kind_of call)) (heard_refusal history (issued-by row.name number (record { party = party; call = call })) (taken number reply) call)
-refusal-tells parts history row number party (calls.CreateVolume name required limit capabilities) reply by bad = drops-tell parts history row number _ reply by bad
-refusal-tells parts history row number party (calls.ControllerPublishVolume id node capability readonly) reply by bad = stops-tell-after parts history row number _ reply by bad refl
-refusal-tells parts history row number party (calls.NodeStageVolume id capability) reply by bad = stops-tell-after parts history row number _ reply by bad refl
-refusal-tells parts history row number party (calls.NodePublishVolume id target capability readonly) reply by bad = stops-tell-after parts history row number _ reply by bad refl
-refusal-tells parts history row number party call reply by bad = waits-tell parts history row number _ reply by bad
+-- a status other than OK, by each call that may be due
+refusal-tells : (parts : Parts) (history : History) (row : RowShown) (number : Number) (due : Due) (reply : Reply) → IsHeardBy parts history row number due → is_ok_status reply.status ≡ false → IsDueFor row due
+    → Tells history (Fails parts row row.goal) (heard_refusal history (issued-by row.name number due) (taken number reply) due.call)
+refusal-tells parts history row number _ reply by bad (ToMake goal e) = drops-tell parts history row number _ reply by bad goal
+refusal-tells parts history row number _ reply by bad (ToRemove id goal own e) = waits-tell parts history row number _ reply Delete by bad refl goal
+refusal-tells parts history row number _ reply by bad (ToAttach usage id goal own a) = stops-after parts history row number _ reply usage by bad goal
+refusal-tells parts history row number _ reply by bad (ToStage usage id goal own a s) = stops-after parts history row number _ reply usage by bad goal
+refusal-tells parts history row number _ reply by bad (ToPublish usage id goal own a s p) = stops-after parts history row number _ reply usage by bad goal
+refusal-tells parts history row number _ reply by bad (ToUnpublish node target id goal own p) = waits-tell parts history row number _ reply (Stop node target) by bad refl goal
+refusal-tells parts history row number _ reply by bad (ToUnstage node target id goal own p o s) = waits-tell parts history row number _ reply (Stop node target) by bad refl goal
+refusal-tells parts history row number _ reply by bad (ToDetach node target id goal own p o s a) = waits-tell parts history row number _ reply (Stop node target) by bad refl goal
 
 -- a reply to the open call of a row
 heard-tells : (parts : Parts) (history : History) (row : RowShown) (number : Number) (due : Due) (reply : Reply) → IsHeardBy parts history row number due
     → Tells history (hears_reply parts (kind_of due.call) reply (Some row)) (heard history reply (Some (issued-by row.name number due)))
-unfolding taken
-heard-tells parts history row number due reply by =
-    either-tells history (is_ok_status reply.status) (goes_on parts hears (succeeded (kind_of due.call) reply.id row)) (hears_refusal parts row (kind_of due.call))
-    (go_on history row.name hears (taken number reply ∷ [])) (heard_refusal history (issued-by row.name number due) (taken number reply) due.call)
-    (λ fine. success-tells parts history row number due reply by fine)
-    (λ bad. refusal-tells parts history row number due.party due.call reply by bad)
+unfolding taken Fails
+heard-tells parts history row number due reply by = tells (is_ok_status reply.status) refl
+  where
+    tells : (b : Bool) → is_ok_status reply.status ≡ b → Tells history (steps_at parts hears (cond b (Succeed (kind_of due.call) reply.id) Fail) (Some row))
+        (cond b (go_on history row.name hears (taken number reply ∷ [])) (heard_refusal history (issued-by row.name number due) (taken number reply) due.call))
+    tells true fine = success-tells parts history row number due reply by fine
+    tells false bad = refusal-tells parts history row number due reply by bad (due-cases row due by.is_due)
 
 -- a reply, whether it is to the open call of a row or not
-replies-tell : (parts : Parts) (history : History) (number : Number) (party : Party) (kind : Kind) (reply : Reply) → IsWellFormed history → AreKept parts.rows → AgreesWith parts history
+replies-tell : (parts : Parts) (history : History) (number : Number) (party : Party) (kind : Kind) (reply : Reply) → AreRight parts history
     → (o : Option RowShown) → row_replied parts.rows number party kind ≡ o → Tells history (hears_reply parts kind reply o) (heard history reply (call_replied history number party kind))
-replies-tell parts history number party kind reply form kept agrees None e =
-    subst (λ c. Tells history (told parts (Hears Ignored)) (heard history reply c)) (sym (replied parts history number party kind form kept agrees ∙ ap (option_and_then open_in_row) e)) ((refl, agrees), tt)
-replies-tell parts history number party kind reply form kept agrees (Some row) e =
-    let there = found-own parts number party kind row kept e in
+replies-tell parts history number party kind reply right None e =
+    subst (λ c. Tells history (told parts (Hears Ignored)) (heard history reply c)) (sym (replied parts history number party kind right.form right.kept right.agrees ∙ ap (option_and_then open_in_row) e))
+    ((refl, right.agrees), tt)
+replies-tell parts history number party kind reply right (Some row) e =
+    let there = found-own parts number party kind row right.kept e in
     let it = hears-it row number party kind (find-passes (λ (r : RowShown). is_issued_as number party kind (open_in_row r)) parts.rows row e) in
     let call : open_in_row row ≡ Some (issued-by row.name number it.due) = λ i. issued_as row.name (it.own i) (it.is_due i) in
-    subst (λ c. Tells history (hears_reply parts kind reply (Some row)) (heard history reply c)) (sym (replied parts history number party kind form kept agrees ∙ ap (option_and_then open_in_row) e ∙ call))
+    subst (λ c. Tells history (hears_reply parts kind reply (Some row)) (heard history reply c))
+    (sym (replied parts history number party kind right.form right.kept right.agrees ∙ ap (option_and_then open_in_row) e ∙ call))
     (subst (λ k. Tells history (hears_reply parts k reply (Some row)) (heard history reply (Some (issued-by row.name number it.due)))) it.has_kind
     (heard-tells parts history row number it.due reply
     (record {
-      at = record { form = form; kept = kept; agrees = agrees; found = there };
+      at = record { right = right; found = there };
       is_due = it.is_due;
-      is_open = sym (agrees.same_open_calls row.name) ∙ ap (option_and_then open_in_row) there ∙ call;
+      is_open = sym ((right.agrees).same_open_calls row.name) ∙ ap (option_and_then open_in_row) there ∙ call;
     })))
 
 -- a frame that comes, of which a call is ignored
-deliveries-tell : (parts : Parts) (history : History) (number : Number) (party : Party) (body : Body) → IsWellFormed history → AreKept parts.rows → AgreesWith parts history
-    → Tells history (receives parts number party body) (deliver history number party body)
-deliveries-tell parts history number party (bodies.Call call) form kept agrees = ((refl, agrees), tt)
-deliveries-tell parts history number party (bodies.Reply kind reply) form kept agrees = replies-tell parts history number party kind reply form kept agrees (row_replied parts.rows number party kind) refl
+deliveries-tell : (parts : Parts) (history : History) (number : Number) (party : Party) (body : Body) → AreRight parts history → Tells history (receives parts number party body) (deliver history number party body)
+deliveries-tell parts history number party (bodies.Call call) right = ((refl, right.agrees), tt)
+deliveries-tell parts history number party (bodies.Reply kind reply) right = replies-tell parts history number party kind reply right (row_replied parts.rows number party kind) refl
 
 -- a restart
 restarts-tell : (parts : Parts) (history : History) → AgreesWith parts history → Tells history (starts_again parts) (restart (last_number history))
 restarts-tell parts history agrees =
-    subst (λ l. Tells history (starts_again parts) (restart l)) agrees.same_last
-    (either-tells history (nat_lt (parts.last.session + 1) (2 ^ 64)) (told (in_session (parts.last.session + 1) parts) Restarted) (Err faults.NumbersSpent) _ (Err faults.NumbersSpent)
-    (λ free. (
-      (
-        refl,
-        session-agrees parts (with_items history (Started (parts.last.session + 1) ∷ [])) (parts.last.session + 1) (started-follows (view_of parts) history (parts.last.session + 1) agrees),
-      ),
-      tt,
-    ))
-    (λ spent. (refl, tt)))
+    subst (λ l. Tells history (starts_again parts) (restart l)) agrees.same_last (by (nat_lt (parts.last.session + 1) (2 ^ 64)))
+  where
+    next : ℕ
+    next = parts.last.session + 1
+
+    by : (b : Bool) → Tells history (cond b (told (in_session next parts) Restarted) (Err faults.NumbersSpent)) (cond b (Ok (let m : Moved = record { answer = Restarted; items = Started next ∷ [] } in m)) (Err faults.NumbersSpent))
+    by true = ((refl, session-agrees parts (with_items history (Started next ∷ [])) next (started-follows (view_of parts) history next agrees)), tt)
+    by false = (refl, tt)
 
 -- each input
+by-input : (parts : Parts) (history : History) (input : Input) → AreRight parts history → Tells history (row_moves parts input) (moves parts.nodes history input)
+by-input parts history (ToCreate name arguments) right = creates-tell parts history name arguments right (row_of parts.rows name) refl
+by-input parts history (ToUse name usage) right = uses-tell parts history name usage right (row_of parts.rows name) refl
+by-input parts history (ToStop name node target) right = stops-tell parts history name node target right (row_of parts.rows name) refl
+by-input parts history (ToDelete name) right = deletes-tell parts history name right (row_of parts.rows name) refl
+by-input parts history (TimesOut name) right = timeouts-tell parts history name right (row_of parts.rows name) refl
+by-input parts history (Comes frame) right = deliveries-tell parts history frame.number frame.party frame.body right
+by-input parts history Restarts right = restarts-tell parts history right.agrees
+
 pub all-tell : (parts : Parts) (history : History) (input : Input) → IsWellFormed history → AreKept parts.rows → AgreesWith parts history → Tells history (row_moves parts input) (moves parts.nodes history input)
-all-tell parts history (ToCreate name arguments) form kept agrees = creates-tell parts history name arguments form kept agrees (row_of parts.rows name) refl
-all-tell parts history (ToUse name usage) form kept agrees = uses-tell parts history name usage form kept agrees (row_of parts.rows name) refl
-all-tell parts history (ToStop name node target) form kept agrees = stops-tell parts history name node target form kept agrees (row_of parts.rows name) refl
-all-tell parts history (ToDelete name) form kept agrees = deletes-tell parts history name form kept agrees (row_of parts.rows name) refl
-all-tell parts history (TimesOut name) form kept agrees = timeouts-tell parts history name form kept agrees (row_of parts.rows name) refl
-all-tell parts history (Comes frame) form kept agrees = deliveries-tell parts history frame.number frame.party frame.body form kept agrees
-all-tell parts history Restarts form kept agrees = restarts-tell parts history agrees
+all-tell parts history input form kept agrees = by-input parts history input (record { form = form; kept = kept; agrees = agrees })
 
 -- whatever comes, the rows tell what the history tells
 pub rows-tell : RowsTell

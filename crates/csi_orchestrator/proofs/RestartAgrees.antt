@@ -15,8 +15,7 @@ use Rattle.csi_orchestrator.specs.Shown.{RowShown, Parts, row_of, mark_in, mark_
 use Rattle.csi_orchestrator.specs.declared.state.Core.{Core}
 use Rattle.csi_orchestrator.specs.Catalog.{rows_of}
 use Rattle.csi_orchestrator.specs.Core.{parts_of}
-use Rattle.csi_orchestrator.specs.RowSteps.{IsTold}
-use Rattle.csi_orchestrator.specs.RowMoves.{Told, told, row_moves, IsRefusal}
+use Rattle.csi_orchestrator.specs.RowMoves.{Told, told, row_moves, IsRefusal, IsTold}
 use Rattle.csi_orchestrator.proofs.ClosedRows.{shown-closed}
 use Rattle.csi_orchestrator.proofs.RowsAfterSending.{goals-same, mark-same}
 

@@ -22,7 +22,7 @@ use Rattle.csi_orchestrator.specs.Commands.{is_for_one_node, is_second_writer}
 use Rattle.csi_orchestrator.specs.Due.{Due}
 use Rattle.csi_orchestrator.specs.Shown.{PlaceShown, RowShown, place_of, aim_of, held_at, due_by, due_in, closed, AreTargetsApart}
 use Rattle.csi_orchestrator.specs.RowChanges.{Aspect, Existence, Publication, aspect_of, place_marked, marked_at, at_goal, exists_marked, places_marked, marked, sent, told_of, succeeded, wanted, is_aim_kept, with_kept_aims, is_place_kept, dropped, stopped_goal}
-use Rattle.csi_orchestrator.specs.RowMoves.{is_so_elsewhere}
+use Rattle.csi_orchestrator.specs.RowRefusals.{is_so_elsewhere}
 use Rattle.csi_orchestrator.specs.Keyed.{change_by}
 use Rattle.csi_orchestrator.specs.Kept.{ArePlacesApart, IsUsable, MayBeWanted, IsKept}
 use Rattle.csi_orchestrator.proofs.TextLists.{text-same}

@@ -21,16 +21,17 @@ use Rattle.csi_orchestrator.specs.Guards.{MayIssue}
 use Rattle.csi_orchestrator.specs.Moves.{Answer, Moved, sent_as, go_on}
 use Rattle.csi_orchestrator.specs.Agrees.{View, Agrees}
 use Rattle.csi_orchestrator.specs.Following.{after_sent, after_noted, DetachesSomething}
-use Rattle.csi_orchestrator.specs.Shown.{RowShown, Parts, place_of, mark_in, due_in, view_of, AgreesWith, AreAimsApart}
+use Rattle.csi_orchestrator.specs.Shown.{RowShown, Parts, place_of, mark_in, due_in, view_of, AgreesWith}
 use Rattle.csi_orchestrator.specs.RowChanges.{sent, dropped}
-use Rattle.csi_orchestrator.specs.RowMoves.{Told, put, with_row, sends_as, goes_on}
+use Rattle.csi_orchestrator.specs.RowSteps.{outgoing_by, row_after, row_goes_on}
+use Rattle.csi_orchestrator.specs.RowMoves.{Told, put, placed}
 use Rattle.csi_orchestrator.specs.Kept.{MayBeWanted, AreGuarded, Fits}
 use Rattle.csi_orchestrator.proofs.DueCalls.{due-of-row}
 use Rattle.csi_orchestrator.proofs.DueCases.{IsDueFor, due-cases, ToAttach, ToDetach}
 use Rattle.csi_orchestrator.proofs.ViewsFollow.{sent-follows, noted-follows}
 use Rattle.csi_orchestrator.proofs.AddedItems.{IsNextIfSome, is_next}
 use Rattle.csi_orchestrator.proofs.DueCallsGuarded.{due-guarded}
-use Rattle.csi_orchestrator.proofs.RowRules.{AreDistinct}
+use Rattle.csi_orchestrator.proofs.RulesStay.{MayGoOn}
 use Rattle.csi_orchestrator.proofs.RowMarks.{GoalHasEntry}
 use Rattle.csi_orchestrator.proofs.RowsAfterNotes.{reads-dropped}
 use Rattle.csi_orchestrator.proofs.RowViews.{Reads, SameAt, same-then, same-sent, same-noted, put-agrees, IsRowOf, reads-history}
@@ -55,9 +56,7 @@ pub record IsReady (parts : Parts) (history : History) (name : List ℕ) (row : 
   pub same_last : parts.last ≡ view.last
   pub old_last : last_number history ≡ parts.last
   pub quiet : view.open_calls name ≡ None
-  pub distinct : AreDistinct row.places
-  pub aims : AreAimsApart parts.rows
-  pub may : (due : Due) → due_in row ≡ Some due → MayBeWanted row row.goal
+  pub going : MayGoOn row
   pub guarded : AreGuarded history items
 
 -- the entries of a goal that may be wanted
@@ -76,7 +75,7 @@ detaching-something row _ name node number other of undoes = absurd (false≢tru
 -- its due call is the one that is due by that history
 due-there : (parts : Parts) (history : History) (name : List ℕ) (row : RowShown) (view : View) (items : List Item) → IsReady parts history name row view items → due_call (with_items history items) name ≡ due_in row
 due-there parts history name row view items ready =
-    due-of-row row (with_items history items) name (reads-history row view (with_items history items) name ready.reads ready.agrees) (ready.distinct).targets
+    due-of-row row (with_items history items) name (reads-history row view (with_items history items) name ready.reads ready.agrees) ((ready.going).distinct).targets
 
 -- the due call may be sent
 may-issue : (parts : Parts) (history : History) (name : List ℕ) (row : RowShown) (view : View) (items : List Item) (due : Due) → IsReady parts history name row view items → due_in row ≡ Some due
@@ -85,7 +84,7 @@ may-issue parts history name row view items due ready e =
     let own = (ready.reads).own in
     let its = reads-history row view (with_items history items) name ready.reads ready.agrees in
     subst (λ n. MayIssue (with_items history items) n due.party due.call) own
-    (due-guarded row (with_items history items) due (subst (IsRowOf row (with_items history items)) (sym own) its) (ready.distinct).targets (ready.may due e)
+    (due-guarded row (with_items history items) due (subst (IsRowOf row (with_items history items)) (sym own) its) ((ready.going).distinct).targets ((ready.going).may due e)
     (ap (open_call (with_items history items)) own ∙ sym ((ready.agrees).same_open_calls name) ∙ ready.quiet) e)
 
 -- it was sent
@@ -94,7 +93,7 @@ then-sent : (parts : Parts) (history : History) (name : List ℕ) (row : RowShow
     → AgreesWith (record { nodes = parts.nodes; last = number; rows = put (sent number (kind_of due.call) row) parts.rows }) (with_items history (Sent (issued-by name number due) ∷ items))
 then-sent parts history name row view items due number ready e n =
     put-agrees parts number name (sent number (kind_of due.call) row) (after_sent issued view) (with_items history (Sent issued ∷ items))
-    (reads-sent row view name due number ready.reads (has-entry row row.goal (ready.may due e)) case)
+    (reads-sent row view name due number ready.reads (has-entry row row.goal ((ready.going).may due e)) case)
     (λ other differs. same-then (after_sent issued view) view (view_of parts) other (same-sent issued view other differs) (ready.others other differs)) refl
     (sent-follows view (with_items history items) issued ready.form ready.agrees next detaches)
   where
@@ -117,21 +116,22 @@ then-sent parts history name row view items due number ready e n =
 
 -- none was due, and the goal was dropped
 pub then-dropped : (parts : Parts) (history : History) (name : List ℕ) (row : RowShown) (view : View) (items : List Item) → IsReady parts history name row view items
-    → AgreesWith (with_row (dropped row) parts) (with_items history (Noted name None ∷ items))
+    → AgreesWith (record { nodes = parts.nodes; last = parts.last; rows = put (dropped row) parts.rows }) (with_items history (Noted name None ∷ items))
 then-dropped parts history name row view items ready =
     put-agrees parts parts.last name (dropped row) (after_noted name None view) (with_items history (Noted name None ∷ items))
-    (reads-dropped row view name (ready.distinct).nodes (ready.distinct).targets ready.reads ready.quiet)
+    (reads-dropped row view name ((ready.going).distinct).nodes ((ready.going).distinct).targets ready.reads ready.quiet)
     (λ other differs. same-then (after_noted name None view) view (view_of parts) other (same-noted name None view other differs) (ready.others other differs)) ready.same_last
     (noted-follows view (with_items history items) name None ready.agrees)
 
 -- a row that is ready goes on as its history does
 pub goes-on-tells : (parts : Parts) (history : History) (name : List ℕ) (row : RowShown) (view : View) (items : List Item) → IsReady parts history name row view items → (answer : Option Frame → Answer)
-    → Tells history (goes_on parts answer row) (go_on history name answer items)
+    → Tells history (placed parts answer (row_goes_on parts.last row)) (go_on history name answer items)
 goes-on-tells parts history name row view items ready answer =
-    subst (λ d. Tells history (goes_on parts answer row) (sent_as name answer items d (next_number (last_number history)))) (sym (due-there parts history name row view items ready))
-    (subst (λ l. Tells history (goes_on parts answer row) (sent_as name answer items (due_in row) (next_number l))) (sym ready.old_last) (by (due_in row) refl (next_number parts.last) refl))
+    subst (λ d. Tells history (placed parts answer (row_goes_on parts.last row)) (sent_as name answer items d (next_number (last_number history)))) (sym (due-there parts history name row view items ready))
+    (subst (λ l. Tells history (placed parts answer (row_goes_on parts.last row)) (sent_as name answer items (due_in row) (next_number l))) (sym ready.old_last)
+    (by (due_in row) refl (next_number parts.last) refl))
   where
-    by : (d : Option Due) → due_in row ≡ d → (n : Option Number) → next_number parts.last ≡ n → Tells history (sends_as parts answer row d n) (sent_as name answer items d n)
+    by : (d : Option Due) → due_in row ≡ d → (n : Option Number) → next_number parts.last ≡ n → Tells history (placed parts answer (row_after row (outgoing_by d n))) (sent_as name answer items d n)
     by None e n f = ((refl, then-dropped parts history name row view items ready), ready.guarded)
     by (Some due) e None f = (refl, tt)
     by (Some due) e (Some number) f = ((refl, then-sent parts history name row view items due number ready e f), (may-issue parts history name row view items due ready e, ready.guarded))

@@ -16,7 +16,7 @@ use Rattle.csi_orchestrator.specs.History.{Usage, Held}
 use Rattle.csi_orchestrator.specs.Commands.{is_for_one_node, is_second_writer}
 use Rattle.csi_orchestrator.specs.Shown.{PlaceShown, RowShown, place_of, aim_of, AreTargetsApart}
 use Rattle.csi_orchestrator.specs.RowChanges.{wanted, new_aim, with_aim, held_as, entry_for, with_entry}
-use Rattle.csi_orchestrator.specs.RowMoves.{is_so_elsewhere, has_elsewhere, is_place_otherwise}
+use Rattle.csi_orchestrator.specs.RowRefusals.{is_so_elsewhere, has_elsewhere, is_place_otherwise}
 use Rattle.csi_orchestrator.specs.Keyed.{put_by}
 use Rattle.csi_orchestrator.specs.Kept.{IsUsable}
 use Rattle.csi_orchestrator.proofs.TextLists.{text-same}

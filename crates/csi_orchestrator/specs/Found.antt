@@ -1,17 +1,15 @@
--- The code's due call; and an orchestrator's parts, for what asks for some of them alone.
-use Rattle.std.specs.Prelude.{ℕ, List, [], Option, Some, None, option_map, ◌≡◌}
+-- The code's due call.
+use Rattle.std.specs.Prelude.{ℕ, List, Option, Some, None, option_map, ◌≡◌}
 use Rattle.csi_types.specs.declared.call.Call.{Call}
 use Rattle.csi_types.specs.declared.call.Call.TheVariants as calls
 use Rattle.csi_types.specs.declared.call.Kind.{Kind}
 use Rattle.csi_types.specs.declared.call.Kind.TheVariants as kinds
 use Rattle.csi_types.specs.declared.call.Party.{Party}
 use Rattle.csi_types.specs.declared.call.Party.TheVariants as parties
-use Rattle.csi_types.specs.declared.number.Number.{Number}
 use Rattle.csi_types.specs.Call.{kind_of}
 use Rattle.csi_orchestrator.specs.declared.due.Due.{Due as KeptDue}
 use Rattle.csi_orchestrator.specs.declared.due.Due.TheVariants.{Create, Delete, Attach, Detach, Stage, Unstage, Publish, Unpublish}
 use Rattle.csi_orchestrator.specs.Due.{Due}
-use Rattle.csi_orchestrator.specs.Shown.{RowShown, Parts}
 
 -- the node that the code's due call is for; none for the controller
 abbrev pub node_due : KeptDue → Option (List ℕ)
@@ -51,15 +49,3 @@ kind_due due = option_map (λ due. kind_of due.call) due
 abbrev pub IsQuiet : Option Due → Type 0
 IsQuiet None = Unit {0}
 IsQuiet (Some due) = kind_of due.call ≡ kinds.DeleteVolume
-
--- the parts, for what asks for no rows
-abbrev pub without_rows : List (List ℕ) → Number → Parts
-without_rows nodes last = record { nodes = nodes; last = last; rows = [] }
-
--- for what asks for the last number alone
-abbrev pub with_last : Number → Parts
-with_last last = without_rows [] last
-
--- and for what asks for no nodes
-abbrev pub with_rows : Number → List RowShown → Parts
-with_rows last rows = record { nodes = []; last = last; rows = rows }

@@ -1,19 +1,19 @@
 -- Which call a reply is to, and which one is due after its success. This profile's own.
-use Rattle.std.specs.Prelude.{ℕ, Bool, false, ◌&&◌, Option, Some, None, if◌then◌else◌}
+use Rattle.std.specs.Prelude.{◌≡◌, ℕ, Bool, false, ◌&&◌, Option, Some, None}
 use Rattle.std.specs.Option.{option_or}
 use Rattle.csi_types.specs.declared.call.Kind.{Kind}
 use Rattle.csi_types.specs.declared.call.Party.{Party}
-use Rattle.csi_types.specs.declared.reply.Reply.{Reply}
 use Rattle.csi_types.specs.Call.{kind_of}
-use Rattle.csi_types.specs.Reply.{is_ok_status}
 use Rattle.csi_types.specs.Same.{same_party, same_kind}
 use Rattle.csi_orchestrator.specs.declared.marks.Marks.{Marks}
 use Rattle.csi_orchestrator.specs.declared.row.Goal.{Goal}
 use Rattle.csi_orchestrator.specs.declared.step.Step.{Step}
-use Rattle.csi_orchestrator.specs.declared.step.Step.TheVariants.{Succeed, Fail}
+use Rattle.csi_orchestrator.specs.declared.step.Step.TheVariants.{Succeed}
 use Rattle.csi_orchestrator.specs.declared.thing.Known.{Known}
 use Rattle.csi_orchestrator.specs.Due.{Due}
-use Rattle.csi_orchestrator.specs.Shown.{RowShown, marks_for, due_with}
+use Rattle.csi_orchestrator.specs.Found.{kind_due}
+use Rattle.csi_orchestrator.specs.Kept.{IsKept}
+use Rattle.csi_orchestrator.specs.Shown.{RowShown, marks_for, due_with, due_in}
 use Rattle.csi_orchestrator.specs.RowChanges.{Aspect, Existence, Attachment, Staging, Publication, aspect_of, told_of, id_told}
 
 -- the due call has this party and kind
@@ -37,6 +37,7 @@ abbrev pub due_heard : Kind → Option ℕ → RowShown → Option Goal → Opti
 due_heard kind id row None = None
 due_heard kind id row (Some goal) = due_with row.name row.arguments (option_or (id_told kind id) row.id) (marks_heard kind (marks_for row goal)) goal
 
--- what comes for the volume whose open call had this reply
-abbrev pub step_heard : Kind → Reply → Step
-step_heard kind reply = if is_ok_status reply.status then Succeed kind reply.id else Fail
+-- a success is the one of the due call
+abbrev pub Fits : Step → RowShown → Type 0
+Fits (Succeed kind id) row = IsKept row × (kind_due (due_in row) ≡ Some kind)
+Fits step row = Unit {0}

@@ -14,7 +14,8 @@ use Rattle.csi_orchestrator.specs.History.{History, with_items, Item, Started, S
 use Rattle.csi_orchestrator.specs.Guards.{MayIssue}
 use Rattle.csi_orchestrator.specs.Moves.{Input, Moved, moves}
 use Rattle.csi_orchestrator.specs.Shown.{PlaceShown, RowShown, Parts, place_of, aim_of, AreTargetsApart, AgreesWith}
-use Rattle.csi_orchestrator.specs.RowMoves.{Told, has_elsewhere, row_moves}
+use Rattle.csi_orchestrator.specs.RowRefusals.{has_elsewhere}
+use Rattle.csi_orchestrator.specs.RowMoves.{Told, row_moves}
 use Rattle.csi_orchestrator.specs.WellFormed.{IsWellFormed}
 
 -- a node has one entry

@@ -12,6 +12,7 @@ pub mod Shown
 pub mod Keyed
 pub mod RowChanges
 pub mod RowMoves
+pub mod RowRefusals
 pub mod Kept
 pub mod Steps
 pub mod Listing

@@ -3,12 +3,11 @@ ghost use Rattle.std.specs.Prelude.{◌≡◌, ◌<◌, ℕ, List, map, position
 ghost use Rattle.indexmap.specs.IndexMap.{index_map_len};
 ghost use Rattle.csi_types.specs.Frame.{Frame as FrameShown};
 ghost use Rattle.csi_types.specs.Same.{same_text};
-ghost use Rattle.csi_orchestrator.specs.declared.row.Goal.{Goal};
 ghost use Rattle.csi_orchestrator.specs.Catalog.{rows_of, IsReady, AreUpTo, call_in, IsAfter};
 ghost use Rattle.csi_orchestrator.specs.Core.{parts_of, IsFiled};
-ghost use Rattle.csi_orchestrator.specs.RowSteps.{frame_in, last_after, steps_at, Fits, asked_by, IsTold};
+ghost use Rattle.csi_orchestrator.specs.Hearing.{Fits};
 ghost use Rattle.csi_orchestrator.specs.Moves.{Input, ToCreate, Answer, Sends};
-ghost use Rattle.csi_orchestrator.specs.RowMoves.{IsRefusal, IsToldAs, creates, row_moves};
+ghost use Rattle.csi_orchestrator.specs.RowMoves.{frame_in, last_after, steps_at, creates, row_moves, asked_by, IsRefusal, IsToldAs, IsTold};
 ghost use Rattle.csi_orchestrator.specs.Shown.{RowShown, row_shown, row_of};
 
 use crate::changes::new_row;
@@ -56,7 +55,7 @@ impl Core {
         ensures filed { IsFiled self.new }
         ensures quiet { (name : List ℕ) (answer : Option FrameShown → Answer) → ((frame : FrameShown) → answer (Some frame) ≡ answer None → ⊥) → position (λ row. same_text row.name name) (rows_of self.old.catalog) ≡ Some place
             → IsToldAs (answer None) (steps_at (parts_of self.old) answer step (row_of (map row_shown (rows_of self.old.catalog)) name)) → IsOk result }
-        ensures delete { step ≡ Step.Want Goal.Delete → IfErr result (λ fault. fault ≡ OrchFault.NoMemory → ⊥) }
+        ensures delete { step ≡ Step.Delete → IfErr result (λ fault. fault ≡ OrchFault.NoMemory → ⊥) }
     {
         let row = &mut self.catalog.rows[place];
         let next = take(self.alloc, row, &self.nodes, self.last, step)?;
@@ -71,7 +70,7 @@ impl Core {
         ensures stays { OnErr result (parts_of self.new ≡ parts_of self.old) }
         ensures filed { IsFiled self.new }
         ensures quiet { (input : Input) → asked_by name.now step ≡ Some input → IsToldAs (Sends None) (row_moves (parts_of self.old) input) → IsOk result }
-        ensures delete { step ≡ Step.Want Goal.Delete → IfErr result (λ fault. fault ≡ OrchFault.NoMemory → ⊥) }
+        ensures delete { step ≡ Step.Delete → IfErr result (λ fault. fault ≡ OrchFault.NoMemory → ⊥) }
     {
         match self.catalog.place_of(name) {
             Some(place) => self.step(place, step),

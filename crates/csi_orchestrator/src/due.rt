@@ -5,7 +5,7 @@ ghost use Rattle.csi_types.specs.Call.{kind_of};
 ghost use Rattle.csi_types.specs.Same.{same_party};
 ghost use Rattle.csi_orchestrator.specs.Commands.{next_number as number_after};
 ghost use Rattle.csi_orchestrator.specs.Moves.{is_forward as leads_on};
-ghost use Rattle.csi_orchestrator.specs.Shown.{create_due as create_told, use_due as use_told, stop_due as stop_told, due_with};
+ghost use Rattle.csi_orchestrator.specs.Shown.{create_due as create_told, use_due as use_told, stop_due as stop_told, delete_due as delete_told, due_with};
 ghost use Rattle.csi_orchestrator.specs.Found.{due_shown, node_due, call_due};
 
 use crate::marks::Marks;
@@ -63,8 +63,8 @@ pub(crate) fn create_due<'a>(
     Some(Due::Create { name, arguments })
 }
 
-// The call that is due until the volume is published at the target.
-fn use_due<'a>(id: VolumeId, marks: Marks, usage: &'a Usage) -> Option<Due<'a>>
+/// The call that is due until the volume is published at the target.
+pub(crate) fn use_due<'a>(id: VolumeId, marks: Marks, usage: &'a Usage) -> Option<Due<'a>>
     ensures { option_map due_shown result ≡ use_told usage.now marks id }
 {
     if !marks.attached.is_yes() {
@@ -103,6 +103,16 @@ pub(crate) fn stop_due<'a>(
     None
 }
 
+/// The call that is due until the volume isn't there.
+pub(crate) fn delete_due<'a>(id: VolumeId, marks: Marks) -> Option<Due<'a>>
+    ensures { option_map due_shown result ≡ delete_told marks id }
+{
+    if marks.exists.is_no() {
+        return None;
+    }
+    Some(Due::Delete { id })
+}
+
 /// The call that is due for a goal of a volume of this name, these arguments and this id, by what is known of it.
 pub(crate) fn due_for<'a>(
     name: &'a Name,
@@ -118,8 +128,7 @@ pub(crate) fn due_for<'a>(
         (_, None) => None,
         (Goal::Use(usage), Some(id)) => use_due(id, marks, usage),
         (Goal::Stop { node, target }, Some(id)) => stop_due(id, marks, node, target),
-        (Goal::Delete, Some(_)) if marks.exists.is_no() => None,
-        (Goal::Delete, Some(id)) => Some(Due::Delete { id }),
+        (Goal::Delete, Some(id)) => delete_due(id, marks),
     }
 }
 

@@ -33,8 +33,8 @@ pub(crate) fn others_of(aims: &[Aim], target: &Target) -> usize
     count
 }
 
-// What is known of the volume alone: of no node, or of one that has no entry.
-fn of_volume(row: &Row) -> Marks
+/// What is known of the volume alone: of no node, or of one that has no entry.
+pub(crate) fn of_volume(row: &Row) -> Marks
     ensures { result ≡ marks_of_volume (row_shown row.now) }
 {
     Marks {

@@ -3,39 +3,40 @@ ghost use Rattle.std.specs.Prelude.{◌≡◌, Some, option_map};
 ghost use Rattle.std.specs.Option.{option_or};
 ghost use Rattle.csi_orchestrator.specs.Shown.{row_shown, due_by, due_in};
 ghost use Rattle.csi_orchestrator.specs.RowChanges.{id_told as id_by_kind, succeeded};
-ghost use Rattle.csi_orchestrator.specs.RowSteps.{is_given_up as gives_up, timed_out, failed, changed, Fits};
+ghost use Rattle.csi_orchestrator.specs.RowSteps.{due_for_use, is_given_up as gives_up, timed_out, failed, changed};
 ghost use Rattle.csi_orchestrator.specs.Found.{due_shown, kind_due};
-ghost use Rattle.csi_orchestrator.specs.Hearing.{marks_heard};
+ghost use Rattle.csi_orchestrator.specs.Hearing.{marks_heard, Fits};
 ghost use Rattle.csi_orchestrator.specs.Kept.{IsKept};
 
 use crate::changes::{id_told, told};
-use crate::due::{Due, create_due, due_for, stop_due};
-use crate::marks::{Marks, known_for, marks_in};
-use crate::row::{Goal, Row};
+use crate::due::{Due, create_due, delete_due, due_for, stop_due, use_due};
+use crate::marks::{Marks, known_for, marks_in, of_volume};
+use crate::row::{Goal, Row, Usage};
 use crate::step::Step;
 use csi_types::{Kind, NodeId, Target, VolumeId};
-
-/// The call that is due for this goal of the row.
-pub(crate) fn due_at<'a>(row: &'a Row, goal: &'a Goal) -> Option<Due<'a>>
-    ensures { option_map due_shown result ≡ due_by (row_shown row.now) (Some goal.now) }
-{
-    due_for(
-        &row.name,
-        &row.arguments,
-        row.id,
-        known_for(row, goal),
-        goal,
-    )
-}
 
 /// The call that is due for the row's goal, if it has one.
 pub(crate) fn due_now(row: &Row) -> Option<Due<'_>>
     ensures { option_map due_shown result ≡ due_in (row_shown row.now) }
 {
     match &row.goal {
-        Some(goal) => due_at(row, goal),
+        Some(goal) => due_for(
+            &row.name,
+            &row.arguments,
+            row.id,
+            known_for(row, goal),
+            goal,
+        ),
         None => None,
     }
+}
+
+/// The call that is due for a use of the row's volume; where none is, it is used so.
+pub(crate) fn due_to_use<'a>(row: &'a Row, usage: &'a Usage) -> Option<Due<'a>>
+    ensures { option_map due_shown result ≡ due_for_use usage.now (row_shown row.now) }
+{
+    let id = row.id?;
+    use_due(id, marks_in(row, &usage.node, &usage.target), usage)
 }
 
 // The call that is due for a stop of the row's use at this node and target.
@@ -124,8 +125,10 @@ pub(crate) fn due_then<'a>(row: &'a Row, step: &'a Step) -> Option<Due<'a>>
     ensures { option_map due_shown result ≡ due_in (changed step.now (row_shown row.now)) }
 {
     match step {
-        Step::Create(arguments) => create_due(&row.name, arguments, known_for(row, &Goal::Create)),
-        Step::Want(goal) => due_at(row, goal),
+        Step::Create(arguments) => create_due(&row.name, arguments, of_volume(row)),
+        Step::Use(usage) => due_to_use(row, usage),
+        Step::Stop { node, target } => due_to_stop(row, node, target),
+        Step::Delete => delete_due(row.id?, of_volume(row)),
         Step::TimeOut => due_timed_out(row),
         Step::Succeed { kind, id } => due_after(row, *kind, *id),
         Step::Fail => due_failed(row),

@@ -8,7 +8,7 @@ ghost use Rattle.csi_orchestrator.specs.declared.thing.Thing.{Thing as ThingShow
 use crate::catalog::Catalog;
 use crate::fault::{Heard, OrchFault};
 use crate::listing::things_in;
-use crate::row::{Arguments, Goal, Usage};
+use crate::row::{Arguments, Usage};
 use crate::state::{Core, known_in};
 use crate::step::Step;
 use crate::thing::{Known, Thing};
@@ -141,7 +141,7 @@ impl Orchestrator {
             capability,
             readonly,
         };
-        self.core.ask(name, Step::Want(Goal::Use(usage)))
+        self.core.ask(name, Step::Use(usage))
     }
 
     /// Requests that the volume is unpublished at the target, and then, where it is at no other target of the node, unstaged and
@@ -159,7 +159,7 @@ impl Orchestrator {
         ensures stays { OnErr result (self.new ≡ self.old) }
         ensures nodes { self.new.nodes ≡ self.old.nodes }
     {
-        self.core.ask(name, Step::Want(Goal::Stop { node, target }))
+        self.core.ask(name, Step::Stop { node, target })
     }
 
     /// Requests deletion (CSI's spec.md, "DeleteVolume"): the DeleteVolume to send, or `None` where the volume doesn't exist.
@@ -172,7 +172,7 @@ impl Orchestrator {
         ensures stays { OnErr result (self.new ≡ self.old) }
         ensures nodes { self.new.nodes ≡ self.old.nodes }
     {
-        self.core.ask(name, Step::Want(Goal::Delete))
+        self.core.ask(name, Step::Delete)
     }
 
     /// The open call of a volume timed out: it is given up, and the call that is due is sent under a new

@@ -2,13 +2,11 @@
 ghost use Rattle.std.specs.Prelude.{◌≡◌, length, map, nat_le, is_none};
 ghost use Rattle.csi_orchestrator.specs.Commands.{next_number as number_after};
 ghost use Rattle.csi_orchestrator.specs.Shown.{row_shown};
-ghost use Rattle.csi_orchestrator.specs.RowMoves.{first_fault as first_refusal, again_fault as again_refusal, use_refusal, room_refusal, stop_refusal, delete_refusal, busy_refusal};
-ghost use Rattle.csi_orchestrator.specs.Found.{without_rows, with_last, with_rows};
-ghost use Rattle.csi_orchestrator.specs.RowSteps.{goal_refusal, step_refusal, late_refusal};
+ghost use Rattle.csi_orchestrator.specs.RowRefusals.{first_fault as first_refusal, again_fault as again_refusal, use_refusal, room_refusal, stop_refusal, delete_refusal, busy_refusal, step_refusal, late_refusal};
 
 use crate::due::next_number;
 use crate::fault::OrchFault;
-use crate::row::{Goal, Row, Usage};
+use crate::row::{Row, Usage};
 use crate::sharing::{
     has_node, is_attached_somewhere, is_held_elsewhere, is_held_otherwise, is_target_taken,
     is_unpublished, is_written_elsewhere, others_count,
@@ -38,7 +36,7 @@ fn is_full(rows: &[Row]) -> bool
 
 /// Why the first create of a name is refused.
 pub(crate) fn first_fault(rows: &[Row], last: Number) -> Option<OrchFault>
-    ensures { result ≡ first_refusal (with_rows last (map row_shown rows.now)) }
+    ensures { result ≡ first_refusal last (map row_shown rows.now) }
 {
     if is_used_up(last) {
         return Some(OrchFault::NumbersSpent);
@@ -51,7 +49,7 @@ pub(crate) fn first_fault(rows: &[Row], last: Number) -> Option<OrchFault>
 
 // Why another create of this row's name is refused.
 fn again_fault(row: &Row, last: Number) -> Option<OrchFault>
-    ensures { result ≡ again_refusal (with_last last) (row_shown row.now) }
+    ensures { result ≡ again_refusal last (row_shown row.now) }
 {
     if row.id.is_some() || row.goal.is_some() {
         return Some(OrchFault::NameUsed);
@@ -98,7 +96,7 @@ fn use_fault(nodes: &[NodeId], usage: &Usage, row: &Row) -> Option<OrchFault>
 
 // Why a use that isn't met yet is refused.
 fn room_fault(last: Number, usage: &Usage, row: &Row) -> Option<OrchFault>
-    ensures { result ≡ room_refusal (with_last last) usage.now (row_shown row.now) }
+    ensures { result ≡ room_refusal last usage.now (row_shown row.now) }
 {
     if is_used_up(last) {
         return Some(OrchFault::NumbersSpent);
@@ -117,7 +115,7 @@ fn stop_fault(
     target: &Target,
     row: &Row,
 ) -> Option<OrchFault>
-    ensures { result ≡ stop_refusal (without_rows nodes.now last) node.now target.now (row_shown row.now) }
+    ensures { result ≡ stop_refusal nodes.now last node.now target.now (row_shown row.now) }
 {
     if !row.exists.is_yes() {
         return Some(OrchFault::NotCreated);
@@ -152,7 +150,7 @@ fn delete_fault(row: &Row) -> Option<OrchFault>
 
 // Why a delete that isn't met yet is refused.
 fn busy_fault(last: Number, row: &Row) -> Option<OrchFault>
-    ensures { result ≡ busy_refusal (with_last last) (row_shown row.now) }
+    ensures { result ≡ busy_refusal last (row_shown row.now) }
 {
     if row.goal.is_some() {
         return Some(OrchFault::Busy);
@@ -163,18 +161,6 @@ fn busy_fault(last: Number, row: &Row) -> Option<OrchFault>
     None
 }
 
-// Why a goal is refused, whether or not it is met already.
-fn goal_fault(nodes: &[NodeId], last: Number, row: &Row, goal: &Goal) -> Option<OrchFault>
-    ensures { result ≡ goal_refusal (without_rows nodes.now last) goal.now (row_shown row.now) }
-{
-    match goal {
-        Goal::Create => again_fault(row, last),
-        Goal::Use(usage) => use_fault(nodes, usage, row),
-        Goal::Stop { node, target } => stop_fault(nodes, last, node, target, row),
-        Goal::Delete => delete_fault(row),
-    }
-}
-
 /// Why a step is refused, whether or not what it asks for is so already.
 pub(crate) fn step_fault(
     nodes: &[NodeId],
@@ -182,11 +168,13 @@ pub(crate) fn step_fault(
     row: &Row,
     step: &Step,
 ) -> Option<OrchFault>
-    ensures { result ≡ step_refusal (without_rows nodes.now last) step.now (row_shown row.now) }
+    ensures { result ≡ step_refusal nodes.now last step.now (row_shown row.now) }
 {
     match step {
         Step::Create(_) => again_fault(row, last),
-        Step::Want(goal) => goal_fault(nodes, last, row, goal),
+        Step::Use(usage) => use_fault(nodes, usage, row),
+        Step::Stop { node, target } => stop_fault(nodes, last, node, target, row),
+        Step::Delete => delete_fault(row),
         Step::TimeOut => match row.goal {
             Some(_) => None,
             None => Some(OrchFault::Idle),
@@ -197,14 +185,11 @@ pub(crate) fn step_fault(
 
 /// Why a step is refused that asks for what isn't so yet.
 pub(crate) fn late_fault(last: Number, row: &Row, step: &Step) -> Option<OrchFault>
-    ensures { result ≡ late_refusal (with_last last) step.now (row_shown row.now) }
+    ensures { result ≡ late_refusal last step.now (row_shown row.now) }
 {
     match step {
-        Step::Want(goal) => match goal {
-            Goal::Use(usage) => room_fault(last, usage, row),
-            Goal::Delete => busy_fault(last, row),
-            Goal::Create | Goal::Stop { .. } => None,
-        },
+        Step::Use(usage) => room_fault(last, usage, row),
+        Step::Delete => busy_fault(last, row),
         _ => None,
     }
 }

@@ -6,9 +6,8 @@ ghost use Rattle.csi_orchestrator.specs.declared.fault.OrchFault.{OrchFault as F
 ghost use Rattle.csi_orchestrator.specs.declared.fault.Heard.TheVariants.{Ignored as IsIgnored};
 ghost use Rattle.csi_orchestrator.specs.Moves.{Comes, Hears, hears};
 ghost use Rattle.csi_orchestrator.specs.Shown.{row_shown, due_in, open_in_row};
-ghost use Rattle.csi_orchestrator.specs.RowMoves.{is_issued_as, hears_reply, row_replied, row_moves, IsRefusal, IsToldAs};
-ghost use Rattle.csi_orchestrator.specs.RowSteps.{IsTold};
-ghost use Rattle.csi_orchestrator.specs.Hearing.{is_due_as as is_told_as, step_heard};
+ghost use Rattle.csi_orchestrator.specs.RowMoves.{is_issued_as, hears_reply, row_replied, row_moves, step_heard, IsRefusal, IsToldAs, IsTold};
+ghost use Rattle.csi_orchestrator.specs.Hearing.{is_due_as as is_told_as};
 ghost use Rattle.csi_orchestrator.specs.Kept.{AreKept};
 ghost use Rattle.csi_orchestrator.specs.Catalog.{rows_of, IsIndexed};
 ghost use Rattle.csi_orchestrator.specs.Core.{parts_of, IsFiled};

@@ -6,7 +6,7 @@ ghost use Rattle.csi_types.specs.Sharing.{allows_one_target as allows_one};
 ghost use Rattle.csi_orchestrator.specs.Thing.{is_no};
 ghost use Rattle.csi_orchestrator.specs.Commands.{is_for_one_node as is_one_node, is_second_writer as is_second, is_otherwise as is_other};
 ghost use Rattle.csi_orchestrator.specs.Shown.{row_shown, place_shown, place_of, mark_in, published_in, others_in, held_at};
-ghost use Rattle.csi_orchestrator.specs.RowMoves.{is_so_elsewhere, is_place_otherwise, others_count as count_others};
+ghost use Rattle.csi_orchestrator.specs.RowRefusals.{is_so_elsewhere, is_place_otherwise, others_count as count_others};
 
 use crate::marks::others_of;
 use crate::row::{Place, Row, Usage};

@@ -1,17 +1,17 @@
 //! What is asked of a volume or comes for it, and what becomes of its row.
 ghost use Rattle.std.specs.Prelude.{◌≡◌, false, Ok, Some, IfOk, IfErr, IsOk, OnOk, OnErr};
-ghost use Rattle.csi_orchestrator.specs.Found.{without_rows};
 ghost use Rattle.csi_orchestrator.specs.RowMoves.{IsRefusal};
-ghost use Rattle.csi_orchestrator.specs.RowSteps.{is_met as is_so, waits as is_left, is_given_up as gives_up, timed_out, failed, changed, needs_entry, row_goes_on, row_step, SendsNothing, Fits};
-ghost use Rattle.csi_orchestrator.specs.Shown.{row_shown, due_in};
+ghost use Rattle.csi_orchestrator.specs.RowSteps.{is_met as is_so, waits as is_left, timed_out, failed, changed, needs_entry, row_goes_on, row_step, SendsNothing};
+ghost use Rattle.csi_orchestrator.specs.Hearing.{Fits};
+ghost use Rattle.csi_orchestrator.specs.Shown.{row_shown};
 
 use crate::changes::{add_entry, close, stop_use, succeed, want, want_anew};
 use crate::fault::OrchFault;
-use crate::next_call::{due_at, due_then, is_given_up};
+use crate::next_call::{due_then, due_to_use, is_given_up};
 use crate::refusals::{late_fault, step_fault};
-use crate::row::{Arguments, Goal, Row};
+use crate::row::{Arguments, Goal, Row, Usage};
 use crate::sending::{Outgoing, note_sent_or_drop, outgoing_for};
-use csi_types::{Kind, NodeId, Number, VolumeId};
+use csi_types::{Kind, NodeId, Number, Target, VolumeId};
 use std::alloc::Global;
 
 /// What is asked of a volume, or comes for it.
@@ -19,8 +19,12 @@ use std::alloc::Global;
 pub(crate) enum Step {
     /// That it is created by these arguments, though its name has a row.
     Create(Arguments),
-    /// That this is brought about: a use, a stop or a delete.
-    Want(Goal),
+    /// That it is published so.
+    Use(Usage),
+    /// That it isn't published there, and then isn't at the node.
+    Stop { node: NodeId, target: Target },
+    /// That it is deleted.
+    Delete,
     /// Its open call timed out.
     TimeOut,
     /// Its open call, of this kind, succeeded; the id that the reply brought.
@@ -34,11 +38,8 @@ fn is_met(row: &Row, step: &Step) -> bool
     ensures { result ≡ is_so step.now (row_shown row.now) }
 {
     match step {
-        Step::Want(goal) => match goal {
-            Goal::Use(_) => due_at(row, goal).is_none(),
-            Goal::Delete => row.exists.is_no(),
-            Goal::Create | Goal::Stop { .. } => false,
-        },
+        Step::Use(usage) => due_to_use(row, usage).is_none(),
+        Step::Delete => row.exists.is_no(),
         _ => false,
     }
 }
@@ -87,12 +88,12 @@ fn change(alloc: Global, row: &mut Row, step: Step) -> Result<(), OrchFault>
 {
     match step {
         Step::Create(arguments) => want_anew(row, arguments),
-        Step::Want(goal) => {
-            if let Goal::Use(usage) = &goal {
-                add_entry(alloc, row, usage)?;
-            }
-            want(row, goal);
+        Step::Use(usage) => {
+            add_entry(alloc, row, &usage)?;
+            want(row, Goal::Use(usage));
         }
+        Step::Stop { node, target } => want(row, Goal::Stop { node, target }),
+        Step::Delete => want(row, Goal::Delete),
         Step::TimeOut => time_out(row),
         Step::Succeed { kind, id } => succeed(row, kind, id),
         Step::Fail => fail(row),
@@ -112,7 +113,7 @@ fn go_on(
     ensures err { IfErr result (IsRefusal (row_goes_on last (changed step (row_shown row.old)))) }
     ensures stays { OnErr result (row_shown row.new ≡ row_shown row.old) }
     ensures quiet { needs_entry step ≡ false → SendsNothing (row_goes_on last (changed step (row_shown row.old))) → IsOk result }
-    ensures delete { step ≡ Step.Want Goal.Delete → IfErr result (λ fault. fault ≡ OrchFault.NoMemory → ⊥) }
+    ensures delete { step ≡ Step.Delete → IfErr result (λ fault. fault ≡ OrchFault.NoMemory → ⊥) }
 {
     let next = outgoing_for(last, &due_then(row, &step))?;
     change(alloc, row, step)?;
@@ -130,11 +131,11 @@ pub(crate) fn take(
     step: Step,
 ) -> Result<Option<Outgoing>, OrchFault>
     requires { Fits step (row_shown row.old) }
-    ensures ok { IfOk result (λ next. row_step (without_rows nodes.now last) step (row_shown row.old) ≡ Ok (record { outgoing = next; row = row_shown row.new })) }
-    ensures err { IfErr result (IsRefusal (row_step (without_rows nodes.now last) step (row_shown row.old))) }
+    ensures ok { IfOk result (λ next. row_step nodes.now last step (row_shown row.old) ≡ Ok (record { outgoing = next; row = row_shown row.new })) }
+    ensures err { IfErr result (IsRefusal (row_step nodes.now last step (row_shown row.old))) }
     ensures stays { OnErr result (row_shown row.new ≡ row_shown row.old) }
-    ensures quiet { SendsNothing (row_step (without_rows nodes.now last) step (row_shown row.old)) → IsOk result }
-    ensures delete { step ≡ Step.Want Goal.Delete → IfErr result (λ fault. fault ≡ OrchFault.NoMemory → ⊥) }
+    ensures quiet { SendsNothing (row_step nodes.now last step (row_shown row.old)) → IsOk result }
+    ensures delete { step ≡ Step.Delete → IfErr result (λ fault. fault ≡ OrchFault.NoMemory → ⊥) }
 {
     if let Some(fault) = step_fault(nodes, last, row, &step) {
         return Err(fault);

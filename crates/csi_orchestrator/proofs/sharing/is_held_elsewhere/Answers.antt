@@ -1,7 +1,7 @@
 -- This place is so.
 use Rattle.std.proofs.Common.{sym}
 use Rattle.csi_orchestrator.specs.Commands.{is_for_one_node}
-use Rattle.csi_orchestrator.specs.RowMoves.{is_so_elsewhere}
+use Rattle.csi_orchestrator.specs.RowRefusals.{is_so_elsewhere}
 use Rattle.csi_orchestrator.specs.Shown.{place_shown}
 use Rattle.csi_orchestrator.proofs.EntriesShown.{one-here}
 use Rattle.csi_orchestrator.proofs.sharing.is_held_elsewhere.Goals as goal

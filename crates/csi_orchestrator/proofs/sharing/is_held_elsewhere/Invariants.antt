@@ -2,7 +2,7 @@
 use Rattle.std.proofs.Common.{◌≡◌, false, map, take}
 use Rattle.std.specs.List.{list_any}
 use Rattle.csi_orchestrator.specs.Commands.{is_for_one_node}
-use Rattle.csi_orchestrator.specs.RowMoves.{is_so_elsewhere}
+use Rattle.csi_orchestrator.specs.RowRefusals.{is_so_elsewhere}
 use Rattle.csi_orchestrator.specs.Shown.{place_shown}
 use Rattle.csi_orchestrator.proofs.sharing.is_held_elsewhere.Given as goal
 

@@ -6,11 +6,9 @@ use Rattle.csi_orchestrator.specs.declared.fault.OrchFault.{OrchFault}
 use Rattle.csi_orchestrator.specs.declared.fault.OrchFault.TheVariants.{NoSuchVolume}
 use Rattle.csi_orchestrator.specs.Catalog.{rows_of}
 use Rattle.csi_orchestrator.specs.Core.{parts_of}
-use Rattle.csi_orchestrator.specs.RowSteps.{steps_at}
 use Rattle.csi_orchestrator.specs.Moves.{Sends}
-use Rattle.csi_orchestrator.specs.RowMoves.{Told, told, IsRefusal, IsToldAs}
-use Rattle.csi_orchestrator.proofs.RowsByName.{shown-nowhere}
-use Rattle.csi_orchestrator.proofs.StepsAsInputs.{asked}
+use Rattle.csi_orchestrator.specs.RowMoves.{Told, told, steps_at, IsRefusal, IsToldAs}
+use Rattle.csi_orchestrator.proofs.RowsByName.{shown-nowhere, asked}
 use Rattle.csi_orchestrator.proofs.state.Core.ask.Goals as goal
 
 pub returns-in-Some-clause-told : goal.returns-in-Some-clause-told

@@ -8,11 +8,12 @@ use Rattle.csi_orchestrator.specs.declared.sending.Outgoing.{Outgoing}
 use Rattle.csi_orchestrator.specs.Catalog.{rows_of, IsReady, call_in}
 use Rattle.csi_orchestrator.specs.Commands.{next_number}
 use Rattle.csi_orchestrator.specs.Core.{parts_of}
-use Rattle.csi_orchestrator.specs.RowSteps.{RowTold, outgoing_by, gone_on, row_after, row_goes_on, last_after}
+use Rattle.csi_orchestrator.specs.RowSteps.{RowTold, outgoing_by, gone_on, row_after, row_goes_on}
 use Rattle.csi_orchestrator.specs.Due.{Due}
-use Rattle.csi_orchestrator.specs.Found.{due_shown, with_rows}
+use Rattle.csi_orchestrator.specs.Found.{due_shown}
 use Rattle.csi_orchestrator.specs.RowChanges.{new_row}
-use Rattle.csi_orchestrator.specs.RowMoves.{first_fault}
+use Rattle.csi_orchestrator.specs.RowRefusals.{first_fault}
+use Rattle.csi_orchestrator.specs.RowMoves.{last_after}
 use Rattle.csi_orchestrator.specs.Shown.{RowShown, Parts, row_shown, due_in}
 use Rattle.csi_orchestrator.proofs.RowsByName.{first-told}
 use Rattle.csi_orchestrator.proofs.OpenCalls.{next-created}
@@ -45,7 +46,7 @@ returns-clause-ok c =
     let on = goes-on core.last (new_row c.args.name c.args.arguments) (row_shown c.new_row-row.result) (row_shown sent) (option_map due_shown c.due_now.result) next
     c.new_row-row.ensures c.due_now.ensures c.in_ok-next.ensures.ok c.note_sent_or_drop.ensures in
     let made = next-created core.catalog core.last c.args.name c.args.arguments sent next c.requires.filed.known on in
-    let fits = ap (λ (rows : List Row). first_fault (with_rows core.last (map row_shown rows))) (sym c.rows.ensures) ∙ sym c.first_fault.ensures ∙ c.in_default.is in
+    let fits = ap (λ (rows : List Row). first_fault core.last (map row_shown rows)) (sym c.rows.ensures) ∙ sym c.first_fault.ensures ∙ c.in_default.is in
     first-told core.nodes.items core.last (rows_of core.catalog) c.args.name c.args.arguments sent next c.issue.result (parts_of c.issue.new.self)
     c.requires.new_name fits on made.1 c.issue.ensures.frame
     (c.issue.ensures.parts

@@ -4,11 +4,11 @@ use Rattle.csi_types.specs.Frame.{Frame}
 use Rattle.csi_orchestrator.specs.declared.fault.Heard.TheVariants.{Ignored}
 use Rattle.csi_orchestrator.specs.Catalog.{rows_of}
 use Rattle.csi_orchestrator.specs.Core.{parts_of}
-use Rattle.csi_orchestrator.specs.RowSteps.{Fits}
+use Rattle.csi_orchestrator.specs.Hearing.{Fits}
 use Rattle.csi_orchestrator.specs.Moves.{Hears, hears}
 use Rattle.csi_orchestrator.specs.RowMoves.{hears_reply, IsRefusal, IsToldAs}
 use Rattle.csi_orchestrator.specs.Shown.{row_shown}
-use Rattle.csi_orchestrator.proofs.RepliesAsSteps.{replied-at, reply-fits, reply-told, never-ignored, unfound}
+use Rattle.csi_orchestrator.proofs.RepliedPlaces.{replied-at, reply-fits, reply-told, never-ignored, unfound}
 use Rattle.csi_orchestrator.proofs.DueAfterStep.{passed-on}
 use Rattle.csi_orchestrator.proofs.state.Core.hear.Goals as goal
 

@@ -2,7 +2,6 @@
 use Rattle.std.proofs.Common.{ℕ, List, sym, ◌∙◌, ap, subst}
 use Rattle.csi_orchestrator.specs.Core.{parts_of}
 use Rattle.csi_orchestrator.specs.RowSteps.{row_step, SendsNothing}
-use Rattle.csi_orchestrator.specs.Found.{without_rows}
 use Rattle.csi_orchestrator.specs.RowMoves.{IsRefusal}
 use Rattle.csi_orchestrator.specs.Shown.{row_shown}
 use Rattle.csi_orchestrator.proofs.RowsByName.{step-refused, step-told, step-quiet, rows-stay}
@@ -17,7 +16,7 @@ returns-in_err-next-clause-err c = λ name answer at.
     let row = c.index_mut-row.result.now in
     passed-on c.from_residual.result _ c.from_residual.ensures.1
     (step-refused core answer c.args.step name c.args.place row c.in_err-next.field-0.0 c.index_mut-row.ensures.value
-    (subst (λ (nodes : List (List ℕ)). IsRefusal (row_step (without_rows nodes core.last) c.args.step (row_shown row)) c.in_err-next.field-0.0) c.deref.ensures.value c.in_err-next.ensures.err) at)
+    (subst (λ (nodes : List (List ℕ)). IsRefusal (row_step nodes core.last c.args.step (row_shown row)) c.in_err-next.field-0.0) c.deref.ensures.value c.in_err-next.ensures.err) at)
 
 pub returns-in_err-next-clause-stays : goal.returns-in_err-next-clause-stays
 returns-in_err-next-clause-stays c =
@@ -38,7 +37,7 @@ returns-in_err-next-clause-quiet c = λ name answer apart at told.
     let row = c.index_mut-row.result.now in
     let ok =
     c.in_err-next.ensures.quiet
-    (subst (λ (nodes : List (List ℕ)). SendsNothing (row_step (without_rows nodes core.last) c.args.step (row_shown row))) (sym c.deref.ensures.value)
+    (subst (λ (nodes : List (List ℕ)). SendsNothing (row_step nodes core.last c.args.step (row_shown row))) (sym c.deref.ensures.value)
     (step-quiet core answer c.args.step name c.args.place row c.index_mut-row.ensures.value at apart told)) in
     cc
 
@@ -46,14 +45,14 @@ pub issue-requires-clause-ready : goal.issue-requires-clause-ready
 issue-requires-clause-ready c =
     let core = c.args.self.now in
     let row = c.index_mut-row.result.now in
-    (ready-told core.catalog (without_rows c.deref.result.now core.last) c.args.place row c.take.new.row c.args.step c.in_ok-next.next
+    (ready-told core.catalog c.deref.result.now core.last c.args.place row c.take.new.row c.args.step c.in_ok-next.next
     c.requires.filed.indexed c.requires.filed.known c.index_mut-row.ensures.value c.in_ok-next.ensures.ok).0
 
 pub issue-requires-clause-after : goal.issue-requires-clause-after
 issue-requires-clause-after c =
     let core = c.args.self.now in
     let row = c.index_mut-row.result.now in
-    (ready-told core.catalog (without_rows c.deref.result.now core.last) c.args.place row c.take.new.row c.args.step c.in_ok-next.next
+    (ready-told core.catalog c.deref.result.now core.last c.args.place row c.take.new.row c.args.step c.in_ok-next.next
     c.requires.filed.indexed c.requires.filed.known c.index_mut-row.ensures.value c.in_ok-next.ensures.ok).1
 
 pub issue-requires-clause-within : goal.issue-requires-clause-within
@@ -64,5 +63,5 @@ returns-clause-ok c = λ name answer at.
     let core = c.args.self.now in
     let row = c.index_mut-row.result.now in
     step-told core answer c.args.step name c.args.place row c.take.new.row c.in_ok-next.next c.issue.result (parts_of c.issue.new.self) c.index_mut-row.ensures.value
-    (ap (λ (nodes : List (List ℕ)). row_step (without_rows nodes core.last) c.args.step (row_shown row)) (sym c.deref.ensures.value)
+    (ap (λ (nodes : List (List ℕ)). row_step nodes core.last c.args.step (row_shown row)) (sym c.deref.ensures.value)
     ∙ c.in_ok-next.ensures.ok) c.issue.ensures.frame c.issue.ensures.parts at
