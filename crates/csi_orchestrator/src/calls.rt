@@ -18,53 +18,38 @@ fn call_of(due: &Due<'_>) -> Result<Call, OrchFault>
     ensures delete { kind_of (call_due due.now) ≡ kinds.DeleteVolume → IsOk result }
 {
     match due {
-        Due::Create { name, arguments } => {
-            let name = (*name).clone()?;
-            let capabilities = arguments.capabilities.clone()?;
-            Ok(Call::CreateVolume {
-                name,
-                required: arguments.required,
-                limit: arguments.limit,
-                capabilities,
-            })
-        }
+        Due::Create { name, arguments } => Ok(Call::CreateVolume {
+            name: (*name).clone()?,
+            required: arguments.required,
+            limit: arguments.limit,
+            capabilities: arguments.capabilities.clone()?,
+        }),
         Due::Delete { id } => Ok(Call::DeleteVolume { id: *id }),
-        Due::Attach { id, usage } => {
-            let node = usage.node.clone()?;
-            let capability = usage.capability.clone()?;
-            Ok(Call::ControllerPublishVolume {
-                id: *id,
-                node,
-                capability,
-                readonly: usage.readonly,
-            })
-        }
-        Due::Detach { id, node } => {
-            let node = (*node).clone()?;
-            Ok(Call::ControllerUnpublishVolume { id: *id, node })
-        }
-        Due::Stage { id, usage } => {
-            let capability = usage.capability.clone()?;
-            Ok(Call::NodeStageVolume {
-                id: *id,
-                capability,
-            })
-        }
+        Due::Attach { id, usage } => Ok(Call::ControllerPublishVolume {
+            id: *id,
+            node: usage.node.clone()?,
+            capability: usage.capability.clone()?,
+            readonly: usage.readonly,
+        }),
+        Due::Detach { id, node } => Ok(Call::ControllerUnpublishVolume {
+            id: *id,
+            node: (*node).clone()?,
+        }),
+        Due::Stage { id, usage } => Ok(Call::NodeStageVolume {
+            id: *id,
+            capability: usage.capability.clone()?,
+        }),
         Due::Unstage { id, .. } => Ok(Call::NodeUnstageVolume { id: *id }),
-        Due::Publish { id, usage } => {
-            let target = usage.target.clone()?;
-            let capability = usage.capability.clone()?;
-            Ok(Call::NodePublishVolume {
-                id: *id,
-                target,
-                capability,
-                readonly: usage.readonly,
-            })
-        }
-        Due::Unpublish { id, target, .. } => {
-            let target = (*target).clone()?;
-            Ok(Call::NodeUnpublishVolume { id: *id, target })
-        }
+        Due::Publish { id, usage } => Ok(Call::NodePublishVolume {
+            id: *id,
+            target: usage.target.clone()?,
+            capability: usage.capability.clone()?,
+            readonly: usage.readonly,
+        }),
+        Due::Unpublish { id, target, .. } => Ok(Call::NodeUnpublishVolume {
+            id: *id,
+            target: (*target).clone()?,
+        }),
     }
 }
 
@@ -75,10 +60,7 @@ fn party_of(node: Option<&NodeId>) -> Result<Party, OrchFault>
     ensures controller { node.entry ≡ None → IsOk result }
 {
     match node {
-        Some(node) => {
-            let node = node.clone()?;
-            Ok(Party::Node(node))
-        }
+        Some(node) => Ok(Party::Node(node.clone()?)),
         None => Ok(Party::Controller),
     }
 }

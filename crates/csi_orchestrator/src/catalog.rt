@@ -73,10 +73,7 @@ impl Catalog {
     pub fn place_of_call(&self, call: u64) -> Option<usize>
         ensures { result ≡ place_noted self.now call }
     {
-        match self.calls.get(&call) {
-            Some(place) => Some(*place),
-            None => None,
-        }
+        self.calls.get(&call).copied()
     }
 
     // Notes the open call of the row at this place, if it has one.

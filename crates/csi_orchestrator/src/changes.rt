@@ -1,11 +1,10 @@
 //! What becomes of a row.
-ghost use Rattle.std.specs.Prelude.{◌≡◌, map, Some, None, OnOk, OnErr, IfErr};
-ghost use Rattle.csi_orchestrator.specs.Shown.{row_shown, place_shown, closed};
-ghost use Rattle.csi_orchestrator.specs.RowChanges.{at_goal, aspect_of, marked_at, marked, sent, told_of, id_told as id_by_kind, succeeded, wanted, wanted_anew, stopped_goal, dropped, new_row as new_row_shown, with_entry};
+ghost use Rattle.std.specs.Prelude.{◌≡◌, map, Some, None};
+ghost use Rattle.csi_orchestrator.specs.Shown.{row_shown, place_shown};
+ghost use Rattle.csi_orchestrator.specs.RowChanges.{at_goal, aspect_of, marked_at, marked, sent, told_of, id_told as id_by_kind, succeeded, wanted, stopped_goal, dropped, new_row as new_row_shown};
 
-use crate::fault::OrchFault;
-use crate::places::{add_place, mark_at, tidy};
-use crate::row::{Arguments, Goal, Place, Row, Usage};
+use crate::places::{mark_at, tidy};
+use crate::row::{Arguments, Goal, Place, Row};
 use crate::thing::Known;
 use csi_types::{Kind, Name, Number, VolumeId};
 use std::alloc::Global;
@@ -90,21 +89,6 @@ pub(crate) fn want(row: &mut Row, goal: Goal)
     row.tries = 0;
 }
 
-/// Sets creation as the goal, by these arguments.
-pub(crate) fn want_anew(row: &mut Row, arguments: Arguments)
-    ensures { row_shown row.new ≡ wanted_anew arguments (row_shown row.old) }
-{
-    row.arguments = arguments;
-    want(row, Goal::Create);
-}
-
-/// Gives up the open call.
-pub(crate) fn close(row: &mut Row)
-    ensures { row_shown row.new ≡ closed (row_shown row.old) }
-{
-    row.open_number = None;
-}
-
 // The goal once this one is given up: a use that didn't come about is stopped.
 fn stopped(goal: Goal) -> Goal
     ensures { result ≡ stopped_goal goal }
@@ -152,14 +136,4 @@ pub(crate) fn new_row(alloc: Global, name: Name, arguments: Arguments) -> Row
         tries: 0,
         places: Vec::new(alloc),
     }
-}
-
-/// Adds an entry for a use: a new one, or what the one of its node lacks. A refusal changes nothing.
-pub(crate) fn add_entry(alloc: Global, row: &mut Row, usage: &Usage) -> Result<(), OrchFault>
-    ensures ok { OnOk result (row_shown row.new ≡ with_entry usage.now (row_shown row.old)) }
-    ensures memory { IfErr result (λ fault. fault ≡ OrchFault.NoMemory) }
-    ensures err { OnErr result (row_shown row.new ≡ row_shown row.old) }
-{
-    add_place(alloc, &mut row.places, usage)?;
-    Ok(())
 }

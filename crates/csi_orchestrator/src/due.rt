@@ -9,7 +9,7 @@ ghost use Rattle.csi_orchestrator.specs.Shown.{create_due as create_told, use_du
 ghost use Rattle.csi_orchestrator.specs.Found.{due_shown, node_due, call_due};
 
 use crate::marks::Marks;
-use crate::row::{Arguments, Goal, Usage};
+use crate::row::{Arguments, Goal, Row, Usage};
 use csi_types::{Kind, Name, NodeId, Number, Party, Target, VolumeId};
 
 /// The call that is due, with what it is spelled by.
@@ -113,18 +113,17 @@ pub(crate) fn delete_due<'a>(id: VolumeId, marks: Marks) -> Option<Due<'a>>
     Some(Due::Delete { id })
 }
 
-/// The call that is due for a goal of a volume of this name, these arguments and this id, by what is known of it.
+/// The call that is due for a goal of the row's volume, by this id and what is known of it.
 pub(crate) fn due_for<'a>(
-    name: &'a Name,
-    arguments: &'a Arguments,
+    row: &'a Row,
+    goal: &'a Goal,
     id: Option<VolumeId>,
     marks: Marks,
-    goal: &'a Goal,
 ) -> Option<Due<'a>>
-    ensures { option_map due_shown result ≡ due_with name.now arguments.now id marks goal.now }
+    ensures { option_map due_shown result ≡ due_with row.now.name row.now.arguments id marks goal.now }
 {
     match (goal, id) {
-        (Goal::Create, _) => create_due(name, arguments, marks),
+        (Goal::Create, _) => create_due(&row.name, &row.arguments, marks),
         (_, None) => None,
         (Goal::Use(usage), Some(id)) => use_due(id, marks, usage),
         (Goal::Stop { node, target }, Some(id)) => stop_due(id, marks, node, target),

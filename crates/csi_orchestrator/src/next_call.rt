@@ -19,16 +19,8 @@ use csi_types::{Kind, NodeId, Target, VolumeId};
 pub(crate) fn due_now(row: &Row) -> Option<Due<'_>>
     ensures { option_map due_shown result ≡ due_in (row_shown row.now) }
 {
-    match &row.goal {
-        Some(goal) => due_for(
-            &row.name,
-            &row.arguments,
-            row.id,
-            known_for(row, goal),
-            goal,
-        ),
-        None => None,
-    }
+    let goal = row.goal.as_ref()?;
+    due_for(row, goal, row.id, known_for(row, goal))
 }
 
 /// The call that is due for a use of the row's volume; where none is, it is used so.
@@ -113,7 +105,7 @@ fn due_after(row: &Row, kind: Kind, id: Option<VolumeId>) -> Option<Due<'_>>
         Some(goal) => {
             let id = id_told(kind, id).or(row.id);
             let marks = heard(known_for(row, goal), kind);
-            due_for(&row.name, &row.arguments, id, marks, goal)
+            due_for(row, goal, id, marks)
         }
         None => None,
     }

@@ -6,13 +6,14 @@ ghost use Rattle.csi_orchestrator.specs.RowRefusals.{first_fault as first_refusa
 
 use crate::due::next_number;
 use crate::fault::OrchFault;
+use crate::marks::marks_in;
 use crate::row::{Row, Usage};
 use crate::sharing::{
-    has_node, is_attached_somewhere, is_held_elsewhere, is_held_otherwise, is_target_taken,
-    is_unpublished, is_written_elsewhere, others_count,
+    has_node, is_attached_somewhere, is_held_elsewhere, is_held_otherwise, is_written_elsewhere,
+    others_count,
 };
 use crate::step::Step;
-use csi_types::{NodeId, Number, Target, has_capability};
+use csi_types::{NodeId, Number, Target, allows_one_target, has_capability};
 
 /// The most volumes that an orchestrator has rows of.
 pub(crate) const MAX_ROWS: usize = 4096;
@@ -88,7 +89,9 @@ fn use_fault(nodes: &[NodeId], usage: &Usage, row: &Row) -> Option<OrchFault>
     if is_held_otherwise(row, usage) {
         return Some(OrchFault::HeldOtherwise);
     }
-    if is_target_taken(row, usage) {
+    if allows_one_target(usage.capability.mode)
+        && marks_in(row, &usage.node, &usage.target).others
+    {
         return Some(OrchFault::TargetTaken);
     }
     None
@@ -126,7 +129,7 @@ fn stop_fault(
     if !has_node(nodes, node) {
         return Some(OrchFault::NoSuchNode);
     }
-    if is_unpublished(row, node, target) {
+    if marks_in(row, node, target).published.is_no() {
         return Some(OrchFault::NoSuchTarget);
     }
     if is_used_up(last) {

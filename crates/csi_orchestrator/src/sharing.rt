@@ -2,16 +2,15 @@
 ghost use Rattle.std.specs.Prelude.{◌≡◌, Some, map, not, ◌&&◌, ◌||◌};
 ghost use Rattle.std.specs.List.{list_any};
 ghost use Rattle.csi_types.specs.Same.{same_text};
-ghost use Rattle.csi_types.specs.Sharing.{allows_one_target as allows_one};
 ghost use Rattle.csi_orchestrator.specs.Thing.{is_no};
 ghost use Rattle.csi_orchestrator.specs.Commands.{is_for_one_node as is_one_node, is_second_writer as is_second, is_otherwise as is_other};
-ghost use Rattle.csi_orchestrator.specs.Shown.{row_shown, place_shown, place_of, mark_in, published_in, others_in, held_at};
+ghost use Rattle.csi_orchestrator.specs.Shown.{row_shown, place_shown, place_of, held_at};
 ghost use Rattle.csi_orchestrator.specs.RowRefusals.{is_so_elsewhere, is_place_otherwise, others_count as count_others};
 
 use crate::marks::others_of;
 use crate::row::{Place, Row, Usage};
-use crate::state::{place_at, published_at};
-use csi_types::{NodeId, Target, allows_one_target, same_way, single_node, two_writers};
+use crate::state::place_at;
+use csi_types::{NodeId, Target, same_way, single_node, two_writers};
 
 /// Whether the node is one of these.
 pub(crate) fn has_node(nodes: &[NodeId], node: &NodeId) -> bool
@@ -25,25 +24,6 @@ pub(crate) fn has_node(nodes: &[NodeId], node: &NodeId) -> bool
     false
 }
 
-// Whether one of the two modes is for one node.
-fn is_for_one_node(usage: &Usage, place: &Place) -> bool
-    ensures { result ≡ is_one_node usage.now (held_at (place_shown place.now)) }
-{
-    single_node(place.capability.mode) || single_node(usage.capability.mode)
-}
-
-// Whether a use would be a second writer.
-fn is_second_writer(usage: &Usage, place: &Place) -> bool
-    ensures { result ≡ is_second usage.now (held_at (place_shown place.now)) }
-{
-    two_writers(
-        place.capability.mode,
-        place.readonly,
-        usage.capability.mode,
-        usage.readonly,
-    )
-}
-
 // Whether the place is of another node, at which the volume may be attached.
 fn is_elsewhere(node: &NodeId, place: &Place) -> bool
     ensures { result ≡ (not (same_text place.now.node node.now) && not (is_no place.now.attached)) }
@@ -55,7 +35,8 @@ fn is_elsewhere(node: &NodeId, place: &Place) -> bool
 fn excludes(usage: &Usage, place: &Place) -> bool
     ensures { result ≡ is_so_elsewhere (is_one_node usage.now) usage.now.node (place_shown place.now) }
 {
-    is_elsewhere(&usage.node, place) && is_for_one_node(usage, place)
+    is_elsewhere(&usage.node, place)
+        && (single_node(place.capability.mode) || single_node(usage.capability.mode))
 }
 
 /// Whether the volume may be attached at one of these places, of another node, and one of the two modes is for one node.
@@ -74,7 +55,13 @@ pub(crate) fn is_held_elsewhere(places: &[Place], usage: &Usage) -> bool
 fn writes_beside(usage: &Usage, place: &Place) -> bool
     ensures { result ≡ is_so_elsewhere (is_second usage.now) usage.now.node (place_shown place.now) }
 {
-    is_elsewhere(&usage.node, place) && is_second_writer(usage, place)
+    is_elsewhere(&usage.node, place)
+        && two_writers(
+            place.capability.mode,
+            place.readonly,
+            usage.capability.mode,
+            usage.readonly,
+        )
 }
 
 /// Whether the volume may be attached at one of these places, of another node, both write, and one of the two modes has a
@@ -112,13 +99,6 @@ pub(crate) fn is_held_otherwise(row: &Row, usage: &Usage) -> bool
     }
 }
 
-/// Whether the mode allows one target, and another one of the node is taken.
-pub(crate) fn is_target_taken(row: &Row, usage: &Usage) -> bool
-    ensures { result ≡ (allows_one usage.now.capability.mode && others_in usage.now.target (place_of (row_shown row.now) usage.now.node)) }
-{
-    allows_one_target(usage.capability.mode) && others_count(row, &usage.node, &usage.target) > 0
-}
-
 /// At how many other targets of the node the volume may be published.
 pub(crate) fn others_count(row: &Row, node: &NodeId, target: &Target) -> usize
     ensures { result ≡ count_others target.now (place_of (row_shown row.now) node.now) }
@@ -126,16 +106,6 @@ pub(crate) fn others_count(row: &Row, node: &NodeId, target: &Target) -> usize
     match place_at(row, node) {
         Some(place) => others_of(&place.aims, target),
         None => 0,
-    }
-}
-
-/// Whether the volume isn't published at the target of the node.
-pub(crate) fn is_unpublished(row: &Row, node: &NodeId, target: &Target) -> bool
-    ensures { result ≡ is_no (mark_in (published_in target.now) (place_of (row_shown row.now) node.now)) }
-{
-    match place_at(row, node) {
-        Some(place) => published_at(place, target).is_no(),
-        None => true,
     }
 }
 

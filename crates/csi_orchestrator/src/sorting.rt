@@ -25,10 +25,8 @@ fn target_of(thing: &Thing) -> Option<&str>
     ensures { option_copied result ≡ target_in thing.now }
 {
     match thing {
-        Thing::Exists { .. } => None,
-        Thing::Attached { .. } => None,
-        Thing::Staged { .. } => None,
         Thing::Published { target, .. } => Some(target.as_str()),
+        _ => None,
     }
 }
 

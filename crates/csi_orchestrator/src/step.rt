@@ -5,9 +5,10 @@ ghost use Rattle.csi_orchestrator.specs.RowSteps.{is_met as is_so, waits as is_l
 ghost use Rattle.csi_orchestrator.specs.Hearing.{Fits};
 ghost use Rattle.csi_orchestrator.specs.Shown.{row_shown};
 
-use crate::changes::{add_entry, close, stop_use, succeed, want, want_anew};
+use crate::changes::{stop_use, succeed, want};
 use crate::fault::OrchFault;
 use crate::next_call::{due_then, due_to_use, is_given_up};
+use crate::places::add_place;
 use crate::refusals::{late_fault, step_fault};
 use crate::row::{Arguments, Goal, Row, Usage};
 use crate::sending::{Outgoing, note_sent_or_drop, outgoing_for};
@@ -61,7 +62,7 @@ fn time_out(row: &mut Row)
     if is_given_up(row) {
         stop_use(row);
     } else {
-        close(row);
+        row.open_number = None;
     }
 }
 
@@ -73,9 +74,9 @@ fn fail(row: &mut Row)
         Some(goal) => match goal {
             Goal::Create => row.goal = None,
             Goal::Use(_) => stop_use(row),
-            Goal::Stop { .. } | Goal::Delete => close(row),
+            Goal::Stop { .. } | Goal::Delete => row.open_number = None,
         },
-        None => close(row),
+        None => row.open_number = None,
     }
 }
 
@@ -87,9 +88,12 @@ fn change(alloc: Global, row: &mut Row, step: Step) -> Result<(), OrchFault>
     ensures sure { needs_entry step ≡ false → IsOk result }
 {
     match step {
-        Step::Create(arguments) => want_anew(row, arguments),
+        Step::Create(arguments) => {
+            row.arguments = arguments;
+            want(row, Goal::Create);
+        }
         Step::Use(usage) => {
-            add_entry(alloc, row, &usage)?;
+            add_place(alloc, &mut row.places, &usage)?;
             want(row, Goal::Use(usage));
         }
         Step::Stop { node, target } => want(row, Goal::Stop { node, target }),
@@ -144,7 +148,7 @@ pub(crate) fn take(
         return Ok(None);
     }
     if waits(row, &step) {
-        close(row);
+        row.open_number = None;
         return Ok(None);
     }
     if let Some(fault) = late_fault(last, row, &step) {
