@@ -1,10 +1,7 @@
--- Which call a reply is to, and which one is due after its success. This profile's own.
-use Rattle.std.specs.Prelude.{◌≡◌, ℕ, Bool, false, ◌&&◌, Option, Some, None}
+-- Which call is due after a success. This profile's own.
+use Rattle.std.specs.Prelude.{◌≡◌, ℕ, Option, Some, None}
 use Rattle.std.specs.Option.{option_or}
 use Rattle.csi_types.specs.declared.call.Kind.{Kind}
-use Rattle.csi_types.specs.declared.call.Party.{Party}
-use Rattle.csi_types.specs.Call.{kind_of}
-use Rattle.csi_types.specs.Same.{same_party, same_kind}
 use Rattle.csi_orchestrator.specs.declared.marks.Marks.{Marks}
 use Rattle.csi_orchestrator.specs.declared.row.Goal.{Goal}
 use Rattle.csi_orchestrator.specs.declared.step.Step.{Step}
@@ -15,11 +12,6 @@ use Rattle.csi_orchestrator.specs.Found.{kind_due}
 use Rattle.csi_orchestrator.specs.Kept.{IsKept}
 use Rattle.csi_orchestrator.specs.Shown.{RowShown, marks_for, due_with, due_in}
 use Rattle.csi_orchestrator.specs.RowChanges.{Aspect, Existence, Attachment, Staging, Publication, aspect_of, told_of, id_told}
-
--- the due call has this party and kind
-abbrev pub is_due_as : Party → Kind → Option Due → Bool
-is_due_as party kind None = false
-is_due_as party kind (Some due) = same_party due.party party && same_kind (kind_of due.call) kind
 
 -- what is known of what a goal names, once this is marked
 abbrev pub marks_marked : Known → Aspect → Marks → Marks

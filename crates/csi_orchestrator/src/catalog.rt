@@ -50,10 +50,10 @@ impl Catalog {
     }
 
     /// Where the row of this name is.
-    pub fn place_of(&self, name: &Name) -> Option<usize>
+    pub fn index_of(&self, name: &Name) -> Option<usize>
         requires { IsIndexed self.now }
-        ensures place { result ≡ position (λ row. same_text row.name name.now) (rows_of self.now) }
-        ensures within { IfSome result (λ place. place < index_map_len self.now.rows) }
+        ensures index { result ≡ position (λ row. same_text row.name name.now) (rows_of self.now) }
+        ensures within { IfSome result (λ index. index < index_map_len self.now.rows) }
     {
         self.rows.get_index_of(name)
     }
@@ -63,28 +63,28 @@ impl Catalog {
         requires { IsIndexed self.now }
         ensures { option_map row_shown (option_copied result) ≡ row_of (map row_shown (rows_of self.now)) name.now }
     {
-        match self.place_of(name) {
-            Some(place) => Some(&self.rows[place]),
+        match self.index_of(name) {
+            Some(index) => Some(&self.rows[index]),
             None => None,
         }
     }
 
     /// Where the row of this call is, if the call is open. Another row may be there, or none, if it isn't.
-    pub fn place_of_call(&self, call: u64) -> Option<usize>
+    pub fn index_of_call(&self, call: u64) -> Option<usize>
         ensures { result ≡ place_noted self.now call }
     {
         self.calls.get(&call).copied()
     }
 
-    // Notes the open call of the row at this place, if it has one.
-    fn note_open(&mut self, place: usize)
-        requires within { place < index_map_len self.old.rows }
+    // Notes the open call of the row at this index, if it has one.
+    fn note_open(&mut self, index: usize)
+        requires within { index < index_map_len self.old.rows }
         requires spare { 0 < spare self.old.calls }
         ensures rows { self.new.rows ≡ self.old.rows }
-        ensures noted { (row : Row) → IsAt (rows_of self.old) place row → IsNotedWith place row.open_number self.old self.new }
+        ensures noted { (row : Row) → IsAt (rows_of self.old) index row → IsNotedWith index row.open_number self.old self.new }
     {
-        if let Some(number) = self.rows[place].open_number {
-            self.calls.insert(number.call, place).unwrap();
+        if let Some(number) = self.rows[index].open_number {
+            self.calls.insert(number.call, index).unwrap();
         }
     }
 
@@ -97,8 +97,8 @@ impl Catalog {
         ensures kept { AreNotedBefore self.old self.new }
     {
         self.calls.clear();
-        for place in 0..self.rows.len() {
-            self.note_open(place);
+        for index in 0..self.rows.len() {
+            self.note_open(index);
         }
     }
 
@@ -109,15 +109,15 @@ impl Catalog {
         self.calls.capacity() <= self.calls.len()
     }
 
-    /// Notes a call of the row at this place. It takes no memory.
-    pub fn note(&mut self, call: u64, place: usize)
-        requires ready { IsReady self.old place (Some call) }
-        requires within { place < index_map_len self.old.rows }
+    /// Notes a call of the row at this index. It takes no memory.
+    pub fn note(&mut self, call: u64, index: usize)
+        requires ready { IsReady self.old index (Some call) }
+        requires within { index < index_map_len self.old.rows }
         ensures rows { self.new.rows ≡ self.old.rows }
         ensures indexed { IsIndexed self.new }
         ensures known { (last : ℕ) → AreUpTo last self.old → last < call → AreUpTo call self.new }
     {
-        self.calls.insert(call, place).unwrap();
+        self.calls.insert(call, index).unwrap();
         if self.is_full() {
             self.renew();
         }
@@ -157,26 +157,26 @@ impl Catalog {
         Ok(())
     }
 
-    // Gives up the open call of the row at this place, if there is one.
-    fn close_at(&mut self, place: usize)
-        ensures rows { IsClosedAt place (rows_of self.old) (rows_of self.new) }
+    // Gives up the open call of the row at this index, if there is one.
+    fn close_at(&mut self, index: usize)
+        ensures rows { IsClosedAt index (rows_of self.old) (rows_of self.new) }
         ensures names { self.old.rows.entries ≡ map by_name (rows_of self.old) → self.new.rows.entries ≡ map by_name (rows_of self.new) }
         ensures calls { self.new.calls ≡ self.old.calls }
     {
-        if place < self.rows.len() {
-            self.rows[place].open_number = None;
+        if index < self.rows.len() {
+            self.rows[index].open_number = None;
         }
     }
 
     // Gives up the call that was noted in this turn, if it is open.
     fn close_noted(&mut self, turn: usize)
         requires { turn < index_map_len self.old.calls }
-        ensures rows { (place : ℕ) → slice_get (values self.old.calls) turn ≡ Some place → IsClosedAt place (rows_of self.old) (rows_of self.new) }
+        ensures rows { (index : ℕ) → slice_get (values self.old.calls) turn ≡ Some index → IsClosedAt index (rows_of self.old) (rows_of self.new) }
         ensures names { self.old.rows.entries ≡ map by_name (rows_of self.old) → self.new.rows.entries ≡ map by_name (rows_of self.new) }
         ensures calls { self.new.calls ≡ self.old.calls }
     {
-        let place = self.calls[turn];
-        self.close_at(place);
+        let index = self.calls[turn];
+        self.close_at(index);
     }
 
     /// Gives up every open call. It costs the calls that are noted.

@@ -21,12 +21,12 @@ use crate::step::{Step, take};
 use csi_types::{Frame, Name};
 
 impl Core {
-    // Makes the number of the call that is sent the last one, notes it for the row at this place, and gives its frame.
-    fn issue(&mut self, place: usize, next: Option<Outgoing>) -> Option<Frame>
-        requires ready { IsReady self.old.catalog place (call_in next) }
+    // Makes the number of the call that is sent the last one, notes it for the row at this index, and gives its frame.
+    fn issue(&mut self, index: usize, next: Option<Outgoing>) -> Option<Frame>
+        requires ready { IsReady self.old.catalog index (call_in next) }
         requires known { AreUpTo self.old.last.call self.old.catalog }
         requires after { IsAfter self.old.last.call next }
-        requires within { place < index_map_len self.old.catalog.rows }
+        requires within { index < index_map_len self.old.catalog.rows }
         ensures frame { result ≡ frame_in next }
         ensures parts { parts_of self.new ≡ record { nodes = self.old.nodes.items; last = last_after self.old.last next; rows = map row_shown (rows_of self.old.catalog) } }
         ensures filed { IsFiled self.new }
@@ -34,32 +34,32 @@ impl Core {
         match next {
             Some(next) => {
                 self.last = next.number;
-                self.catalog.note(next.number.call, place);
+                self.catalog.note(next.number.call, index);
                 Some(next.frame)
             }
             None => None,
         }
     }
 
-    /// The row at this place takes a step: the frame to send, if there is one. A refusal changes nothing. Where nothing is sent, and
+    /// The row at this index takes a step: the frame to send, if there is one. A refusal changes nothing. Where nothing is sent, and
     /// for a delete, it takes no memory.
-    pub fn step(&mut self, place: usize, step: Step) -> Result<Option<Frame>, OrchFault>
+    pub fn step(&mut self, index: usize, step: Step) -> Result<Option<Frame>, OrchFault>
         requires filed { IsFiled self.old }
-        requires within { place < index_map_len self.old.catalog.rows }
-        requires fits { (row : Row) → slice_get (rows_of self.old.catalog) place ≡ Some row → Fits step (row_shown row) }
-        ensures ok { (name : List ℕ) (answer : Option FrameShown → Answer) → position (λ row. same_text row.name name) (rows_of self.old.catalog) ≡ Some place
+        requires within { index < index_map_len self.old.catalog.rows }
+        requires fits { (row : Row) → slice_get (rows_of self.old.catalog) index ≡ Some row → Fits step (row_shown row) }
+        ensures ok { (name : List ℕ) (answer : Option FrameShown → Answer) → position (λ row. same_text row.name name) (rows_of self.old.catalog) ≡ Some index
             → IfOk result (λ sent. steps_at (parts_of self.old) answer step (row_of (map row_shown (rows_of self.old.catalog)) name) ≡ Ok (record { answer = answer sent; parts = parts_of self.new })) }
-        ensures err { (name : List ℕ) (answer : Option FrameShown → Answer) → position (λ row. same_text row.name name) (rows_of self.old.catalog) ≡ Some place
+        ensures err { (name : List ℕ) (answer : Option FrameShown → Answer) → position (λ row. same_text row.name name) (rows_of self.old.catalog) ≡ Some index
             → IfErr result (IsRefusal (steps_at (parts_of self.old) answer step (row_of (map row_shown (rows_of self.old.catalog)) name))) }
         ensures stays { OnErr result (parts_of self.new ≡ parts_of self.old) }
         ensures filed { IsFiled self.new }
-        ensures quiet { (name : List ℕ) (answer : Option FrameShown → Answer) → ((frame : FrameShown) → answer (Some frame) ≡ answer None → ⊥) → position (λ row. same_text row.name name) (rows_of self.old.catalog) ≡ Some place
+        ensures quiet { (name : List ℕ) (answer : Option FrameShown → Answer) → ((frame : FrameShown) → answer (Some frame) ≡ answer None → ⊥) → position (λ row. same_text row.name name) (rows_of self.old.catalog) ≡ Some index
             → IsToldAs (answer None) (steps_at (parts_of self.old) answer step (row_of (map row_shown (rows_of self.old.catalog)) name)) → IsOk result }
         ensures delete { step ≡ Step.Delete → IfErr result (λ fault. fault ≡ OrchFault.NoMemory → ⊥) }
     {
-        let row = &mut self.catalog.rows[place];
+        let row = &mut self.catalog.rows[index];
         let next = take(self.alloc, row, &self.nodes, self.last, step)?;
-        Ok(self.issue(place, next))
+        Ok(self.issue(index, next))
     }
 
     /// What is asked of the volume of this name, or its timeout: the frame to send, if there is one.
@@ -72,8 +72,8 @@ impl Core {
         ensures quiet { (input : Input) → asked_by name.now step ≡ Some input → IsToldAs (Sends None) (row_moves (parts_of self.old) input) → IsOk result }
         ensures delete { step ≡ Step.Delete → IfErr result (λ fault. fault ≡ OrchFault.NoMemory → ⊥) }
     {
-        match self.catalog.place_of(name) {
-            Some(place) => self.step(place, step),
+        match self.catalog.index_of(name) {
+            Some(index) => self.step(index, step),
             None => Err(OrchFault::NoSuchVolume),
         }
     }
@@ -93,9 +93,9 @@ impl Core {
         let mut row = new_row(self.alloc, name, arguments);
         let next = outgoing_for(self.last, &due_now(&row))?;
         note_sent_or_drop(&mut row, &next);
-        let place = self.catalog.rows.len();
+        let index = self.catalog.rows.len();
         self.catalog.add(row)?;
-        Ok(self.issue(place, next))
+        Ok(self.issue(index, next))
     }
 
     /// Requests creation of a volume of this name.
@@ -105,8 +105,8 @@ impl Core {
         ensures stays { OnErr result (parts_of self.new ≡ parts_of self.old) }
         ensures filed { IsFiled self.new }
     {
-        match self.catalog.place_of(&name) {
-            Some(place) => self.step(place, Step::Create(arguments)),
+        match self.catalog.index_of(&name) {
+            Some(index) => self.step(index, Step::Create(arguments)),
             None => self.create_first(name, arguments),
         }
     }

@@ -71,7 +71,7 @@ fn due_failed(row: &Row) -> Option<Due<'_>>
 }
 
 // What is known once the call of this kind that was due succeeded.
-fn heard(marks: Marks, kind: Kind) -> Marks
+fn marks_after(marks: Marks, kind: Kind) -> Marks
     ensures { result ≡ marks_heard kind marks }
 {
     let known = told(kind);
@@ -104,7 +104,7 @@ fn due_after(row: &Row, kind: Kind, id: Option<VolumeId>) -> Option<Due<'_>>
     match &row.goal {
         Some(goal) => {
             let id = id_told(kind, id).or(row.id);
-            let marks = heard(known_for(row, goal), kind);
+            let marks = marks_after(known_for(row, goal), kind);
             due_for(row, goal, id, marks)
         }
         None => None,

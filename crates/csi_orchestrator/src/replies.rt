@@ -7,7 +7,6 @@ ghost use Rattle.csi_orchestrator.specs.declared.fault.Heard.TheVariants.{Ignore
 ghost use Rattle.csi_orchestrator.specs.Moves.{Comes, Hears, hears};
 ghost use Rattle.csi_orchestrator.specs.Shown.{row_shown, due_in, open_in_row};
 ghost use Rattle.csi_orchestrator.specs.RowMoves.{is_issued_as, hears_reply, row_replied, row_moves, step_heard, IsRefusal, IsToldAs, IsTold};
-ghost use Rattle.csi_orchestrator.specs.Hearing.{is_due_as as is_told_as};
 ghost use Rattle.csi_orchestrator.specs.Kept.{AreKept};
 ghost use Rattle.csi_orchestrator.specs.Catalog.{rows_of, IsIndexed};
 ghost use Rattle.csi_orchestrator.specs.Core.{parts_of, IsFiled};
@@ -34,37 +33,29 @@ fn same_kind(a: Kind, b: Kind) -> bool
     a == b
 }
 
-// Whether the row's due call is for this plugin, and of this kind.
-fn is_due_as(row: &Row, party: &Party, kind: Kind) -> bool
-    ensures { result ≡ is_told_as party.now kind (due_in (row_shown row.now)) }
-{
-    match due_now(row) {
-        Some(due) => due.is_for(party) && same_kind(due.kind(), kind),
-        None => false,
-    }
-}
-
 // Whether the row's open call has this number, plugin and kind.
 fn is_replied(row: &Row, number: Number, party: &Party, kind: Kind) -> bool
     ensures { result ≡ is_issued_as number party.now kind (open_in_row (row_shown row.now)) }
 {
-    match row.open_number {
-        Some(open) => same_number(open, number) && is_due_as(row, party, kind),
-        None => false,
+    match (row.open_number, due_now(row)) {
+        (Some(open), Some(due)) => {
+            same_number(open, number) && due.is_for(party) && same_kind(due.kind(), kind)
+        }
+        _ => false,
     }
 }
 
 // Where the row whose open call has this number, plugin and kind stands.
-fn place_replied(catalog: &Catalog, number: Number, party: &Party, kind: Kind) -> Option<usize>
+fn index_replied(catalog: &Catalog, number: Number, party: &Party, kind: Kind) -> Option<usize>
     requires { IsIndexed catalog.now }
-    ensures place { result ≡ position (λ row. is_issued_as number party.now kind (open_in_row (row_shown row))) (rows_of catalog.now) }
-    ensures within { IfSome result (λ place. place < index_map_len catalog.now.rows) }
+    ensures index { result ≡ position (λ row. is_issued_as number party.now kind (open_in_row (row_shown row))) (rows_of catalog.now) }
+    ensures within { IfSome result (λ index. index < index_map_len catalog.now.rows) }
 {
-    match catalog.place_of_call(number.call) {
-        Some(place) => match catalog.rows().get(place) {
+    match catalog.index_of_call(number.call) {
+        Some(index) => match catalog.rows().get(index) {
             Some(row) => {
                 if is_replied(row, number, party, kind) {
-                    Some(place)
+                    Some(index)
                 } else {
                     None
                 }
@@ -76,7 +67,7 @@ fn place_replied(catalog: &Catalog, number: Number, party: &Party, kind: Kind) -
 }
 
 // What comes for the volume whose open call had this reply.
-fn heard(kind: Kind, reply: &Reply) -> Step
+fn step_of(kind: Kind, reply: &Reply) -> Step
     ensures { result ≡ step_heard kind reply.now }
 {
     match reply.status {
@@ -104,9 +95,9 @@ impl Core {
         ensures ignored { IsToldAs (Hears IsIgnored) (hears_reply (parts_of self.old) kind reply.now (row_replied (map row_shown (rows_of self.old.catalog)) number party.now kind)) → IsOk result }
         ensures quiet { IsToldAs (hears None) (hears_reply (parts_of self.old) kind reply.now (row_replied (map row_shown (rows_of self.old.catalog)) number party.now kind)) → IsOk result }
     {
-        match place_replied(&self.catalog, number, party, kind) {
-            Some(place) => {
-                let sent = self.step(place, heard(kind, reply))?;
+        match index_replied(&self.catalog, number, party, kind) {
+            Some(index) => {
+                let sent = self.step(index, step_of(kind, reply))?;
                 Ok(Heard::Taken(sent))
             }
             None => Ok(Heard::Ignored),

@@ -1,8 +1,8 @@
--- The open calls of the rows before this place are noted, and no other.
+-- The open calls of the rows before this index are noted, and no other.
 use Rattle.std.proofs.Common.{◌≤◌, length}
 use Rattle.csi_orchestrator.specs.Catalog.{rows_of}
 use Rattle.csi_orchestrator.proofs.NotedCalls.{Renewed}
 use Rattle.csi_orchestrator.proofs.catalog.Catalog.renew.Given as goal
 
-abbrev pub invariant-loop-place : goal.invariant-loop-place
-invariant-loop-place l = Renewed l.fn.self l.place l.self × (l.place ≤ length (rows_of l.fn.self))
+abbrev pub invariant-loop-index : goal.invariant-loop-index
+invariant-loop-index l = Renewed l.fn.self l.index l.self × (l.index ≤ length (rows_of l.fn.self))

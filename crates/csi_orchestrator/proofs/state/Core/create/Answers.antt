@@ -12,8 +12,8 @@ use Rattle.csi_orchestrator.proofs.state.Core.create.Goals as goal
 
 pub returns-in-Some-clause-told : goal.returns-in-Some-clause-told
 returns-in-Some-clause-told c =
-    let at = sym c.in-Some.ensures.place in
-    let same = create-asked c.args.self.now c.args.name c.args.arguments c.in-Some.place at in
+    let at = sym c.in-Some.ensures.index in
+    let same = create-asked c.args.self.now c.args.name c.args.arguments c.in-Some.index at in
     record {
       ok = subst (λ (t : Result Told OrchFault). IfOk c.step.result (λ sent. t ≡ told (parts_of c.step.new.self) (Sends sent))) same (c.step.ensures.ok c.args.name Sends at);
       err = subst (λ (t : Result Told OrchFault). IfErr c.step.result (IsRefusal t)) same (c.step.ensures.err c.args.name Sends at);
@@ -23,7 +23,7 @@ returns-in-Some-clause-told c =
 pub returns-in-None-clause-told : goal.returns-in-None-clause-told
 returns-in-None-clause-told c =
     let core = c.args.self.now in
-    let new = sym (shown-nowhere (rows_of core.catalog) c.args.name (sym c.in-None.ensures.place)) in
+    let new = sym (shown-nowhere (rows_of core.catalog) c.args.name (sym c.in-None.ensures.index)) in
     record {
       ok = subst (λ (row : Option RowShown). IfOk c.create_first.result (λ sent. creates (parts_of core) c.args.name c.args.arguments row ≡ told (parts_of c.create_first.new.self)
           (Sends sent))) new c.create_first.ensures.ok;

@@ -34,7 +34,7 @@ issue-requires-clause-ready c =
     let sent = c.note_sent_or_drop.new.row in
     let on = goes-on core.last (new_row c.args.name c.args.arguments) (row_shown c.new_row-row.result) (row_shown sent) (option_map due_shown c.due_now.result) next
     c.new_row-row.ensures c.due_now.ensures c.in_ok-next.ensures.ok c.note_sent_or_drop.ensures in
-    let long : length (rows_of core.catalog) ≡ c.len-place.result = length-map core.catalog.rows.entries (λ (e : List ℕ × Row). e.1) ∙ sym c.len-place.ensures.len in
+    let long : length (rows_of core.catalog) ≡ c.len-index.result = length-map core.catalog.rows.entries (λ (e : List ℕ × Row). e.1) ∙ sym c.len-index.ensures.len in
     subst (λ (n : ℕ). IsReady c.add.new.self n (call_in next)) long
     (c.in_ok-add.ensures.ready (call_in next) (next-created core.catalog core.last c.args.name c.args.arguments sent next c.requires.filed.known on).0)
 
