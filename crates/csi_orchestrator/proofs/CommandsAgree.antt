@@ -26,7 +26,8 @@ use Rattle.csi_orchestrator.specs.RowMoves.{placed, steps_at, creates}
 use Rattle.csi_orchestrator.specs.Kept.{IsKept, AreKept}
 use Rattle.csi_orchestrator.proofs.ViewsFollow.{noted-follows}
 use Rattle.csi_orchestrator.proofs.SendingAgrees.{Tells, goes-on-tells}
-use Rattle.csi_orchestrator.proofs.RulesStay.{MayGoOn, first-held, use-free, changed-may, new-may, found-kept}
+use Rattle.csi_orchestrator.proofs.StepsKept.{MayGoOn, first-held, use-free, changed-may, new-may}
+use Rattle.csi_orchestrator.proofs.RulesStay.{found-kept}
 use Rattle.csi_orchestrator.proofs.RowsAfterNotes.{no-call, reads-wanted, reads-anew, reads-new, reads-with-entry}
 use Rattle.csi_orchestrator.proofs.RefusalsRead.{create-first, create-again, use-unknown, use-refused, room-refused, use-due, stop-unknown, stop-refused, delete-unknown, delete-refused, busy-refused}
 use Rattle.csi_orchestrator.proofs.RowViews.{Reads, same-self, same-noted, put-agrees, row-reads, own-name}

@@ -1,10 +1,12 @@
 -- The row that a reply is to, by its place among the kept ones, and the step that it takes then.
-use Rattle.std.proofs.Common.{◌≡◌, ℕ, zero, suc, List, [], ◌∷◌, true, false, map, sym, ◌∙◌, ap, subst}
-use Rattle.std.specs.Prelude.{Option, Some, None, position, slice_get, Result, Ok, Err}
+use Rattle.std.proofs.Common.{◌≡◌, ℕ, zero, suc, List, [], ◌∷◌, false, map, sym, ◌∙◌, ap, subst}
+use Rattle.std.specs.Prelude.{Option, Some, None, position, slice_get, Result, Ok, Err, IsErrAnd}
 use Rattle.std.specs.List.{AllByRecursion}
 use Rattle.std.proofs.lemmas.Option.{same_Some}
 use Rattle.csi_types.specs.declared.call.Kind.{Kind}
 use Rattle.csi_types.specs.declared.call.Party.{Party}
+use Rattle.csi_types.specs.declared.frame.Body.{Body}
+use Rattle.csi_types.specs.declared.frame.Body.TheVariants as bodies
 use Rattle.csi_types.specs.declared.number.Number.{Number}
 use Rattle.csi_types.specs.declared.reply.Reply.{Reply}
 use Rattle.csi_types.specs.Frame.{Frame}
@@ -21,15 +23,16 @@ use Rattle.csi_orchestrator.specs.declared.step.Step.{Step}
 use Rattle.csi_orchestrator.specs.Catalog.{rows_of}
 use Rattle.csi_orchestrator.specs.Core.{parts_of}
 use Rattle.csi_orchestrator.specs.Hearing.{Fits}
-use Rattle.csi_orchestrator.specs.Moves.{Hears, hears}
+use Rattle.csi_orchestrator.specs.Moves.{Input, Comes, Answer, Hears, hears}
 use Rattle.csi_orchestrator.specs.Shown.{RowShown, Parts, row_shown, row_of, open_in_row}
 use Rattle.csi_orchestrator.specs.RowSteps.{RowTold, row_step}
-use Rattle.csi_orchestrator.specs.RowMoves.{frame_in, placed, steps_at, is_issued_as, row_replied, step_heard, hears_reply, IsToldAs}
-use Rattle.csi_orchestrator.specs.Kept.{IsKept, AreKept}
+use Rattle.csi_orchestrator.specs.RowMoves.{told, frame_in, placed, steps_at, is_issued_as, step_heard, hears_reply, receives, row_moves, IsRefusal, IsToldAs, IsTold}
+use Rattle.csi_orchestrator.specs.Kept.{AreKept}
 use Rattle.csi_orchestrator.proofs.RowsByName.{row-at, shown-there}
 use Rattle.csi_orchestrator.proofs.ChangedEntries.{find-place, find-none_placed}
 use Rattle.csi_orchestrator.proofs.RowsUnderNames.{read-at}
-use Rattle.csi_orchestrator.proofs.RulesStay.{found-kept, heard-fits}
+use Rattle.csi_orchestrator.proofs.StepsKept.{heard-fits}
+use Rattle.csi_orchestrator.proofs.RulesStay.{found-kept}
 use Rattle.csi_orchestrator.proofs.ListPlaces.{get-of_at}
 
 -- what holds of each row as it is shown
@@ -45,50 +48,53 @@ first-own [] i row apart at = absurd at
 first-own (x ∷ rows) zero row apart at = ((same_text-tells x.name row.name).1 (ap (λ (r : Row). r.name) at), at)
 first-own (x ∷ rows) (suc i) row apart at = (each-at (λ (b : RowShown). same_text x.name b.name ≡ false) rows i row apart.0 at, first-own rows i row apart.1 at)
 
--- the row that a reply is to, as it stands at its place
-pub record IsReplied (core : Core) (place : ℕ) (number : Number) (party : Party) (kind : Kind) : Type 0 where
-  pub row : Row
-  pub stands : slice_get (rows_of core.catalog) place ≡ Some row
-  pub found : row_replied (map row_shown (rows_of core.catalog)) number party kind ≡ Some (row_shown row)
-  pub named : position (λ (r : Row). same_text r.name row.name) (rows_of core.catalog) ≡ Some place
-  pub kept : IsKept (row_shown row)
-  pub passes : is_issued_as number party kind (open_in_row (row_shown row)) ≡ true
+-- what is told of a frame, by its parts
+received : (parts : Parts) (frame : Frame) (number : Number) (party : Party) (body : Body) → number ≡ frame.number → party ≡ frame.party → frame.body ≡ body
+    → row_moves parts (Comes frame) ≡ receives parts number party body
+received parts frame number party body numbers parties is = cc
 
-pub replied-at : (core : Core) (place : ℕ) (number : Number) (party : Party) (kind : Kind) → AreKept (map row_shown (rows_of core.catalog))
-    → position (λ (row : Row). is_issued_as number party kind (open_in_row (row_shown row))) (rows_of core.catalog) ≡ Some place → IsReplied core place number party kind
-replied-at core place number party kind kept at =
+-- the row at this index takes a step where the frame comes, and what is told of the frame is what is told by the step
+pub record IsDelivered (core : Core) (frame : Frame) (index : ℕ) (step : Step) : Type 0 where
+  pub name : List ℕ
+  pub named : position (λ (r : Row). same_text r.name name) (rows_of core.catalog) ≡ Some index
+  pub fits : (row : Row) → slice_get (rows_of core.catalog) index ≡ Some row → Fits step (row_shown row)
+  pub told : row_moves (parts_of core) (Comes frame) ≡ steps_at (parts_of core) hears step (row_of (map row_shown (rows_of core.catalog)) name)
+
+-- so it is with a reply to the open call of the row
+pub delivered : (core : Core) (frame : Frame) (number : Number) (party : Party) (kind : Kind) (reply : Reply) (index : ℕ) (step : Step) → number ≡ frame.number → party ≡ frame.party
+    → frame.body ≡ bodies.Reply kind reply → AreKept (map row_shown (rows_of core.catalog))
+    → position (λ (row : Row). is_issued_as number party kind (open_in_row (row_shown row))) (rows_of core.catalog) ≡ Some index → step ≡ step_heard kind reply → IsDelivered core frame index step
+delivered core frame number party kind reply index step numbers parties body kept at is =
     let rows = rows_of core.catalog in
-    let there = row-at (λ (row : Row). is_issued_as number party kind (open_in_row (row_shown row))) rows place at in
-    let stands = get-of_at rows place there.0 there.1.0 in
-    let found = find-place row_shown (λ (row : RowShown). is_issued_as number party kind (open_in_row row)) rows place there.0 at (read-at rows place there.0 stands) in
+    let there = row-at (λ (row : Row). is_issued_as number party kind (open_in_row (row_shown row))) rows index at in
+    let row = there.0 in
+    let stands = get-of_at rows index row there.1.0 in
+    let found = find-place row_shown (λ (r : RowShown). is_issued_as number party kind (open_in_row r)) rows index row at (read-at rows index row stands) in
+    let named = sym (position-first (λ (r : Row). same_text r.name row.name) rows index row (first-own rows index row kept.names there.1.0)) in
+    let own = found-kept (λ (r : RowShown). is_issued_as number party kind (open_in_row r)) (map row_shown rows) (row_shown row) kept found in
     record {
-      row = there.0;
-      stands = stands;
-      found = found;
-      named = sym (position-first (λ (r : Row). same_text r.name (there.0).name) rows place there.0 (first-own rows place there.0 kept.names there.1.0));
-      kept = found-kept (λ (r : RowShown). is_issued_as number party kind (open_in_row r)) (map row_shown rows) (row_shown there.0) kept found;
-      passes = there.1.1;
+      name = row.name;
+      named = named;
+      fits = λ r at_r.
+          subst (λ s. Fits s (row_shown r)) (sym is)
+          (subst (λ (q : Row). Fits (step_heard kind reply) (row_shown q)) (same_Some row r (sym stands ∙ at_r)) (heard-fits (row_shown row) number party kind reply there.1.1 own));
+      told =
+          received (parts_of core) frame number party (bodies.Reply kind reply) numbers parties body ∙ ap (hears_reply (parts_of core) kind reply) found
+          ∙ ap (λ s. steps_at (parts_of core) hears s (Some (row_shown row))) (sym is) ∙ sym (ap (steps_at (parts_of core) hears step) (shown-there rows row.name index row named stands));
     }
 
--- what the reply brings fits the row
-pub reply-fits : (core : Core) (place : ℕ) (number : Number) (party : Party) (kind : Kind) (reply : Reply) → IsReplied core place number party kind → (row : Row)
-    → slice_get (rows_of core.catalog) place ≡ Some row
-    → Fits (step_heard kind reply) (row_shown row)
-reply-fits core place number party kind reply of row there =
-    subst (λ (r : Row). Fits (step_heard kind reply) (row_shown r)) (same_Some of.row row (sym of.stands ∙ there)) (heard-fits (row_shown of.row) number party kind reply of.passes of.kept)
+-- a reply to no row's open call
+pub undelivered : (core : Core) (frame : Frame) (number : Number) (party : Party) (kind : Kind) (reply : Reply) → number ≡ frame.number → party ≡ frame.party → frame.body ≡ bodies.Reply kind reply
+    → position (λ (row : Row). is_issued_as number party kind (open_in_row (row_shown row))) (rows_of core.catalog) ≡ None → row_moves (parts_of core) (Comes frame) ≡ told (parts_of core) (Hears Ignored)
+undelivered core frame number party kind reply numbers parties body none =
+    received (parts_of core) frame number party (bodies.Reply kind reply) numbers parties body
+    ∙ ap (hears_reply (parts_of core) kind reply) (find-none_placed row_shown (λ (row : RowShown). is_issued_as number party kind (open_in_row row)) (rows_of core.catalog) none)
 
--- what is told of the reply is what is told by the step
-pub reply-told : (core : Core) (place : ℕ) (number : Number) (party : Party) (kind : Kind) (reply : Reply) (step : Step) (of : IsReplied core place number party kind) → step ≡ step_heard kind reply
-    → hears_reply (parts_of core) kind reply (row_replied (map row_shown (rows_of core.catalog)) number party kind) ≡ steps_at (parts_of core) hears step
-    (row_of (map row_shown (rows_of core.catalog)) (of.row).name)
-reply-told core place number party kind reply step of is =
-    ap (hears_reply (parts_of core) kind reply) of.found ∙ ap (λ s. steps_at (parts_of core) hears s (Some (row_shown of.row))) (sym is)
-    ∙ sym (ap (steps_at (parts_of core) hears step) (shown-there (rows_of core.catalog) (of.row).name place of.row of.named of.stands))
-
--- a reply that is to no row's open call
-pub unfound : (rows : List Row) (number : Number) (party : Party) (kind : Kind) → position (λ (row : Row). is_issued_as number party kind (open_in_row (row_shown row))) rows ≡ None
-    → row_replied (map row_shown rows) number party kind ≡ None
-unfound rows number party kind none = find-none_placed row_shown (λ (row : RowShown). is_issued_as number party kind (open_in_row row)) rows none
+-- a refusal is told where it is passed on
+pub told-at_err : {R : Type 0} (old new : Parts) (input : Input) (says : R → Answer) (result : Result R OrchFault) (fault : OrchFault) → IsErrAnd result (λ y. y ≡ fault) → IsRefusal (row_moves old input) fault → new ≡ old
+    → IsTold old new input says result
+told-at_err old new input says (Ok r) fault is refused same = absurd is
+told-at_err old new input says (Err other) fault is refused same = record { ok = tt; err = subst (IsRefusal (row_moves old input)) (sym is) refused; stays = same }
 
 -- what is told by a step isn't ignored
 pub never-ignored : (parts : Parts) (step : Step) (o : Option RowShown) → IsToldAs (Hears Ignored) (steps_at parts hears step o) → ⊥

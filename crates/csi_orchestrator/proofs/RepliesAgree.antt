@@ -43,7 +43,7 @@ use Rattle.csi_orchestrator.proofs.DueCalls.{due-of-row}
 use Rattle.csi_orchestrator.proofs.DueCases.{IsDueFor, due-cases, ToMake, ToRemove, ToAttach, ToStage, ToPublish, ToUnpublish, ToUnstage, ToDetach}
 use Rattle.csi_orchestrator.proofs.ViewsFollow.{accepted-follows, closed-follows, noted-follows, started-follows}
 use Rattle.csi_orchestrator.proofs.SendingAgrees.{Guards, Tells, IsReady, has-entry, then-dropped, goes-on-tells}
-use Rattle.csi_orchestrator.proofs.RulesStay.{closed-may, stopped-may, changed-may}
+use Rattle.csi_orchestrator.proofs.StepsKept.{closed-may, stopped-may, changed-may}
 use Rattle.csi_orchestrator.proofs.RowsAfterNotes.{reads-wanted, reads-closed, reads-quiet, reads-refused}
 use Rattle.csi_orchestrator.proofs.RefusalsRead.{timeout-unknown, timeout-refused}
 use Rattle.csi_orchestrator.proofs.RepliedRows.{replied, found-own, hears-it}

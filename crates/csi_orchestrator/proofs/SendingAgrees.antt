@@ -31,7 +31,7 @@ use Rattle.csi_orchestrator.proofs.DueCases.{IsDueFor, due-cases, ToAttach, ToDe
 use Rattle.csi_orchestrator.proofs.ViewsFollow.{sent-follows, noted-follows}
 use Rattle.csi_orchestrator.proofs.AddedItems.{IsNextIfSome, is_next}
 use Rattle.csi_orchestrator.proofs.DueCallsGuarded.{due-guarded}
-use Rattle.csi_orchestrator.proofs.RulesStay.{MayGoOn}
+use Rattle.csi_orchestrator.proofs.StepsKept.{MayGoOn}
 use Rattle.csi_orchestrator.proofs.RowMarks.{GoalHasEntry}
 use Rattle.csi_orchestrator.proofs.RowsAfterNotes.{reads-dropped}
 use Rattle.csi_orchestrator.proofs.RowViews.{Reads, SameAt, same-then, same-sent, same-noted, put-agrees, IsRowOf, reads-history}

@@ -77,33 +77,6 @@ fn step_of(kind: Kind, reply: &Reply) -> Step
 }
 
 impl Core {
-    // What becomes of a reply to the call of this number and kind.
-    fn hear(
-        &mut self,
-        number: Number,
-        party: &Party,
-        kind: Kind,
-        reply: &Reply,
-    ) -> Result<Heard, OrchFault>
-        requires kept { AreKept (map row_shown (rows_of self.old.catalog)) }
-        requires filed { IsFiled self.old }
-        ensures ok { IfOk result (λ heard. hears_reply (parts_of self.old) kind reply.now (row_replied (map row_shown (rows_of self.old.catalog)) number party.now kind)
-            ≡ Ok (record { answer = Hears heard; parts = parts_of self.new })) }
-        ensures err { IfErr result (IsRefusal (hears_reply (parts_of self.old) kind reply.now (row_replied (map row_shown (rows_of self.old.catalog)) number party.now kind))) }
-        ensures stays { OnErr result (parts_of self.new ≡ parts_of self.old) }
-        ensures filed { IsFiled self.new }
-        ensures ignored { IsToldAs (Hears IsIgnored) (hears_reply (parts_of self.old) kind reply.now (row_replied (map row_shown (rows_of self.old.catalog)) number party.now kind)) → IsOk result }
-        ensures quiet { IsToldAs (hears None) (hears_reply (parts_of self.old) kind reply.now (row_replied (map row_shown (rows_of self.old.catalog)) number party.now kind)) → IsOk result }
-    {
-        match index_replied(&self.catalog, number, party, kind) {
-            Some(index) => {
-                let sent = self.step(index, step_of(kind, reply))?;
-                Ok(Heard::Taken(sent))
-            }
-            None => Ok(Heard::Ignored),
-        }
-    }
-
     /// What becomes of a frame: the reply to an open call tells what the call did, and the next call is
     /// sent; where none is sent it takes no memory. Whatever else comes is ignored, which takes none. An
     /// `Err` changes nothing, so that the frame can be delivered again.
@@ -116,9 +89,13 @@ impl Core {
         ensures ignored { IsToldAs (Hears IsIgnored) (row_moves (parts_of self.old) (Comes frame.now)) → IsOk result }
         ensures quiet { IsToldAs (hears None) (row_moves (parts_of self.old) (Comes frame.now)) → IsOk result }
     {
-        match frame.body() {
-            Body::Reply(kind, reply) => self.hear(frame.number(), frame.party(), *kind, reply),
-            Body::Call(_) => Ok(Heard::Ignored),
-        }
+        let Body::Reply(kind, reply) = frame.body() else {
+            return Ok(Heard::Ignored);
+        };
+        let Some(index) = index_replied(&self.catalog, frame.number(), frame.party(), *kind) else {
+            return Ok(Heard::Ignored);
+        };
+        let sent = self.step(index, step_of(*kind, reply))?;
+        Ok(Heard::Taken(sent))
     }
 }
