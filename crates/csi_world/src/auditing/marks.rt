@@ -3,7 +3,6 @@ ghost use Rattle.std.specs.Prelude.{◌≡◌, ◌↔◌, ◌&&◌, IfOk, IsTrue
 ghost use Rattle.std.specs.List.{list_all};
 ghost use Rattle.csi_orchestrator.specs.Listing.{ListsKnown, IsInOrder};
 ghost use Rattle.csi_orchestrator.specs.Shown.{view_of};
-ghost use Rattle.csi_orchestrator.specs.Thing.{is_yes as is_known_yes};
 ghost use Rattle.csi_world.specs.World.{World};
 ghost use Rattle.csi_world.specs.Audited.{AreMarkedRight};
 ghost use Rattle.csi_world.specs.Listed.{AreKept, AreSorted, IsListed, is_affirmed as is_affirmed_so, is_noted as is_noted_so};
@@ -16,19 +15,12 @@ use csi_orchestrator::{Known, Orchestrator, Thing};
 use csi_types::NoMemory;
 use std::alloc::Global;
 
-// Whether it is known to be so.
-fn is_yes(known: Known) -> bool
-    ensures { result ≡ is_known_yes known }
-{
-    matches!(known, Known::Yes)
-}
-
 // Whether the thing is among these, where it is known to be so.
 fn is_affirmed(things: &[Thing], entry: &(Thing, Known)) -> bool
     requires { AreSorted things.now }
     ensures { result ≡ is_affirmed_so things.now entry.now }
 {
-    !is_yes(entry.1) || has_thing(things, &entry.0)
+    !matches!(entry.1, Known::Yes) || has_thing(things, &entry.0)
 }
 
 // The same for all that is noted.

@@ -7,7 +7,7 @@ ghost use Rattle.csi_controller.specs.Core.{IsRising};
 ghost use Rattle.csi_orchestrator.specs.declared.thing.Thing.{Thing as ThingParts};
 ghost use Rattle.csi_world.specs.World.{World};
 ghost use Rattle.csi_world.specs.Safe.{holds};
-ghost use Rattle.csi_world.specs.Listed.{AreKept, AreSorted, IsListed, exists_thing, attached_thing, things_of, staged_thing, published_thing, things_at, things_listed};
+ghost use Rattle.csi_world.specs.Listed.{AreKept, AreSorted, IsListed, attached_thing, things_of, staged_thing, published_thing, things_at, things_listed};
 
 use super::halving::find_row;
 use super::lists::NodeLists;
@@ -16,17 +16,6 @@ use csi_node::{Published, Staged};
 use csi_orchestrator::Thing;
 use csi_types::{Name, NoMemory, NodeId};
 use std::alloc::Global;
-
-// Adds that the row's volume exists, where it does.
-fn add_exists(things: &mut Vec<Thing>, row: &ControllerRow) -> Result<(), NoMemory>
-    ensures { OnOk result (things.new.items ≡ things.old.items ++ exists_thing row.now) }
-{
-    if row.live {
-        let name = row.name.clone()?;
-        things.push(Thing::Exists { name })?;
-    }
-    Ok(())
-}
 
 // Adds where the volume of this name is attached.
 fn add_holdings(
@@ -48,7 +37,10 @@ fn add_holdings(
 fn add_row(things: &mut Vec<Thing>, row: &ControllerRow) -> Result<(), NoMemory>
     ensures { OnOk result (things.new.items ≡ things.old.items ++ things_of row.now) }
 {
-    add_exists(things, row)?;
+    if row.live {
+        let name = row.name.clone()?;
+        things.push(Thing::Exists { name })?;
+    }
     add_holdings(things, &row.name, &row.holdings)
 }
 
