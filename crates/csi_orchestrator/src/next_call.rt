@@ -1,8 +1,7 @@
 //! Which call is due for a row, now and once it took a step.
 ghost use Rattle.std.specs.Prelude.{◌≡◌, Some, option_map};
-ghost use Rattle.std.specs.Option.{option_or};
 ghost use Rattle.csi_orchestrator.specs.Shown.{row_shown, due_by, due_in};
-ghost use Rattle.csi_orchestrator.specs.RowChanges.{id_told as id_by_kind, succeeded};
+ghost use Rattle.csi_orchestrator.specs.RowChanges.{succeeded};
 ghost use Rattle.csi_orchestrator.specs.RowSteps.{due_for_use, is_given_up as gives_up, timed_out, failed, changed};
 ghost use Rattle.csi_orchestrator.specs.Found.{due_shown, kind_due};
 ghost use Rattle.csi_orchestrator.specs.Hearing.{marks_heard, Fits};

@@ -1,12 +1,11 @@
 //! What becomes of a frame that came: a reply to an open call is taken, and all else is ignored.
-ghost use Rattle.std.specs.Prelude.{◌≡◌, ◌&&◌, Option, Ok, Err, Some, None, option_map, IfOk, IfErr, IfSome, OnErr, IsOk, map, position, ◌<◌};
+ghost use Rattle.std.specs.Prelude.{◌≡◌, ◌&&◌, Option, Ok, Err, Some, None, IfSome, OnErr, IsOk, map, position, ◌<◌};
 ghost use Rattle.indexmap.specs.IndexMap.{index_map_len};
 ghost use Rattle.csi_types.specs.Same.{same_number as is_same_number, same_kind as is_same_kind};
-ghost use Rattle.csi_orchestrator.specs.declared.fault.OrchFault.{OrchFault as Fault};
 ghost use Rattle.csi_orchestrator.specs.declared.fault.Heard.TheVariants.{Ignored as IsIgnored};
 ghost use Rattle.csi_orchestrator.specs.Moves.{Comes, Hears, hears};
-ghost use Rattle.csi_orchestrator.specs.Shown.{row_shown, due_in, open_in_row};
-ghost use Rattle.csi_orchestrator.specs.RowMoves.{is_issued_as, hears_reply, row_replied, row_moves, step_heard, IsRefusal, IsToldAs, IsTold};
+ghost use Rattle.csi_orchestrator.specs.Shown.{row_shown, open_in_row};
+ghost use Rattle.csi_orchestrator.specs.RowMoves.{is_issued_as, row_moves, step_heard, IsToldAs, IsTold};
 ghost use Rattle.csi_orchestrator.specs.Kept.{AreKept};
 ghost use Rattle.csi_orchestrator.specs.Catalog.{rows_of, IsIndexed};
 ghost use Rattle.csi_orchestrator.specs.Core.{parts_of, IsFiled};
