@@ -1,4 +1,5 @@
 -- What a lent call stands for: the call that has copies of its texts.
+use Rattle.std.specs.Prelude.{◌<◌, length}
 use Rattle.csi_types.specs.declared.capability.Access.{Access}
 use Rattle.csi_types.specs.declared.capability.Access.TheVariants as accesses
 use Rattle.csi_types.specs.declared.capability.Capability.{Capability}
@@ -28,6 +29,11 @@ lent_call (NodeStageVolume id c) = calls.NodeStageVolume id (lent_capability c)
 lent_call (NodeUnstageVolume id) = calls.NodeUnstageVolume id
 lent_call (NodePublishVolume id target c readonly) = calls.NodePublishVolume id target.now (lent_capability c) readonly
 lent_call (NodeUnpublishVolume id target) = calls.NodeUnpublishVolume id target.now
+
+-- the type of its file system has too many bytes for an `FsType`
+abbrev pub IsTooLong : AccessRef → Type 0
+IsTooLong Block = ⊥
+IsTooLong (Mount fs_type) = 128 < length fs_type.now
 
 -- its texts are within their limits, as all of them are that have a type
 abbrev pub HasFitTexts : Call → Type 0

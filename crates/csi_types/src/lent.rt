@@ -1,7 +1,7 @@
 //! Calls that lend their texts: whoever keeps a part of one makes a copy of that part, and nobody else does.
-ghost use Rattle.std.specs.Prelude.{◌≡◌, ◌≤◌, ◌↔◌, ◌&&◌, IfOk, IsTrue, length};
+ghost use Rattle.std.specs.Prelude.{◌≡◌, ◌≤◌, ◌↔◌, ◌&&◌, IfOk, IsErrOf, IsTrue, length};
 ghost use Rattle.csi_types.specs.Call.{kind_of};
-ghost use Rattle.csi_types.specs.Lent.{lent_access, lent_capability, lent_call, HasFitTexts};
+ghost use Rattle.csi_types.specs.Lent.{lent_access, lent_capability, lent_call, HasFitTexts, IsTooLong};
 ghost use Rattle.csi_types.specs.Limits.{IsAccess};
 ghost use Rattle.csi_types.specs.Text.{IsText};
 
@@ -151,7 +151,9 @@ impl Call {
 impl AccessRef<'_> {
     // The access with a text of its own.
     fn to_access(self, alloc: Global) -> Result<Access, TextFault>
-        ensures { IfOk result (λ access. access ≡ lent_access self.entry) }
+        ensures ok { IfOk result (λ access. access ≡ lent_access self.entry) }
+        ensures never_empty { IsErrOf result TextFault.Empty → ⊥ }
+        ensures too_long { IsErrOf result TextFault.TooLong ↔ IsTooLong self.entry }
     {
         match self {
             AccessRef::Block => Ok(Access::Block),
@@ -167,7 +169,9 @@ impl CapabilityRef<'_> {
     /// The capability with a text of its own: `TooLong` where the type of its file system has more than 128 bytes, `NoMemory`
     /// where a growth is refused. Without a text, and with an empty one, it takes no memory.
     pub fn to_capability(self, alloc: Global) -> Result<Capability, TextFault>
-        ensures { IfOk result (λ capability. capability ≡ lent_capability self.entry) }
+        ensures ok { IfOk result (λ capability. capability ≡ lent_capability self.entry) }
+        ensures never_empty { IsErrOf result TextFault.Empty → ⊥ }
+        ensures too_long { IsErrOf result TextFault.TooLong ↔ IsTooLong self.entry.access }
     {
         let mode = self.mode;
         match self.access.to_access(alloc) {

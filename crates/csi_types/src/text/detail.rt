@@ -1,30 +1,54 @@
 //! What a reply says beside its status.
-ghost use Rattle.std.specs.Prelude.{◌≡◌, ◌<◌, ◌≤◌, ◌↔◌, [], length, IfOk, IsOk, IsErrOf, nat_eq};
+ghost use Rattle.std.specs.Prelude.{◌≡◌, ◌<◌, ◌≤◌, ◌↔◌, length, IfOk, IsOk, IsErrOf, nat_eq};
 ghost use Rattle.std.specs.Cmp.Lexicographic.{pointwise, nat_list_eq_equiv};
 ghost use Rattle.std.specs.Cmp.{partial_equiv_from_equiv};
+ghost use Rattle.csi_types.specs.Detail.{text_bytes};
 ghost use Rattle.csi_types.specs.Text.{IsDetail};
 
 use super::{TextFault, copied};
+use arrayvec::ArrayString;
 use std::alloc::Global;
 use std::marker::Model;
+
+// The most bytes of a text that lies in its own value. Each refusal that a plugin makes is among them, and the value is
+// no larger than one that points to its text.
+const INLINE_LEN: usize = 23;
+
+// A text, which takes memory only where it is long.
+#[derive(Clone, Debug, Drop)]
+enum Text {
+    Inline(ArrayString<INLINE_LEN>),
+    Heap(String),
+}
+
+impl Text {
+    fn as_str(&self) -> &str
+        ensures { result.now ≡ text_bytes self.now }
+    {
+        match self {
+            Text::Inline(text) => text.as_str(),
+            Text::Heap(text) => text.as_str(),
+        }
+    }
+}
 
 /// What a reply says beside its status: at most 255 bytes of UTF-8, empty where the status says all
 /// (this profile's own; CSI leaves a human-readable message to the RPC library).
 #[derive(Clone, Debug, Drop)]
 pub struct Detail {
-    text: String,
+    text: Text,
 }
 
 impl Model for Detail {
     ghost use Rattle.std.specs.Prelude.{ℕ, List};
-    ghost use Rattle.std.specs.String.{string_bytes};
+    ghost use Rattle.csi_types.specs.Detail.{text_bytes};
     ghost use Rattle.csi_types.specs.Text.{IsDetail};
 
     ghost Value = { List ℕ };
 
-    ghost view = { λ detail. string_bytes detail.text };
+    ghost view = { λ detail. text_bytes detail.text };
 
-    ghost invariant = { λ detail. IsDetail (string_bytes detail.text) };
+    ghost invariant = { λ detail. IsDetail (text_bytes detail.text) };
 }
 
 impl Detail {
@@ -32,15 +56,22 @@ impl Detail {
     pub const MAX_LEN: usize = 255;
 
     /// A detail with this text: `TooLong` where it has more than 255 bytes, `NoMemory` where a growth is
-    /// refused. `Empty` is never answered, and an empty text takes no memory.
+    /// refused. `Empty` is never answered, and a text of at most 23 bytes takes no memory.
     pub fn try_new(alloc: Global, text: &str) -> Result<Detail, TextFault>
         ensures ok { IfOk result (λ detail. detail ≡ text.now) }
         ensures never_empty { IsErrOf result TextFault.Empty → ⊥ }
         ensures too_long { IsErrOf result TextFault.TooLong ↔ (255 < length text.now) }
-        ensures empty_succeeds { text.now ≡ [] → IsOk result }
+        ensures short_succeeds { length text.now ≤ 23 → IsOk result }
     {
+        if let Ok(text) = ArrayString::from(text) {
+            return Ok(Detail {
+                text: Text::Inline(text),
+            });
+        }
         let text = copied(alloc, text, Detail::MAX_LEN)?;
-        Ok(Detail { text })
+        Ok(Detail {
+            text: Text::Heap(text),
+        })
     }
 
     /// The detail's text.
