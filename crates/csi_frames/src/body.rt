@@ -132,6 +132,7 @@ fn whole_body(bytes: &[u8]) -> Result<BorrowedFrame<'_>, Stop>
 const MAX_BODY: usize = 1280;
 
 /// The frame at the front of the bytes and how many bytes it takes, or the first fault. It takes no memory.
+#[inline(always)]
 #[tactic(auto, unfolding(crate::specs::Reading::first_frame))]
 pub(crate) fn first_frame(bytes: &[u8]) -> Result<(BorrowedFrame<'_>, usize), FrameFault>
     ensures { Answers (λ x. (owned x.0, x.1)) result (first_frame bytes.now) }

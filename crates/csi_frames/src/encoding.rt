@@ -23,7 +23,9 @@ fn put(out: &mut Vec<u8>, bytes: &[u8])
     requires { HasRoom out.old (length bytes.now) }
     ensures { Appends out.old out.new bytes.now }
 {
-    out.extend_from_slice(bytes).unwrap();
+    if !bytes.is_empty() {
+        out.extend_from_slice(bytes).unwrap();
+    }
 }
 
 fn put_byte(out: &mut Vec<u8>, byte: u8)
@@ -272,6 +274,7 @@ fn reply_bytes(from: &Reply) -> [u8; 10]
     bytes
 }
 
+#[inline(always)]
 fn put_reply(out: &mut Vec<u8>, from: &Reply)
     requires { HasRoom out.old (length (reply_fields from.now)) }
     ensures appends { Appends out.old out.new (reply_fields from.now) }
@@ -281,6 +284,7 @@ fn put_reply(out: &mut Vec<u8>, from: &Reply)
     put(out, from.detail.as_str().as_bytes());
 }
 
+#[inline(always)]
 fn put_party(out: &mut Vec<u8>, from: &Party)
     requires { HasRoom out.old (length (party from.now)) }
     ensures appends { Appends out.old out.new (party from.now) }
@@ -331,6 +335,7 @@ fn head_bytes(size: u32, kind: u8, number: Number) -> [u8; 22]
 
 // What stands before the kind's fields: the length of the body, which has been counted, the version, the kind byte, the number
 // and the party.
+#[inline(always)]
 fn put_head(out: &mut Vec<u8>, size: u32, kind: u8, number: Number, from: &Party)
     requires { HasRoom out.old (22 + length (party from.now)) }
     ensures appends { Appends out.old out.new (head size kind number ++ party from.now) }
@@ -375,6 +380,7 @@ pub fn encode(frame: &Frame, out: &mut Vec<u8>) -> Result<(), NoMemory>
 }
 
 /// Appends the bytes that spell the frame of a reply, as `encode` does, with no frame made of its parts. This profile's own.
+#[inline(always)]
 pub fn encode_reply(
     number: Number,
     party: &Party,
