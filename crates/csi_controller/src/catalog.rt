@@ -72,12 +72,15 @@ impl Catalog {
         self.rows().len()
     }
 
-    /// Where the row of this id is.
+    /// Where the row of this id is. Where no row is, no id is hashed.
     pub fn place_of_id(&self, id: VolumeId) -> Option<usize>
         requires { IsIndexed self.now }
         ensures place { result ≡ position (λ row. row.id == id) (rows_of self.now) }
         ensures within { IfSome result (λ place. place < index_map_len self.now.rows) }
     {
+        if self.rows.is_empty() {
+            return None;
+        }
         self.rows.get_index_of(&id)
     }
 
