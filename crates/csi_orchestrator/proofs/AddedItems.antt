@@ -27,7 +27,7 @@ use Rattle.csi_orchestrator.specs.Readings.{known, id_of, goal_of, open_call, tr
 use Rattle.csi_orchestrator.specs.WellFormed.{IsOfName, IsNext, IsWellFormed}
 use Rattle.csi_orchestrator.specs.Commands.{next_number, create_fault, use_fault, use_room_fault, stop_fault, delete_fault, delete_busy_fault, timeout_fault}
 use Rattle.csi_orchestrator.specs.Due.{Due, due_use, due_leave, due_stop, due_delete, due_for, due_call, targets_in_use}
-use Rattle.csi_orchestrator.specs.Moves.{Input, ToCreate, ToUse, ToStop, ToDelete, TimesOut, Comes, Restarts, Answer, Sends, Moved, met, sent_as, go_on, command, use_when, delete_when, stopped, closing, is_forward_due, timeout, is_number_open, call_replied, hears, heard, heard_refusal, deliver, restart, moves, moved_to}
+use Rattle.csi_orchestrator.specs.Moves.{Input, ToCreate, ToUse, ToStop, ToDelete, TimesOut, Comes, Restarts, Answer, Sends, Moved, met, sent_as, send_due, command, use_when, delete_when, stopped, closing, is_forward_due, timeout, is_number_open, call_replied, hears, heard, heard_refusal, deliver, restart, moves, moved_to}
 use Rattle.csi_orchestrator.specs.Steps.{IsReplyTo, frame_of, frame_in, frames_in}
 use Rattle.csi_orchestrator.proofs.RepliedRows.{own-open}
 
@@ -131,9 +131,9 @@ rests history input answer items says quiet =
     record { form = quiet.form; replies = quiet.replies; few = omega (arith, few); frames = ap (map frame_of) quiet.silent ∙ sym says }
 
 -- the due call is sent, or the goal dropped
-goes-on : (history : History) (input : Input) (name : List ℕ) (answer : Option Frame → Answer) (items : List Item) → ((o : Option Frame) → frames_in (answer o) ≡ frame_in o) → AreQuiet history input items
-    → AreAdded history input (go_on history name answer items)
-goes-on history input name answer items says quiet =
+sends-due : (history : History) (input : Input) (name : List ℕ) (answer : Option Frame → Answer) (items : List Item) → ((o : Option Frame) → frames_in (answer o) ≡ frame_in o) → AreQuiet history input items
+    → AreAdded history input (send_due history name answer items)
+sends-due history input name answer items says quiet =
     by (due_call (with_items history items) name) (next_number (last_number history)) (named_for (with_items history items) name (goal_of (with_items history items) name))
     (subst (λ last. IsNextIfSome last (next_number (last_number history))) (sym quiet.same_last) (is_next (last_number history)))
   where
@@ -155,7 +155,7 @@ goes-on history input name answer items says quiet =
 -- a command in general, a use and a delete
 commanded : (history : History) (input : Input) (name : List ℕ) (goal : Goal) (fault : Option OrchFault) → IsWellFormed history → AreAdded history input (command history name goal fault)
 commanded history input name goal (Some fault) form = tt
-commanded history input name goal None form = goes-on history input name Sends _ (λ o. refl) (noted-after history input name (Some goal) [] (no-items history input form) (omega arith))
+commanded history input name goal None form = sends-due history input name Sends _ (λ o. refl) (noted-after history input name (Some goal) [] (no-items history input form) (omega arith))
 
 used : (history : History) (input : Input) (name : List ℕ) (usage : Usage) (fault : Option OrchFault) → IsWellFormed history → AreAdded history input (use_when history name usage fault)
 used history input name usage (Some fault) form = tt
@@ -178,14 +178,14 @@ timed-out : (history : History) (input : Input) (name : List ℕ) (fault : Optio
 timed-out history input name (Some fault) form = tt
 timed-out history input name None form =
     let closed = given-up history input name (open_call history name) refl form in
-    either (AreAdded history input) (is_forward_due (due_call history name) && (tries history name == 3)) _ _ (goes-on history input name Sends _ (λ o. refl) (noted-after history input name (stopped (goal_of history name)) _ closed.0 closed.1))
-    (goes-on history input name Sends _ (λ o. refl) closed.0)
+    either (AreAdded history input) (is_forward_due (due_call history name) && (tries history name == 3)) _ _ (sends-due history input name Sends _ (λ o. refl) (noted-after history input name (stopped (goal_of history name)) _ closed.0 closed.1))
+    (sends-due history input name Sends _ (λ o. refl) closed.0)
 
 -- a reply that is taken
 taken : (history : History) (input : Input) (reply : Reply) (issued : Issued) → IsWellFormed history → open_call history issued.name ≡ Some issued → IsReplyTo history input issued.number reply.status reply.id
     → AreAdded history input (heard history reply (Some issued))
 taken history input reply issued form now is =
-    either (AreAdded history input) (is_ok_status reply.status) _ _ (goes-on history input issued.name hears (item ∷ []) (λ o. refl) quiet) (refused issued.call)
+    either (AreAdded history input) (is_ok_status reply.status) _ _ (sends-due history input issued.name hears (item ∷ []) (λ o. refl) quiet) (refused issued.call)
   where
     item : Item
     item = Accepted issued.number reply.status reply.id
@@ -198,9 +198,9 @@ taken history input reply issued form now is =
 
     refused : (call : Call) → AreAdded history input (heard_refusal history issued (Accepted issued.number reply.status reply.id) call)
     refused (calls.CreateVolume name required limit capabilities) = rests history input _ _ refl (noted None)
-    refused (calls.ControllerPublishVolume id node capability readonly) = goes-on history input issued.name hears _ (λ o. refl) (noted (stopped (goal_of history issued.name)))
-    refused (calls.NodeStageVolume id capability) = goes-on history input issued.name hears _ (λ o. refl) (noted (stopped (goal_of history issued.name)))
-    refused (calls.NodePublishVolume id target capability readonly) = goes-on history input issued.name hears _ (λ o. refl) (noted (stopped (goal_of history issued.name)))
+    refused (calls.ControllerPublishVolume id node capability readonly) = sends-due history input issued.name hears _ (λ o. refl) (noted (stopped (goal_of history issued.name)))
+    refused (calls.NodeStageVolume id capability) = sends-due history input issued.name hears _ (λ o. refl) (noted (stopped (goal_of history issued.name)))
+    refused (calls.NodePublishVolume id target capability readonly) = sends-due history input issued.name hears _ (λ o. refl) (noted (stopped (goal_of history issued.name)))
     refused call = rests history input _ _ refl quiet
 
 -- a frame with a call's number, party and kind that has a reply is the frame of that reply

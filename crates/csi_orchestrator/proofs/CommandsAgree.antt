@@ -16,17 +16,17 @@ use Rattle.csi_orchestrator.specs.History as wishes
 use Rattle.csi_orchestrator.specs.Readings.{known}
 use Rattle.csi_orchestrator.specs.WellFormed.{IsWellFormed}
 use Rattle.csi_orchestrator.specs.Commands.{create_fault, use_fault, use_room_fault, stop_fault, delete_fault, delete_busy_fault}
-use Rattle.csi_orchestrator.specs.Moves.{Answer, Sends, Moved, met, go_on, command, use_when, delete_when}
+use Rattle.csi_orchestrator.specs.Moves.{Answer, Sends, Moved, met, send_due, command, use_when, delete_when}
 use Rattle.csi_orchestrator.specs.Following.{after_noted}
 use Rattle.csi_orchestrator.specs.Shown.{RowShown, Parts, row_of, open_in_row, view_of, AgreesWith}
 use Rattle.csi_orchestrator.specs.RowChanges.{wanted, new_row, wanted_anew, with_entry}
 use Rattle.csi_orchestrator.specs.RowRefusals.{first_fault, again_fault, use_refusal, room_refusal, stop_refusal, delete_refusal, busy_refusal}
-use Rattle.csi_orchestrator.specs.RowSteps.{RowTold, row_goes_on, row_rests, row_unless, due_for_use, row_takes}
+use Rattle.csi_orchestrator.specs.RowSteps.{RowTold, row_sends_due, row_rests, row_unless, due_for_use, row_takes}
 use Rattle.csi_orchestrator.specs.RowMoves.{placed, steps_at, creates}
 use Rattle.csi_orchestrator.specs.Kept.{IsKept, AreKept}
 use Rattle.csi_orchestrator.proofs.ViewsFollow.{noted-follows}
-use Rattle.csi_orchestrator.proofs.SendingAgrees.{Tells, goes-on-tells}
-use Rattle.csi_orchestrator.proofs.StepsKept.{MayGoOn, first-held, use-free, changed-may, new-may}
+use Rattle.csi_orchestrator.proofs.SendingAgrees.{Tells, sends-due-tells}
+use Rattle.csi_orchestrator.proofs.StepsKept.{MaySendDue, first-held, use-free, changed-may, new-may}
 use Rattle.csi_orchestrator.proofs.RulesStay.{found-kept}
 use Rattle.csi_orchestrator.proofs.RowsAfterNotes.{no-call, reads-wanted, reads-anew, reads-new, reads-with-entry}
 use Rattle.csi_orchestrator.proofs.RefusalsRead.{create-first, create-again, use-unknown, use-refused, room-refused, use-due, stop-unknown, stop-refused, delete-unknown, delete-refused, busy-refused}
@@ -63,16 +63,16 @@ met-tells parts history name row at =
 
 -- unless it is refused, something is noted, and the due call is sent
 command-tells : (parts : Parts) (history : History) (name : List ℕ) (goal : Goal) (fault : Option OrchFault) (result : Result RowTold OrchFault)
-    → (fault ≡ None → Tells history (placed parts Sends result) (go_on history name Sends (Noted name (Some goal) ∷ []))) → Tells history (placed parts Sends (row_unless fault result)) (command history name goal fault)
+    → (fault ≡ None → Tells history (placed parts Sends result) (send_due history name Sends (Noted name (Some goal) ∷ []))) → Tells history (placed parts Sends (row_unless fault result)) (command history name goal fault)
 command-tells parts history name goal None result f = f refl
 command-tells parts history name goal (Some fault) result f = (refl, tt)
 
--- something was noted for a name without an open call, and its row goes on
+-- something was noted for a name without an open call, and its row's due call is sent
 noted-tells : (parts : Parts) (history : History) (name : List ℕ) (goal : Goal) (row : RowShown) → AreRight parts history → (view_of parts).open_calls name ≡ None
-    → Reads row (after_noted name (Some goal) (view_of parts)) name → MayGoOn row
-    → Tells history (placed parts Sends (row_goes_on parts.last row)) (go_on history name Sends (Noted name (Some goal) ∷ []))
-noted-tells parts history name goal row right quiet reads going =
-    goes-on-tells parts history name row (after_noted name (Some goal) (view_of parts)) (Noted name (Some goal) ∷ [])
+    → Reads row (after_noted name (Some goal) (view_of parts)) name → MaySendDue row
+    → Tells history (placed parts Sends (row_sends_due parts.last row)) (send_due history name Sends (Noted name (Some goal) ∷ []))
+noted-tells parts history name goal row right quiet reads may_send =
+    sends-due-tells parts history name row (after_noted name (Some goal) (view_of parts)) (Noted name (Some goal) ∷ [])
     (record {
       form = (tt, right.form);
       agrees = noted-follows (view_of parts) history name (Some goal) right.agrees;
@@ -81,7 +81,7 @@ noted-tells parts history name goal row right quiet reads going =
       same_last = refl;
       old_last = sym (right.agrees).same_last;
       quiet = quiet;
-      going = going;
+      may_send = may_send;
       guarded = tt;
     }) Sends
 
@@ -94,12 +94,12 @@ pub creates-tell : (parts : Parts) (history : History) (name : List ℕ) (argume
     → Tells history (creates parts name arguments o) (command history name (wishes.Create arguments) (create_fault history name))
 creates-tell parts history name arguments right None e =
     subst (λ f. Tells history (creates parts name arguments None) (command history name (wishes.Create arguments) f)) (sym (create-first parts history name right.kept right.agrees e))
-    (command-tells parts history name (wishes.Create arguments) (first_fault parts.last parts.rows) (row_goes_on parts.last (new_row name arguments))
+    (command-tells parts history name (wishes.Create arguments) (first_fault parts.last parts.rows) (row_sends_due parts.last (new_row name arguments))
     (λ free. noted-tells parts history name (wishes.Create arguments) (new_row name arguments) right (ap (option_and_then open_in_row) e) (reads-new arguments parts name e) (new-may name arguments)))
 creates-tell parts history name arguments right (Some row) e =
     let at : IsFound parts history name row = record { right = right; found = e } in
     subst (λ f. Tells history (creates parts name arguments (Some row)) (command history name (wishes.Create arguments) f)) (sym (create-again parts history name row right.kept right.agrees e))
-    (command-tells parts history name (wishes.Create arguments) (again_fault parts.last row) (row_goes_on parts.last (wanted_anew arguments row))
+    (command-tells parts history name (wishes.Create arguments) (again_fault parts.last row) (row_sends_due parts.last (wanted_anew arguments row))
     (λ free.
     let quiet = idle-quiet parts name row e (none-from_is_some row.goal (or_parts (is_some row.id) (is_some row.goal) (first-held _ _ _ free).0).1) in
     noted-tells parts history name (wishes.Create arguments) (wanted_anew arguments row) right quiet (reads-anew arguments row (view_of parts) name (own-reads parts history name row at) quiet)
@@ -113,7 +113,7 @@ use-when-tells parts history name usage row at None none =
     let right = at.right in
     let free = use-free parts.nodes usage row none in
     let quiet = idle-quiet parts name row at.found free.idle in
-    let on = row_goes_on parts.last (wanted (Use usage) (with_entry usage row)) in
+    let on = row_sends_due parts.last (wanted (Use usage) (with_entry usage row)) in
     let takes = row_takes parts.last (steps.Use usage) row in
     subst (λ d. Tells history (placed parts Sends takes) (cond (is_none d) (Ok met) (command history name (wishes.Use usage) (use_room_fault history name usage)))) (sym (use-due parts history name usage row right.kept right.agrees at.found))
     (either-tells parts history Sends (is_none (due_for_use usage row)) (row_rests row) (row_unless (room_refusal parts.last usage row) on) _ _ (λ is. met-tells parts history name row at)
@@ -143,7 +143,7 @@ stops-tell parts history name node target right None e =
 stops-tell parts history name node target right (Some row) e =
     let at : IsFound parts history name row = record { right = right; found = e } in
     subst (λ f. Tells history (steps_at parts Sends (steps.Stop node target) (Some row)) (command history name (wishes.Stop node target) f)) (sym (stop-refused parts history name node target row right.kept right.agrees e))
-    (command-tells parts history name (wishes.Stop node target) (stop_refusal parts.nodes parts.last node target row) (row_goes_on parts.last (wanted (Stop node target) row))
+    (command-tells parts history name (wishes.Stop node target) (stop_refusal parts.nodes parts.last node target row) (row_sends_due parts.last (wanted (Stop node target) row))
     (λ free.
     let busy = first-held (is_some row.goal) faults.Busy _ (first-held (not (is_yes row.exists)) faults.NotCreated _ free).1 in
     let quiet = idle-quiet parts name row e (none-from_is_some row.goal busy.0) in
@@ -158,7 +158,7 @@ delete-when-tells parts history name row at None free =
     let right = at.right in
     let reads = own-reads parts history name row at in
     let is : row.exists ≡ known history (Exists name) = reads.marks (Exists name) refl ∙ (right.agrees).same_marks (Exists name) in
-    let on = row_goes_on parts.last (wanted Delete row) in
+    let on = row_sends_due parts.last (wanted Delete row) in
     let takes = row_takes parts.last steps.Delete row in
     subst (λ k. Tells history (placed parts Sends takes) (cond (is_no k) (Ok met) (command history name wishes.Delete (delete_busy_fault history name)))) is
     (either-tells parts history Sends (is_no row.exists) (row_rests row) (row_unless (busy_refusal parts.last row) on) _ _ (λ gone. met-tells parts history name row at)

@@ -7,8 +7,8 @@ use Rattle.std.proofs.lemmas.List.Folds.{list_any-append}
 use Rattle.csi_types.specs.declared.number.Number.{Number}
 use Rattle.csi_types.specs.Same.{same_text}
 use Rattle.csi_orchestrator.specs.declared.sending.Outgoing.{Outgoing}
-use Rattle.csi_orchestrator.specs.declared.row.Aim.{Aim}
 use Rattle.csi_orchestrator.specs.declared.row.Goal.TheVariants.{Use}
+use Rattle.csi_orchestrator.specs.declared.row.TargetEntry.{TargetEntry}
 use Rattle.csi_orchestrator.specs.declared.row.Usage.{Usage}
 use Rattle.csi_orchestrator.specs.declared.step.Step.{Step}
 use Rattle.csi_orchestrator.specs.declared.step.Step.TheVariants as steps
@@ -16,10 +16,10 @@ use Rattle.csi_orchestrator.specs.declared.thing.Thing.TheVariants.{Attached, St
 use Rattle.csi_orchestrator.specs.Thing.{is_no}
 use Rattle.csi_orchestrator.specs.Commands.{next_number}
 use Rattle.csi_orchestrator.specs.Due.{Due}
-use Rattle.csi_orchestrator.specs.RowChanges.{wanted, with_entry, entry_for, with_aim, new_aim}
-use Rattle.csi_orchestrator.specs.Shown.{PlaceShown, RowShown, place_of, others_in, marks_at, due_with, due_in, closed}
+use Rattle.csi_orchestrator.specs.RowChanges.{wanted, with_entry, entry_for, with_target, new_target_entry}
+use Rattle.csi_orchestrator.specs.Shown.{NodeEntryShown, RowShown, node_entry_of, others_in, marks_at, due_with, due_in, closed}
 use Rattle.csi_orchestrator.specs.RowRefusals.{step_refusal, late_refusal}
-use Rattle.csi_orchestrator.specs.RowSteps.{outgoing_by, row_after, row_goes_on, row_rests, row_unless, due_for_use, is_met, waits, needs_entry, changed, row_takes, row_step, SendsNothing}
+use Rattle.csi_orchestrator.specs.RowSteps.{outgoing_by, row_after, row_sends_due, row_rests, row_unless, due_for_use, is_met, waits, needs_entry, changed, row_takes, row_step, SendsNothing}
 use Rattle.csi_orchestrator.proofs.TextLists.{text-same}
 use Rattle.csi_orchestrator.proofs.RowsAfterNotes.{mark-with-entry, entry-there}
 
@@ -34,38 +34,38 @@ holds-at_err (Ok x) p = tt
 holds-at_err (Err y) p = p
 
 -- another target isn't taken by an entry for a use
-new-aim-free : (target other : List ℕ) → (not (same_text target other) && not (is_no (new_aim target).published)) ≡ false
-new-aim-free target other = by (same_text target other)
+new-target-free : (target other : List ℕ) → (not (same_text target other) && not (is_no (new_target_entry target).published)) ≡ false
+new-target-free target other = by (same_text target other)
   where
     by : (b : Bool) → (not b && false) ≡ false
     by true = refl
     by false = refl
 
 -- another target than this one, which may be published
-abbrev is_other : List ℕ → Aim → Bool
-is_other target aim = not (same_text aim.target target) && not (is_no aim.published)
+abbrev is_other : List ℕ → TargetEntry → Bool
+is_other target target_entry = not (same_text target_entry.target target) && not (is_no target_entry.published)
 
 -- an entry for a use leaves whether there is such a one: among the targets, in the node's entry and in the row
-others-with-aim : (target : List ℕ) (aims : List Aim) → list_any (is_other target) (with_aim target aims) ≡ list_any (is_other target) aims
-others-with-aim target aims = by (is_some (find (λ (a : Aim). same_text a.target target) aims))
+others-with-target : (target : List ℕ) (target_entries : List TargetEntry) → list_any (is_other target) (with_target target target_entries) ≡ list_any (is_other target) target_entries
+others-with-target target target_entries = by (is_some (find (λ (a : TargetEntry). same_text a.target target) target_entries))
   where
     last : (b : Bool) → (b || (false || false)) ≡ b
     last true = refl
     last false = refl
 
-    by : (b : Bool) → list_any (is_other target) (cond b aims (aims ++ new_aim target ∷ [])) ≡ list_any (is_other target) aims
+    by : (b : Bool) → list_any (is_other target) (cond b target_entries (target_entries ++ new_target_entry target ∷ [])) ≡ list_any (is_other target) target_entries
     by true = refl
     by false =
-        list_any-append (is_other target) aims (new_aim target ∷ []) ∙ ap (λ b. list_any (is_other target) aims || (b || false)) (new-aim-free target target) ∙ last (list_any (is_other target) aims)
+        list_any-append (is_other target) target_entries (new_target_entry target ∷ []) ∙ ap (λ b. list_any (is_other target) target_entries || (b || false)) (new-target-free target target) ∙ last (list_any (is_other target) target_entries)
 
-others-entry : (usage : Usage) (o : Option PlaceShown) → others_in usage.target (Some (entry_for usage o)) ≡ others_in usage.target o
-others-entry usage None = ap (λ b. b || false) (new-aim-free usage.target usage.target)
-others-entry usage (Some place) = others-with-aim usage.target place.aims
+others-entry : (usage : Usage) (o : Option NodeEntryShown) → others_in usage.target (Some (entry_for usage o)) ≡ others_in usage.target o
+others-entry usage None = ap (λ b. b || false) (new-target-free usage.target usage.target)
+others-entry usage (Some entry) = others-with-target usage.target entry.target_entries
 
-others-with-entry : (usage : Usage) (row : RowShown) → others_in usage.target (place_of (with_entry usage row) usage.node) ≡ others_in usage.target (place_of row usage.node)
+others-with-entry : (usage : Usage) (row : RowShown) → others_in usage.target (node_entry_of (with_entry usage row) usage.node) ≡ others_in usage.target (node_entry_of row usage.node)
 others-with-entry usage row =
-    ap (others_in usage.target) (entry-there usage row usage.node ∙ ap (λ b. cond b (Some (entry_for usage (place_of row usage.node))) (place_of row usage.node)) (text-same usage.node))
-    ∙ others-entry usage (place_of row usage.node)
+    ap (others_in usage.target) (entry-there usage row usage.node ∙ ap (λ b. cond b (Some (entry_for usage (node_entry_of row usage.node))) (node_entry_of row usage.node)) (text-same usage.node))
+    ∙ others-entry usage (node_entry_of row usage.node)
 
 -- and so is all that is known of what the use names
 marks-with-entry : (usage : Usage) (row : RowShown) → marks_at (with_entry usage row) usage.node usage.target ≡ marks_at row usage.node usage.target
@@ -90,7 +90,7 @@ sends-due row (Some due) (Some number) nothing = absurd (clash _ nothing)
     clash next e = cc
 
 -- so for a use that isn't met yet one is sent
-needs-none : (last : Number) (step : Step) (row : RowShown) → is_met step row ≡ false → SendsNothing (row_goes_on last (changed step row)) → needs_entry step ≡ false
+needs-none : (last : Number) (step : Step) (row : RowShown) → is_met step row ≡ false → SendsNothing (row_sends_due last (changed step row)) → needs_entry step ≡ false
 needs-none last (steps.Use usage) row unmet nothing =
     absurd (false≢true (sym unmet ∙ ap is_none (sym (due-used usage row)) ∙ sends-due (changed (steps.Use usage) row) (due_in (changed (steps.Use usage) row)) (next_number last) nothing))
 needs-none last step row unmet nothing = refl
@@ -98,9 +98,9 @@ needs-none last step row unmet nothing = refl
 -- where nothing refuses a step, it isn't met yet and its call doesn't wait, but nothing is sent for it, no entry is needed, and nothing is due
 pub goes-quietly : (nodes : List (List ℕ)) (last : Number) (step : Step) (row : RowShown) → step_refusal nodes last step row ≡ None → is_met step row ≡ false → waits step row ≡ false → late_refusal last step row ≡ None
     → SendsNothing (row_step nodes last step row)
-    → (needs_entry step ≡ false) × SendsNothing (row_goes_on last (changed step row))
+    → (needs_entry step ≡ false) × SendsNothing (row_sends_due last (changed step row))
 goes-quietly nodes last step row free unmet on late nothing =
-    let goes = row_goes_on last (changed step row) in
+    let goes = row_sends_due last (changed step row) in
     let is : row_step nodes last step row ≡ goes =
     ap (λ f. row_unless f (row_takes last step row)) free
     ∙ ap (λ b. cond b (row_rests row) (cond (waits step row) (row_rests (closed row)) (row_unless (late_refusal last step row) goes))) unmet

@@ -21,7 +21,7 @@ use Rattle.csi_orchestrator.specs.Readings.{known, held, open_call}
 use Rattle.csi_orchestrator.specs.Due.{Due}
 use Rattle.csi_orchestrator.specs.Commands.{is_for_one_node, is_second_writer}
 use Rattle.csi_orchestrator.specs.Guards.{CanBeHeldToo, holding_by, IsGuarded, MayIssue}
-use Rattle.csi_orchestrator.specs.Shown.{PlaceShown, RowShown, place_of, mark_in, published_in, mark_of, held_at, others_in, due_in, AreTargetsApart}
+use Rattle.csi_orchestrator.specs.Shown.{NodeEntryShown, RowShown, node_entry_of, mark_in, published_in, mark_of, held_at, others_in, due_in, AreTargetsApart}
 use Rattle.csi_orchestrator.specs.RowRefusals.{is_so_elsewhere, has_elsewhere}
 use Rattle.csi_orchestrator.specs.Kept.{IsUsable, MayBeWanted}
 use Rattle.csi_orchestrator.proofs.DueCases.{IsDueFor, due-cases, ToMake, ToRemove, ToAttach, ToStage, ToPublish, ToUnpublish, ToUnstage, ToDetach}
@@ -34,25 +34,25 @@ use Rattle.csi_orchestrator.proofs.TextLists.{texts-differ}
 Guarded : History → List ℕ → Due → Type 0
 Guarded history name due = IsGuarded history name due.party due.call
 
--- a search of places by their node
-place-there : (row : RowShown) (node : List ℕ) (place : PlaceShown) → place_of row node ≡ Some place → IsAmong place row.places × (place.node ≡ node)
-place-there row node place e =
-    (among-find (λ (p : PlaceShown). same_text p.node node) row.places place e, (same_text-tells place.node node).0 (find-passes (λ (p : PlaceShown). same_text p.node node) row.places place e))
+-- a search of a row's entries by their node
+node-entry-there : (row : RowShown) (node : List ℕ) (entry : NodeEntryShown) → node_entry_of row node ≡ Some entry → IsAmong entry row.node_entries × (entry.node ≡ node)
+node-entry-there row node entry e =
+    (among-find (λ (p : NodeEntryShown). same_text p.node node) row.node_entries entry e, (same_text-tells entry.node node).0 (find-passes (λ (p : NodeEntryShown). same_text p.node node) row.node_entries entry e))
 
 -- an entry by which the volume may be at another node, and is held not so
-not-so : (row : RowShown) (so : Held → Bool) (node other : List ℕ) (place : PlaceShown) → has_elsewhere so node row ≡ false → place_of row other ≡ Some place → other ≢ node → place.attached ≢ No → so (held_at place) ≡ false
-not-so row so node other place none e apart maybe = by (so (held_at place)) refl
+not-so : (row : RowShown) (so : Held → Bool) (node other : List ℕ) (entry : NodeEntryShown) → has_elsewhere so node row ≡ false → node_entry_of row other ≡ Some entry → other ≢ node → entry.attached ≢ No → so (held_at entry) ≡ false
+not-so row so node other entry none e apart maybe = by (so (held_at entry)) refl
   where
-    there : IsAmong place row.places × (place.node ≡ other)
-    there = place-there row other place e
+    there : IsAmong entry row.node_entries × (entry.node ≡ other)
+    there = node-entry-there row other entry e
 
-    elsewhere : same_text place.node node ≡ false
+    elsewhere : same_text entry.node node ≡ false
     elsewhere = ap (λ t. same_text t node) there.1 ∙ texts-differ other node apart
 
-    by : (b : Bool) → so (held_at place) ≡ b → b ≡ false
+    by : (b : Bool) → so (held_at entry) ≡ b → b ≡ false
     by true f =
-        absurd (false≢true (sym none ∙ then-any (is_so_elsewhere so node) row.places place there.0
-        (ap (λ b. not b && not (is_no place.attached) && so (held_at place)) elsewhere ∙ ap (λ b. not b && so (held_at place)) (is_not_no place.attached maybe) ∙ f)))
+        absurd (false≢true (sym none ∙ then-any (is_so_elsewhere so node) row.node_entries entry there.0
+        (ap (λ b. not b && not (is_no entry.attached) && so (held_at entry)) elsewhere ∙ ap (λ b. not b && so (held_at entry)) (is_not_no entry.attached maybe) ∙ f)))
     by false f = refl
 
 -- what is known of a thing of the row's name
@@ -69,12 +69,12 @@ known-not-no : (row : RowShown) (history : History) (thing : Thing) → IsRowOf 
 known-not-no row history thing told own e = not_no (known history thing) (ap is_no (sym (told.marks thing own)) ∙ e)
 
 -- nowhere may it be attached
-detached-there : (row : RowShown) (node : List ℕ) → AllByRecursion (λ (place : PlaceShown). place.attached ≡ No) row.places → mark_of (Attached row.name node) row ≡ No
-detached-there row node detached = by (place_of row node) refl
+detached-there : (row : RowShown) (node : List ℕ) → AllByRecursion (λ (entry : NodeEntryShown). entry.attached ≡ No) row.node_entries → mark_of (Attached row.name node) row ≡ No
+detached-there row node detached = by (node_entry_of row node) refl
   where
-    by : (o : Option PlaceShown) → place_of row node ≡ o → mark_in (λ (place : PlaceShown). place.attached) o ≡ No
+    by : (o : Option NodeEntryShown) → node_entry_of row node ≡ o → mark_in (λ (entry : NodeEntryShown). entry.attached) o ≡ No
     by None f = refl
-    by (Some place) f = each_of (λ (p : PlaceShown). p.attached ≡ No) row.places place detached (place-there row node place f).0
+    by (Some entry) f = each_of (λ (p : NodeEntryShown). p.attached ≡ No) row.node_entries entry detached (node-entry-there row node entry f).0
 
 -- how a usage holds the volume
 abbrev held-so : Usage → Held
@@ -82,24 +82,24 @@ held-so usage = record { capability = usage.capability; readonly = usage.readonl
 
 -- the volume can be held so beside its other holdings
 shared-so : (row : RowShown) (history : History) (usage : Usage) (id : ℕ) → IsRowOf row history row.name → IsUsable row usage → CanBeHeldToo history row.name id usage.node (held-so usage)
-shared-so row history usage id told usable other there apart maybe holds = by (place_of row other) refl (told.holdings other (λ no. maybe (sym (told.marks (Attached row.name other) refl) ∙ no)) ∙ holds)
+shared-so row history usage id told usable other there apart maybe holds = by (node_entry_of row other) refl (told.holdings other (λ no. maybe (sym (told.marks (Attached row.name other) refl) ∙ no)) ∙ holds)
   where
     not_none : None ≡ Some there → ⊥
     not_none e = none-some there e
 
-    attached : (place : PlaceShown) → place_of row other ≡ Some place → place.attached ≢ No
-    attached place e detached = maybe (sym (told.marks (Attached row.name other) refl) ∙ ap (mark_in (λ (p : PlaceShown). p.attached)) e ∙ detached)
+    attached : (entry : NodeEntryShown) → node_entry_of row other ≡ Some entry → entry.attached ≢ No
+    attached entry e detached = maybe (sym (told.marks (Attached row.name other) refl) ∙ ap (mark_in (λ (p : NodeEntryShown). p.attached)) e ∙ detached)
 
-    alike : (place : PlaceShown) → place_of row other ≡ Some place → held_at place ≡ there → CanHoldBoth (holding_by id other there) (holding_by id usage.node (held-so usage))
-    alike place e same =
+    alike : (entry : NodeEntryShown) → node_entry_of row other ≡ Some entry → held_at entry ≡ there → CanHoldBoth (holding_by id other there) (holding_by id usage.node (held-so usage))
+    alike entry e same =
         let modes = or_parts (is_single_node there.capability.mode) (is_single_node usage.capability.mode)
-        (ap (is_for_one_node usage) (sym same) ∙ not-so row (is_for_one_node usage) usage.node other place usable.shared e apart (attached place e)) in
-        let writers = ap (is_second_writer usage) (sym same) ∙ not-so row (is_second_writer usage) usage.node other place usable.one_writer e apart (attached place e) in
+        (ap (is_for_one_node usage) (sym same) ∙ not-so row (is_for_one_node usage) usage.node other entry usable.shared e apart (attached entry e)) in
+        let writers = ap (is_second_writer usage) (sym same) ∙ not-so row (is_second_writer usage) usage.node other entry usable.one_writer e apart (attached entry e) in
         inr (record { apart = apart; first_shared = ap not modes.0; second_shared = ap not modes.1; no_second_writer = ap not writers })
 
-    by : (o : Option PlaceShown) → place_of row other ≡ o → option_map held_at o ≡ Some there → CanHoldBoth (holding_by id other there) (holding_by id usage.node (held-so usage))
+    by : (o : Option NodeEntryShown) → node_entry_of row other ≡ o → option_map held_at o ≡ Some there → CanHoldBoth (holding_by id other there) (holding_by id usage.node (held-so usage))
     by None e same = absurd (not_none same)
-    by (Some place) e same = alike place e (same_Some (held_at place) there same)
+    by (Some entry) e same = alike entry e (same_Some (held_at entry) there same)
 
 -- the volume is held at the node as the use asks
 held-there : (row : RowShown) (history : History) (usage : Usage) → IsRowOf row history row.name → IsUsable row usage → is_yes (mark_of (Attached row.name usage.node) row) ≡ true
@@ -110,14 +110,14 @@ held-there row history usage told usable e =
     ∙ (λ i. Some (record { capability = usable.entry.same_capability i; readonly = usable.entry.same_flag i }))
 
 -- no target of the node is published where the goal's own isn't, and no other is
-quiet-targets : (row : RowShown) (history : History) (node target other : List ℕ) → IsRowOf row history row.name → AllByRecursion AreTargetsApart row.places
-    → is_no (mark_in (published_in target) (place_of row node)) ≡ true → others_in target (place_of row node) ≡ false → known history (Published row.name node other) ≡ No
+quiet-targets : (row : RowShown) (history : History) (node target other : List ℕ) → IsRowOf row history row.name → AllByRecursion AreTargetsApart row.node_entries
+    → is_no (mark_in (published_in target) (node_entry_of row node)) ≡ true → others_in target (node_entry_of row node) ≡ false → known history (Published row.name node other) ≡ No
 quiet-targets row history node target other told apart this others =
     no_is_no _ (true_from_ne_false _ (λ maybe.
     false≢true (sym (in-use-alike row history row.name node target told apart this ∙ others) ∙ some-has _ other (target-in-use history row.name node other maybe))))
 
 -- call by call
-guarded : (row : RowShown) (history : History) (due : Due) → IsRowOf row history row.name → AllByRecursion AreTargetsApart row.places → MayBeWanted row row.goal → IsDueFor row due → Guarded history row.name due
+guarded : (row : RowShown) (history : History) (due : Due) → IsRowOf row history row.name → AllByRecursion AreTargetsApart row.node_entries → MayBeWanted row row.goal → IsDueFor row due → Guarded history row.name due
 unfolding Guarded
 guarded row history _ told apart wanted (ToMake goal e) =
     record { own_name = refl; not_made = known-not-yes row history (Exists row.name) told refl e; no_id = sym told.ids ∙ subst (MayBeWanted row) goal wanted }
@@ -159,7 +159,7 @@ guarded row history _ told apart wanted (ToUnstage node target id goal own p o s
 guarded row history _ told apart wanted (ToDetach node target id goal own p o s a) = (sym told.ids ∙ own, record { not_staged = known-no row history (Staged row.name node) told refl s })
 
 -- the call that is due for a row may be sent, where none is open
-pub due-guarded : (row : RowShown) (history : History) (due : Due) → IsRowOf row history row.name → AllByRecursion AreTargetsApart row.places → MayBeWanted row row.goal → open_call history row.name ≡ None → due_in row ≡ Some due
+pub due-guarded : (row : RowShown) (history : History) (due : Due) → IsRowOf row history row.name → AllByRecursion AreTargetsApart row.node_entries → MayBeWanted row row.goal → open_call history row.name ≡ None → due_in row ≡ Some due
     → MayIssue history row.name due.party due.call
 unfolding Guarded
 due-guarded row history due told apart wanted none_open e = record { none_open = none_open; guarded = guarded row history due told apart wanted (due-cases row due e) }

@@ -14,7 +14,7 @@ use Rattle.csi_lists.proofs.Counts.{any-counted}
 use Rattle.csi_lists.proofs.Filters.{filter-each}
 use Rattle.csi_types.specs.Same.{same_text}
 use Rattle.csi_types.proofs.Equality.{same_text-tells}
-use Rattle.csi_orchestrator.specs.declared.row.Aim.{Aim}
+use Rattle.csi_orchestrator.specs.declared.row.TargetEntry.{TargetEntry}
 use Rattle.csi_orchestrator.specs.declared.thing.Known.{Known}
 use Rattle.csi_orchestrator.specs.declared.thing.Known.TheVariants.{Yes, No, Maybe}
 use Rattle.csi_orchestrator.specs.declared.thing.Thing.{Thing}
@@ -24,9 +24,9 @@ use Rattle.csi_orchestrator.specs.History.{Usage, Held, History}
 use Rattle.csi_orchestrator.specs.Readings.{known, known_by, held, issued_in, issued_of, distinct}
 use Rattle.csi_orchestrator.specs.Due.{attached_node, nodes_in_use, published_target, targets_in_use}
 use Rattle.csi_orchestrator.specs.Commands.{held_elsewhere, is_otherwise, is_held_otherwise}
-use Rattle.csi_orchestrator.specs.Shown.{PlaceShown, RowShown, place_of, aim_of, mark_in, published_in, held_at, others_in, AreTargetsApart}
-use Rattle.csi_orchestrator.specs.Kept.{ArePlacesApart}
-use Rattle.csi_orchestrator.specs.RowRefusals.{is_so_elsewhere, has_elsewhere, is_place_otherwise, others_count, is_attached_somewhere}
+use Rattle.csi_orchestrator.specs.Shown.{NodeEntryShown, RowShown, node_entry_of, target_entry_of, mark_in, published_in, held_at, others_in, AreTargetsApart}
+use Rattle.csi_orchestrator.specs.Kept.{AreNodesApart}
+use Rattle.csi_orchestrator.specs.RowRefusals.{is_so_elsewhere, has_elsewhere, is_entry_otherwise, others_count, is_attached_somewhere}
 use Rattle.csi_orchestrator.proofs.ViewsFollow.{touches-name}
 use Rattle.csi_orchestrator.proofs.JoinedLists.{own-entry}
 use Rattle.csi_orchestrator.proofs.RowViews.{IsRowOf}
@@ -61,10 +61,10 @@ pub target-in-use : (history : History) (name node target : List ℕ) → is_no 
 target-in-use history name node target = used history name (Published name node) (published_target node) target refl of
   where
     of : (thing : Option Thing) → is_thing (Published name node target) thing ≡ true → published_target node thing ≡ Some target
-    of (Some (Published own there aim)) is =
-        let both = and_parts (same_text name own && same_text node there) (same_text target aim) is in
+    of (Some (Published own there other_target)) is =
+        let both = and_parts (same_text name own && same_text node there) (same_text target other_target) is in
         let at_node = (same_text-tells node there).0 (and_parts (same_text name own) (same_text node there) both.0).1 in
-        ap (λ t. cond t (Some aim) None) ((same_text-tells there node).1 (sym at_node)) ∙ ap Some (sym ((same_text-tells target aim).0 both.1))
+        ap (λ t. cond t (Some other_target) None) ((same_text-tells there node).1 (sym at_node)) ∙ ap Some (sym ((same_text-tells target other_target).0 both.1))
     of None is = absurd (false≢true is)
     of (Some thing) is = absurd (false≢true is)
 
@@ -76,32 +76,32 @@ target-may : (history : History) (name node target : List ℕ) → IsAmong targe
 target-may history name node target among = not-true _ (among-kept (λ (t : List ℕ). not (is_no (known history (Published name node t)))) _ target among).1
 
 -- an entry that may be attached is of a node in use
-place-in-use : (row : RowShown) (history : History) (name : List ℕ) (place : PlaceShown) → IsRowOf row history name → ArePlacesApart row.places → IsAmong place row.places → is_no place.attached ≡ false
-    → IsAmong place.node (nodes_in_use history name) × (held history name place.node ≡ Some (held_at place))
-place-in-use row history name place own apart among maybe =
-    let found : place_of row place.node ≡ Some place = own-entry (λ (p : PlaceShown). p.node) row.places place apart among in
-    let here : mark_in (λ (p : PlaceShown). p.attached) (place_of row place.node) ≡ place.attached = ap (mark_in (λ (p : PlaceShown). p.attached)) found in
-    let may : is_no (known history (Attached name place.node)) ≡ false = ap is_no (sym (own.marks (Attached name place.node) refl) ∙ here) ∙ maybe in
-    (node-in-use history name place.node may, sym (own.holdings place.node (λ no. false≢true (sym maybe ∙ ap is_no (sym here ∙ no)))) ∙ ap (option_map held_at) found)
+entry-in-use : (row : RowShown) (history : History) (name : List ℕ) (node_entry : NodeEntryShown) → IsRowOf row history name → AreNodesApart row.node_entries → IsAmong node_entry row.node_entries → is_no node_entry.attached ≡ false
+    → IsAmong node_entry.node (nodes_in_use history name) × (held history name node_entry.node ≡ Some (held_at node_entry))
+entry-in-use row history name node_entry own apart among maybe =
+    let found : node_entry_of row node_entry.node ≡ Some node_entry = own-entry (λ (p : NodeEntryShown). p.node) row.node_entries node_entry apart among in
+    let here : mark_in (λ (p : NodeEntryShown). p.attached) (node_entry_of row node_entry.node) ≡ node_entry.attached = ap (mark_in (λ (p : NodeEntryShown). p.attached)) found in
+    let may : is_no (known history (Attached name node_entry.node)) ≡ false = ap is_no (sym (own.marks (Attached name node_entry.node) refl) ∙ here) ∙ maybe in
+    (node-in-use history name node_entry.node may, sym (own.holdings node_entry.node (λ no. false≢true (sym maybe ∙ ap is_no (sym here ∙ no)))) ∙ ap (option_map held_at) found)
 
 -- a node in use has an entry that may be attached
-node-place : (row : RowShown) (history : History) (name node : List ℕ) → IsRowOf row history name → IsAmong node (nodes_in_use history name)
-    → (place : PlaceShown) × IsAmong place row.places × (place.node ≡ node) × (is_no place.attached ≡ false) × (held history name node ≡ Some (held_at place))
-node-place row history name node own among = by (place_of row node) refl (ap is_no (own.marks (Attached name node) refl) ∙ node-may history name node among)
+entry-of-node : (row : RowShown) (history : History) (name node : List ℕ) → IsRowOf row history name → IsAmong node (nodes_in_use history name)
+    → (node_entry : NodeEntryShown) × IsAmong node_entry row.node_entries × (node_entry.node ≡ node) × (is_no node_entry.attached ≡ false) × (held history name node ≡ Some (held_at node_entry))
+entry-of-node row history name node own among = by (node_entry_of row node) refl (ap is_no (own.marks (Attached name node) refl) ∙ node-may history name node among)
   where
-    by : (o : Option PlaceShown) → place_of row node ≡ o → is_no (mark_in (λ (p : PlaceShown). p.attached) o) ≡ false
-        → (place : PlaceShown) × IsAmong place row.places × (place.node ≡ node) × (is_no place.attached ≡ false) × (held history name node ≡ Some (held_at place))
+    by : (o : Option NodeEntryShown) → node_entry_of row node ≡ o → is_no (mark_in (λ (p : NodeEntryShown). p.attached) o) ≡ false
+        → (node_entry : NodeEntryShown) × IsAmong node_entry row.node_entries × (node_entry.node ≡ node) × (is_no node_entry.attached ≡ false) × (held history name node ≡ Some (held_at node_entry))
     by None e maybe = absurd (false≢true (sym maybe))
-    by (Some place) e maybe = (
-      place,
-      among-find (λ (p : PlaceShown). same_text p.node node) row.places place e,
-      (same_text-tells place.node node).0 (find-passes (λ (p : PlaceShown). same_text p.node node) row.places place e),
+    by (Some node_entry) e maybe = (
+      node_entry,
+      among-find (λ (p : NodeEntryShown). same_text p.node node) row.node_entries node_entry e,
+      (same_text-tells node_entry.node node).0 (find-passes (λ (p : NodeEntryShown). same_text p.node node) row.node_entries node_entry e),
       maybe,
-      sym (own.holdings node (λ no. false≢true (sym maybe ∙ ap is_no (sym (ap (mark_in (λ (p : PlaceShown). p.attached)) e) ∙ no)))) ∙ ap (option_map held_at) e,
+      sym (own.holdings node (λ no. false≢true (sym maybe ∙ ap is_no (sym (ap (mark_in (λ (p : NodeEntryShown). p.attached)) e) ∙ no)))) ∙ ap (option_map held_at) e,
     )
 
 -- the volume may be attached so at another node
-pub elsewhere-alike : (so : Held → Bool) (row : RowShown) (history : History) (name node : List ℕ) → IsRowOf row history name → ArePlacesApart row.places → list_any so (held_elsewhere history name node) ≡ has_elsewhere so node row
+pub elsewhere-alike : (so : Held → Bool) (row : RowShown) (history : History) (name node : List ℕ) → IsRowOf row history name → AreNodesApart row.node_entries → list_any so (held_elsewhere history name node) ≡ has_elsewhere so node row
 elsewhere-alike so row history name node own apart = alike (list_any so (held_elsewhere history name node)) (has_elsewhere so node row) there back
   where
     others : List (List ℕ)
@@ -112,108 +112,108 @@ elsewhere-alike so row history name node own apart = alike (list_any so (held_el
         let holding = any-then so (held_elsewhere history name node) e in
         let other = among-filter_map (held history name) others holding.0 holding.1 in
         let is_in = among-kept (λ other. not (same_text other node)) (nodes_in_use history name) other.0 other.1 in
-        let place = node-place row history name other.0 own is_in.0 in
-        let differs : not (same_text place.0.node node) ≡ true = ap (λ n. not (same_text n node)) place.2 ∙ is_in.1 in
-        let it : so (held_at place.0) ≡ true = ap so (same_Some (held_at place.0) holding.0 (sym place.4 ∙ other.2)) ∙ holding.2 in
-        then-any (is_so_elsewhere so node) row.places place.0 place.1 (ap (λ b. b && not (is_no place.0.attached) && so (held_at place.0)) differs ∙ ap (λ b. not b && so (held_at place.0)) place.3 ∙ it)
+        let node_entry = entry-of-node row history name other.0 own is_in.0 in
+        let differs : not (same_text node_entry.0.node node) ≡ true = ap (λ n. not (same_text n node)) node_entry.2 ∙ is_in.1 in
+        let it : so (held_at node_entry.0) ≡ true = ap so (same_Some (held_at node_entry.0) holding.0 (sym node_entry.4 ∙ other.2)) ∙ holding.2 in
+        then-any (is_so_elsewhere so node) row.node_entries node_entry.0 node_entry.1 (ap (λ b. b && not (is_no node_entry.0.attached) && so (held_at node_entry.0)) differs ∙ ap (λ b. not b && so (held_at node_entry.0)) node_entry.3 ∙ it)
 
     back : has_elsewhere so node row ≡ true → list_any so (held_elsewhere history name node) ≡ true
     back e =
-        let place = any-then (is_so_elsewhere so node) row.places e in
-        let tests = and_parts (not (same_text place.0.node node) && not (is_no place.0.attached)) (so (held_at place.0)) place.2 in
-        let first = and_parts (not (same_text place.0.node node)) (not (is_no place.0.attached)) tests.0 in
-        let used = place-in-use row history name place.0 own apart place.1 (not-true (is_no place.0.attached) first.1) in
-        then-any so (held_elsewhere history name node) (held_at place.0)
-        (in-filter_map (held history name) others place.0.node (held_at place.0) (in_filter (λ other. not (same_text other node)) (nodes_in_use history name) place.0.node used.0 first.0) used.1)
+        let node_entry = any-then (is_so_elsewhere so node) row.node_entries e in
+        let tests = and_parts (not (same_text node_entry.0.node node) && not (is_no node_entry.0.attached)) (so (held_at node_entry.0)) node_entry.2 in
+        let first = and_parts (not (same_text node_entry.0.node node)) (not (is_no node_entry.0.attached)) tests.0 in
+        let used = entry-in-use row history name node_entry.0 own apart node_entry.1 (not-true (is_no node_entry.0.attached) first.1) in
+        then-any so (held_elsewhere history name node) (held_at node_entry.0)
+        (in-filter_map (held history name) others node_entry.0.node (held_at node_entry.0) (in_filter (λ other. not (same_text other node)) (nodes_in_use history name) node_entry.0.node used.0 first.0) used.1)
         tests.1
 
 -- the volume may be attached somewhere
-pub attached-alike : (row : RowShown) (history : History) (name : List ℕ) → IsRowOf row history name → ArePlacesApart row.places → nat_lt 0 (length (nodes_in_use history name)) ≡ is_attached_somewhere row
+pub attached-alike : (row : RowShown) (history : History) (name : List ℕ) → IsRowOf row history name → AreNodesApart row.node_entries → nat_lt 0 (length (nodes_in_use history name)) ≡ is_attached_somewhere row
 attached-alike row history name own apart = alike (nat_lt 0 (length (nodes_in_use history name))) (is_attached_somewhere row) there back
   where
     there : nat_lt 0 (length (nodes_in_use history name)) ≡ true → is_attached_somewhere row ≡ true
     there e =
         let node = has-some (nodes_in_use history name) e in
-        let place = node-place row history name node.0 own node.1 in
-        then-any (λ (p : PlaceShown). not (is_no p.attached)) row.places place.0 place.1 (ap not place.3)
+        let node_entry = entry-of-node row history name node.0 own node.1 in
+        then-any (λ (p : NodeEntryShown). not (is_no p.attached)) row.node_entries node_entry.0 node_entry.1 (ap not node_entry.3)
 
     back : is_attached_somewhere row ≡ true → nat_lt 0 (length (nodes_in_use history name)) ≡ true
     back e =
-        let place = any-then (λ (p : PlaceShown). not (is_no p.attached)) row.places e in
-        some-has (nodes_in_use history name) place.0.node (place-in-use row history name place.0 own apart place.1 (not-true (is_no place.0.attached) place.2)).0
+        let node_entry = any-then (λ (p : NodeEntryShown). not (is_no p.attached)) row.node_entries e in
+        some-has (nodes_in_use history name) node_entry.0.node (entry-in-use row history name node_entry.0 own apart node_entry.1 (not-true (is_no node_entry.0.attached) node_entry.2)).0
 
 -- it may be attached at this node otherwise
-pub otherwise-alike : (row : RowShown) (history : History) (name : List ℕ) (usage : Usage) → IsRowOf row history name → is_held_otherwise history name usage ≡ is_place_otherwise usage (place_of row usage.node)
+pub otherwise-alike : (row : RowShown) (history : History) (name : List ℕ) (usage : Usage) → IsRowOf row history name → is_held_otherwise history name usage ≡ is_entry_otherwise usage (node_entry_of row usage.node)
 otherwise-alike row history name usage own =
-    ap (λ k. not (is_no k) && is_otherwise usage (held history name usage.node)) (sym (own.marks (Attached name usage.node) refl)) ∙ by (place_of row usage.node) (own.holdings usage.node)
+    ap (λ k. not (is_no k) && is_otherwise usage (held history name usage.node)) (sym (own.marks (Attached name usage.node) refl)) ∙ by (node_entry_of row usage.node) (own.holdings usage.node)
   where
-    by : (o : Option PlaceShown) → (mark_in (λ (p : PlaceShown). p.attached) o ≢ No → option_map held_at o ≡ held history name usage.node)
-        → (not (is_no (mark_in (λ (p : PlaceShown). p.attached) o)) && is_otherwise usage (held history name usage.node)) ≡ is_place_otherwise usage o
+    by : (o : Option NodeEntryShown) → (mark_in (λ (p : NodeEntryShown). p.attached) o ≢ No → option_map held_at o ≡ held history name usage.node)
+        → (not (is_no (mark_in (λ (p : NodeEntryShown). p.attached) o)) && is_otherwise usage (held history name usage.node)) ≡ is_entry_otherwise usage o
     by None holds = refl
-    by (Some place) holds = at place.attached holds
+    by (Some node_entry) holds = at node_entry.attached holds
       where
-        at : (k : Known) → (k ≢ No → Some (held_at place) ≡ held history name usage.node) → (not (is_no k) && is_otherwise usage (held history name usage.node)) ≡ (not (is_no k) && is_otherwise usage (Some (held_at place)))
+        at : (k : Known) → (k ≢ No → Some (held_at node_entry) ≡ held history name usage.node) → (not (is_no k) && is_otherwise usage (held history name usage.node)) ≡ (not (is_no k) && is_otherwise usage (Some (held_at node_entry)))
         at No holds = refl
         at Yes holds = ap (is_otherwise usage) (sym (holds (λ e. cc)))
         at Maybe holds = ap (is_otherwise usage) (sym (holds (λ e. cc)))
 
 -- the other targets of a node are as many as its other entries that may be published
-pub others-alike : (row : RowShown) (history : History) (name node target : List ℕ) → IsRowOf row history name → AllByRecursion AreTargetsApart row.places
-    → length (filter (λ t. not (same_text t target)) (targets_in_use history name node)) ≡ others_count target (place_of row node)
-others-alike row history name node target own apart = by (place_of row node) refl
+pub others-alike : (row : RowShown) (history : History) (name node target : List ℕ) → IsRowOf row history name → AllByRecursion AreTargetsApart row.node_entries
+    → length (filter (λ t. not (same_text t target)) (targets_in_use history name node)) ≡ others_count target (node_entry_of row node)
+others-alike row history name node target own apart = by (node_entry_of row node) refl
   where
     targets : List (List ℕ)
     targets = filter (λ t. not (same_text t target)) (targets_in_use history name node)
 
     -- a target among them is another one, and may be published
-    may : (t : List ℕ) → IsAmong t targets → (not (same_text t target) ≡ true) × (is_no (mark_in (published_in t) (place_of row node)) ≡ false)
+    may : (t : List ℕ) → IsAmong t targets → (not (same_text t target) ≡ true) × (is_no (mark_in (published_in t) (node_entry_of row node)) ≡ false)
     may t among =
         let other = among-kept (λ t. not (same_text t target)) (targets_in_use history name node) t among in
         (other.1, ap is_no (own.marks (Published name node t) refl) ∙ target-may history name node t other.0)
 
-    by : (o : Option PlaceShown) → place_of row node ≡ o → length targets ≡ others_count target o
+    by : (o : Option NodeEntryShown) → node_entry_of row node ≡ o → length targets ≡ others_count target o
     by None e = ap length (empty-where targets (λ t among. false≢true (sym (may t among).1 ∙ ap (λ o. is_no (mark_in (published_in t) o)) e)))
-    by (Some place) e =
-        as-many-as targets (λ (a : Aim). a.target) (filter is_other place.aims)
+    by (Some node_entry) e =
+        as-many-as targets (λ (a : TargetEntry). a.target) (filter is_other node_entry.target_entries)
         (two-filter (λ (a b : List ℕ). same_text a b ≡ false) (λ t. not (same_text t target)) _
         (two-filter (λ (a b : List ℕ). same_text a b ≡ false) (λ (t : List ℕ). not (is_no (known history (Published name node t)))) _
         (distinct-once (filter_map (λ (i : Issued). published_target node (thing_of i)) (issued_of history name)))))
-        (two-filter (λ (a b : Aim). same_text a.target b.target ≡ false) is_other place.aims aims_apart)
-        (λ t among. let it = may t among in entry t it.0 (aim_of place t) refl (sym (ap (λ o. is_no (mark_in (published_in t) o)) e) ∙ it.1)) from ∙ length-filter is_other place.aims
+        (two-filter (λ (a b : TargetEntry). same_text a.target b.target ≡ false) is_other node_entry.target_entries targets_apart)
+        (λ t among. let it = may t among in entry t it.0 (target_entry_of node_entry t) refl (sym (ap (λ o. is_no (mark_in (published_in t) o)) e) ∙ it.1)) from ∙ length-filter is_other node_entry.target_entries
       where
-        is_other : Aim → Bool
-        is_other aim = not (same_text aim.target target) && not (is_no aim.published)
+        is_other : TargetEntry → Bool
+        is_other target_entry = not (same_text target_entry.target target) && not (is_no target_entry.published)
 
-        aims_apart : AreTargetsApart place
-        aims_apart = each_of AreTargetsApart row.places place apart (among-find (λ (p : PlaceShown). same_text p.node node) row.places place e)
+        targets_apart : AreTargetsApart node_entry
+        targets_apart = each_of AreTargetsApart row.node_entries node_entry apart (among-find (λ (p : NodeEntryShown). same_text p.node node) row.node_entries node_entry e)
 
-        entry : (t : List ℕ) → not (same_text t target) ≡ true → (o : Option Aim) → aim_of place t ≡ o → is_no (mark_in (λ (a : Aim). a.published) o) ≡ false
-            → (aim : Aim) × IsAmong aim (filter is_other place.aims) × (aim.target ≡ t)
+        entry : (t : List ℕ) → not (same_text t target) ≡ true → (o : Option TargetEntry) → target_entry_of node_entry t ≡ o → is_no (mark_in (λ (a : TargetEntry). a.published) o) ≡ false
+            → (target_entry : TargetEntry) × IsAmong target_entry (filter is_other node_entry.target_entries) × (target_entry.target ≡ t)
         entry t differs None f maybe = absurd (false≢true (sym maybe))
-        entry t differs (Some aim) f maybe =
-            let is : aim.target ≡ t = (same_text-tells aim.target t).0 (find-passes (λ (a : Aim). same_text a.target t) place.aims aim f) in
-            let other : is_other aim ≡ true = ap (λ b. b && not (is_no aim.published)) (ap (λ u. not (same_text u target)) is ∙ differs) ∙ ap not maybe in
-            (aim, in_filter is_other place.aims aim (among-find (λ (a : Aim). same_text a.target t) place.aims aim f) other, is)
+        entry t differs (Some target_entry) f maybe =
+            let is : target_entry.target ≡ t = (same_text-tells target_entry.target t).0 (find-passes (λ (a : TargetEntry). same_text a.target t) node_entry.target_entries target_entry f) in
+            let other : is_other target_entry ≡ true = ap (λ b. b && not (is_no target_entry.published)) (ap (λ u. not (same_text u target)) is ∙ differs) ∙ ap not maybe in
+            (target_entry, in_filter is_other node_entry.target_entries target_entry (among-find (λ (a : TargetEntry). same_text a.target t) node_entry.target_entries target_entry f) other, is)
 
-        from : (aim : Aim) → IsAmong aim (filter is_other place.aims) → IsAmong aim.target targets
-        from aim among =
-            let kept = among-kept is_other place.aims aim among in
-            let parts = and_parts (not (same_text aim.target target)) (not (is_no aim.published)) kept.1 in
-            let mark : mark_in (published_in aim.target) (place_of row node) ≡ aim.published = ap (mark_in (published_in aim.target)) e ∙ ap (mark_in (λ (a : Aim). a.published)) (own-entry (λ (a : Aim). a.target) place.aims aim aims_apart kept.0) in
-            in_filter (λ t. not (same_text t target)) (targets_in_use history name node) aim.target
-            (target-in-use history name node aim.target (ap is_no (sym (own.marks (Published name node aim.target) refl) ∙ mark) ∙ not-true _ parts.1)) parts.0
+        from : (target_entry : TargetEntry) → IsAmong target_entry (filter is_other node_entry.target_entries) → IsAmong target_entry.target targets
+        from target_entry among =
+            let kept = among-kept is_other node_entry.target_entries target_entry among in
+            let parts = and_parts (not (same_text target_entry.target target)) (not (is_no target_entry.published)) kept.1 in
+            let mark : mark_in (published_in target_entry.target) (node_entry_of row node) ≡ target_entry.published = ap (mark_in (published_in target_entry.target)) e ∙ ap (mark_in (λ (a : TargetEntry). a.published)) (own-entry (λ (a : TargetEntry). a.target) node_entry.target_entries target_entry targets_apart kept.0) in
+            in_filter (λ t. not (same_text t target)) (targets_in_use history name node) target_entry.target
+            (target-in-use history name node target_entry.target (ap is_no (sym (own.marks (Published name node target_entry.target) refl) ∙ mark) ∙ not-true _ parts.1)) parts.0
 
 -- some are where some are counted
-pub others-counted : (target : List ℕ) (place : Option PlaceShown) → nat_lt 0 (others_count target place) ≡ others_in target place
+pub others-counted : (target : List ℕ) (node_entry : Option NodeEntryShown) → nat_lt 0 (others_count target node_entry) ≡ others_in target node_entry
 others-counted target None = refl
-others-counted target (Some place) = any-counted (λ (a : Aim). not (same_text a.target target) && not (is_no a.published)) place.aims
+others-counted target (Some node_entry) = any-counted (λ (a : TargetEntry). not (same_text a.target target) && not (is_no a.published)) node_entry.target_entries
 
 -- where this target isn't published, some target is in use where another one may be published
-pub in-use-alike : (row : RowShown) (history : History) (name node target : List ℕ) → IsRowOf row history name → AllByRecursion AreTargetsApart row.places
-    → is_no (mark_in (published_in target) (place_of row node)) ≡ true → nat_lt 0 (length (targets_in_use history name node)) ≡ others_in target (place_of row node)
+pub in-use-alike : (row : RowShown) (history : History) (name node target : List ℕ) → IsRowOf row history name → AllByRecursion AreTargetsApart row.node_entries
+    → is_no (mark_in (published_in target) (node_entry_of row node)) ≡ true → nat_lt 0 (length (targets_in_use history name node)) ≡ others_in target (node_entry_of row node)
 in-use-alike row history name node target own apart quiet =
     ap (λ ts. nat_lt 0 (length ts)) (sym (filter-each (λ t. not (same_text t target)) _ (all_of _ (targets_in_use history name node) others)))
-    ∙ ap (nat_lt 0) (others-alike row history name node target own apart) ∙ others-counted target (place_of row node)
+    ∙ ap (nat_lt 0) (others-alike row history name node target own apart) ∙ others-counted target (node_entry_of row node)
   where
     others : (t : List ℕ) → IsAmong t (targets_in_use history name node) → not (same_text t target) ≡ true
     others t among =

@@ -14,7 +14,7 @@ use Rattle.csi_orchestrator.specs.declared.catalog.Catalog.{Catalog}
 use Rattle.csi_orchestrator.specs.Catalog.{rows_of, IsIndexed, IsReady, IsNextFor, AreUpTo, call_in, IsAfter}
 use Rattle.csi_orchestrator.specs.Commands.{next_number}
 use Rattle.csi_orchestrator.specs.RowRefusals.{step_refusal, late_refusal}
-use Rattle.csi_orchestrator.specs.RowSteps.{RowTold, outgoing_by, gone_on, row_after, row_goes_on, row_rests, row_unless, is_met, waits, is_given_up, timed_out, failed, changed, row_takes, row_step}
+use Rattle.csi_orchestrator.specs.RowSteps.{RowTold, outgoing_by, sent_or_dropped, row_after, row_sends_due, row_rests, row_unless, is_met, waits, is_given_up, timed_out, failed, changed, row_takes, row_step}
 use Rattle.csi_orchestrator.specs.Due.{Due}
 use Rattle.csi_orchestrator.specs.History.{Arguments}
 use Rattle.csi_orchestrator.specs.RowChanges.{new_row, wanted, stopped_goal}
@@ -61,21 +61,21 @@ abbrev pub GoesOn : Number → RowShown → Result RowTold OrchFault → Type 0
 GoesOn last row (Ok told) = IsOn last row told
 GoesOn last row (Err fault) = Unit {0}
 
--- a row of the same name that goes on, and one that rests
-gone-opened : (old : Option Number) (next : Option Outgoing) (row : RowShown) → IsOpened old next (gone_on next row).open_number
-gone-opened old None row = λ number e. absurd (none-some number e)
-gone-opened old (Some next) row = λ number e. inr (ap (option_map (λ (n : Number). n.call)) e)
+-- a row of the same name whose due call is sent or whose goal is dropped, and one that rests
+sent_or_dropped-opened : (old : Option Number) (next : Option Outgoing) (row : RowShown) → IsOpened old next (sent_or_dropped next row).open_number
+sent_or_dropped-opened old None row = λ number e. absurd (none-some number e)
+sent_or_dropped-opened old (Some next) row = λ number e. inr (ap (option_map (λ (n : Number). n.call)) e)
 
-gone-name : (next : Option Outgoing) (row : RowShown) → (gone_on next row).name ≡ row.name
-gone-name None row = refl
-gone-name (Some next) row = refl
+sent_or_dropped-name : (next : Option Outgoing) (row : RowShown) → (sent_or_dropped next row).name ≡ row.name
+sent_or_dropped-name None row = refl
+sent_or_dropped-name (Some next) row = refl
 
-pub on-goes : (last : Number) (row then : RowShown) → then.name ≡ row.name → GoesOn last row (row_goes_on last then)
-on-goes last row then same = by (outgoing_by (due_in then) (next_number last)) refl
+pub sends-due-goes : (last : Number) (row then : RowShown) → then.name ≡ row.name → GoesOn last row (row_sends_due last then)
+sends-due-goes last row then same = by (outgoing_by (due_in then) (next_number last)) refl
   where
     by : (next : Result (Option Outgoing) OrchFault) → outgoing_by (due_in then) (next_number last) ≡ next → GoesOn last row (row_after then next)
     by (Err fault) e = tt
-    by (Ok next) e = record { name = gone-name next then ∙ same; opened = gone-opened row.open_number next then; after = after-sent last (due_in then) next e }
+    by (Ok next) e = record { name = sent_or_dropped-name next then ∙ same; opened = sent_or_dropped-opened row.open_number next then; after = after-sent last (due_in then) next e }
 
 unless-goes : (last : Number) (row : RowShown) (fault : Option OrchFault) (told : Result RowTold OrchFault) → GoesOn last row told → GoesOn last row (row_unless fault told)
 unless-goes last row None told goes = goes
@@ -102,7 +102,7 @@ step-goes nodes last step row =
     (by_if (GoesOn last row) (is_met step row) (row_rests row) _ (λ e. record { name = refl; opened = λ number is. inl is; after = none-after last.call })
     (λ e. by_if (GoesOn last row) (waits step row) (row_rests (closed row)) _
     (λ f. record { name = refl; opened = λ number is. absurd (none-some number is); after = none-after last.call })
-    (λ f. unless-goes last row (late_refusal last step row) (row_goes_on last (changed step row)) (on-goes last row (changed step row) (changed-name step row)))))
+    (λ f. unless-goes last row (late_refusal last step row) (row_sends_due last (changed step row)) (sends-due-goes last row (changed step row) (changed-name step row)))))
 
 -- once a row took a step, only the call that is sent for it isn't noted yet
 pub ready-told : (catalog : Catalog) (nodes : List (List ℕ)) (last : Number) (place : ℕ) (row new : Row) (step : Step) (next : Option Outgoing) → IsIndexed catalog → AreUpTo last.call catalog
@@ -114,9 +114,9 @@ ready-told catalog nodes last place row new step next indexed known at is =
 
 -- a new row
 pub next-created : (catalog : Catalog) (last : Number) (name : List ℕ) (arguments : Arguments) (row : Row) (next : Option Outgoing) → AreUpTo last.call catalog
-    → row_goes_on last (new_row name arguments) ≡ Ok (record { outgoing = next; row = row_shown row }) → IsNextFor catalog row.open_number (call_in next) × (row.name ≡ name) × IsAfter last.call next
+    → row_sends_due last (new_row name arguments) ≡ Ok (record { outgoing = next; row = row_shown row }) → IsNextFor catalog row.open_number (call_in next) × (row.name ≡ name) × IsAfter last.call next
 next-created catalog last name arguments row next known is =
-    let on = subst (GoesOn last (new_row name arguments)) is (on-goes last (new_row name arguments) (new_row name arguments) refl) in (
+    let on = subst (GoesOn last (new_row name arguments)) is (sends-due-goes last (new_row name arguments) (new_row name arguments) refl) in (
       record {
         is = λ number is_open. by number (on.opened number is_open);
         new = λ call named. next-unnoted catalog last.call call known (on.after call named);

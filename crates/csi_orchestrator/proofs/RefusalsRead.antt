@@ -14,7 +14,7 @@ use Rattle.csi_orchestrator.specs.History.{Usage, History}
 use Rattle.csi_orchestrator.specs.Readings.{id_of, goal_of, name_noted, names_of, has_row}
 use Rattle.csi_orchestrator.specs.Due.{due_use}
 use Rattle.csi_orchestrator.specs.Commands.{next_number, is_spent, create_fault, is_for_one_node, is_second_writer, use_fault, use_room_fault, stop_fault, delete_fault, delete_busy_fault, timeout_fault}
-use Rattle.csi_orchestrator.specs.Shown.{RowShown, Parts, row_of, place_of, goal_shown, goal_in, AgreesWith}
+use Rattle.csi_orchestrator.specs.Shown.{RowShown, Parts, row_of, node_entry_of, goal_shown, goal_in, AgreesWith}
 use Rattle.csi_orchestrator.specs.Kept.{AreKept}
 use Rattle.csi_orchestrator.specs.RowRefusals.{is_last, first_fault, again_fault, use_refusal, room_refusal, stop_refusal, delete_refusal, busy_refusal}
 use Rattle.csi_orchestrator.specs.RowSteps.{due_for_use}
@@ -81,18 +81,18 @@ use-refused parts history name usage row are agrees e =
       sym (own.marks (Exists name) refl),
       wanted-alike row history name own,
       sym own.arguments,
-      elsewhere-alike (is_for_one_node usage) row history name usage.node own kept.places,
-      elsewhere-alike (is_second_writer usage) row history name usage.node own kept.places,
+      elsewhere-alike (is_for_one_node usage) row history name usage.node own kept.nodes,
+      elsewhere-alike (is_second_writer usage) row history name usage.node own kept.nodes,
       otherwise-alike row history name usage own,
-      ap (nat_lt 0) (others-alike row history name usage.node usage.target own kept.aims) ∙ others-counted usage.target (place_of row usage.node),
+      ap (nat_lt 0) (others-alike row history name usage.node usage.target own kept.targets) ∙ others-counted usage.target (node_entry_of row usage.node),
     ) refl
 
 -- one that isn't met yet is refused for want of numbers or of room as the row tells
 pub room-refused : (parts : Parts) (history : History) (name : List ℕ) (usage : Usage) (row : RowShown) → AreKept parts.rows → AgreesWith parts history → row_of parts.rows name ≡ Some row
     → use_room_fault history name usage ≡ room_refusal parts.last usage row
 room-refused parts history name usage row are agrees e =
-    let aims = (found-kept (λ (r : RowShown). same_text r.name name) parts.rows row are e).aims in
-    rw (spent-alike parts history agrees, others-alike row history name usage.node usage.target (is-row-of parts history name row agrees e) aims) refl
+    let targets = (found-kept (λ (r : RowShown). same_text r.name name) parts.rows row are e).targets in
+    rw (spent-alike parts history agrees, others-alike row history name usage.node usage.target (is-row-of parts history name row agrees e) targets) refl
 
 -- the call that is due for a use is read from the row
 pub use-due : (parts : Parts) (history : History) (name : List ℕ) (usage : Usage) (row : RowShown) → AreKept parts.rows → AgreesWith parts history → row_of parts.rows name ≡ Some row
@@ -118,7 +118,7 @@ delete-unknown parts history name are agrees e = rw (unknown parts history name 
 pub delete-refused : (parts : Parts) (history : History) (name : List ℕ) (row : RowShown) → AreKept parts.rows → AgreesWith parts history → row_of parts.rows name ≡ Some row → delete_fault history name ≡ delete_refusal row
 delete-refused parts history name row are agrees e =
     let own = is-row-of parts history name row agrees e in
-    rw (own.there, sym own.ids, attached-alike row history name own (found-kept (λ (r : RowShown). same_text r.name name) parts.rows row are e).places) refl
+    rw (own.there, sym own.ids, attached-alike row history name own (found-kept (λ (r : RowShown). same_text r.name name) parts.rows row are e).nodes) refl
 
 -- one that isn't met yet is refused for another goal or for want of numbers as the row tells
 pub busy-refused : (parts : Parts) (history : History) (name : List ℕ) (row : RowShown) → AreKept parts.rows → AgreesWith parts history → row_of parts.rows name ≡ Some row → delete_busy_fault history name ≡ busy_refusal parts.last row

@@ -28,21 +28,21 @@ use Rattle.csi_orchestrator.specs.Readings.{goal_of, open_call, tries, last_numb
 use Rattle.csi_orchestrator.specs.WellFormed.{IsWellFormed}
 use Rattle.csi_orchestrator.specs.Commands.{timeout_fault}
 use Rattle.csi_orchestrator.specs.Due.{Due}
-use Rattle.csi_orchestrator.specs.Moves.{Input, ToCreate, ToUse, ToStop, ToDelete, TimesOut, Comes, Restarts, Answer, Sends, Hears, Restarted, Moved, go_on, is_forward, is_forward_due, stopped, closing, timeout, hears, call_replied, heard, heard_refusal, deliver, restart, moves}
+use Rattle.csi_orchestrator.specs.Moves.{Input, ToCreate, ToUse, ToStop, ToDelete, TimesOut, Comes, Restarts, Answer, Sends, Hears, Restarted, Moved, send_due, is_forward, is_forward_due, stopped, closing, timeout, hears, call_replied, heard, heard_refusal, deliver, restart, moves}
 use Rattle.csi_orchestrator.specs.Agrees.{View, Agrees}
 use Rattle.csi_orchestrator.specs.Following.{after_accepted, after_closed, after_noted}
 use Rattle.csi_orchestrator.specs.Shown.{RowShown, Parts, row_of, goal_shown, held_in, due_in, open_in_row, issued_as, closed, in_session, view_of, AgreesWith}
 use Rattle.csi_orchestrator.specs.Found.{kind_due}
 use Rattle.csi_orchestrator.specs.RowChanges.{succeeded, wanted, stopped_goal}
 use Rattle.csi_orchestrator.specs.RowRefusals.{idle_refusal}
-use Rattle.csi_orchestrator.specs.RowSteps.{RowTold, row_goes_on, row_rests, row_unless, waits_for, is_given_up, timed_out, failed}
+use Rattle.csi_orchestrator.specs.RowSteps.{RowTold, row_sends_due, row_rests, row_unless, waits_for, is_given_up, timed_out, failed}
 use Rattle.csi_orchestrator.specs.RowMoves.{Told, told, placed, steps_at, row_replied, is_issued_as, hears_reply, receives, starts_again, row_moves}
 use Rattle.csi_orchestrator.specs.Kept.{IsKept, AreKept, AreGuarded, RowsTell, MovesAreGuarded}
 use Rattle.csi_orchestrator.proofs.TextLists.{text-same}
 use Rattle.csi_orchestrator.proofs.DueCalls.{due-of-row}
 use Rattle.csi_orchestrator.proofs.DueCases.{IsDueFor, due-cases, ToMake, ToRemove, ToAttach, ToStage, ToPublish, ToUnpublish, ToUnstage, ToDetach}
 use Rattle.csi_orchestrator.proofs.ViewsFollow.{accepted-follows, closed-follows, noted-follows, started-follows}
-use Rattle.csi_orchestrator.proofs.SendingAgrees.{Guards, Tells, IsReady, has-entry, then-dropped, goes-on-tells}
+use Rattle.csi_orchestrator.proofs.SendingAgrees.{Guards, Tells, IsReady, has-entry, then-dropped, sends-due-tells}
 use Rattle.csi_orchestrator.proofs.StepsKept.{closed-may, stopped-may, changed-may}
 use Rattle.csi_orchestrator.proofs.RowsAfterNotes.{reads-wanted, reads-closed, reads-quiet, reads-refused}
 use Rattle.csi_orchestrator.proofs.RefusalsRead.{timeout-unknown, timeout-refused}
@@ -83,7 +83,7 @@ record IsClosed (parts : Parts) (history : History) (name : List ℕ) (row : Row
   same_last : parts.last ≡ view.last
   guarded : AreGuarded history items
 
--- it goes on, or its use is stopped
+-- the due call may be sent, or that of a stopped use
 closed-ready : (parts : Parts) (history : History) (name : List ℕ) (row : RowShown) (items : List Item) → IsFound parts history name row → (c : IsClosed parts history name row items)
     → IsReady parts history name (closed row) c.view items
 closed-ready parts history name row items at c =
@@ -95,16 +95,16 @@ closed-ready parts history name row items at c =
       same_last = c.same_last;
       old_last = sym ((at.right).agrees).same_last;
       quiet = sym (c.reads).open_calls;
-      going = closed-may row (own-kept parts history name row at);
+      may_send = closed-may row (own-kept parts history name row at);
       guarded = c.guarded;
     }
 
 use-stops : (parts : Parts) (history : History) (name : List ℕ) (row : RowShown) (items : List Item) (usage : Usage) (answer : Option Frame → Answer) → IsFound parts history name row → IsClosed parts history name row items
-    → row.goal ≡ Some (Use usage) → Tells history (placed parts answer (row_goes_on parts.last (wanted (Stop usage.node usage.target) row))) (go_on history name answer (Noted name (stopped (goal_of history name)) ∷ items))
+    → row.goal ≡ Some (Use usage) → Tells history (placed parts answer (row_sends_due parts.last (wanted (Stop usage.node usage.target) row))) (send_due history name answer (Noted name (stopped (goal_of history name)) ∷ items))
 use-stops parts history name row items usage answer at c goal =
-    subst (λ g. Tells history (placed parts answer (row_goes_on parts.last (wanted (Stop usage.node usage.target) row))) (go_on history name answer (Noted name (stopped g) ∷ items)))
+    subst (λ g. Tells history (placed parts answer (row_sends_due parts.last (wanted (Stop usage.node usage.target) row))) (send_due history name answer (Noted name (stopped g) ∷ items)))
     (sym (ap (option_map (goal_shown row)) goal) ∙ (is-row-of parts history name row (at.right).agrees at.found).goals)
-    (goes-on-tells parts history name (wanted (Stop usage.node usage.target) (closed row)) (after_noted name stop c.view) (Noted name stop ∷ items)
+    (sends-due-tells parts history name (wanted (Stop usage.node usage.target) (closed row)) (after_noted name stop c.view) (Noted name stop ∷ items)
     (record {
       form = (tt, c.form);
       agrees = noted-follows c.view (with_items history items) name stop c.agrees;
@@ -113,7 +113,7 @@ use-stops parts history name row items usage answer at c goal =
       same_last = c.same_last;
       old_last = sym ((at.right).agrees).same_last;
       quiet = sym (c.reads).open_calls;
-      going = stopped-may row (Use usage) goal (own-kept parts history name row at);
+      may_send = stopped-may row (Use usage) goal (own-kept parts history name row at);
       guarded = c.guarded;
     }) answer)
   where
@@ -150,10 +150,10 @@ given-up parts history name row at (Some issued) f =
 
 -- a timeout
 timeout-tells : (parts : Parts) (history : History) (name : List ℕ) (row : RowShown) → IsFound parts history name row → (goal : Option Goal) → row.goal ≡ goal
-    → Tells history (placed parts Sends (row_unless (idle_refusal goal) (row_goes_on parts.last (timed_out row goal)))) (timeout history name (cond (is_none goal) (Some faults.Idle) None))
+    → Tells history (placed parts Sends (row_unless (idle_refusal goal) (row_sends_due parts.last (timed_out row goal)))) (timeout history name (cond (is_none goal) (Some faults.Idle) None))
 timeout-tells parts history name row at None g = (refl, tt)
 timeout-tells parts history name row at (Some goal) g =
-    subst (λ d. Tells history (placed parts Sends on) (cond (is_forward_due d && (tries history name == 3)) stop more)) (sym (due-of-row row history name own (own-kept parts history name row at).aims))
+    subst (λ d. Tells history (placed parts Sends on) (cond (is_forward_due d && (tries history name == 3)) stop more)) (sym (due-of-row row history name own (own-kept parts history name row at).targets))
     (subst (λ t. Tells history (placed parts Sends on) (cond (is_forward_due (due_in row) && (t == 3)) stop more)) own.counts (by (is_given_up row) refl))
   where
     own : IsRowOf row history name
@@ -166,20 +166,20 @@ timeout-tells parts history name row at (Some goal) g =
     given = given-up parts history name row at (open_call history name) refl
 
     on : Result RowTold OrchFault
-    on = row_goes_on parts.last (timed_out row (Some goal))
+    on = row_sends_due parts.last (timed_out row (Some goal))
 
     stop : Result Moved OrchFault
-    stop = go_on history name Sends (Noted name (stopped (goal_of history name)) ∷ items)
+    stop = send_due history name Sends (Noted name (stopped (goal_of history name)) ∷ items)
 
     more : Result Moved OrchFault
-    more = go_on history name Sends items
+    more = send_due history name Sends items
 
-    by : (b : Bool) → is_given_up row ≡ b → Tells history (placed parts Sends (row_goes_on parts.last (cond b (wanted (stopped_goal goal) row) (closed row)))) (cond b stop more)
+    by : (b : Bool) → is_given_up row ≡ b → Tells history (placed parts Sends (row_sends_due parts.last (cond b (wanted (stopped_goal goal) row) (closed row)))) (cond b stop more)
     by true spent =
         let wish = forward-due row (and_parts (is_forward_due (due_in row)) (row.tries == 3) spent).0 in
-        subst (λ w. Tells history (placed parts Sends (row_goes_on parts.last (wanted (stopped_goal w) row))) stop) (same_Some (Use wish.0) goal (sym wish.1 ∙ g))
+        subst (λ w. Tells history (placed parts Sends (row_sends_due parts.last (wanted (stopped_goal w) row))) stop) (same_Some (Use wish.0) goal (sym wish.1 ∙ g))
         (use-stops parts history name row items wish.0 Sends at given wish.1)
-    by false left = goes-on-tells parts history name (closed row) given.view items (closed-ready parts history name row items at given) Sends
+    by false left = sends-due-tells parts history name (closed row) given.view items (closed-ready parts history name row items at given) Sends
 
 -- the same, whether the name has a row or not
 timeouts-tell : (parts : Parts) (history : History) (name : List ℕ) → AreRight parts history → (o : Option RowShown) → row_of parts.rows name ≡ o
@@ -230,10 +230,10 @@ heard-closed parts history row number due reply by bad =
 
 -- a success
 success-tells : (parts : Parts) (history : History) (row : RowShown) (number : Number) (due : Due) (reply : Reply) → IsHeardBy parts history row number due → is_ok_status reply.status ≡ true
-    → Tells history (placed parts hears (row_goes_on parts.last (succeeded (kind_of due.call) reply.id row))) (go_on history row.name hears (taken number reply ∷ []))
+    → Tells history (placed parts hears (row_sends_due parts.last (succeeded (kind_of due.call) reply.id row))) (send_due history row.name hears (taken number reply ∷ []))
 unfolding heard-view taken
 success-tells parts history row number due reply by fine =
-    goes-on-tells parts history row.name (succeeded (kind_of due.call) reply.id row) (heard-view parts row number due reply) (taken number reply ∷ [])
+    sends-due-tells parts history row.name (succeeded (kind_of due.call) reply.id row) (heard-view parts row number due reply) (taken number reply ∷ [])
     (record {
       form = heard-form parts history row number due reply by;
       agrees = heard-agrees parts history row number due reply by;
@@ -243,7 +243,7 @@ success-tells parts history row number due reply by fine =
       same_last = refl;
       old_last = sym ((by.at.right).agrees).same_last;
       quiet = ap (λ b. cond b None ((view_of parts).open_calls row.name)) (text-same row.name);
-      going = changed-may parts.nodes parts.last (Succeed (kind_of due.call) reply.id) row own (own, ap kind_due by.is_due) refl;
+      may_send = changed-may parts.nodes parts.last (Succeed (kind_of due.call) reply.id) row own (own, ap kind_due by.is_due) refl;
       guarded = tt;
     }) hears
   where
@@ -252,7 +252,7 @@ success-tells parts history row number due reply by fine =
 
 -- what is told by a failure of the call that is due for this goal
 Fails : Parts → RowShown → Option Goal → Result Told OrchFault
-Fails parts row goal = placed parts hears (cond (waits_for goal) (row_rests (closed row)) (row_goes_on parts.last (failed row goal)))
+Fails parts row goal = placed parts hears (cond (waits_for goal) (row_rests (closed row)) (row_sends_due parts.last (failed row goal)))
 
 -- a refusal after which nothing is sent
 waits-tell : (parts : Parts) (history : History) (row : RowShown) (number : Number) (due : Due) (reply : Reply) (goal : Goal) → IsHeardBy parts history row number due → is_ok_status reply.status ≡ false
@@ -260,7 +260,7 @@ waits-tell : (parts : Parts) (history : History) (row : RowShown) (number : Numb
 unfolding taken Fails
 waits-tell parts history row number due reply goal by bad waiting wish =
     let c = heard-closed parts history row number due reply by bad in
-    subst (λ b. Tells history (placed parts hears (cond b (row_rests (closed row)) (row_goes_on parts.last (failed row row.goal)))) (Ok (let m : Moved = record { answer = hears None; items = taken number reply ∷ [] } in m)))
+    subst (λ b. Tells history (placed parts hears (cond b (row_rests (closed row)) (row_sends_due parts.last (failed row row.goal)))) (Ok (let m : Moved = record { answer = hears None; items = taken number reply ∷ [] } in m)))
     (sym (ap waits_for wish ∙ waiting)) ((refl, put-agrees parts parts.last row.name (closed row) c.view (with_items history (taken number reply ∷ [])) c.reads c.others c.same_last c.agrees), tt)
 
 -- a create that was refused
@@ -274,10 +274,10 @@ drops-tell parts history row number due reply by bad wish =
 
 -- a forward call that was refused: the use is stopped
 stops-after : (parts : Parts) (history : History) (row : RowShown) (number : Number) (due : Due) (reply : Reply) (usage : Usage) → IsHeardBy parts history row number due → is_ok_status reply.status ≡ false
-    → row.goal ≡ Some (Use usage) → Tells history (Fails parts row row.goal) (go_on history row.name hears (Noted row.name (stopped (goal_of history row.name)) ∷ taken number reply ∷ []))
+    → row.goal ≡ Some (Use usage) → Tells history (Fails parts row row.goal) (send_due history row.name hears (Noted row.name (stopped (goal_of history row.name)) ∷ taken number reply ∷ []))
 unfolding Fails
 stops-after parts history row number due reply usage by bad wish =
-    subst (λ g. Tells history (Fails parts row g) (go_on history row.name hears (Noted row.name (stopped (goal_of history row.name)) ∷ taken number reply ∷ []))) (sym wish)
+    subst (λ g. Tells history (Fails parts row g) (send_due history row.name hears (Noted row.name (stopped (goal_of history row.name)) ∷ taken number reply ∷ []))) (sym wish)
     (use-stops parts history row.name row (taken number reply ∷ []) usage hears by.at (heard-closed parts history row number due reply by bad) wish)
 
 -- a status other than OK, by each call that may be due
@@ -299,7 +299,7 @@ unfolding taken Fails
 heard-tells parts history row number due reply by = tells (is_ok_status reply.status) refl
   where
     tells : (b : Bool) → is_ok_status reply.status ≡ b → Tells history (steps_at parts hears (cond b (Succeed (kind_of due.call) reply.id) Fail) (Some row))
-        (cond b (go_on history row.name hears (taken number reply ∷ [])) (heard_refusal history (issued-by row.name number due) (taken number reply) due.call))
+        (cond b (send_due history row.name hears (taken number reply ∷ [])) (heard_refusal history (issued-by row.name number due) (taken number reply) due.call))
     tells true fine = success-tells parts history row number due reply by fine
     tells false bad = refusal-tells parts history row number due reply by bad (due-cases row due by.is_due)
 

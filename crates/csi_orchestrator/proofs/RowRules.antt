@@ -10,9 +10,9 @@ use Rattle.csi_types.specs.Same.{same_text}
 use Rattle.csi_lists.proofs.Pairs.{two-filter}
 use Rattle.csi_lists.proofs.Each.{each-filter, each-map}
 use Rattle.csi_types.proofs.Equality.{same_text-tells}
-use Rattle.csi_orchestrator.specs.declared.row.Aim.{Aim}
 use Rattle.csi_orchestrator.specs.declared.row.Goal.{Goal}
 use Rattle.csi_orchestrator.specs.declared.row.Goal.TheVariants.{Create, Use, Stop, Delete}
+use Rattle.csi_orchestrator.specs.declared.row.TargetEntry.{TargetEntry}
 use Rattle.csi_orchestrator.specs.declared.row.Usage.{Usage}
 use Rattle.csi_orchestrator.specs.declared.thing.Known.{Known}
 use Rattle.csi_orchestrator.specs.declared.thing.Known.TheVariants.{No, Maybe}
@@ -20,134 +20,134 @@ use Rattle.csi_orchestrator.specs.Thing.{is_no}
 use Rattle.csi_orchestrator.specs.History.{Held}
 use Rattle.csi_orchestrator.specs.Commands.{is_for_one_node, is_second_writer}
 use Rattle.csi_orchestrator.specs.Due.{Due}
-use Rattle.csi_orchestrator.specs.Shown.{PlaceShown, RowShown, place_of, aim_of, held_at, due_by, due_in, closed, AreTargetsApart}
-use Rattle.csi_orchestrator.specs.RowChanges.{Aspect, Existence, Publication, aspect_of, place_marked, marked_at, at_goal, exists_marked, places_marked, marked, sent, told_of, succeeded, wanted, is_aim_kept, with_kept_aims, is_place_kept, dropped, stopped_goal}
+use Rattle.csi_orchestrator.specs.Shown.{NodeEntryShown, RowShown, node_entry_of, target_entry_of, held_at, due_by, due_in, closed, AreTargetsApart}
+use Rattle.csi_orchestrator.specs.RowChanges.{Aspect, Existence, Publication, aspect_of, node_marked, marked_at, at_goal, exists_marked, nodes_marked, marked, sent, told_of, succeeded, wanted, is_target_kept, with_kept_targets, is_node_kept, dropped, stopped_goal}
 use Rattle.csi_orchestrator.specs.RowRefusals.{is_so_elsewhere}
 use Rattle.csi_orchestrator.specs.Keyed.{change_by}
-use Rattle.csi_orchestrator.specs.Kept.{ArePlacesApart, IsUsable, MayBeWanted, IsKept}
+use Rattle.csi_orchestrator.specs.Kept.{AreNodesApart, IsUsable, MayBeWanted, IsKept}
 use Rattle.csi_orchestrator.proofs.TextLists.{text-same}
 use Rattle.csi_orchestrator.proofs.DueCases.{IsDueFor, due-cases, ToMake, ToRemove, ToAttach, ToStage, ToPublish, ToUnpublish, ToUnstage, ToDetach}
 use Rattle.csi_orchestrator.proofs.KeyedSearches.{find-change}
 use Rattle.csi_orchestrator.proofs.EntryRules.{each-change, apart-change, any-change, apart-map}
 
 -- a node has one entry, and so has each target there
-pub record AreDistinct (places : List PlaceShown) : Type 0 where
-  pub nodes : ArePlacesApart places
-  pub targets : AllByRecursion AreTargetsApart places
+pub record AreDistinct (entries : List NodeEntryShown) : Type 0 where
+  pub nodes : AreNodesApart entries
+  pub targets : AllByRecursion AreTargetsApart entries
 
 -- so it is in a kept row
-pub kept-distinct : (row : RowShown) → IsKept row → AreDistinct row.places
-kept-distinct row kept = record { nodes = kept.places; targets = kept.aims }
+pub kept-distinct : (row : RowShown) → IsKept row → AreDistinct row.node_entries
+kept-distinct row kept = record { nodes = kept.nodes; targets = kept.targets }
 
--- a change of a place's marks
-pub record IsMild (target : List ℕ) (change : PlaceShown → PlaceShown) : Type 0 where
-  pub same_node : (place : PlaceShown) → (change place).node ≡ place.node
-  pub same_capability : (place : PlaceShown) → (change place).capability ≡ place.capability
-  pub same_flag : (place : PlaceShown) → (change place).readonly ≡ place.readonly
-  pub still_apart : (place : PlaceShown) → AreTargetsApart place → AreTargetsApart (change place)
-  pub still_aimed : (place : PlaceShown) (aim : Aim) → aim_of place target ≡ Some aim → (other : Aim) × (aim_of (change place) target ≡ Some other)
+-- a change of the marks of a node's entry
+pub record IsMild (target : List ℕ) (change : NodeEntryShown → NodeEntryShown) : Type 0 where
+  pub same_node : (entry : NodeEntryShown) → (change entry).node ≡ entry.node
+  pub same_capability : (entry : NodeEntryShown) → (change entry).capability ≡ entry.capability
+  pub same_flag : (entry : NodeEntryShown) → (change entry).readonly ≡ entry.readonly
+  pub still_apart : (entry : NodeEntryShown) → AreTargetsApart entry → AreTargetsApart (change entry)
+  pub still_there : (entry : NodeEntryShown) (target_entry : TargetEntry) → target_entry_of entry target ≡ Some target_entry → (other : TargetEntry) × (target_entry_of (change entry) target ≡ Some other)
 
 -- a mark that is set in an entry is such a change
-pub mild-marked : (mark : Known) (aspect : Aspect) (target : List ℕ) → IsMild target (place_marked mark aspect target)
+pub mild-marked : (mark : Known) (aspect : Aspect) (target : List ℕ) → IsMild target (node_marked mark aspect target)
 mild-marked mark Publication target =
     record {
-      same_node = λ place. refl;
-      same_capability = λ place. refl;
-      same_flag = λ place. refl;
-      still_apart = λ place apart. apart-change (λ (aim : Aim). aim.target) target marks place.aims (λ aim. refl) apart;
-      still_aimed = λ place aim e. (
-        marks aim,
-        find-change (λ (aim : Aim). aim.target) target marks place.aims target (λ aim. refl)
-            ∙ ap (λ b. cond b (option_map marks (aim_of place target)) (aim_of place target)) (text-same target) ∙ ap (option_map marks) e,
+      same_node = λ entry. refl;
+      same_capability = λ entry. refl;
+      same_flag = λ entry. refl;
+      still_apart = λ entry apart. apart-change (λ (target_entry : TargetEntry). target_entry.target) target marks entry.target_entries (λ target_entry. refl) apart;
+      still_there = λ entry target_entry e. (
+        marks target_entry,
+        find-change (λ (target_entry : TargetEntry). target_entry.target) target marks entry.target_entries target (λ target_entry. refl)
+            ∙ ap (λ b. cond b (option_map marks (target_entry_of entry target)) (target_entry_of entry target)) (text-same target) ∙ ap (option_map marks) e,
       );
     }
   where
-    marks : Aim → Aim
-    marks aim = record aim { published = mark }
+    marks : TargetEntry → TargetEntry
+    marks target_entry = record target_entry { published = mark }
 mild-marked mark aspect target =
-    record { same_node = λ place. refl; same_capability = λ place. refl; same_flag = λ place. refl; still_apart = λ place apart. apart; still_aimed = λ place aim e. (aim, e) }
+    record { same_node = λ entry. refl; same_capability = λ entry. refl; same_flag = λ entry. refl; still_apart = λ entry apart. apart; still_there = λ entry target_entry e. (target_entry, e) }
 
 -- such a change of a node's entry leaves each node and target its one entry
-distinct-change : (node target : List ℕ) (change : PlaceShown → PlaceShown) (places : List PlaceShown) → IsMild target change → AreDistinct places → AreDistinct (change_by (λ (place : PlaceShown). place.node) node change places)
-distinct-change node target change places mild distinct =
+distinct-change : (node target : List ℕ) (change : NodeEntryShown → NodeEntryShown) (entries : List NodeEntryShown) → IsMild target change → AreDistinct entries → AreDistinct (change_by (λ (entry : NodeEntryShown). entry.node) node change entries)
+distinct-change node target change entries mild distinct =
     record {
-      nodes = apart-change (λ (place : PlaceShown). place.node) node change places mild.same_node distinct.nodes;
-      targets = each-change AreTargetsApart (λ (place : PlaceShown). place.node) node change places mild.still_apart distinct.targets;
+      nodes = apart-change (λ (entry : NodeEntryShown). entry.node) node change entries mild.same_node distinct.nodes;
+      targets = each-change AreTargetsApart (λ (entry : NodeEntryShown). entry.node) node change entries mild.still_apart distinct.targets;
     }
 
 -- a change at the node and the target of a goal does, if it does at every node and target
-distinct-at : (change : List ℕ → List ℕ → List PlaceShown → List PlaceShown) → ((node target : List ℕ) (places : List PlaceShown) → AreDistinct places → AreDistinct (change node target places))
-    → (goal : Option Goal) (places : List PlaceShown) → AreDistinct places → AreDistinct (at_goal change goal places)
-distinct-at change keeps (Some (Use usage)) places distinct = keeps usage.node usage.target places distinct
-distinct-at change keeps (Some (Stop node target)) places distinct = keeps node target places distinct
-distinct-at change keeps goal places distinct = distinct
+distinct-at : (change : List ℕ → List ℕ → List NodeEntryShown → List NodeEntryShown) → ((node target : List ℕ) (entries : List NodeEntryShown) → AreDistinct entries → AreDistinct (change node target entries))
+    → (goal : Option Goal) (entries : List NodeEntryShown) → AreDistinct entries → AreDistinct (at_goal change goal entries)
+distinct-at change keeps (Some (Use usage)) entries distinct = keeps usage.node usage.target entries distinct
+distinct-at change keeps (Some (Stop node target)) entries distinct = keeps node target entries distinct
+distinct-at change keeps goal entries distinct = distinct
 
 -- so does each mark that is set for a goal: at its entry, among the entries, and in the row
-at-goal-distinct : (mark : Known) (aspect : Aspect) (goal : Option Goal) (places : List PlaceShown) → AreDistinct places → AreDistinct (at_goal (marked_at mark aspect) goal places)
-at-goal-distinct mark aspect = distinct-at (marked_at mark aspect) (λ node target places. distinct-change node target (place_marked mark aspect target) places (mild-marked mark aspect target))
+at-goal-distinct : (mark : Known) (aspect : Aspect) (goal : Option Goal) (entries : List NodeEntryShown) → AreDistinct entries → AreDistinct (at_goal (marked_at mark aspect) goal entries)
+at-goal-distinct mark aspect = distinct-at (marked_at mark aspect) (λ node target entries. distinct-change node target (node_marked mark aspect target) entries (mild-marked mark aspect target))
 
-places-distinct : (mark : Known) (aspect : Aspect) (goal : Option Goal) (places : List PlaceShown) → AreDistinct places → AreDistinct (places_marked mark aspect goal places)
-places-distinct mark Existence goal places distinct = distinct
-places-distinct mark aspect goal places distinct = at-goal-distinct mark aspect goal places distinct
+nodes-distinct : (mark : Known) (aspect : Aspect) (goal : Option Goal) (entries : List NodeEntryShown) → AreDistinct entries → AreDistinct (nodes_marked mark aspect goal entries)
+nodes-distinct mark Existence goal entries distinct = distinct
+nodes-distinct mark aspect goal entries distinct = at-goal-distinct mark aspect goal entries distinct
 
-pub marked-distinct : (mark : Known) (kind : Kind) (row : RowShown) → AreDistinct row.places → AreDistinct (marked mark kind row).places
-marked-distinct mark kind row distinct = places-distinct mark (aspect_of kind) row.goal row.places distinct
+pub marked-distinct : (mark : Known) (kind : Kind) (row : RowShown) → AreDistinct row.node_entries → AreDistinct (marked mark kind row).node_entries
+marked-distinct mark kind row distinct = nodes-distinct mark (aspect_of kind) row.goal row.node_entries distinct
 
 -- what is wanted of a row may be wanted of one with the same marks
-usable-alike : (row other : RowShown) (usage : Usage) → other.exists ≡ row.exists → other.places ≡ row.places → IsUsable row usage → IsUsable other usage
-usable-alike row other usage exists places usable =
+usable-alike : (row other : RowShown) (usage : Usage) → other.exists ≡ row.exists → other.node_entries ≡ row.node_entries → IsUsable row usage → IsUsable other usage
+usable-alike row other usage exists entries usable =
     record {
       made = exists ∙ usable.made;
       entry =
           record {
-            place = usable.entry.place;
-            aim = usable.entry.aim;
-            at_node = ap (find (λ (place : PlaceShown). same_text place.node usage.node)) places ∙ usable.entry.at_node;
+            node_entry = usable.entry.node_entry;
+            target_entry = usable.entry.target_entry;
+            at_node = ap (find (λ (entry : NodeEntryShown). same_text entry.node usage.node)) entries ∙ usable.entry.at_node;
             at_target = usable.entry.at_target;
             same_capability = usable.entry.same_capability;
             same_flag = usable.entry.same_flag;
           };
-      shared = ap (list_any (is_so_elsewhere (is_for_one_node usage) usage.node)) places ∙ usable.shared;
-      one_writer = ap (list_any (is_so_elsewhere (is_second_writer usage) usage.node)) places ∙ usable.one_writer;
+      shared = ap (list_any (is_so_elsewhere (is_for_one_node usage) usage.node)) entries ∙ usable.shared;
+      one_writer = ap (list_any (is_so_elsewhere (is_second_writer usage) usage.node)) entries ∙ usable.one_writer;
     }
 
-pub wanted-alike : (row other : RowShown) (goal : Option Goal) → other.id ≡ row.id → other.exists ≡ row.exists → other.places ≡ row.places → MayBeWanted row goal → MayBeWanted other goal
-wanted-alike row other None id exists places may = tt
-wanted-alike row other (Some Create) id exists places may = id ∙ may
-wanted-alike row other (Some (Use usage)) id exists places may = usable-alike row other usage exists places may
-wanted-alike row other (Some (Stop node target)) id exists places may = tt
-wanted-alike row other (Some Delete) id exists places may = subst (AllByRecursion (λ (place : PlaceShown). place.attached ≡ No)) (sym places) may
+pub wanted-alike : (row other : RowShown) (goal : Option Goal) → other.id ≡ row.id → other.exists ≡ row.exists → other.node_entries ≡ row.node_entries → MayBeWanted row goal → MayBeWanted other goal
+wanted-alike row other None id exists entries may = tt
+wanted-alike row other (Some Create) id exists entries may = id ∙ may
+wanted-alike row other (Some (Use usage)) id exists entries may = usable-alike row other usage exists entries may
+wanted-alike row other (Some (Stop node target)) id exists entries may = tt
+wanted-alike row other (Some Delete) id exists entries may = subst (AllByRecursion (λ (entry : NodeEntryShown). entry.attached ≡ No)) (sym entries) may
 
 -- what is at this node isn't elsewhere
-pub here : (so : Held → Bool) (node : List ℕ) (place : PlaceShown) → place.node ≡ node → is_so_elsewhere so node place ≡ false
-here so node place e = ap (λ b. not b && not (is_no place.attached) && so (held_at place)) ((same_text-tells place.node node).1 e)
+pub here : (so : Held → Bool) (node : List ℕ) (entry : NodeEntryShown) → entry.node ≡ node → is_so_elsewhere so node entry ≡ false
+here so node entry e = ap (λ b. not b && not (is_no entry.attached) && so (held_at entry)) ((same_text-tells entry.node node).1 e)
 
 -- a use that may be brought about, after a change of marks at its node
-usable-change : (row : RowShown) (usage : Usage) (change : PlaceShown → PlaceShown) → IsMild usage.target change → IsUsable row usage
-    → IsUsable (record row { places = change_by (λ (place : PlaceShown). place.node) usage.node change row.places }) usage
+usable-change : (row : RowShown) (usage : Usage) (change : NodeEntryShown → NodeEntryShown) → IsMild usage.target change → IsUsable row usage
+    → IsUsable (record row { node_entries = change_by (λ (entry : NodeEntryShown). entry.node) usage.node change row.node_entries }) usage
 usable-change row usage change mild usable =
-    let aimed = mild.still_aimed usable.entry.place usable.entry.aim usable.entry.at_target in
+    let target_after = mild.still_there usable.entry.node_entry usable.entry.target_entry usable.entry.at_target in
     record {
       made = usable.made;
       entry =
           record {
-            place = change usable.entry.place;
-            aim = aimed.0;
+            node_entry = change usable.entry.node_entry;
+            target_entry = target_after.0;
             at_node =
-                find-change (λ (place : PlaceShown). place.node) usage.node change row.places usage.node mild.same_node
-                ∙ ap (λ b. cond b (option_map change (place_of row usage.node)) (place_of row usage.node)) (text-same usage.node) ∙ ap (option_map change) usable.entry.at_node;
-            at_target = aimed.1;
-            same_capability = mild.same_capability usable.entry.place ∙ usable.entry.same_capability;
-            same_flag = mild.same_flag usable.entry.place ∙ usable.entry.same_flag;
+                find-change (λ (entry : NodeEntryShown). entry.node) usage.node change row.node_entries usage.node mild.same_node
+                ∙ ap (λ b. cond b (option_map change (node_entry_of row usage.node)) (node_entry_of row usage.node)) (text-same usage.node) ∙ ap (option_map change) usable.entry.at_node;
+            at_target = target_after.1;
+            same_capability = mild.same_capability usable.entry.node_entry ∙ usable.entry.same_capability;
+            same_flag = mild.same_flag usable.entry.node_entry ∙ usable.entry.same_flag;
           };
       shared = unmoved (is_for_one_node usage) ∙ usable.shared;
       one_writer = unmoved (is_second_writer usage) ∙ usable.one_writer;
     }
   where
-    unmoved : (so : Held → Bool) → list_any (is_so_elsewhere so usage.node) (change_by (λ (place : PlaceShown). place.node) usage.node change row.places) ≡ list_any (is_so_elsewhere so usage.node) row.places
+    unmoved : (so : Held → Bool) → list_any (is_so_elsewhere so usage.node) (change_by (λ (entry : NodeEntryShown). entry.node) usage.node change row.node_entries) ≡ list_any (is_so_elsewhere so usage.node) row.node_entries
     unmoved so =
-        any-change (is_so_elsewhere so usage.node) (λ (place : PlaceShown). place.node) usage.node change row.places
-        (λ place e. here so usage.node (change place) (mild.same_node place ∙ e) ∙ sym (here so usage.node place e))
+        any-change (is_so_elsewhere so usage.node) (λ (entry : NodeEntryShown). entry.node) usage.node change row.node_entries
+        (λ entry e. here so usage.node (change entry) (mild.same_node entry ∙ e) ∙ sym (here so usage.node entry e))
 
 -- the kinds of the calls that are due for a goal
 abbrev pub IsAtNode : Aspect → Type 0
@@ -178,10 +178,10 @@ due-fits-goal row due e = fits row due (due-cases row due e)
 
 -- what a call of the goal's kind does or undoes is marked
 usable-marked : (mark : Known) (aspect : Aspect) (row : RowShown) (usage : Usage) → row.goal ≡ Some (Use usage) → IsAtNode aspect → IsUsable row usage
-    → IsUsable (record row { exists = exists_marked mark aspect row.exists; places = places_marked mark aspect row.goal row.places }) usage
+    → IsUsable (record row { exists = exists_marked mark aspect row.exists; node_entries = nodes_marked mark aspect row.goal row.node_entries }) usage
 usable-marked mark Existence row usage e fits usable = absurd fits
 usable-marked mark aspect row usage e fits usable =
-    subst (λ g. IsUsable (record row { places = at_goal (marked_at mark aspect) g row.places }) usage) (sym e) (usable-change row usage (place_marked mark aspect usage.target) (mild-marked mark aspect usage.target) usable)
+    subst (λ g. IsUsable (record row { node_entries = at_goal (marked_at mark aspect) g row.node_entries }) usage) (sym e) (usable-change row usage (node_marked mark aspect usage.target) (mild-marked mark aspect usage.target) usable)
 
 -- what is wanted may be wanted still, once a mark is set by a call that fits it
 wanted-marked : (mark : Known) (kind : Kind) (row : RowShown) (goal : Option Goal) → row.goal ≡ goal → FitsGoal goal kind → MayBeWanted row goal → MayBeWanted (marked mark kind row) goal
@@ -189,31 +189,31 @@ wanted-marked mark kind row None e fits may = tt
 wanted-marked mark kind row (Some Create) e fits may = may
 wanted-marked mark kind row (Some (Use usage)) e fits may = usable-marked mark (aspect_of kind) row usage e fits may
 wanted-marked mark kind row (Some (Stop node target)) e fits may = tt
-wanted-marked mark kind row (Some Delete) e fits may = subst (λ k. AllByRecursion (λ (place : PlaceShown). place.attached ≡ No) (marked mark k row).places) (sym fits) may
+wanted-marked mark kind row (Some Delete) e fits may = subst (λ k. AllByRecursion (λ (entry : NodeEntryShown). entry.attached ≡ No) (marked mark k row).node_entries) (sym fits) may
 
 -- the due call is sent
-pub kept-sent : (number : Number) (row : RowShown) (due : Due) → due_in row ≡ Some due → AreDistinct row.places → MayBeWanted row row.goal → IsKept (sent number (kind_of due.call) row)
+pub kept-sent : (number : Number) (row : RowShown) (due : Due) → due_in row ≡ Some due → AreDistinct row.node_entries → MayBeWanted row row.goal → IsKept (sent number (kind_of due.call) row)
 kept-sent number row due e distinct may =
     let after = marked-distinct Maybe (kind_of due.call) row distinct in
     let still = wanted-marked Maybe (kind_of due.call) row row.goal refl (due-fits-goal row due e) may in
     record {
-      places = after.nodes;
-      aims = after.targets;
+      nodes = after.nodes;
+      targets = after.targets;
       goal = wanted-alike (marked Maybe (kind_of due.call) row) (sent number (kind_of due.call) row) row.goal refl refl refl still;
     }
 
 -- the open call is given up
 pub kept-closed : (row : RowShown) → IsKept row → IsKept (closed row)
-kept-closed row kept = record { places = kept.places; aims = kept.aims; goal = wanted-alike row (closed row) row.goal refl refl refl kept.goal }
+kept-closed row kept = record { nodes = kept.nodes; targets = kept.targets; goal = wanted-alike row (closed row) row.goal refl refl refl kept.goal }
 
 -- nothing is wanted now
-pub kept-dropped : (row : RowShown) → AreDistinct row.places → IsKept (dropped row)
+pub kept-dropped : (row : RowShown) → AreDistinct row.node_entries → IsKept (dropped row)
 kept-dropped row distinct =
     record {
-      places = two-filter (λ (a b : PlaceShown). same_text a.node b.node ≡ false) is_place_kept (map with_kept_aims row.places) (apart-map (λ (place : PlaceShown). place.node) with_kept_aims row.places (λ place. refl) distinct.nodes);
-      aims =
-          each-filter AreTargetsApart is_place_kept (map with_kept_aims row.places)
-          (each-map AreTargetsApart AreTargetsApart with_kept_aims row.places (λ place apart. two-filter (λ (a b : Aim). same_text a.target b.target ≡ false) is_aim_kept place.aims apart) distinct.targets);
+      nodes = two-filter (λ (a b : NodeEntryShown). same_text a.node b.node ≡ false) is_node_kept (map with_kept_targets row.node_entries) (apart-map (λ (entry : NodeEntryShown). entry.node) with_kept_targets row.node_entries (λ entry. refl) distinct.nodes);
+      targets =
+          each-filter AreTargetsApart is_node_kept (map with_kept_targets row.node_entries)
+          (each-map AreTargetsApart AreTargetsApart with_kept_targets row.node_entries (λ entry apart. two-filter (λ (a b : TargetEntry). same_text a.target b.target ≡ false) is_target_kept entry.target_entries apart) distinct.targets);
       goal = tt;
     }
 

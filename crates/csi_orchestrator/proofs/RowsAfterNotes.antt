@@ -14,9 +14,9 @@ use Rattle.csi_lists.proofs.Options.{option_or-some, option_or-none}
 use Rattle.std.specs.Option.{option_or}
 use Rattle.csi_types.specs.Same.{same_text}
 use Rattle.csi_types.proofs.Equality.{same_text-tells}
-use Rattle.csi_orchestrator.specs.declared.row.Aim.{Aim}
 use Rattle.csi_orchestrator.specs.declared.row.Goal.{Goal}
 use Rattle.csi_orchestrator.specs.declared.row.Goal.TheVariants.{Create}
+use Rattle.csi_orchestrator.specs.declared.row.TargetEntry.{TargetEntry}
 use Rattle.csi_orchestrator.specs.declared.row.Usage.{Usage}
 use Rattle.csi_orchestrator.specs.declared.thing.Thing.{Thing}
 use Rattle.csi_orchestrator.specs.declared.thing.Thing.TheVariants.{Exists, Attached, Staged, Published}
@@ -28,9 +28,9 @@ use Rattle.csi_orchestrator.specs.History as history
 use Rattle.csi_orchestrator.specs.Readings.{arguments_in_goal}
 use Rattle.csi_orchestrator.specs.Agrees.{View}
 use Rattle.csi_orchestrator.specs.Following.{after_accepted, after_closed, after_noted}
-use Rattle.csi_orchestrator.specs.Kept.{ArePlacesApart}
-use Rattle.csi_orchestrator.specs.RowChanges.{wanted, wanted_anew, new_row, dropped, is_aim_kept, is_place_kept, has_aims, with_kept_aims, with_entry, entry_for, with_aim, new_aim, held_as}
-use Rattle.csi_orchestrator.specs.Shown.{PlaceShown, RowShown, Parts, row_of, place_of, aim_of, mark_in, published_in, mark_of, held_in, held_at, goal_in, goal_shown, open_in_row, issued_as, due_by, closed, view_of, AreTargetsApart}
+use Rattle.csi_orchestrator.specs.Kept.{AreNodesApart}
+use Rattle.csi_orchestrator.specs.RowChanges.{wanted, wanted_anew, new_row, dropped, is_target_kept, is_node_kept, has_targets, with_kept_targets, with_entry, entry_for, with_target, new_target_entry, held_as}
+use Rattle.csi_orchestrator.specs.Shown.{NodeEntryShown, RowShown, Parts, row_of, node_entry_of, target_entry_of, mark_in, published_in, mark_of, held_in, held_at, goal_in, goal_shown, open_in_row, issued_as, due_by, closed, view_of, AreTargetsApart}
 use Rattle.csi_orchestrator.proofs.TextLists.{text-same}
 use Rattle.csi_orchestrator.proofs.KnownTests.{no_is_no}
 use Rattle.csi_orchestrator.proofs.KeyedSearches.{find-put}
@@ -178,177 +178,177 @@ find-kept key q text xs two = by (find (λ y. same_text (key y) text) xs) refl
             false≢true (sym f ∙ ap q (same_Some x y (sym e ∙ its)) ∙ passes.1)))
 
 -- a target that is left out isn't published
-kept-mark : (o : Option Aim) → mark_in (λ (a : Aim). a.published) (kept-if is_aim_kept o) ≡ mark_in (λ (a : Aim). a.published) o
+kept-mark : (o : Option TargetEntry) → mark_in (λ (a : TargetEntry). a.published) (kept-if is_target_kept o) ≡ mark_in (λ (a : TargetEntry). a.published) o
 unfolding kept-if
 kept-mark None = refl
-kept-mark (Some aim) = by (is_no aim.published) refl
+kept-mark (Some target_entry) = by (is_no target_entry.published) refl
   where
-    by : (b : Bool) → is_no aim.published ≡ b → mark_in (λ (a : Aim). a.published) (cond (not b) (Some aim) None) ≡ aim.published
-    by true e = sym (no_is_no aim.published e)
+    by : (b : Bool) → is_no target_entry.published ≡ b → mark_in (λ (a : TargetEntry). a.published) (cond (not b) (Some target_entry) None) ≡ target_entry.published
+    by true e = sym (no_is_no target_entry.published e)
     by false e = refl
 
 -- what is known of a target is as it was once the targets that aren't published are left out
-aims-kept : (place : PlaceShown) (target : List ℕ) → AreTargetsApart place → published_in target (with_kept_aims place) ≡ published_in target place
-aims-kept place target apart = ap (mark_in (λ (a : Aim). a.published)) (find-kept (λ (a : Aim). a.target) is_aim_kept target place.aims apart) ∙ kept-mark (aim_of place target)
+targets-kept : (entry : NodeEntryShown) (target : List ℕ) → AreTargetsApart entry → published_in target (with_kept_targets entry) ≡ published_in target entry
+targets-kept entry target apart = ap (mark_in (λ (a : TargetEntry). a.published)) (find-kept (λ (a : TargetEntry). a.target) is_target_kept target entry.target_entries apart) ∙ kept-mark (target_entry_of entry target)
 
 -- a node that is left out has nothing
-left-out : (place : PlaceShown) → is_place_kept place ≡ false → (place.attached ≡ No) × (place.staged ≡ No) × (has_aims place.aims ≡ false)
-left-out place e = by (is_no place.attached) refl (is_no place.staged) refl (has_aims place.aims) refl e
+left-out : (entry : NodeEntryShown) → is_node_kept entry ≡ false → (entry.attached ≡ No) × (entry.staged ≡ No) × (has_targets entry.target_entries ≡ false)
+left-out entry e = by (is_no entry.attached) refl (is_no entry.staged) refl (has_targets entry.target_entries) refl e
   where
-    by : (a : Bool) → is_no place.attached ≡ a → (s : Bool) → is_no place.staged ≡ s → (h : Bool) → has_aims place.aims ≡ h → not (a && s && not h) ≡ false
-        → (place.attached ≡ No) × (place.staged ≡ No) × (has_aims place.aims ≡ false)
-    by true a true s false h e = (no_is_no place.attached a, no_is_no place.staged s, h)
+    by : (a : Bool) → is_no entry.attached ≡ a → (s : Bool) → is_no entry.staged ≡ s → (h : Bool) → has_targets entry.target_entries ≡ h → not (a && s && not h) ≡ false
+        → (entry.attached ≡ No) × (entry.staged ≡ No) × (has_targets entry.target_entries ≡ false)
+    by true a true s false h e = (no_is_no entry.attached a, no_is_no entry.staged s, h)
     by true a true s true h e = absurd (false≢true (sym e))
     by true a false s h f e = absurd (false≢true (sym e))
     by false a s t h f e = absurd (false≢true (sym e))
 
 -- where a node has no target, none is published there
-no-aims : (aims : List Aim) (target : List ℕ) → has_aims aims ≡ false → mark_in (λ (a : Aim). a.published) (find (λ (a : Aim). same_text a.target target) aims) ≡ No
-no-aims [] target e = refl
-no-aims (aim ∷ aims) target e = absurd (false≢true (sym e))
+no-targets : (target_entries : List TargetEntry) (target : List ℕ) → has_targets target_entries ≡ false → mark_in (λ (a : TargetEntry). a.published) (find (λ (a : TargetEntry). same_text a.target target) target_entries) ≡ No
+no-targets [] target e = refl
+no-targets (target_entry ∷ target_entries) target e = absurd (false≢true (sym e))
 
 -- the entry of a node in a dropped row: it lost the targets that are left out, and is there if it is kept
-tidied-place : (row : RowShown) (node : List ℕ) → ArePlacesApart row.places → place_of (dropped row) node ≡ kept-if is_place_kept (option_map with_kept_aims (place_of row node))
-tidied-place row node apart =
-    find-kept (λ (p : PlaceShown). p.node) is_place_kept node (map with_kept_aims row.places) (alike row.places apart)
-    ∙ ap (kept-if is_place_kept) (find-map (λ (p : PlaceShown). same_text p.node node) with_kept_aims row.places (λ p. refl))
+tidied-entry : (row : RowShown) (node : List ℕ) → AreNodesApart row.node_entries → node_entry_of (dropped row) node ≡ kept-if is_node_kept (option_map with_kept_targets (node_entry_of row node))
+tidied-entry row node apart =
+    find-kept (λ (p : NodeEntryShown). p.node) is_node_kept node (map with_kept_targets row.node_entries) (alike row.node_entries apart)
+    ∙ ap (kept-if is_node_kept) (find-map (λ (p : NodeEntryShown). same_text p.node node) with_kept_targets row.node_entries (λ p. refl))
   where
-    each : (place : PlaceShown) (places : List PlaceShown) → AllByRecursion (λ (b : PlaceShown). same_text place.node b.node ≡ false) places
-        → AllByRecursion (λ (b : PlaceShown). same_text place.node b.node ≡ false) (map with_kept_aims places)
-    each place [] all = tt
-    each place (p ∷ ps) all = (all.0, each place ps all.1)
+    each : (entry : NodeEntryShown) (entries : List NodeEntryShown) → AllByRecursion (λ (b : NodeEntryShown). same_text entry.node b.node ≡ false) entries
+        → AllByRecursion (λ (b : NodeEntryShown). same_text entry.node b.node ≡ false) (map with_kept_targets entries)
+    each entry [] all = tt
+    each entry (p ∷ ps) all = (all.0, each entry ps all.1)
 
-    alike : (places : List PlaceShown) → ArePlacesApart places → ArePlacesApart (map with_kept_aims places)
+    alike : (entries : List NodeEntryShown) → AreNodesApart entries → AreNodesApart (map with_kept_targets entries)
     alike [] two = tt
     alike (p ∷ ps) two = (each p ps two.0, alike ps two.1)
 
 -- a reading that is No where nothing is left, and else is as it was
-tidy-read : (read : PlaceShown → Known) (o : Option PlaceShown) → ((place : PlaceShown) → o ≡ Some place → read (with_kept_aims place) ≡ read place)
-    → ((place : PlaceShown) → is_place_kept (with_kept_aims place) ≡ false → read (with_kept_aims place) ≡ No)
-    → mark_in read (kept-if is_place_kept (option_map with_kept_aims o)) ≡ mark_in read o
+tidy-read : (read : NodeEntryShown → Known) (o : Option NodeEntryShown) → ((entry : NodeEntryShown) → o ≡ Some entry → read (with_kept_targets entry) ≡ read entry)
+    → ((entry : NodeEntryShown) → is_node_kept (with_kept_targets entry) ≡ false → read (with_kept_targets entry) ≡ No)
+    → mark_in read (kept-if is_node_kept (option_map with_kept_targets o)) ≡ mark_in read o
 unfolding kept-if
 tidy-read read None same none = refl
-tidy-read read (Some place) same none = by (is_place_kept (with_kept_aims place)) refl
+tidy-read read (Some entry) same none = by (is_node_kept (with_kept_targets entry)) refl
   where
-    by : (b : Bool) → is_place_kept (with_kept_aims place) ≡ b → mark_in read (cond b (Some (with_kept_aims place)) None) ≡ read place
-    by true e = same place refl
-    by false e = sym (none place e) ∙ same place refl
+    by : (b : Bool) → is_node_kept (with_kept_targets entry) ≡ b → mark_in read (cond b (Some (with_kept_targets entry)) None) ≡ read entry
+    by true e = same entry refl
+    by false e = sym (none entry e) ∙ same entry refl
 
 -- a dropped row knows of each thing what it knew
-mark-dropped : (row : RowShown) (thing : Thing) → ArePlacesApart row.places → AllByRecursion AreTargetsApart row.places → mark_of thing (dropped row) ≡ mark_of thing row
-mark-dropped row (Exists name) apart aims = refl
-mark-dropped row (Attached name node) apart aims =
-    ap (mark_in (λ (p : PlaceShown). p.attached)) (tidied-place row node apart)
-    ∙ tidy-read (λ (p : PlaceShown). p.attached) (place_of row node) (λ place e. refl) (λ place e. (left-out (with_kept_aims place) e).0)
-mark-dropped row (Staged name node) apart aims =
-    ap (mark_in (λ (p : PlaceShown). p.staged)) (tidied-place row node apart)
-    ∙ tidy-read (λ (p : PlaceShown). p.staged) (place_of row node) (λ place e. refl) (λ place e. (left-out (with_kept_aims place) e).1)
-mark-dropped row (Published name node target) apart aims =
-    ap (mark_in (published_in target)) (tidied-place row node apart)
-    ∙ tidy-read (published_in target) (place_of row node)
-    (λ place e. aims-kept place target (each_of AreTargetsApart row.places place aims (among-find (λ (p : PlaceShown). same_text p.node node) row.places place e)))
-    (λ place e. no-aims (with_kept_aims place).aims target (left-out (with_kept_aims place) e).2)
+mark-dropped : (row : RowShown) (thing : Thing) → AreNodesApart row.node_entries → AllByRecursion AreTargetsApart row.node_entries → mark_of thing (dropped row) ≡ mark_of thing row
+mark-dropped row (Exists name) apart targets = refl
+mark-dropped row (Attached name node) apart targets =
+    ap (mark_in (λ (p : NodeEntryShown). p.attached)) (tidied-entry row node apart)
+    ∙ tidy-read (λ (p : NodeEntryShown). p.attached) (node_entry_of row node) (λ entry e. refl) (λ entry e. (left-out (with_kept_targets entry) e).0)
+mark-dropped row (Staged name node) apart targets =
+    ap (mark_in (λ (p : NodeEntryShown). p.staged)) (tidied-entry row node apart)
+    ∙ tidy-read (λ (p : NodeEntryShown). p.staged) (node_entry_of row node) (λ entry e. refl) (λ entry e. (left-out (with_kept_targets entry) e).1)
+mark-dropped row (Published name node target) apart targets =
+    ap (mark_in (published_in target)) (tidied-entry row node apart)
+    ∙ tidy-read (published_in target) (node_entry_of row node)
+    (λ entry e. targets-kept entry target (each_of AreTargetsApart row.node_entries entry targets (among-find (λ (p : NodeEntryShown). same_text p.node node) row.node_entries entry e)))
+    (λ entry e. no-targets (with_kept_targets entry).target_entries target (left-out (with_kept_targets entry) e).2)
 
 -- in a dropped row the volume is held as it was, where it may be attached
-held-dropped : (row : RowShown) (node : List ℕ) → ArePlacesApart row.places → mark_in (λ (p : PlaceShown). p.attached) (place_of (dropped row) node) ≢ No → held_in (dropped row) node ≡ held_in row node
+held-dropped : (row : RowShown) (node : List ℕ) → AreNodesApart row.node_entries → mark_in (λ (p : NodeEntryShown). p.attached) (node_entry_of (dropped row) node) ≢ No → held_in (dropped row) node ≡ held_in row node
 unfolding kept-if
-held-dropped row node apart maybe = ap (option_map held_at) (tidied-place row node apart) ∙ by (place_of row node) (λ e. maybe (ap (mark_in (λ (p : PlaceShown). p.attached)) (tidied-place row node apart) ∙ e))
+held-dropped row node apart maybe = ap (option_map held_at) (tidied-entry row node apart) ∙ by (node_entry_of row node) (λ e. maybe (ap (mark_in (λ (p : NodeEntryShown). p.attached)) (tidied-entry row node apart) ∙ e))
   where
-    by : (o : Option PlaceShown) → mark_in (λ (p : PlaceShown). p.attached) (kept-if is_place_kept (option_map with_kept_aims o)) ≢ No → option_map held_at (kept-if is_place_kept (option_map with_kept_aims o)) ≡ option_map held_at o
+    by : (o : Option NodeEntryShown) → mark_in (λ (p : NodeEntryShown). p.attached) (kept-if is_node_kept (option_map with_kept_targets o)) ≢ No → option_map held_at (kept-if is_node_kept (option_map with_kept_targets o)) ≡ option_map held_at o
     by None there = refl
-    by (Some place) there = kept (is_place_kept (with_kept_aims place)) refl
+    by (Some entry) there = kept (is_node_kept (with_kept_targets entry)) refl
       where
-        kept : (b : Bool) → is_place_kept (with_kept_aims place) ≡ b → option_map held_at (cond b (Some (with_kept_aims place)) None) ≡ Some (held_at place)
+        kept : (b : Bool) → is_node_kept (with_kept_targets entry) ≡ b → option_map held_at (cond b (Some (with_kept_targets entry)) None) ≡ Some (held_at entry)
         kept true e = refl
-        kept false e = absurd (there (ap (λ b. mark_in (λ (p : PlaceShown). p.attached) (cond b (Some (with_kept_aims place)) None)) e))
+        kept false e = absurd (there (ap (λ b. mark_in (λ (p : NodeEntryShown). p.attached) (cond b (Some (with_kept_targets entry)) None)) e))
 
 -- nothing is wanted of it
-pub reads-dropped : (row : RowShown) (view : View) (name : List ℕ) → ArePlacesApart row.places → AllByRecursion AreTargetsApart row.places → Reads row view name → view.open_calls name ≡ None
+pub reads-dropped : (row : RowShown) (view : View) (name : List ℕ) → AreNodesApart row.node_entries → AllByRecursion AreTargetsApart row.node_entries → Reads row view name → view.open_calls name ≡ None
     → Reads (dropped row) (after_noted name None view) name
-reads-dropped row view name apart aims reads quiet =
+reads-dropped row view name apart targets reads quiet =
     record {
       own = reads.own;
       there = own name true (view.rows name);
-      marks = λ thing is. mark-dropped row thing apart aims ∙ reads.marks thing is;
+      marks = λ thing is. mark-dropped row thing apart targets ∙ reads.marks thing is;
       ids = reads.ids;
       goals = sym (own name None (view.goals name));
       arguments = reads.arguments ∙ sym (own name (view.arguments name) (view.arguments name));
-      holdings = λ node maybe. held-dropped row node apart maybe ∙ reads.holdings node (λ e. maybe (mark-dropped row (Attached name node) apart aims ∙ e));
+      holdings = λ node maybe. held-dropped row node apart maybe ∙ reads.holdings node (λ e. maybe (mark-dropped row (Attached name node) apart targets ∙ e));
       open_calls = sym quiet;
       counts = sym (own name 0 (view.counts name));
     }
 
 -- a use that an entry is held for leaves all but the capability and the flag
-pub held-same : {Y : Type 0} (read : PlaceShown → Y) (usage : Usage) (place : PlaceShown) → read (record place { capability = usage.capability; readonly = usage.readonly }) ≡ read place
-    → read (held_as usage place) ≡ read place
-held-same read usage place same = by_if (λ (p : PlaceShown). read p ≡ read place) (is_no place.attached) _ place (λ e. same) (λ e. refl)
+pub held-same : {Y : Type 0} (read : NodeEntryShown → Y) (usage : Usage) (entry : NodeEntryShown) → read (record entry { capability = usage.capability; readonly = usage.readonly }) ≡ read entry
+    → read (held_as usage entry) ≡ read entry
+held-same read usage entry same = by_if (λ (p : NodeEntryShown). read p ≡ read entry) (is_no entry.attached) _ entry (λ e. same) (λ e. refl)
 
 -- an entry for a use tells nothing new
-pub entry-there : (usage : Usage) (row : RowShown) (node : List ℕ) → place_of (with_entry usage row) node ≡ cond (same_text usage.node node) (Some (entry_for usage (place_of row usage.node))) (place_of row node)
-entry-there usage row node = find-put (λ (p : PlaceShown). p.node) (entry_for usage (place_of row usage.node)) row.places node ∙ ap (λ n. cond (same_text n node) (Some (entry_for usage (place_of row usage.node))) (place_of row node)) (node-is (place_of row usage.node) refl)
+pub entry-there : (usage : Usage) (row : RowShown) (node : List ℕ) → node_entry_of (with_entry usage row) node ≡ cond (same_text usage.node node) (Some (entry_for usage (node_entry_of row usage.node))) (node_entry_of row node)
+entry-there usage row node = find-put (λ (p : NodeEntryShown). p.node) (entry_for usage (node_entry_of row usage.node)) row.node_entries node ∙ ap (λ n. cond (same_text n node) (Some (entry_for usage (node_entry_of row usage.node))) (node_entry_of row node)) (node-is (node_entry_of row usage.node) refl)
   where
-    node-is : (o : Option PlaceShown) → place_of row usage.node ≡ o → (entry_for usage o).node ≡ usage.node
+    node-is : (o : Option NodeEntryShown) → node_entry_of row usage.node ≡ o → (entry_for usage o).node ≡ usage.node
     node-is None e = refl
-    node-is (Some place) e = held-same (λ (p : PlaceShown). p.node) usage place refl ∙ (same_text-tells place.node usage.node).0 (find-passes (λ (p : PlaceShown). same_text p.node usage.node) row.places place e)
+    node-is (Some entry) e = held-same (λ (p : NodeEntryShown). p.node) usage entry refl ∙ (same_text-tells entry.node usage.node).0 (find-passes (λ (p : NodeEntryShown). same_text p.node usage.node) row.node_entries entry e)
 
 -- a reading of the entry is one of what was there
-entry-read : (read : PlaceShown → Known) (usage : Usage) (o : Option PlaceShown) → read (entry_for usage None) ≡ No → ((place : PlaceShown) → read (entry_for usage (Some place)) ≡ read place)
+entry-read : (read : NodeEntryShown → Known) (usage : Usage) (o : Option NodeEntryShown) → read (entry_for usage None) ≡ No → ((entry : NodeEntryShown) → read (entry_for usage (Some entry)) ≡ read entry)
     → read (entry_for usage o) ≡ mark_in read o
 entry-read read usage None new kept = new
-entry-read read usage (Some place) new kept = kept place
+entry-read read usage (Some entry) new kept = kept entry
 
 -- a reading that is No in a new entry, and that a use leaves in one that is there, is as it was at each node
-mark-entry : (read : PlaceShown → Known) (usage : Usage) (row : RowShown) (node : List ℕ) → read (entry_for usage None) ≡ No → ((place : PlaceShown) → read (entry_for usage (Some place)) ≡ read place)
-    → mark_in read (place_of (with_entry usage row) node) ≡ mark_in read (place_of row node)
+mark-entry : (read : NodeEntryShown → Known) (usage : Usage) (row : RowShown) (node : List ℕ) → read (entry_for usage None) ≡ No → ((entry : NodeEntryShown) → read (entry_for usage (Some entry)) ≡ read entry)
+    → mark_in read (node_entry_of (with_entry usage row) node) ≡ mark_in read (node_entry_of row node)
 mark-entry read usage row node new kept = ap (mark_in read) (entry-there usage row node) ∙ by (same_text usage.node node) refl
   where
-    by : (b : Bool) → same_text usage.node node ≡ b → mark_in read (cond b (Some (entry_for usage (place_of row usage.node))) (place_of row node)) ≡ mark_in read (place_of row node)
-    by true e = entry-read read usage (place_of row usage.node) new kept ∙ ap (λ n. mark_in read (place_of row n)) ((same_text-tells usage.node node).0 e)
+    by : (b : Bool) → same_text usage.node node ≡ b → mark_in read (cond b (Some (entry_for usage (node_entry_of row usage.node))) (node_entry_of row node)) ≡ mark_in read (node_entry_of row node)
+    by true e = entry-read read usage (node_entry_of row usage.node) new kept ∙ ap (λ n. mark_in read (node_entry_of row n)) ((same_text-tells usage.node node).0 e)
     by false e = refl
 
 -- a target that was put in isn't published
-new-mark : (target other : List ℕ) → mark_in (λ (a : Aim). a.published) (cond (same_text target other) (Some (new_aim target)) None) ≡ No
+new-mark : (target other : List ℕ) → mark_in (λ (a : TargetEntry). a.published) (cond (same_text target other) (Some (new_target_entry target)) None) ≡ No
 new-mark target other = by (same_text target other)
   where
-    by : (b : Bool) → mark_in (λ (a : Aim). a.published) (cond b (Some (new_aim target)) None) ≡ No
+    by : (b : Bool) → mark_in (λ (a : TargetEntry). a.published) (cond b (Some (new_target_entry target)) None) ≡ No
     by true = refl
     by false = refl
 
 -- a target that was put in, if it wasn't there, leaves what is known of each target
-aim-entry : (target other : List ℕ) (aims : List Aim) → mark_in (λ (a : Aim). a.published) (find (λ (a : Aim). same_text a.target other) (with_aim target aims)) ≡ mark_in (λ (a : Aim). a.published) (find (λ (a : Aim). same_text a.target other) aims)
-aim-entry target other aims = by (is_some (find (λ (a : Aim). same_text a.target target) aims))
+mark-with-target : (target other : List ℕ) (target_entries : List TargetEntry) → mark_in (λ (a : TargetEntry). a.published) (find (λ (a : TargetEntry). same_text a.target other) (with_target target target_entries)) ≡ mark_in (λ (a : TargetEntry). a.published) (find (λ (a : TargetEntry). same_text a.target other) target_entries)
+mark-with-target target other target_entries = by (is_some (find (λ (a : TargetEntry). same_text a.target target) target_entries))
   where
-    last : (o : Option Aim) → mark_in (λ (a : Aim). a.published) (option_or o (cond (same_text target other) (Some (new_aim target)) None)) ≡ mark_in (λ (a : Aim). a.published) o
-    last None = ap (mark_in (λ (a : Aim). a.published)) (option_or-none None (cond (same_text target other) (Some (new_aim target)) None) refl) ∙ new-mark target other
-    last (Some aim) = ap (mark_in (λ (a : Aim). a.published)) (option_or-some (Some aim) (cond (same_text target other) (Some (new_aim target)) None) aim refl)
+    last : (o : Option TargetEntry) → mark_in (λ (a : TargetEntry). a.published) (option_or o (cond (same_text target other) (Some (new_target_entry target)) None)) ≡ mark_in (λ (a : TargetEntry). a.published) o
+    last None = ap (mark_in (λ (a : TargetEntry). a.published)) (option_or-none None (cond (same_text target other) (Some (new_target_entry target)) None) refl) ∙ new-mark target other
+    last (Some target_entry) = ap (mark_in (λ (a : TargetEntry). a.published)) (option_or-some (Some target_entry) (cond (same_text target other) (Some (new_target_entry target)) None) target_entry refl)
 
-    by : (b : Bool) → mark_in (λ (a : Aim). a.published) (find (λ (a : Aim). same_text a.target other) (cond b aims (aims ++ new_aim target ∷ []))) ≡ mark_in (λ (a : Aim). a.published) (find (λ (a : Aim). same_text a.target other) aims)
+    by : (b : Bool) → mark_in (λ (a : TargetEntry). a.published) (find (λ (a : TargetEntry). same_text a.target other) (cond b target_entries (target_entries ++ new_target_entry target ∷ []))) ≡ mark_in (λ (a : TargetEntry). a.published) (find (λ (a : TargetEntry). same_text a.target other) target_entries)
     by true = refl
-    by false = ap (mark_in (λ (a : Aim). a.published)) (find-append (λ (a : Aim). same_text a.target other) aims (new_aim target)) ∙ last (find (λ (a : Aim). same_text a.target other) aims)
+    by false = ap (mark_in (λ (a : TargetEntry). a.published)) (find-append (λ (a : TargetEntry). same_text a.target other) target_entries (new_target_entry target)) ∙ last (find (λ (a : TargetEntry). same_text a.target other) target_entries)
 
 -- a row with an entry for a use knows of each thing what it knew
 pub mark-with-entry : (usage : Usage) (row : RowShown) (thing : Thing) → mark_of thing (with_entry usage row) ≡ mark_of thing row
 mark-with-entry usage row (Exists name) = refl
-mark-with-entry usage row (Attached name node) = mark-entry (λ (p : PlaceShown). p.attached) usage row node refl (λ place. held-same (λ (p : PlaceShown). p.attached) usage place refl)
-mark-with-entry usage row (Staged name node) = mark-entry (λ (p : PlaceShown). p.staged) usage row node refl (λ place. held-same (λ (p : PlaceShown). p.staged) usage place refl)
-mark-with-entry usage row (Published name node target) = mark-entry (published_in target) usage row node (new-mark usage.target target) (λ place. aim-entry usage.target target place.aims)
+mark-with-entry usage row (Attached name node) = mark-entry (λ (p : NodeEntryShown). p.attached) usage row node refl (λ entry. held-same (λ (p : NodeEntryShown). p.attached) usage entry refl)
+mark-with-entry usage row (Staged name node) = mark-entry (λ (p : NodeEntryShown). p.staged) usage row node refl (λ entry. held-same (λ (p : NodeEntryShown). p.staged) usage entry refl)
+mark-with-entry usage row (Published name node target) = mark-entry (published_in target) usage row node (new-mark usage.target target) (λ entry. mark-with-target usage.target target entry.target_entries)
 
 -- and, where the volume may be attached, keeps how it is held
-held-entry : (usage : Usage) (row : RowShown) (node : List ℕ) → mark_in (λ (p : PlaceShown). p.attached) (place_of row node) ≢ No → held_in (with_entry usage row) node ≡ held_in row node
+held-entry : (usage : Usage) (row : RowShown) (node : List ℕ) → mark_in (λ (p : NodeEntryShown). p.attached) (node_entry_of row node) ≢ No → held_in (with_entry usage row) node ≡ held_in row node
 held-entry usage row node maybe = ap (option_map held_at) (entry-there usage row node) ∙ by (same_text usage.node node) refl
   where
-    kept : (o : Option PlaceShown) → mark_in (λ (p : PlaceShown). p.attached) o ≢ No → Some (held_at (entry_for usage o)) ≡ option_map held_at o
+    kept : (o : Option NodeEntryShown) → mark_in (λ (p : NodeEntryShown). p.attached) o ≢ No → Some (held_at (entry_for usage o)) ≡ option_map held_at o
     kept None there = absurd (there refl)
-    kept (Some place) there = same (is_no place.attached) refl
+    kept (Some entry) there = same (is_no entry.attached) refl
       where
-        same : (b : Bool) → is_no place.attached ≡ b → Some (held_at (let p : PlaceShown = record (cond b (let q : PlaceShown = record place { capability = usage.capability; readonly = usage.readonly } in q) place) { aims = with_aim usage.target place.aims } in p)) ≡ Some (held_at place)
-        same true e = absurd (there (no_is_no place.attached e))
+        same : (b : Bool) → is_no entry.attached ≡ b → Some (held_at (let p : NodeEntryShown = record (cond b (let q : NodeEntryShown = record entry { capability = usage.capability; readonly = usage.readonly } in q) entry) { target_entries = with_target usage.target entry.target_entries } in p)) ≡ Some (held_at entry)
+        same true e = absurd (there (no_is_no entry.attached e))
         same false e = refl
 
-    by : (b : Bool) → same_text usage.node node ≡ b → option_map held_at (cond b (Some (entry_for usage (place_of row usage.node))) (place_of row node)) ≡ option_map held_at (place_of row node)
+    by : (b : Bool) → same_text usage.node node ≡ b → option_map held_at (cond b (Some (entry_for usage (node_entry_of row usage.node))) (node_entry_of row node)) ≡ option_map held_at (node_entry_of row node)
     by true e =
         let is : usage.node ≡ node = (same_text-tells usage.node node).0 e in
-        kept (place_of row usage.node) (λ h. maybe (ap (λ n. mark_in (λ (p : PlaceShown). p.attached) (place_of row n)) (sym is) ∙ h)) ∙ ap (λ n. option_map held_at (place_of row n)) is
+        kept (node_entry_of row usage.node) (λ h. maybe (ap (λ n. mark_in (λ (p : NodeEntryShown). p.attached) (node_entry_of row n)) (sym is) ∙ h)) ∙ ap (λ n. option_map held_at (node_entry_of row n)) is
     by false e = refl
 
 -- a row without a goal tells what is shown of it, with an entry for a use too

@@ -29,7 +29,7 @@ use Rattle.csi_orchestrator.specs.Following.{after_sent, after_accepted, told, i
 use Rattle.csi_orchestrator.specs.Hearing.{marks_marked}
 use Rattle.csi_orchestrator.specs.Kept.{HasEntry}
 use Rattle.csi_orchestrator.specs.RowChanges.{aspect_of, marked, sent, told_of, id_told, succeeded}
-use Rattle.csi_orchestrator.specs.Shown.{RowShown, place_of, mark_in, mark_of, held_in, held_at, goal_in, goal_shown, marks_for, due_with, due_by, due_in, issued_as}
+use Rattle.csi_orchestrator.specs.Shown.{RowShown, node_entry_of, mark_in, mark_of, held_in, held_at, goal_in, goal_shown, marks_for, due_with, due_by, due_in, issued_as}
 use Rattle.csi_orchestrator.proofs.TextLists.{text-same}
 use Rattle.csi_orchestrator.proofs.DueCases.{attaching, staging, publishing, unpublishing, unstaging, detaching, IsDueFor, ToMake, ToRemove, ToAttach, ToStage, ToPublish, ToUnpublish, ToUnstage, ToDetach}
 use Rattle.csi_orchestrator.proofs.TextLists.{same_text-flip}
@@ -59,9 +59,9 @@ due-again row due case goal is = by due case
     by _ (ToDetach node target id own has p o s a) = of _ (Stop node target) own (rw (has, p, o, s) refl)
 
 -- what is known of what a goal names goes by the marks alone
-pub marks-same : (goal : Goal) (a b : RowShown) → a.exists ≡ b.exists → a.places ≡ b.places → marks_for a goal ≡ marks_for b goal
-marks-same Create a b exists places = λ i. marks_for (record a { exists = exists i; places = places i }) Create
-marks-same goal a b exists places = λ i. marks_for (record a { exists = exists i; places = places i }) goal
+pub marks-same : (goal : Goal) (a b : RowShown) → a.exists ≡ b.exists → a.node_entries ≡ b.node_entries → marks_for a goal ≡ marks_for b goal
+marks-same Create a b exists node_entries = λ i. marks_for (record a { exists = exists i; node_entries = node_entries i }) Create
+marks-same goal a b exists node_entries = λ i. marks_for (record a { exists = exists i; node_entries = node_entries i }) goal
 
 -- once the due call was sent, the same call is due still
 pub due-stays : (row : RowShown) (due : Due) (number : Number) → GoalHasEntry row row.goal → IsDueFor row due → due_in (sent number (kind_of due.call) row) ≡ Some due
@@ -79,7 +79,7 @@ quiet-held row after view name node reads same maybe = reads.holdings node (λ e
 -- at the node of a use with its entries the volume is held as the use asks
 held-entry : (row : RowShown) (usage : Usage) (node : List ℕ) → HasEntry row usage → same_text usage.node node ≡ true → held_in row node ≡ Some (let h : Held = record { capability = usage.capability; readonly = usage.readonly } in h)
 held-entry row usage node entry e =
-    ap (held_in row) (sym ((same_text-tells usage.node node).0 e)) ∙ ap (option_map held_at) entry.at_node ∙ ap Some (both entry.place.capability usage.capability entry.place.readonly usage.readonly entry.same_capability entry.same_flag)
+    ap (held_in row) (sym ((same_text-tells usage.node node).0 e)) ∙ ap (option_map held_at) entry.at_node ∙ ap Some (both entry.node_entry.capability usage.capability entry.node_entry.readonly usage.readonly entry.same_capability entry.same_flag)
   where
     both : (c d : Capability) (r s : Bool) → c ≡ d → r ≡ s → (let h : Held = record { capability = c; readonly = r } in h) ≡ (let h : Held = record { capability = d; readonly = s } in h)
     both c d r s e f = λ i. record { capability = e i; readonly = f i }
@@ -118,13 +118,13 @@ held-right row _ view name node entry (ToDetach here target id goal own p o s a)
         ∙ ap (λ b. cond b Maybe (mark_of (Attached name node) row)) (ap (λ b. same_text name row.name && b) (same_text-flip node here ∙ e) ∙ and-false (same_text name row.name))
 
     by : (b : Bool) → same_text here node ≡ b → held_in row node ≡ view.holdings name node
-    by true e = reads.holdings node (not_no (mark_in (λ place. place.attached) (place_of row node)) (ap (λ n. is_no (mark_in (λ place. place.attached) (place_of row n))) (sym ((same_text-tells here node).0 e)) ∙ a))
+    by true e = reads.holdings node (not_no (mark_in (λ node_entry. node_entry.attached) (node_entry_of row node)) (ap (λ n. is_no (mark_in (λ node_entry. node_entry.attached) (node_entry_of row n))) (sym ((same_text-tells here node).0 e)) ∙ a))
     by false e = quiet-held row (marked Maybe kinds.ControllerUnpublishVolume row) view name node reads (same e) maybe
 
 -- what is known of a thing goes by the marks alone, and what is wanted by the goal and the arguments
-pub mark-same : (thing : Thing) (a b : RowShown) → a.exists ≡ b.exists → a.places ≡ b.places → mark_of thing a ≡ mark_of thing b
-mark-same (Exists name) a b exists places = exists
-mark-same thing a b exists places = ap (λ ps. mark_of thing (record a { places = ps })) places
+pub mark-same : (thing : Thing) (a b : RowShown) → a.exists ≡ b.exists → a.node_entries ≡ b.node_entries → mark_of thing a ≡ mark_of thing b
+mark-same (Exists name) a b exists node_entries = exists
+mark-same thing a b exists node_entries = ap (λ ps. mark_of thing (record a { node_entries = ps })) node_entries
 
 pub goals-same : (a b : RowShown) → a.arguments ≡ b.arguments → a.goal ≡ b.goal → goal_in a ≡ goal_in b
 goals-same a b arguments goal = ap (option_map (goal_shown a)) goal ∙ by b.goal

@@ -23,7 +23,7 @@ use Rattle.csi_orchestrator.specs.RowChanges.{new_row}
 use Rattle.csi_orchestrator.specs.RowRefusals.{first_fault}
 use Rattle.csi_orchestrator.specs.RowMoves.{told, put, frame_in, last_after, placed, steps_at, creates, row_moves, asked_by, IsRefusal, IsToldAs}
 use Rattle.csi_orchestrator.specs.Shown.{RowShown, Parts, row_shown, row_of}
-use Rattle.csi_orchestrator.specs.RowSteps.{RowTold, row_goes_on, row_unless, row_step, SendsNothing}
+use Rattle.csi_orchestrator.specs.RowSteps.{RowTold, row_sends_due, row_unless, row_step, SendsNothing}
 use Rattle.csi_orchestrator.proofs.ChangedEntries.{find-place, find-none_placed, put-place, put-none_placed}
 use Rattle.csi_orchestrator.proofs.RowsUnderNames.{catalog_with, read-at, parts-set}
 use Rattle.csi_orchestrator.proofs.OpenCalls.{GoesOn, step-goes}
@@ -123,13 +123,13 @@ create-asked core name arguments i at =
 -- the first create of a name
 pub first-told : (nodes : List (List ℕ)) (last : Number) (rows : List Row) (name : List ℕ) (arguments : Arguments) (s : Row) (next : Option Outgoing) (sends : Option Frame) (after : Parts)
     → position (λ (row : Row). same_text row.name name) rows ≡ None
-    → first_fault last (map row_shown rows) ≡ None → row_goes_on last (new_row name arguments) ≡ Ok (record { outgoing = next; row = row_shown s })
+    → first_fault last (map row_shown rows) ≡ None → row_sends_due last (new_row name arguments) ≡ Ok (record { outgoing = next; row = row_shown s })
     → s.name ≡ name → sends ≡ frame_in next
     → after ≡ record { nodes = nodes; last = last_after last next; rows = map row_shown (rows ++ s ∷ []) }
     → creates (record { nodes = nodes; last = last; rows = map row_shown rows }) name arguments None ≡ Ok (record { answer = Sends sends; parts = after })
 first-told nodes last rows name arguments s next sends after none fits is own frame then =
     let parts : Parts = record { nodes = nodes; last = last; rows = map row_shown rows } in
     let stands : map row_shown (rows ++ s ∷ []) ≡ put (row_shown s) (map row_shown rows) = put-none_placed row_shown (λ (row : RowShown). row.name) (row_shown s) name rows s own none refl in
-    ap (λ fault. placed parts Sends (row_unless fault (row_goes_on last (new_row name arguments)))) fits ∙ ap (placed parts Sends) is
+    ap (λ fault. placed parts Sends (row_unless fault (row_sends_due last (new_row name arguments)))) fits ∙ ap (placed parts Sends) is
     ∙ ap (λ shown. told (record { nodes = nodes; last = last_after last next; rows = shown }) (Sends (frame_in next))) (sym stands)
     ∙ ap (λ p. told p (Sends (frame_in next))) (sym then) ∙ ap (λ f. told after (Sends f)) (sym frame)

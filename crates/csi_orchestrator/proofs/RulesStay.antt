@@ -27,7 +27,7 @@ use Rattle.csi_orchestrator.specs.RowMoves.{Told, told, placed, steps_at, create
 use Rattle.csi_orchestrator.specs.Kept.{IsKept, AreKept, RowsStayKept}
 use Rattle.csi_orchestrator.proofs.EntryRules.{by_if, each-put, apart-put, apart-map}
 use Rattle.csi_orchestrator.proofs.RowRules.{kept-closed}
-use Rattle.csi_orchestrator.proofs.StepsKept.{RowKept, goes-on-kept, unless-kept, step-kept, new-may, heard-fits}
+use Rattle.csi_orchestrator.proofs.StepsKept.{RowKept, sends-due-kept, unless-kept, step-kept, new-may, heard-fits}
 
 -- what is told, if anything, is kept so
 abbrev pub KeptAfter : Parts → Result Told OrchFault → Type 0
@@ -63,7 +63,7 @@ asked-kept parts step name kept fits (Some row) e = found-steps parts Sends step
 
 creates-kept : (parts : Parts) (name : List ℕ) (arguments : Arguments) → AreKept parts.rows → (o : Option RowShown) → row_of parts.rows name ≡ o → KeptAfter parts (creates parts name arguments o)
 creates-kept parts name arguments kept None e =
-    put-kept parts Sends _ kept (unless-kept (first_fault parts.last parts.rows) _ (λ free. goes-on-kept parts.last (new_row name arguments) (new-may name arguments)))
+    put-kept parts Sends _ kept (unless-kept (first_fault parts.last parts.rows) _ (λ free. sends-due-kept parts.last (new_row name arguments) (new-may name arguments)))
 creates-kept parts name arguments kept (Some row) e = asked-kept parts (steps.Create arguments) name kept (λ row. tt) (Some row) e
 
 -- a reply is heard

@@ -18,12 +18,12 @@ use Rattle.csi_orchestrator.specs.WellFormed.{IsNext, IsWellFormed}
 use Rattle.csi_orchestrator.specs.Commands.{next_number}
 use Rattle.csi_orchestrator.specs.Due.{Due, due_call}
 use Rattle.csi_orchestrator.specs.Guards.{MayIssue}
-use Rattle.csi_orchestrator.specs.Moves.{Answer, Moved, sent_as, go_on}
+use Rattle.csi_orchestrator.specs.Moves.{Answer, Moved, sent_as, send_due}
 use Rattle.csi_orchestrator.specs.Agrees.{View, Agrees}
 use Rattle.csi_orchestrator.specs.Following.{after_sent, after_noted, DetachesSomething}
-use Rattle.csi_orchestrator.specs.Shown.{RowShown, Parts, place_of, mark_in, due_in, view_of, AgreesWith}
+use Rattle.csi_orchestrator.specs.Shown.{RowShown, Parts, node_entry_of, mark_in, due_in, view_of, AgreesWith}
 use Rattle.csi_orchestrator.specs.RowChanges.{sent, dropped}
-use Rattle.csi_orchestrator.specs.RowSteps.{outgoing_by, row_after, row_goes_on}
+use Rattle.csi_orchestrator.specs.RowSteps.{outgoing_by, row_after, row_sends_due}
 use Rattle.csi_orchestrator.specs.RowMoves.{Told, put, placed}
 use Rattle.csi_orchestrator.specs.Kept.{MayBeWanted, AreGuarded, Fits}
 use Rattle.csi_orchestrator.proofs.DueCalls.{due-of-row}
@@ -31,7 +31,7 @@ use Rattle.csi_orchestrator.proofs.DueCases.{IsDueFor, due-cases, ToAttach, ToDe
 use Rattle.csi_orchestrator.proofs.ViewsFollow.{sent-follows, noted-follows}
 use Rattle.csi_orchestrator.proofs.AddedItems.{IsNextIfSome, is_next}
 use Rattle.csi_orchestrator.proofs.DueCallsGuarded.{due-guarded}
-use Rattle.csi_orchestrator.proofs.StepsKept.{MayGoOn}
+use Rattle.csi_orchestrator.proofs.StepsKept.{MaySendDue}
 use Rattle.csi_orchestrator.proofs.RowMarks.{GoalHasEntry}
 use Rattle.csi_orchestrator.proofs.RowsAfterNotes.{reads-dropped}
 use Rattle.csi_orchestrator.proofs.RowViews.{Reads, SameAt, same-then, same-sent, same-noted, put-agrees, IsRowOf, reads-history}
@@ -56,7 +56,7 @@ pub record IsReady (parts : Parts) (history : History) (name : List ℕ) (row : 
   pub same_last : parts.last ≡ view.last
   pub old_last : last_number history ≡ parts.last
   pub quiet : view.open_calls name ≡ None
-  pub going : MayGoOn row
+  pub may_send : MaySendDue row
   pub guarded : AreGuarded history items
 
 -- the entries of a goal that may be wanted
@@ -66,16 +66,16 @@ has-entry row goal may = tt
 
 -- the one call that detaches is due where the volume may be attached
 detaching-something : (row : RowShown) (due : Due) (name node : List ℕ) (number : Number) → IsDueFor row due → touches (Attached name node) (issued-by name number due) ≡ true → is_doing due.call ≡ false
-    → is_no (mark_in (λ place. place.attached) (place_of row node)) ≡ false
+    → is_no (mark_in (λ entry. entry.attached) (node_entry_of row node)) ≡ false
 detaching-something row _ name node number (ToAttach usage id goal own a) of undoes = absurd (false≢true (sym undoes))
 detaching-something row _ name node number (ToDetach here target id goal own p o s a) of undoes =
-    ap (λ n. is_no (mark_in (λ place. place.attached) (place_of row n))) ((same_text-tells node here).0 (and_parts (same_text name name) (same_text node here) of).1) ∙ a
+    ap (λ n. is_no (mark_in (λ entry. entry.attached) (node_entry_of row n))) ((same_text-tells node here).0 (and_parts (same_text name name) (same_text node here) of).1) ∙ a
 detaching-something row _ name node number other of undoes = absurd (false≢true of)
 
 -- its due call is the one that is due by that history
 due-there : (parts : Parts) (history : History) (name : List ℕ) (row : RowShown) (view : View) (items : List Item) → IsReady parts history name row view items → due_call (with_items history items) name ≡ due_in row
 due-there parts history name row view items ready =
-    due-of-row row (with_items history items) name (reads-history row view (with_items history items) name ready.reads ready.agrees) ((ready.going).distinct).targets
+    due-of-row row (with_items history items) name (reads-history row view (with_items history items) name ready.reads ready.agrees) ((ready.may_send).distinct).targets
 
 -- the due call may be sent
 may-issue : (parts : Parts) (history : History) (name : List ℕ) (row : RowShown) (view : View) (items : List Item) (due : Due) → IsReady parts history name row view items → due_in row ≡ Some due
@@ -84,7 +84,7 @@ may-issue parts history name row view items due ready e =
     let own = (ready.reads).own in
     let its = reads-history row view (with_items history items) name ready.reads ready.agrees in
     subst (λ n. MayIssue (with_items history items) n due.party due.call) own
-    (due-guarded row (with_items history items) due (subst (IsRowOf row (with_items history items)) (sym own) its) ((ready.going).distinct).targets ((ready.going).may due e)
+    (due-guarded row (with_items history items) due (subst (IsRowOf row (with_items history items)) (sym own) its) ((ready.may_send).distinct).targets ((ready.may_send).may due e)
     (ap (open_call (with_items history items)) own ∙ sym ((ready.agrees).same_open_calls name) ∙ ready.quiet) e)
 
 -- it was sent
@@ -93,7 +93,7 @@ then-sent : (parts : Parts) (history : History) (name : List ℕ) (row : RowShow
     → AgreesWith (record { nodes = parts.nodes; last = number; rows = put (sent number (kind_of due.call) row) parts.rows }) (with_items history (Sent (issued-by name number due) ∷ items))
 then-sent parts history name row view items due number ready e n =
     put-agrees parts number name (sent number (kind_of due.call) row) (after_sent issued view) (with_items history (Sent issued ∷ items))
-    (reads-sent row view name due number ready.reads (has-entry row row.goal ((ready.going).may due e)) case)
+    (reads-sent row view name due number ready.reads (has-entry row row.goal ((ready.may_send).may due e)) case)
     (λ other differs. same-then (after_sent issued view) view (view_of parts) other (same-sent issued view other differs) (ready.others other differs)) refl
     (sent-follows view (with_items history items) issued ready.form ready.agrees next detaches)
   where
@@ -111,7 +111,7 @@ then-sent parts history name row view items due number ready e n =
 
     detaches : DetachesSomething (with_items history items) issued
     detaches node of undoes is =
-        not_no (mark_in (λ place. place.attached) (place_of row node)) (detaching-something row due name node number case of undoes)
+        not_no (mark_in (λ entry. entry.attached) (node_entry_of row node)) (detaching-something row due name node number case of undoes)
         ((ready.reads).marks (Attached name node) refl ∙ (ready.agrees).same_marks (Attached name node) ∙ is)
 
 -- none was due, and the goal was dropped
@@ -119,16 +119,16 @@ pub then-dropped : (parts : Parts) (history : History) (name : List ℕ) (row : 
     → AgreesWith (record { nodes = parts.nodes; last = parts.last; rows = put (dropped row) parts.rows }) (with_items history (Noted name None ∷ items))
 then-dropped parts history name row view items ready =
     put-agrees parts parts.last name (dropped row) (after_noted name None view) (with_items history (Noted name None ∷ items))
-    (reads-dropped row view name ((ready.going).distinct).nodes ((ready.going).distinct).targets ready.reads ready.quiet)
+    (reads-dropped row view name ((ready.may_send).distinct).nodes ((ready.may_send).distinct).targets ready.reads ready.quiet)
     (λ other differs. same-then (after_noted name None view) view (view_of parts) other (same-noted name None view other differs) (ready.others other differs)) ready.same_last
     (noted-follows view (with_items history items) name None ready.agrees)
 
--- a row that is ready goes on as its history does
-pub goes-on-tells : (parts : Parts) (history : History) (name : List ℕ) (row : RowShown) (view : View) (items : List Item) → IsReady parts history name row view items → (answer : Option Frame → Answer)
-    → Tells history (placed parts answer (row_goes_on parts.last row)) (go_on history name answer items)
-goes-on-tells parts history name row view items ready answer =
-    subst (λ d. Tells history (placed parts answer (row_goes_on parts.last row)) (sent_as name answer items d (next_number (last_number history)))) (sym (due-there parts history name row view items ready))
-    (subst (λ l. Tells history (placed parts answer (row_goes_on parts.last row)) (sent_as name answer items (due_in row) (next_number l))) (sym ready.old_last)
+-- the due call of a row that is ready is sent as the history tells it
+pub sends-due-tells : (parts : Parts) (history : History) (name : List ℕ) (row : RowShown) (view : View) (items : List Item) → IsReady parts history name row view items → (answer : Option Frame → Answer)
+    → Tells history (placed parts answer (row_sends_due parts.last row)) (send_due history name answer items)
+sends-due-tells parts history name row view items ready answer =
+    subst (λ d. Tells history (placed parts answer (row_sends_due parts.last row)) (sent_as name answer items d (next_number (last_number history)))) (sym (due-there parts history name row view items ready))
+    (subst (λ l. Tells history (placed parts answer (row_sends_due parts.last row)) (sent_as name answer items (due_in row) (next_number l))) (sym ready.old_last)
     (by (due_in row) refl (next_number parts.last) refl))
   where
     by : (d : Option Due) → due_in row ≡ d → (n : Option Number) → next_number parts.last ≡ n → Tells history (placed parts answer (row_after row (outgoing_by d n))) (sent_as name answer items d n)

@@ -25,10 +25,10 @@ use Rattle.csi_orchestrator.specs.Commands.{next_number, is_for_one_node, is_sec
 use Rattle.csi_orchestrator.specs.Due.{Due}
 use Rattle.csi_orchestrator.specs.Found.{kind_due}
 use Rattle.csi_orchestrator.specs.Hearing.{Fits}
-use Rattle.csi_orchestrator.specs.Shown.{PlaceShown, RowShown, place_of, due_in, open_in_row, closed}
+use Rattle.csi_orchestrator.specs.Shown.{NodeEntryShown, RowShown, node_entry_of, due_in, open_in_row, closed}
 use Rattle.csi_orchestrator.specs.RowChanges.{told_of, wanted, stopped_goal, new_row}
-use Rattle.csi_orchestrator.specs.RowRefusals.{has_elsewhere, is_place_otherwise, use_refusal, is_attached_somewhere, step_refusal, late_refusal}
-use Rattle.csi_orchestrator.specs.RowSteps.{RowTold, outgoing_by, row_after, row_goes_on, row_rests, row_unless, is_met, waits, is_given_up, timed_out, failed, changed, row_step}
+use Rattle.csi_orchestrator.specs.RowRefusals.{has_elsewhere, is_entry_otherwise, use_refusal, is_attached_somewhere, step_refusal, late_refusal}
+use Rattle.csi_orchestrator.specs.RowSteps.{RowTold, outgoing_by, row_after, row_sends_due, row_rests, row_unless, is_met, waits, is_given_up, timed_out, failed, changed, row_step}
 use Rattle.csi_orchestrator.specs.RowMoves.{is_issued_as, step_heard}
 use Rattle.csi_orchestrator.specs.Kept.{MayBeWanted, IsKept}
 use Rattle.csi_orchestrator.proofs.EntryRules.{by_if}
@@ -37,8 +37,8 @@ use Rattle.csi_orchestrator.proofs.UseRules.{distinct-entry, usable-entry}
 use Rattle.csi_orchestrator.proofs.RepliedRows.{hears-it}
 
 -- what is due for such a row, if something is, may be wanted
-pub record MayGoOn (row : RowShown) : Type 0 where
-  pub distinct : AreDistinct row.places
+pub record MaySendDue (row : RowShown) : Type 0 where
+  pub distinct : AreDistinct row.node_entries
   pub may : (due : Due) → due_in row ≡ Some due → MayBeWanted row row.goal
 
 -- where nothing is refused, the first reason doesn't hold, and none of the others does
@@ -60,7 +60,7 @@ pub record IsFree (usage : Usage) (row : RowShown) : Type 0 where
   pub idle : row.goal ≡ None
   pub one_node : has_elsewhere (is_for_one_node usage) usage.node row ≡ false
   pub one_writer : has_elsewhere (is_second_writer usage) usage.node row ≡ false
-  pub alike : is_place_otherwise usage (place_of row usage.node) ≡ false
+  pub alike : is_entry_otherwise usage (node_entry_of row usage.node) ≡ false
 
 pub use-free : (nodes : List (List ℕ)) (usage : Usage) (row : RowShown) → use_refusal nodes usage row ≡ None → IsFree usage row
 use-free nodes usage row free =
@@ -70,13 +70,13 @@ use-free nodes usage row free =
     let capable = first-held (not (has_capability row.arguments.capabilities usage.capability)) faults.NotCapable _ known.1 in
     let one_node = first-held (has_elsewhere (is_for_one_node usage) usage.node row) faults.HeldElsewhere _ capable.1 in
     let one_writer = first-held (has_elsewhere (is_second_writer usage) usage.node row) faults.WriterElsewhere _ one_node.1 in
-    let alike = first-held (is_place_otherwise usage (place_of row usage.node)) faults.HeldOtherwise _ one_writer.1 in
+    let alike = first-held (is_entry_otherwise usage (node_entry_of row usage.node)) faults.HeldOtherwise _ one_writer.1 in
     record { made = is-made row.exists made.0; idle = none-from_is_some row.goal busy.0; one_node = one_node.0; one_writer = one_writer.0; alike = alike.0 }
 
 -- a volume that may be attached nowhere is attached nowhere
-all-detached : (places : List PlaceShown) → list_any (λ (place : PlaceShown). not (is_no place.attached)) places ≡ false → AllByRecursion (λ (place : PlaceShown). place.attached ≡ No) places
+all-detached : (entries : List NodeEntryShown) → list_any (λ (entry : NodeEntryShown). not (is_no entry.attached)) entries ≡ false → AllByRecursion (λ (entry : NodeEntryShown). entry.attached ≡ No) entries
 all-detached [] e = tt
-all-detached (place ∷ places) e = let both = or_parts (not (is_no place.attached)) _ e in (detached place.attached both.0, all-detached places both.1)
+all-detached (entry ∷ entries) e = let both = or_parts (not (is_no entry.attached)) _ e in (detached entry.attached both.0, all-detached entries both.1)
   where
     detached : (k : Known) → not (is_no k) ≡ false → k ≡ No
     detached Yes f = absurd (false≢true (sym f))
@@ -84,17 +84,17 @@ all-detached (place ∷ places) e = let both = or_parts (not (is_no place.attach
     detached Maybe f = absurd (false≢true (sym f))
 
 -- a row whose open call is given up, and with the use that it was for
-pub closed-may : (row : RowShown) → IsKept row → MayGoOn (closed row)
+pub closed-may : (row : RowShown) → IsKept row → MaySendDue (closed row)
 closed-may row own = record { distinct = kept-distinct row own; may = λ due f. (kept-closed row own).goal }
 
-pub stopped-may : (row : RowShown) (goal : Goal) → row.goal ≡ Some goal → IsKept row → MayGoOn (wanted (stopped_goal goal) row)
+pub stopped-may : (row : RowShown) (goal : Goal) → row.goal ≡ Some goal → IsKept row → MaySendDue (wanted (stopped_goal goal) row)
 stopped-may row goal e own = record { distinct = kept-distinct row own; may = λ due f. wanted-stopped row goal (subst (MayBeWanted row) e own.goal) }
 
-timed-out-may : (row : RowShown) (goal : Option Goal) → row.goal ≡ goal → IsKept row → MayGoOn (timed_out row goal)
+timed-out-may : (row : RowShown) (goal : Option Goal) → row.goal ≡ goal → IsKept row → MaySendDue (timed_out row goal)
 timed-out-may row None e own = closed-may row own
-timed-out-may row (Some goal) e own = by_if MayGoOn (is_given_up row) _ _ (λ spent. stopped-may row goal e own) (λ more. closed-may row own)
+timed-out-may row (Some goal) e own = by_if MaySendDue (is_given_up row) _ _ (λ spent. stopped-may row goal e own) (λ more. closed-may row own)
 
-failed-may : (row : RowShown) (goal : Option Goal) → row.goal ≡ goal → IsKept row → MayGoOn (failed row goal)
+failed-may : (row : RowShown) (goal : Option Goal) → row.goal ≡ goal → IsKept row → MaySendDue (failed row goal)
 failed-may row (Some Create) e own = record { distinct = kept-distinct row own; may = λ due f. tt }
 failed-may row (Some (Use usage)) e own = stopped-may row (Use usage) e own
 failed-may row goal e own = closed-may row own
@@ -110,24 +110,24 @@ kind-fits row kind is = by (due_in row) refl is
         subst (FitsGoal row.goal) own (due-fits-goal row due e)
 
 -- so it is of each row that took a step which isn't refused at once
-pub changed-may : (nodes : List (List ℕ)) (last : Number) (step : Step) (row : RowShown) → IsKept row → Fits step row → step_refusal nodes last step row ≡ None → MayGoOn (changed step row)
+pub changed-may : (nodes : List (List ℕ)) (last : Number) (step : Step) (row : RowShown) → IsKept row → Fits step row → step_refusal nodes last step row ≡ None → MaySendDue (changed step row)
 changed-may nodes last (steps.Create arguments) row own fits free =
     let unused = or_parts (is_some row.id) (is_some row.goal) (first-held _ _ _ free).0 in
     record { distinct = kept-distinct row own; may = λ due f. none-from_is_some row.id unused.0 }
 changed-may nodes last (steps.Use usage) row own fits free =
     let usable = use-free nodes usage row free in
-    record { distinct = distinct-entry usage row (kept-distinct row own) usable.alike; may = λ due f. usable-entry usage row own.aims usable.made usable.one_node usable.one_writer usable.alike }
+    record { distinct = distinct-entry usage row (kept-distinct row own) usable.alike; may = λ due f. usable-entry usage row own.targets usable.made usable.one_node usable.one_writer usable.alike }
 changed-may nodes last (steps.Stop node target) row own fits free = record { distinct = kept-distinct row own; may = λ due f. tt }
 changed-may nodes last steps.Delete row own fits free =
     let unused = first-held (is_attached_somewhere row) faults.InUse None (first-held (is_none row.id) faults.NotCreated _ free).1 in
-    record { distinct = kept-distinct row own; may = λ due f. all-detached row.places unused.0 }
+    record { distinct = kept-distinct row own; may = λ due f. all-detached row.node_entries unused.0 }
 changed-may nodes last steps.TimeOut row own fits free = timed-out-may row row.goal refl own
 changed-may nodes last (steps.Succeed kind id) row own fits free =
     record { distinct = marked-distinct (told_of kind) kind row (kept-distinct row own); may = λ due f. wanted-succeeded kind id row row.goal due refl (kind-fits row kind fits.1) own.goal f }
 changed-may nodes last steps.Fail row own fits free = failed-may row row.goal refl own
 
 -- and of a new row
-pub new-may : (name : List ℕ) (arguments : Arguments) → MayGoOn (new_row name arguments)
+pub new-may : (name : List ℕ) (arguments : Arguments) → MaySendDue (new_row name arguments)
 new-may name arguments = record { distinct = record { nodes = tt; targets = tt }; may = λ due f. refl }
 
 -- what is told of a row, if anything, is kept so
@@ -136,13 +136,13 @@ RowKept (Ok row_told) = IsKept row_told.row
 RowKept (Err fault) = Unit {0}
 
 -- the due call is sent, or what was wanted is dropped
-pub goes-on-kept : (last : Number) (row : RowShown) → MayGoOn row → RowKept (row_goes_on last row)
-goes-on-kept last row going = by (due_in row) refl (next_number last)
+pub sends-due-kept : (last : Number) (row : RowShown) → MaySendDue row → RowKept (row_sends_due last row)
+sends-due-kept last row may_send = by (due_in row) refl (next_number last)
   where
     by : (o : Option Due) → due_in row ≡ o → (n : Option Number) → RowKept (row_after row (outgoing_by o n))
-    by None e number = kept-dropped row going.distinct
+    by None e number = kept-dropped row may_send.distinct
     by (Some due) e None = tt
-    by (Some due) e (Some number) = kept-sent number row due e going.distinct (going.may due e)
+    by (Some due) e (Some number) = kept-sent number row due e may_send.distinct (may_send.may due e)
 
 -- what is kept where nothing refuses is kept unless it is refused
 pub unless-kept : (o : Option OrchFault) (result : Result RowTold OrchFault) → (o ≡ None → RowKept result) → RowKept (row_unless o result)
@@ -155,7 +155,7 @@ step-kept nodes last step row own fits =
     unless-kept (step_refusal nodes last step row) _
     (λ free. by_if RowKept (is_met step row) (row_rests row) _ (λ met. own)
     (λ unmet. by_if RowKept (waits step row) (row_rests (closed row)) _ (λ left. kept-closed row own)
-    (λ on. unless-kept (late_refusal last step row) _ (λ room. goes-on-kept last (changed step row) (changed-may nodes last step row own fits free)))))
+    (λ on. unless-kept (late_refusal last step row) _ (λ room. sends-due-kept last (changed step row) (changed-may nodes last step row own fits free)))))
 
 -- what a reply brings fits the row that it is to
 pub heard-fits : (row : RowShown) (number : Number) (party : Party) (kind : Kind) (reply : Reply) → is_issued_as number party kind (open_in_row row) ≡ true → IsKept row → Fits (step_heard kind reply) row

@@ -37,8 +37,8 @@ then-equal Greater = refl
 
 -- the order of things is that one
 pub order-by_texts : (a b : Thing) → thing_order a b ≡ by_texts a b
-order-by_texts (Published name node target) (Published other there aim) =
-    ap (λ r. ordering_then (text_order name other) (ordering_then (text_order node there) r)) (sym (then-equal (text_order target aim)))
+order-by_texts (Published name node target) (Published other there other_target) =
+    ap (λ r. ordering_then (text_order name other) (ordering_then (text_order node there) r)) (sym (then-equal (text_order target other_target)))
 order-by_texts (Exists name) (Exists other) = refl
 order-by_texts (Attached name node) (Exists other) = refl
 order-by_texts (Staged name node) (Exists other) = refl
@@ -65,7 +65,7 @@ same-by-texts : (a b : Thing) → texts_of a ≡ texts_of b → a ≡ b
 same-by-texts (Exists name) (Exists other) e = cc
 same-by-texts (Attached name node) (Attached other there) e = cc
 same-by-texts (Staged name node) (Staged other there) e = cc
-same-by-texts (Published name node target) (Published other there aim) e = cc
+same-by-texts (Published name node target) (Published other there other_target) e = cc
 same-by-texts a b e = cc
 
 -- things that come in one place are the same

@@ -10,17 +10,17 @@ use Rattle.csi_lists.proofs.Searches.{find-passes}
 use Rattle.csi_lists.proofs.Pairs.{two-joined, two-flat}
 use Rattle.csi_types.specs.Same.{same_text}
 use Rattle.csi_types.proofs.Equality.{same_text-tells}
-use Rattle.csi_orchestrator.specs.declared.row.Aim.{Aim}
+use Rattle.csi_orchestrator.specs.declared.row.TargetEntry.{TargetEntry}
 use Rattle.csi_orchestrator.specs.declared.thing.Thing.{Thing}
 use Rattle.csi_orchestrator.specs.declared.thing.Thing.TheVariants.{Exists, Attached, Staged, Published}
 use Rattle.csi_orchestrator.specs.declared.thing.Known.{Known}
 use Rattle.csi_orchestrator.specs.declared.thing.Known.TheVariants.{Yes, No, Maybe}
 use Rattle.csi_orchestrator.specs.Thing.{name_in}
-use Rattle.csi_orchestrator.specs.Shown.{PlaceShown, RowShown, Parts, row_of, place_of, mark_in, mark_of, published_in, AreTargetsApart, AgreesWith}
+use Rattle.csi_orchestrator.specs.Shown.{NodeEntryShown, RowShown, Parts, row_of, node_entry_of, mark_in, mark_of, published_in, AreTargetsApart, AgreesWith}
 use Rattle.csi_orchestrator.specs.Kept.{IsKept, AreKept}
 use Rattle.csi_orchestrator.specs.History.{History}
 use Rattle.csi_orchestrator.specs.Readings.{known}
-use Rattle.csi_orchestrator.specs.Listing.{known_by_rows, ListsKnown, node_in, target_in, noted, noted_of_aim, noted_of_place, noted_of_row, noted_in}
+use Rattle.csi_orchestrator.specs.Listing.{known_by_rows, ListsKnown, node_in, target_in, noted, noted_of_target, noted_of_node, noted_of_row, noted_in}
 use Rattle.csi_orchestrator.proofs.JoinedLists.{own-entry}
 
 -- the entries are of two things
@@ -105,61 +105,61 @@ each text key own read f xs apart of all =
 
 -- ---- a node's targets, its entry, a row and all rows
 
-abbrev OfAims : RowShown → PlaceShown → Thing → Type 0
-OfAims row place thing = (aim : Aim) × IsAmong aim place.aims × (thing ≡ Published row.name place.node aim.target)
+abbrev OfTargets : RowShown → NodeEntryShown → Thing → Type 0
+OfTargets row node_entry thing = (target_entry : TargetEntry) × IsAmong target_entry node_entry.target_entries × (thing ≡ Published row.name node_entry.node target_entry.target)
 
-abbrev OfPlace : RowShown → PlaceShown → Thing → Type 0
-OfPlace row place thing = ((thing ≡ Attached row.name place.node) ⊎ (thing ≡ Staged row.name place.node)) ⊎ OfAims row place thing
+abbrev OfNode : RowShown → NodeEntryShown → Thing → Type 0
+OfNode row node_entry thing = ((thing ≡ Attached row.name node_entry.node) ⊎ (thing ≡ Staged row.name node_entry.node)) ⊎ OfTargets row node_entry thing
 
 abbrev OfRow : RowShown → Thing → Type 0
-OfRow row thing = (thing ≡ Exists row.name) ⊎ ((place : PlaceShown) × IsAmong place row.places × OfPlace row place thing)
+OfRow row thing = (thing ≡ Exists row.name) ⊎ ((node_entry : NodeEntryShown) × IsAmong node_entry row.node_entries × OfNode row node_entry thing)
 
 abbrev pub OfRows : List RowShown → Thing → Type 0
 OfRows rows thing = (row : RowShown) × IsAmong row rows × OfRow row thing
 
-node-of : (row : RowShown) (place : PlaceShown) (thing : Thing) → OfPlace row place thing → node_in thing ≡ Some place.node
-node-of row place thing (inl (inl is)) = ap node_in is
-node-of row place thing (inl (inr is)) = ap node_in is
-node-of row place thing (inr aim) = ap node_in aim.2
+node-of : (row : RowShown) (node_entry : NodeEntryShown) (thing : Thing) → OfNode row node_entry thing → node_in thing ≡ Some node_entry.node
+node-of row node_entry thing (inl (inl is)) = ap node_in is
+node-of row node_entry thing (inl (inr is)) = ap node_in is
+node-of row node_entry thing (inr target_entry) = ap node_in target_entry.2
 
 name-of : (row : RowShown) (thing : Thing) → OfRow row thing → Some (name_in thing) ≡ Some row.name
 name-of row thing (inl is) = ap (λ t. Some (name_in t)) is
-name-of row thing (inr (place, among, inl (inl is))) = ap (λ t. Some (name_in t)) is
-name-of row thing (inr (place, among, inl (inr is))) = ap (λ t. Some (name_in t)) is
-name-of row thing (inr (place, among, inr aim)) = ap (λ t. Some (name_in t)) aim.2
+name-of row thing (inr (node_entry, among, inl (inl is))) = ap (λ t. Some (name_in t)) is
+name-of row thing (inr (node_entry, among, inl (inr is))) = ap (λ t. Some (name_in t)) is
+name-of row thing (inr (node_entry, among, inr target_entry)) = ap (λ t. Some (name_in t)) target_entry.2
 
-place-lists : (rows : List RowShown) (row : RowShown) (place : PlaceShown) → row_of rows row.name ≡ Some row → place_of row place.node ≡ Some place → AreTargetsApart place
-    → Lists (OfPlace row place) (known_by_rows rows) (noted_of_place row.name place)
-place-lists rows row place in_rows in_row apart =
-    joined _ (OfAims row place) (known_by_rows rows) (attached ++ staged) (flat_map (noted_of_aim row.name place.node) place.aims)
-    (joined (λ t. t ≡ Attached row.name place.node) (λ t. t ≡ Staged row.name place.node) (known_by_rows rows) attached staged
-    (one (known_by_rows rows) (Attached row.name place.node) place.attached (here (Attached row.name place.node) refl ∙ ap (mark_in (λ (p : PlaceShown). p.attached)) in_row))
-    (one (known_by_rows rows) (Staged row.name place.node) place.staged (here (Staged row.name place.node) refl ∙ ap (mark_in (λ (p : PlaceShown). p.staged)) in_row)) (λ t is other. cc))
-    (each target_in (λ (a : Aim). a.target) (λ (a : Aim) t. t ≡ Published row.name place.node a.target) (known_by_rows rows) (noted_of_aim row.name place.node) place.aims apart (λ a t is. ap target_in is)
+node-lists : (rows : List RowShown) (row : RowShown) (node_entry : NodeEntryShown) → row_of rows row.name ≡ Some row → node_entry_of row node_entry.node ≡ Some node_entry → AreTargetsApart node_entry
+    → Lists (OfNode row node_entry) (known_by_rows rows) (noted_of_node row.name node_entry)
+node-lists rows row node_entry in_rows in_row apart =
+    joined _ (OfTargets row node_entry) (known_by_rows rows) (attached ++ staged) (flat_map (noted_of_target row.name node_entry.node) node_entry.target_entries)
+    (joined (λ t. t ≡ Attached row.name node_entry.node) (λ t. t ≡ Staged row.name node_entry.node) (known_by_rows rows) attached staged
+    (one (known_by_rows rows) (Attached row.name node_entry.node) node_entry.attached (here (Attached row.name node_entry.node) refl ∙ ap (mark_in (λ (p : NodeEntryShown). p.attached)) in_row))
+    (one (known_by_rows rows) (Staged row.name node_entry.node) node_entry.staged (here (Staged row.name node_entry.node) refl ∙ ap (mark_in (λ (p : NodeEntryShown). p.staged)) in_row)) (λ t is other. cc))
+    (each target_in (λ (a : TargetEntry). a.target) (λ (a : TargetEntry) t. t ≡ Published row.name node_entry.node a.target) (known_by_rows rows) (noted_of_target row.name node_entry.node) node_entry.target_entries apart (λ a t is. ap target_in is)
     (λ a among.
-    one (known_by_rows rows) (Published row.name place.node a.target) a.published
-    (here (Published row.name place.node a.target) refl ∙ ap (mark_in (published_in a.target)) in_row ∙ ap (mark_in (λ (a : Aim). a.published)) (own-entry (λ (a : Aim). a.target) place.aims a apart among))))
+    one (known_by_rows rows) (Published row.name node_entry.node a.target) a.published
+    (here (Published row.name node_entry.node a.target) refl ∙ ap (mark_in (published_in a.target)) in_row ∙ ap (mark_in (λ (a : TargetEntry). a.published)) (own-entry (λ (a : TargetEntry). a.target) node_entry.target_entries a apart among))))
     disjoint
   where
     attached : List (Thing × Known)
-    attached = noted (Attached row.name place.node) place.attached
+    attached = noted (Attached row.name node_entry.node) node_entry.attached
 
     staged : List (Thing × Known)
-    staged = noted (Staged row.name place.node) place.staged
+    staged = noted (Staged row.name node_entry.node) node_entry.staged
 
     here : (thing : Thing) → name_in thing ≡ row.name → known_by_rows rows thing ≡ mark_of thing row
     here thing own = ap (mark_in (mark_of thing)) (ap (row_of rows) own ∙ in_rows)
 
-    disjoint : (t : Thing) → (t ≡ Attached row.name place.node) ⊎ (t ≡ Staged row.name place.node) → OfAims row place t → ⊥
-    disjoint t (inl is) aim = let same = sym is ∙ aim.2 in cc
-    disjoint t (inr is) aim = let same = sym is ∙ aim.2 in cc
+    disjoint : (t : Thing) → (t ≡ Attached row.name node_entry.node) ⊎ (t ≡ Staged row.name node_entry.node) → OfTargets row node_entry t → ⊥
+    disjoint t (inl is) target_entry = let same = sym is ∙ target_entry.2 in cc
+    disjoint t (inr is) target_entry = let same = sym is ∙ target_entry.2 in cc
 
 row-lists : (rows : List RowShown) (row : RowShown) → row_of rows row.name ≡ Some row → IsKept row → Lists (OfRow row) (known_by_rows rows) (noted_of_row row)
 row-lists rows row in_rows kept =
-    joined (λ t. t ≡ Exists row.name) _ (known_by_rows rows) (noted (Exists row.name) row.exists) (flat_map (noted_of_place row.name) row.places)
+    joined (λ t. t ≡ Exists row.name) _ (known_by_rows rows) (noted (Exists row.name) row.exists) (flat_map (noted_of_node row.name) row.node_entries)
     (one (known_by_rows rows) (Exists row.name) row.exists (ap (mark_in (mark_of (Exists row.name))) in_rows))
-    (each node_in (λ (p : PlaceShown). p.node) (OfPlace row) (known_by_rows rows) (noted_of_place row.name) row.places kept.places (node-of row)
-    (λ place among. place-lists rows row place in_rows (own-entry (λ (p : PlaceShown). p.node) row.places place kept.places among) (each_of AreTargetsApart row.places place kept.aims among)))
+    (each node_in (λ (p : NodeEntryShown). p.node) (OfNode row) (known_by_rows rows) (noted_of_node row.name) row.node_entries kept.nodes (node-of row)
+    (λ node_entry among. node-lists rows row node_entry in_rows (own-entry (λ (p : NodeEntryShown). p.node) row.node_entries node_entry kept.nodes among) (each_of AreTargetsApart row.node_entries node_entry kept.targets among)))
     (λ t is other. let node = sym (ap node_in is) ∙ node-of row other.0 t other.2 in cc)
 
 -- what kept rows note is what they know, each thing once
@@ -185,15 +185,15 @@ known-of rows thing other = let row = entry-of (λ (r : RowShown). r.name) (mark
     by : (row : RowShown) (thing : Thing) → name_in thing ≡ row.name → (mark_of thing row ≡ No → ⊥) → OfRow row thing
     by row (Exists name) same f = inl (ap Exists same)
     by row (Attached name node) same f =
-        let place = entry-of (λ (p : PlaceShown). p.node) (λ p. p.attached) node row.places f in
-        inr (place.0, place.1, inl (inl (λ i. Attached (same i) (place.2 i))))
+        let node_entry = entry-of (λ (p : NodeEntryShown). p.node) (λ p. p.attached) node row.node_entries f in
+        inr (node_entry.0, node_entry.1, inl (inl (λ i. Attached (same i) (node_entry.2 i))))
     by row (Staged name node) same f =
-        let place = entry-of (λ (p : PlaceShown). p.node) (λ p. p.staged) node row.places f in
-        inr (place.0, place.1, inl (inr (λ i. Staged (same i) (place.2 i))))
+        let node_entry = entry-of (λ (p : NodeEntryShown). p.node) (λ p. p.staged) node row.node_entries f in
+        inr (node_entry.0, node_entry.1, inl (inr (λ i. Staged (same i) (node_entry.2 i))))
     by row (Published name node target) same f =
-        let place = entry-of (λ (p : PlaceShown). p.node) (published_in target) node row.places f in
-        let aim = entry-of (λ (a : Aim). a.target) (λ a. a.published) target place.0.aims place.3 in
-        inr (place.0, place.1, inr (aim.0, aim.1, λ i. Published (same i) (place.2 i) (aim.2 i)))
+        let node_entry = entry-of (λ (p : NodeEntryShown). p.node) (published_in target) node row.node_entries f in
+        let target_entry = entry-of (λ (a : TargetEntry). a.target) (λ a. a.published) target node_entry.0.target_entries node_entry.3 in
+        inr (node_entry.0, node_entry.1, inr (target_entry.0, target_entry.1, λ i. Published (same i) (node_entry.2 i) (target_entry.2 i)))
 
 -- a list of what rows know, by a history that they agree with
 pub lists-told : (parts : Parts) (history : History) (things : List (Thing × Known)) → AgreesWith parts history → ListsKnown (known_by_rows parts.rows) things → ListsKnown (known history) things

@@ -8,15 +8,15 @@ use Rattle.csi_lists.proofs.Members.{each_of, among-find, none_passes}
 use Rattle.csi_lists.proofs.Pairs.{two-append}
 use Rattle.csi_lists.proofs.Searches.{find-append_one, find-passes}
 use Rattle.csi_types.proofs.Equality.{same_text-tells, same_capability-tells}
-use Rattle.csi_orchestrator.specs.declared.row.Aim.{Aim}
 use Rattle.csi_orchestrator.specs.declared.row.Goal.TheVariants.{Use}
+use Rattle.csi_orchestrator.specs.declared.row.TargetEntry.{TargetEntry}
 use Rattle.csi_orchestrator.specs.declared.thing.Known.TheVariants.{Yes}
 use Rattle.csi_orchestrator.specs.Thing.{is_no}
 use Rattle.csi_orchestrator.specs.History.{Usage, Held}
 use Rattle.csi_orchestrator.specs.Commands.{is_for_one_node, is_second_writer}
-use Rattle.csi_orchestrator.specs.Shown.{PlaceShown, RowShown, place_of, aim_of, AreTargetsApart}
-use Rattle.csi_orchestrator.specs.RowChanges.{wanted, new_aim, with_aim, held_as, entry_for, with_entry}
-use Rattle.csi_orchestrator.specs.RowRefusals.{is_so_elsewhere, has_elsewhere, is_place_otherwise}
+use Rattle.csi_orchestrator.specs.Shown.{NodeEntryShown, RowShown, node_entry_of, target_entry_of, AreTargetsApart}
+use Rattle.csi_orchestrator.specs.RowChanges.{wanted, new_target_entry, with_target, held_as, entry_for, with_entry}
+use Rattle.csi_orchestrator.specs.RowRefusals.{is_so_elsewhere, has_elsewhere, is_entry_otherwise}
 use Rattle.csi_orchestrator.specs.Keyed.{put_by}
 use Rattle.csi_orchestrator.specs.Kept.{IsUsable}
 use Rattle.csi_orchestrator.proofs.TextLists.{text-same}
@@ -25,108 +25,108 @@ use Rattle.csi_orchestrator.proofs.EntryRules.{each-put, apart-put, any-put}
 use Rattle.csi_orchestrator.proofs.RowRules.{AreDistinct, here}
 
 -- an entry that serves a use
-pub record Serves (usage : Usage) (place : PlaceShown) : Type 0 where
-  pub at_node : place.node ≡ usage.node
-  pub as_capable : place.capability ≡ usage.capability
-  pub as_flagged : place.readonly ≡ usage.readonly
-  pub apart : AreTargetsApart place
-  pub aim : Aim
-  pub at_target : aim_of place usage.target ≡ Some aim
+pub record Serves (usage : Usage) (node_entry : NodeEntryShown) : Type 0 where
+  pub at_node : node_entry.node ≡ usage.node
+  pub as_capable : node_entry.capability ≡ usage.capability
+  pub as_flagged : node_entry.readonly ≡ usage.readonly
+  pub apart : AreTargetsApart node_entry
+  pub target_entry : TargetEntry
+  pub at_target : target_entry_of node_entry usage.target ≡ Some target_entry
 
 -- the target has its entry among these, which stay apart
-with-aim-apart : (target : List ℕ) (place : PlaceShown) → AreTargetsApart place → AreTargetsApart (record place { aims = with_aim target place.aims })
-with-aim-apart target place apart = by (aim_of place target) refl
+with-target-apart : (target : List ℕ) (node_entry : NodeEntryShown) → AreTargetsApart node_entry → AreTargetsApart (record node_entry { target_entries = with_target target node_entry.target_entries })
+with-target-apart target node_entry apart = by (target_entry_of node_entry target) refl
   where
-    by : (o : Option Aim) → aim_of place target ≡ o → AreTargetsApart (record place { aims = cond (is_some o) place.aims (place.aims ++ new_aim target ∷ []) })
-    by (Some aim) e = apart
+    by : (o : Option TargetEntry) → target_entry_of node_entry target ≡ o → AreTargetsApart (record node_entry { target_entries = cond (is_some o) node_entry.target_entries (node_entry.target_entries ++ new_target_entry target ∷ []) })
+    by (Some target_entry) e = apart
     by None e =
-        two-append (λ (a b : Aim). same_text a.target b.target ≡ false) place.aims (new_aim target) apart
-        (λ aim among. none_passes (λ (a : Aim). same_text a.target target) place.aims aim e among)
+        two-append (λ (a b : TargetEntry). same_text a.target b.target ≡ false) node_entry.target_entries (new_target_entry target) apart
+        (λ target_entry among. none_passes (λ (a : TargetEntry). same_text a.target target) node_entry.target_entries target_entry e among)
 
 -- the target's entry is found among them
-with-aim-found : (target : List ℕ) (aims : List Aim) → (aim : Aim) × (find (λ (a : Aim). same_text a.target target) (with_aim target aims) ≡ Some aim)
-with-aim-found target aims = by (find (λ (a : Aim). same_text a.target target) aims) refl
+with-target-found : (target : List ℕ) (target_entries : List TargetEntry) → (target_entry : TargetEntry) × (find (λ (a : TargetEntry). same_text a.target target) (with_target target target_entries) ≡ Some target_entry)
+with-target-found target target_entries = by (find (λ (a : TargetEntry). same_text a.target target) target_entries) refl
   where
-    by : (o : Option Aim) → find (λ (a : Aim). same_text a.target target) aims ≡ o
-        → (aim : Aim) × (find (λ (a : Aim). same_text a.target target) (cond (is_some o) aims (aims ++ new_aim target ∷ [])) ≡ Some aim)
-    by (Some aim) e = (aim, e)
-    by None e = (new_aim target, find-append_one (λ (a : Aim). same_text a.target target) aims (new_aim target) (text-same target) e)
+    by : (o : Option TargetEntry) → find (λ (a : TargetEntry). same_text a.target target) target_entries ≡ o
+        → (target_entry : TargetEntry) × (find (λ (a : TargetEntry). same_text a.target target) (cond (is_some o) target_entries (target_entries ++ new_target_entry target ∷ [])) ≡ Some target_entry)
+    by (Some target_entry) e = (target_entry, e)
+    by None e = (new_target_entry target, find-append_one (λ (a : TargetEntry). same_text a.target target) target_entries (new_target_entry target) (text-same target) e)
 
 flag-same : (a b : Bool) → same_flag a b ≡ true → a ≡ b
 flag-same true b h = sym h
 flag-same false true h = absurd (false≢true h)
 flag-same false false h = refl
 
--- how a place is held for a use, where it isn't held otherwise
-pub record IsHeldFor (usage : Usage) (place held : PlaceShown) : Type 0 where
-  pub same_node : held.node ≡ place.node
+-- an entry by which the volume is held for a use, where it isn't held otherwise
+pub record IsHeldFor (usage : Usage) (node_entry held : NodeEntryShown) : Type 0 where
+  pub same_node : held.node ≡ node_entry.node
   pub as_capable : held.capability ≡ usage.capability
   pub as_flagged : held.readonly ≡ usage.readonly
 
--- a place that isn't held otherwise is so, once it is held for the use
-held-for : (usage : Usage) (place : PlaceShown) → is_place_otherwise usage (Some place) ≡ false → IsHeldFor usage place (held_as usage place)
-held-for usage place fits = by (is_no place.attached) fits
+-- an entry by which it isn't held otherwise is so, once it is held for the use
+held-for : (usage : Usage) (node_entry : NodeEntryShown) → is_entry_otherwise usage (Some node_entry) ≡ false → IsHeldFor usage node_entry (held_as usage node_entry)
+held-for usage node_entry fits = by (is_no node_entry.attached) fits
   where
-    by : (b : Bool) → (not b && not (same_capability place.capability usage.capability && same_flag place.readonly usage.readonly)) ≡ false
-        → IsHeldFor usage place (cond b (record place { capability = usage.capability; readonly = usage.readonly }) place)
+    by : (b : Bool) → (not b && not (same_capability node_entry.capability usage.capability && same_flag node_entry.readonly usage.readonly)) ≡ false
+        → IsHeldFor usage node_entry (cond b (record node_entry { capability = usage.capability; readonly = usage.readonly }) node_entry)
     by true e = record { same_node = refl; as_capable = refl; as_flagged = refl }
     by false e =
-        let both = and_parts (same_capability place.capability usage.capability) (same_flag place.readonly usage.readonly) (not-false _ e) in
-        record { same_node = refl; as_capable = (same_capability-tells place.capability usage.capability).0 both.0; as_flagged = flag-same place.readonly usage.readonly both.1 }
+        let both = and_parts (same_capability node_entry.capability usage.capability) (same_flag node_entry.readonly usage.readonly) (not-false _ e) in
+        record { same_node = refl; as_capable = (same_capability-tells node_entry.capability usage.capability).0 both.0; as_flagged = flag-same node_entry.readonly usage.readonly both.1 }
 
 -- the entry for a use serves it
-entry-serves : (usage : Usage) (row : RowShown) → AllByRecursion AreTargetsApart row.places → is_place_otherwise usage (place_of row usage.node) ≡ false
-    → Serves usage (entry_for usage (place_of row usage.node))
-entry-serves usage row apart fits = by (place_of row usage.node) refl fits
+entry-serves : (usage : Usage) (row : RowShown) → AllByRecursion AreTargetsApart row.node_entries → is_entry_otherwise usage (node_entry_of row usage.node) ≡ false
+    → Serves usage (entry_for usage (node_entry_of row usage.node))
+entry-serves usage row apart fits = by (node_entry_of row usage.node) refl fits
   where
-    by : (o : Option PlaceShown) → place_of row usage.node ≡ o → is_place_otherwise usage o ≡ false → Serves usage (entry_for usage o)
+    by : (o : Option NodeEntryShown) → node_entry_of row usage.node ≡ o → is_entry_otherwise usage o ≡ false → Serves usage (entry_for usage o)
     by None e fit =
         record {
           at_node = refl;
           as_capable = refl;
           as_flagged = refl;
           apart = (tt, tt);
-          aim = new_aim usage.target;
-          at_target = ap (λ b. cond b (Some (new_aim usage.target)) None) (text-same usage.target);
+          target_entry = new_target_entry usage.target;
+          at_target = ap (λ b. cond b (Some (new_target_entry usage.target)) None) (text-same usage.target);
         }
-    by (Some place) e fit =
-        let held = held-for usage place fit in
-        let found = with-aim-found usage.target place.aims in
+    by (Some node_entry) e fit =
+        let held = held-for usage node_entry fit in
+        let found = with-target-found usage.target node_entry.target_entries in
         record {
-          at_node = held.same_node ∙ (same_text-tells place.node usage.node).0 (find-passes (λ (p : PlaceShown). same_text p.node usage.node) row.places place e);
+          at_node = held.same_node ∙ (same_text-tells node_entry.node usage.node).0 (find-passes (λ (p : NodeEntryShown). same_text p.node usage.node) row.node_entries node_entry e);
           as_capable = held.as_capable;
           as_flagged = held.as_flagged;
           apart =
-              with-aim-apart usage.target place
-              (each_of AreTargetsApart row.places place apart (among-find (λ (p : PlaceShown). same_text p.node usage.node) row.places place e));
-          aim = found.0;
+              with-target-apart usage.target node_entry
+              (each_of AreTargetsApart row.node_entries node_entry apart (among-find (λ (p : NodeEntryShown). same_text p.node usage.node) row.node_entries node_entry e));
+          target_entry = found.0;
           at_target = found.1;
         }
 
 -- with an entry for a use too, each node and each target there has one entry
-pub distinct-entry : (usage : Usage) (row : RowShown) → AreDistinct row.places → is_place_otherwise usage (place_of row usage.node) ≡ false → AreDistinct (with_entry usage row).places
+pub distinct-entry : (usage : Usage) (row : RowShown) → AreDistinct row.node_entries → is_entry_otherwise usage (node_entry_of row usage.node) ≡ false → AreDistinct (with_entry usage row).node_entries
 distinct-entry usage row distinct fits =
     record {
-      nodes = apart-put (λ (place : PlaceShown). place.node) (entry_for usage (place_of row usage.node)) row.places distinct.nodes;
+      nodes = apart-put (λ (node_entry : NodeEntryShown). node_entry.node) (entry_for usage (node_entry_of row usage.node)) row.node_entries distinct.nodes;
       targets =
-          each-put AreTargetsApart (λ (place : PlaceShown). place.node) (entry_for usage (place_of row usage.node)) row.places
+          each-put AreTargetsApart (λ (node_entry : NodeEntryShown). node_entry.node) (entry_for usage (node_entry_of row usage.node)) row.node_entries
           (entry-serves usage row distinct.targets fits).apart distinct.targets;
     }
 
 -- a use that isn't refused may be brought about once its entry is there
-pub usable-entry : (usage : Usage) (row : RowShown) → AllByRecursion AreTargetsApart row.places → row.exists ≡ Yes
+pub usable-entry : (usage : Usage) (row : RowShown) → AllByRecursion AreTargetsApart row.node_entries → row.exists ≡ Yes
     → has_elsewhere (is_for_one_node usage) usage.node row ≡ false → has_elsewhere (is_second_writer usage) usage.node row ≡ false
-    → is_place_otherwise usage (place_of row usage.node) ≡ false → IsUsable (wanted (Use usage) (with_entry usage row)) usage
+    → is_entry_otherwise usage (node_entry_of row usage.node) ≡ false → IsUsable (wanted (Use usage) (with_entry usage row)) usage
 usable-entry usage row apart exists one_node second fits =
     record {
       made = exists;
       entry =
           record {
-            place = entry;
-            aim = serves.aim;
+            node_entry = entry;
+            target_entry = serves.target_entry;
             at_node =
-                find-put (λ (place : PlaceShown). place.node) entry row.places usage.node
-                ∙ ap (λ b. cond b (Some entry) (place_of row usage.node)) ((same_text-tells entry.node usage.node).1 serves.at_node);
+                find-put (λ (node_entry : NodeEntryShown). node_entry.node) entry row.node_entries usage.node
+                ∙ ap (λ b. cond b (Some entry) (node_entry_of row usage.node)) ((same_text-tells entry.node usage.node).1 serves.at_node);
             at_target = serves.at_target;
             same_capability = serves.as_capable;
             same_flag = serves.as_flagged;
@@ -135,11 +135,11 @@ usable-entry usage row apart exists one_node second fits =
       one_writer = unmoved (is_second_writer usage) ∙ second;
     }
   where
-    entry : PlaceShown
-    entry = entry_for usage (place_of row usage.node)
+    entry : NodeEntryShown
+    entry = entry_for usage (node_entry_of row usage.node)
 
-    serves : Serves usage (entry_for usage (place_of row usage.node))
+    serves : Serves usage (entry_for usage (node_entry_of row usage.node))
     serves = entry-serves usage row apart fits
 
-    unmoved : (so : Held → Bool) → list_any (is_so_elsewhere so usage.node) (put_by (λ (place : PlaceShown). place.node) entry row.places) ≡ list_any (is_so_elsewhere so usage.node) row.places
-    unmoved so = any-put (is_so_elsewhere so usage.node) (λ (place : PlaceShown). place.node) entry row.places (λ place e. here so usage.node place (e ∙ serves.at_node))
+    unmoved : (so : Held → Bool) → list_any (is_so_elsewhere so usage.node) (put_by (λ (node_entry : NodeEntryShown). node_entry.node) entry row.node_entries) ≡ list_any (is_so_elsewhere so usage.node) row.node_entries
+    unmoved so = any-put (is_so_elsewhere so usage.node) (λ (node_entry : NodeEntryShown). node_entry.node) entry row.node_entries (λ node_entry e. here so usage.node node_entry (e ∙ serves.at_node))

@@ -41,7 +41,7 @@ same_thing-name : (thing other : Thing) → same_thing thing other ≡ true → 
 same_thing-name (Exists name) (Exists other) e = e
 same_thing-name (Attached name node) (Attached other there) e = left-true _ _ e
 same_thing-name (Staged name node) (Staged other there) e = left-true _ _ e
-same_thing-name (Published name node target) (Published other there aim) e = left-true _ _ (left-true _ _ e)
+same_thing-name (Published name node target) (Published other there other_target) e = left-true _ _ (left-true _ _ e)
 same_thing-name thing other e = absurd (false≢true e)
 
 -- the thing that a call of a name does or undoes is of that name

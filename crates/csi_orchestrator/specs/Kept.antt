@@ -4,32 +4,32 @@ use Rattle.std.specs.List.{AllByRecursion}
 use Rattle.csi_lists.specs.Members.{EachTwo}
 use Rattle.csi_types.specs.Same.{same_text}
 use Rattle.csi_orchestrator.specs.declared.fault.OrchFault.{OrchFault}
-use Rattle.csi_orchestrator.specs.declared.row.Aim.{Aim}
 use Rattle.csi_orchestrator.specs.declared.row.Goal.{Goal}
 use Rattle.csi_orchestrator.specs.declared.row.Goal.TheVariants.{Create, Use, Stop, Delete}
+use Rattle.csi_orchestrator.specs.declared.row.TargetEntry.{TargetEntry}
 use Rattle.csi_orchestrator.specs.declared.row.Usage.{Usage}
 use Rattle.csi_orchestrator.specs.declared.thing.Known.TheVariants.{Yes, No}
 use Rattle.csi_orchestrator.specs.Commands.{is_for_one_node, is_second_writer}
 use Rattle.csi_orchestrator.specs.History.{History, with_items, Item, Started, Sent, Accepted, Closed, Noted}
 use Rattle.csi_orchestrator.specs.Guards.{MayIssue}
 use Rattle.csi_orchestrator.specs.Moves.{Input, Moved, moves}
-use Rattle.csi_orchestrator.specs.Shown.{PlaceShown, RowShown, Parts, place_of, aim_of, AreTargetsApart, AgreesWith}
+use Rattle.csi_orchestrator.specs.Shown.{NodeEntryShown, RowShown, Parts, node_entry_of, target_entry_of, AreTargetsApart, AgreesWith}
 use Rattle.csi_orchestrator.specs.RowRefusals.{has_elsewhere}
 use Rattle.csi_orchestrator.specs.RowMoves.{Told, row_moves}
 use Rattle.csi_orchestrator.specs.WellFormed.{IsWellFormed}
 
 -- a node has one entry
-abbrev pub ArePlacesApart : List PlaceShown → Type 0
-ArePlacesApart places = EachTwo (λ (a b : PlaceShown). same_text a.node b.node ≡ false) places
+abbrev pub AreNodesApart : List NodeEntryShown → Type 0
+AreNodesApart entries = EachTwo (λ (a b : NodeEntryShown). same_text a.node b.node ≡ false) entries
 
 -- the entries of a use
 pub record HasEntry (row : RowShown) (usage : Usage) : Type 0 where
-  pub place : PlaceShown
-  pub aim : Aim
-  pub at_node : place_of row usage.node ≡ Some place
-  pub at_target : aim_of place usage.target ≡ Some aim
-  pub same_capability : place.capability ≡ usage.capability
-  pub same_flag : place.readonly ≡ usage.readonly
+  pub node_entry : NodeEntryShown
+  pub target_entry : TargetEntry
+  pub at_node : node_entry_of row usage.node ≡ Some node_entry
+  pub at_target : target_entry_of node_entry usage.target ≡ Some target_entry
+  pub same_capability : node_entry.capability ≡ usage.capability
+  pub same_flag : node_entry.readonly ≡ usage.readonly
 
 -- a use that may be brought about: the volume is made, and can be held so beside the other holdings
 pub record IsUsable (row : RowShown) (usage : Usage) : Type 0 where
@@ -44,12 +44,12 @@ MayBeWanted row None = Unit {0}
 MayBeWanted row (Some Create) = row.id ≡ None
 MayBeWanted row (Some (Use usage)) = IsUsable row usage
 MayBeWanted row (Some (Stop node target)) = Unit {0}
-MayBeWanted row (Some Delete) = AllByRecursion (λ (place : PlaceShown). place.attached ≡ No) row.places
+MayBeWanted row (Some Delete) = AllByRecursion (λ (entry : NodeEntryShown). entry.attached ≡ No) row.node_entries
 
 -- what is kept of a row
 pub record IsKept (row : RowShown) : Type 0 where
-  pub places : ArePlacesApart row.places
-  pub aims : AllByRecursion AreTargetsApart row.places
+  pub nodes : AreNodesApart row.node_entries
+  pub targets : AllByRecursion AreTargetsApart row.node_entries
   pub goal : MayBeWanted row row.goal
 
 -- a name has one row, and each row is kept so

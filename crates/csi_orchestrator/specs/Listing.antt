@@ -7,13 +7,13 @@ use Rattle.std.specs.Cmp.Lexicographic.{slice_cmp}
 use Rattle.std.specs.declared.cmp.Ordering.{Ordering}
 use Rattle.std.specs.declared.cmp.Ordering.TheVariants.{Less}
 use Rattle.csi_lists.specs.Members.{IsAmong, EachTwo}
-use Rattle.csi_orchestrator.specs.declared.row.Aim.{Aim}
+use Rattle.csi_orchestrator.specs.declared.row.TargetEntry.{TargetEntry}
 use Rattle.csi_orchestrator.specs.declared.thing.Thing.{Thing}
 use Rattle.csi_orchestrator.specs.declared.thing.Thing.TheVariants.{Exists, Attached, Staged, Published}
 use Rattle.csi_orchestrator.specs.declared.thing.Known.{Known}
 use Rattle.csi_orchestrator.specs.declared.thing.Known.TheVariants.{No}
 use Rattle.csi_orchestrator.specs.Thing.{name_in, is_no}
-use Rattle.csi_orchestrator.specs.Shown.{PlaceShown, RowShown, row_of, mark_in, mark_of}
+use Rattle.csi_orchestrator.specs.Shown.{NodeEntryShown, RowShown, row_of, mark_in, mark_of}
 
 -- what these rows know of a thing
 abbrev pub known_by_rows : List RowShown → Thing → Known
@@ -63,15 +63,15 @@ IsInOrder things = EachTwo (λ a b. thing_order a.0 b.0 ≡ Less) things
 abbrev pub noted : Thing → Known → List (Thing × Known)
 noted thing mark = if is_no mark then [] else (thing, mark) ∷ []
 
-abbrev pub noted_of_aim : List ℕ → List ℕ → Aim → List (Thing × Known)
-noted_of_aim name node aim = noted (Published name node aim.target) aim.published
+abbrev pub noted_of_target : List ℕ → List ℕ → TargetEntry → List (Thing × Known)
+noted_of_target name node entry = noted (Published name node entry.target) entry.published
 
-abbrev pub noted_of_place : List ℕ → PlaceShown → List (Thing × Known)
-noted_of_place name place =
-    noted (Attached name place.node) place.attached ++ noted (Staged name place.node) place.staged ++ flat_map (noted_of_aim name place.node) place.aims
+abbrev pub noted_of_node : List ℕ → NodeEntryShown → List (Thing × Known)
+noted_of_node name entry =
+    noted (Attached name entry.node) entry.attached ++ noted (Staged name entry.node) entry.staged ++ flat_map (noted_of_target name entry.node) entry.target_entries
 
 abbrev pub noted_of_row : RowShown → List (Thing × Known)
-noted_of_row row = noted (Exists row.name) row.exists ++ flat_map (noted_of_place row.name) row.places
+noted_of_row row = noted (Exists row.name) row.exists ++ flat_map (noted_of_node row.name) row.node_entries
 
 abbrev pub noted_in : List RowShown → List (Thing × Known)
 noted_in rows = flat_map noted_of_row rows

@@ -58,13 +58,13 @@ sent_as name answer items (Some due) (Some number) =
     Ok (record { answer = answer (Some (call_frame number due.party due.call)); items = Sent issued ∷ items })
 
 -- after these items the due call is sent; where none is due, what was wanted is met and dropped
-abbrev pub go_on : History → List ℕ → (Option Frame → Answer) → List Item → Result Moved OrchFault
-go_on history name answer items = sent_as name answer items (due_call (with_items history items) name) (next_number (last_number history))
+abbrev pub send_due : History → List ℕ → (Option Frame → Answer) → List Item → Result Moved OrchFault
+send_due history name answer items = sent_as name answer items (due_call (with_items history items) name) (next_number (last_number history))
 
 -- unless it is refused, the goal is noted and its due call is sent
 abbrev pub command : History → List ℕ → Goal → Option OrchFault → Result Moved OrchFault
 command history name goal (Some fault) = Err fault
-command history name goal None = go_on history name Sends (Noted name (Some goal) ∷ [])
+command history name goal None = send_due history name Sends (Noted name (Some goal) ∷ [])
 
 -- a use, unless it is refused, or is so already
 abbrev pub use_when : History → List ℕ → Usage → Option OrchFault → Result Moved OrchFault
@@ -110,8 +110,8 @@ abbrev pub timeout : History → List ℕ → Option OrchFault → Result Moved 
 timeout history name (Some fault) = Err fault
 timeout history name None =
     if is_forward_due (due_call history name) && (tries history name == 3) then
-    go_on history name Sends (Noted name (stopped (goal_of history name)) ∷ closing (open_call history name))
-    else go_on history name Sends (closing (open_call history name))
+    send_due history name Sends (Noted name (stopped (goal_of history name)) ∷ closing (open_call history name))
+    else send_due history name Sends (closing (open_call history name))
 
 -- the open call has this number
 abbrev pub is_number_open : Number → Option Issued → Bool
@@ -133,7 +133,7 @@ abbrev pub heard_refusal : History → Issued → Item → Call → Result Moved
 heard_refusal history issued accepted (calls.CreateVolume name required limit capabilities) =
     Ok (record { answer = hears None; items = Noted issued.name None ∷ accepted ∷ [] })
 heard_refusal history issued accepted call =
-    if is_forward call then go_on history issued.name hears (Noted issued.name (stopped (goal_of history issued.name)) ∷ accepted ∷ [])
+    if is_forward call then send_due history issued.name hears (Noted issued.name (stopped (goal_of history issued.name)) ∷ accepted ∷ [])
     else Ok (record { answer = hears None; items = accepted ∷ [] })
 
 -- a reply, and the open call that it is to, if there is one
@@ -141,7 +141,7 @@ abbrev pub heard : History → Reply → Option Issued → Result Moved OrchFaul
 heard history reply None = Ok (record { answer = Hears Ignored; items = [] })
 heard history reply (Some issued) =
     let accepted : Item = Accepted issued.number reply.status reply.id in
-    if is_ok_status reply.status then go_on history issued.name hears (accepted ∷ [])
+    if is_ok_status reply.status then send_due history issued.name hears (accepted ∷ [])
     else heard_refusal history issued accepted issued.call
 
 -- a frame that is no reply to an open call is ignored

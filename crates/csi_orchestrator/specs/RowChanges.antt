@@ -5,16 +5,16 @@ use Rattle.csi_types.specs.declared.number.Number.{Number}
 use Rattle.csi_types.specs.declared.call.Kind.{Kind}
 use Rattle.csi_types.specs.declared.call.Kind.TheVariants as kinds
 use Rattle.csi_types.specs.Same.{same_text}
-use Rattle.csi_orchestrator.specs.declared.row.Aim.{Aim}
 use Rattle.csi_orchestrator.specs.declared.row.Goal.{Goal}
 use Rattle.csi_orchestrator.specs.declared.row.Goal.TheVariants.{Create, Use, Stop, Delete}
+use Rattle.csi_orchestrator.specs.declared.row.TargetEntry.{TargetEntry}
 use Rattle.csi_orchestrator.specs.declared.row.Usage.{Usage}
 use Rattle.csi_orchestrator.specs.declared.thing.Known.{Known}
 use Rattle.csi_orchestrator.specs.declared.thing.Known.TheVariants.{Yes, No, Maybe}
 use Rattle.csi_orchestrator.specs.Thing.{is_no}
 use Rattle.csi_orchestrator.specs.History.{Arguments}
 use Rattle.csi_orchestrator.specs.Keyed.{change_by, put_by}
-use Rattle.csi_orchestrator.specs.Shown.{PlaceShown, RowShown, place_of}
+use Rattle.csi_orchestrator.specs.Shown.{NodeEntryShown, RowShown, node_entry_of}
 
 -- what a call of this kind does or undoes: that the volume is there, or that it is attached to a node, staged there, or published at a
 -- target there
@@ -35,39 +35,39 @@ aspect_of kinds.NodePublishVolume = Publication
 aspect_of kinds.NodeUnpublishVolume = Publication
 
 -- it is marked in the entry of a node: only a publication reads the target
-abbrev pub aimed_as : Known → List ℕ → List Aim → List Aim
-aimed_as mark target aims = change_by (λ aim. aim.target) target (λ aim. record aim { published = mark }) aims
+abbrev pub target_marked : Known → List ℕ → List TargetEntry → List TargetEntry
+target_marked mark target entries = change_by (λ entry. entry.target) target (λ entry. record entry { published = mark }) entries
 
-abbrev pub place_marked : Known → Aspect → List ℕ → PlaceShown → PlaceShown
-place_marked mark Existence target place = place
-place_marked mark Attachment target place = record place { attached = mark }
-place_marked mark Staging target place = record place { staged = mark }
-place_marked mark Publication target place = record place { aims = aimed_as mark target place.aims }
+abbrev pub node_marked : Known → Aspect → List ℕ → NodeEntryShown → NodeEntryShown
+node_marked mark Existence target entry = entry
+node_marked mark Attachment target entry = record entry { attached = mark }
+node_marked mark Staging target entry = record entry { staged = mark }
+node_marked mark Publication target entry = record entry { target_entries = target_marked mark target entry.target_entries }
 
 -- among the entries, if the node has one
-abbrev pub marked_at : Known → Aspect → List ℕ → List ℕ → List PlaceShown → List PlaceShown
-marked_at mark aspect node target places = change_by (λ place. place.node) node (place_marked mark aspect target) places
+abbrev pub marked_at : Known → Aspect → List ℕ → List ℕ → List NodeEntryShown → List NodeEntryShown
+marked_at mark aspect node target entries = change_by (λ entry. entry.node) node (node_marked mark aspect target) entries
 
 -- a change at the node and the target of a goal, if it has them
-abbrev pub at_goal : (List ℕ → List ℕ → List PlaceShown → List PlaceShown) → Option Goal → List PlaceShown → List PlaceShown
-at_goal change None places = places
-at_goal change (Some Create) places = places
-at_goal change (Some (Use usage)) places = change usage.node usage.target places
-at_goal change (Some (Stop node target)) places = change node target places
-at_goal change (Some Delete) places = places
+abbrev pub at_goal : (List ℕ → List ℕ → List NodeEntryShown → List NodeEntryShown) → Option Goal → List NodeEntryShown → List NodeEntryShown
+at_goal change None entries = entries
+at_goal change (Some Create) entries = entries
+at_goal change (Some (Use usage)) entries = change usage.node usage.target entries
+at_goal change (Some (Stop node target)) entries = change node target entries
+at_goal change (Some Delete) entries = entries
 
 -- what a call of this kind for the row's goal does or undoes is marked
 abbrev pub exists_marked : Known → Aspect → Known → Known
 exists_marked mark Existence exists = mark
 exists_marked mark aspect exists = exists
 
-abbrev pub places_marked : Known → Aspect → Option Goal → List PlaceShown → List PlaceShown
-places_marked mark Existence goal places = places
-places_marked mark aspect goal places = at_goal (marked_at mark aspect) goal places
+abbrev pub nodes_marked : Known → Aspect → Option Goal → List NodeEntryShown → List NodeEntryShown
+nodes_marked mark Existence goal entries = entries
+nodes_marked mark aspect goal entries = at_goal (marked_at mark aspect) goal entries
 
 abbrev pub marked : Known → Kind → RowShown → RowShown
 marked mark kind row =
-    record row { exists = exists_marked mark (aspect_of kind) row.exists; places = places_marked mark (aspect_of kind) row.goal row.places }
+    record row { exists = exists_marked mark (aspect_of kind) row.exists; node_entries = nodes_marked mark (aspect_of kind) row.goal row.node_entries }
 
 -- a call of this kind was sent
 abbrev pub opened : Number → RowShown → RowShown
@@ -104,25 +104,25 @@ abbrev pub wanted : Goal → RowShown → RowShown
 wanted goal row = record row { goal = Some goal; open_number = None; tries = 0 }
 
 -- only entries of which something may be so are kept
-abbrev pub is_aim_kept : Aim → Bool
-is_aim_kept aim = not (is_no aim.published)
+abbrev pub is_target_kept : TargetEntry → Bool
+is_target_kept entry = not (is_no entry.published)
 
-abbrev pub with_kept_aims : PlaceShown → PlaceShown
-with_kept_aims place = record place { aims = filter is_aim_kept place.aims }
+abbrev pub with_kept_targets : NodeEntryShown → NodeEntryShown
+with_kept_targets entry = record entry { target_entries = filter is_target_kept entry.target_entries }
 
-abbrev pub has_aims : List Aim → Bool
-has_aims [] = false
-has_aims (aim ∷ aims) = not false
+abbrev pub has_targets : List TargetEntry → Bool
+has_targets [] = false
+has_targets (entry ∷ entries) = not false
 
-abbrev pub is_place_kept : PlaceShown → Bool
-is_place_kept place = not (is_no place.attached && is_no place.staged && not (has_aims place.aims))
+abbrev pub is_node_kept : NodeEntryShown → Bool
+is_node_kept entry = not (is_no entry.attached && is_no entry.staged && not (has_targets entry.target_entries))
 
-abbrev pub tidied : List PlaceShown → List PlaceShown
-tidied places = filter is_place_kept (map with_kept_aims places)
+abbrev pub tidied : List NodeEntryShown → List NodeEntryShown
+tidied entries = filter is_node_kept (map with_kept_targets entries)
 
 -- nothing is wanted now
 abbrev pub dropped : RowShown → RowShown
-dropped row = record row { goal = None; open_number = None; tries = 0; places = tidied row.places }
+dropped row = record row { goal = None; open_number = None; tries = 0; node_entries = tidied row.node_entries }
 
 -- what is wanted once a goal is given up: a use that didn't come about is stopped
 abbrev pub stopped_goal : Goal → Goal
@@ -134,26 +134,26 @@ stopped_goal Delete = Delete
 -- a new row
 abbrev pub new_row : List ℕ → Arguments → RowShown
 new_row name arguments =
-    record { name = name; arguments = arguments; id = None; exists = No; goal = Some Create; open_number = None; tries = 0; places = [] }
+    record { name = name; arguments = arguments; id = None; exists = No; goal = Some Create; open_number = None; tries = 0; node_entries = [] }
 
 -- a row of which the creation is wanted again, by these arguments
 abbrev pub wanted_anew : Arguments → RowShown → RowShown
 wanted_anew arguments row = record row { arguments = arguments; goal = Some Create; open_number = None; tries = 0 }
 
 -- an entry for a use: a new one, or the one that is there with what it lacks
-abbrev pub new_aim : List ℕ → Aim
-new_aim target = record { target = target; published = No }
+abbrev pub new_target_entry : List ℕ → TargetEntry
+new_target_entry target = record { target = target; published = No }
 
-abbrev pub with_aim : List ℕ → List Aim → List Aim
-with_aim target aims = if is_some (find (λ aim. same_text aim.target target) aims) then aims else aims ++ new_aim target ∷ []
+abbrev pub with_target : List ℕ → List TargetEntry → List TargetEntry
+with_target target entries = if is_some (find (λ entry. same_text entry.target target) entries) then entries else entries ++ new_target_entry target ∷ []
 
-abbrev pub held_as : Usage → PlaceShown → PlaceShown
-held_as usage place = if is_no place.attached then record place { capability = usage.capability; readonly = usage.readonly } else place
+abbrev pub held_as : Usage → NodeEntryShown → NodeEntryShown
+held_as usage entry = if is_no entry.attached then record entry { capability = usage.capability; readonly = usage.readonly } else entry
 
-abbrev pub entry_for : Usage → Option PlaceShown → PlaceShown
+abbrev pub entry_for : Usage → Option NodeEntryShown → NodeEntryShown
 entry_for usage None =
-    record { node = usage.node; capability = usage.capability; readonly = usage.readonly; attached = No; staged = No; aims = new_aim usage.target ∷ [] }
-entry_for usage (Some place) = record (held_as usage place) { aims = with_aim usage.target place.aims }
+    record { node = usage.node; capability = usage.capability; readonly = usage.readonly; attached = No; staged = No; target_entries = new_target_entry usage.target ∷ [] }
+entry_for usage (Some entry) = record (held_as usage entry) { target_entries = with_target usage.target entry.target_entries }
 
 abbrev pub with_entry : Usage → RowShown → RowShown
-with_entry usage row = record row { places = put_by (λ place. place.node) (entry_for usage (place_of row usage.node)) row.places }
+with_entry usage row = record row { node_entries = put_by (λ entry. entry.node) (entry_for usage (node_entry_of row usage.node)) row.node_entries }

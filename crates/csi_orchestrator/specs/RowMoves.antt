@@ -24,7 +24,7 @@ use Rattle.csi_orchestrator.specs.Moves.{Input, ToCreate, ToUse, ToStop, ToDelet
 use Rattle.csi_orchestrator.specs.Keyed.{put_by}
 use Rattle.csi_orchestrator.specs.RowChanges.{new_row}
 use Rattle.csi_orchestrator.specs.RowRefusals.{first_fault}
-use Rattle.csi_orchestrator.specs.RowSteps.{RowTold, row_goes_on, row_unless, row_step}
+use Rattle.csi_orchestrator.specs.RowSteps.{RowTold, row_sends_due, row_unless, row_step}
 use Rattle.csi_orchestrator.specs.Shown.{RowShown, Parts, row_of, open_in_row, in_session}
 
 -- the answer, and what is shown then
@@ -63,7 +63,7 @@ steps_at parts answer step (Some row) = placed parts answer (row_step parts.node
 
 -- a create
 abbrev pub creates : Parts → List ℕ → Arguments → Option RowShown → Result Told OrchFault
-creates parts name arguments None = placed parts Sends (row_unless (first_fault parts.last parts.rows) (row_goes_on parts.last (new_row name arguments)))
+creates parts name arguments None = placed parts Sends (row_unless (first_fault parts.last parts.rows) (row_sends_due parts.last (new_row name arguments)))
 creates parts name arguments (Some row) = steps_at parts Sends (Create arguments) (Some row)
 
 -- the row whose open call has this number, party and kind

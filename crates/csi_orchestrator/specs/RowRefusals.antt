@@ -12,7 +12,7 @@ use Rattle.csi_orchestrator.specs.declared.step.Step.TheVariants as steps
 use Rattle.csi_orchestrator.specs.Thing.{is_yes, is_no}
 use Rattle.csi_orchestrator.specs.History.{Usage, Held}
 use Rattle.csi_orchestrator.specs.Commands.{next_number, is_for_one_node, is_second_writer, is_otherwise}
-use Rattle.csi_orchestrator.specs.Shown.{PlaceShown, RowShown, place_of, mark_in, published_in, held_at, others_in}
+use Rattle.csi_orchestrator.specs.Shown.{NodeEntryShown, RowShown, node_entry_of, mark_in, published_in, held_at, others_in}
 
 -- no number is left in the session
 abbrev pub is_last : Number → Bool
@@ -26,21 +26,21 @@ abbrev pub again_fault : Number → RowShown → Option OrchFault
 again_fault last row = if is_some row.id || is_some row.goal then Some faults.NameUsed else if is_last last then Some faults.NumbersSpent else None
 
 -- at another node it may be attached so
-abbrev pub is_so_elsewhere : (Held → Bool) → List ℕ → PlaceShown → Bool
-is_so_elsewhere so node place = not (same_text place.node node) && not (is_no place.attached) && so (held_at place)
+abbrev pub is_so_elsewhere : (Held → Bool) → List ℕ → NodeEntryShown → Bool
+is_so_elsewhere so node entry = not (same_text entry.node node) && not (is_no entry.attached) && so (held_at entry)
 
 abbrev pub has_elsewhere : (Held → Bool) → List ℕ → RowShown → Bool
-has_elsewhere so node row = list_any (is_so_elsewhere so node) row.places
+has_elsewhere so node row = list_any (is_so_elsewhere so node) row.node_entries
 
 -- at this node it may be attached otherwise
-abbrev pub is_place_otherwise : Usage → Option PlaceShown → Bool
-is_place_otherwise usage None = false
-is_place_otherwise usage (Some place) = not (is_no place.attached) && is_otherwise usage (Some (held_at place))
+abbrev pub is_entry_otherwise : Usage → Option NodeEntryShown → Bool
+is_entry_otherwise usage None = false
+is_entry_otherwise usage (Some entry) = not (is_no entry.attached) && is_otherwise usage (Some (held_at entry))
 
 -- how many other targets may be published
-abbrev pub others_count : List ℕ → Option PlaceShown → ℕ
+abbrev pub others_count : List ℕ → Option NodeEntryShown → ℕ
 others_count target None = 0
-others_count target (Some place) = count_by (λ aim. not (same_text aim.target target) && not (is_no aim.published)) place.aims
+others_count target (Some entry) = count_by (λ target_entry. not (same_text target_entry.target target) && not (is_no target_entry.published)) entry.target_entries
 
 -- a use: why it is refused, whether or not it is met already
 abbrev pub use_refusal : List (List ℕ) → Usage → RowShown → Option OrchFault
@@ -51,15 +51,15 @@ use_refusal nodes usage row =
     else if not (has_capability row.arguments.capabilities usage.capability) then Some faults.NotCapable
     else if has_elsewhere (is_for_one_node usage) usage.node row then Some faults.HeldElsewhere
     else if has_elsewhere (is_second_writer usage) usage.node row then Some faults.WriterElsewhere
-    else if is_place_otherwise usage (place_of row usage.node) then Some faults.HeldOtherwise
-    else if allows_one_target usage.capability.mode && others_in usage.target (place_of row usage.node) then Some faults.TargetTaken
+    else if is_entry_otherwise usage (node_entry_of row usage.node) then Some faults.HeldOtherwise
+    else if allows_one_target usage.capability.mode && others_in usage.target (node_entry_of row usage.node) then Some faults.TargetTaken
     else None
 
 -- why one that isn't met yet is
 abbrev pub room_refusal : Number → Usage → RowShown → Option OrchFault
 room_refusal last usage row =
     if is_last last then Some faults.NumbersSpent
-    else if nat_le 16 (others_count usage.target (place_of row usage.node)) then Some faults.Full
+    else if nat_le 16 (others_count usage.target (node_entry_of row usage.node)) then Some faults.Full
     else None
 
 -- a stop
@@ -68,13 +68,13 @@ stop_refusal nodes last node target row =
     if not (is_yes row.exists) then Some faults.NotCreated
     else if is_some row.goal then Some faults.Busy
     else if not (list_any (same_text node) nodes) then Some faults.NoSuchNode
-    else if is_no (mark_in (published_in target) (place_of row node)) then Some faults.NoSuchTarget
+    else if is_no (mark_in (published_in target) (node_entry_of row node)) then Some faults.NoSuchTarget
     else if is_last last then Some faults.NumbersSpent
     else None
 
 -- a delete
 abbrev pub is_attached_somewhere : RowShown → Bool
-is_attached_somewhere row = list_any (λ place. not (is_no place.attached)) row.places
+is_attached_somewhere row = list_any (λ entry. not (is_no entry.attached)) row.node_entries
 
 abbrev pub delete_refusal : RowShown → Option OrchFault
 delete_refusal row = if is_none row.id then Some faults.NotCreated else if is_attached_somewhere row then Some faults.InUse else None

@@ -28,24 +28,24 @@ outgoing_by None number = Ok None
 outgoing_by (Some due) None = Err faults.NumbersSpent
 outgoing_by (Some due) (Some number) = Ok (Some (record { frame = call_frame number due.party due.call; number = number; kind = kind_of due.call }))
 
--- a row that went on, and what is sent for it
+-- what became of a row, and what is sent for it
 pub record RowTold : Type 0 where
   pub outgoing : Option Outgoing
   pub row : RowShown
 
 -- the call is sent; where none is due, what was wanted is met and dropped
-abbrev pub gone_on : Option Outgoing → RowShown → RowShown
-gone_on None row = dropped row
-gone_on (Some outgoing) row = sent outgoing.number outgoing.kind row
+abbrev pub sent_or_dropped : Option Outgoing → RowShown → RowShown
+sent_or_dropped None row = dropped row
+sent_or_dropped (Some outgoing) row = sent outgoing.number outgoing.kind row
 
 -- the row after what is to be sent was found, unless that was refused
 abbrev pub row_after : RowShown → Result (Option Outgoing) OrchFault → Result RowTold OrchFault
 row_after row (Err fault) = Err fault
-row_after row (Ok outgoing) = Ok (record { outgoing = outgoing; row = gone_on outgoing row })
+row_after row (Ok outgoing) = Ok (record { outgoing = outgoing; row = sent_or_dropped outgoing row })
 
 -- the call that is due for the row's goal is sent
-abbrev pub row_goes_on : Number → RowShown → Result RowTold OrchFault
-row_goes_on last row = row_after row (outgoing_by (due_in row) (next_number last))
+abbrev pub row_sends_due : Number → RowShown → Result RowTold OrchFault
+row_sends_due last row = row_after row (outgoing_by (due_in row) (next_number last))
 
 -- nothing is sent
 abbrev pub row_rests : RowShown → Result RowTold OrchFault
@@ -113,7 +113,7 @@ abbrev pub row_takes : Number → Step → RowShown → Result RowTold OrchFault
 row_takes last step row =
     if is_met step row then row_rests row
     else if waits step row then row_rests (closed row)
-    else row_unless (late_refusal last step row) (row_goes_on last (changed step row))
+    else row_unless (late_refusal last step row) (row_sends_due last (changed step row))
 
 abbrev pub row_step : List (List ℕ) → Number → Step → RowShown → Result RowTold OrchFault
 row_step nodes last step row = row_unless (step_refusal nodes last step row) (row_takes last step row)

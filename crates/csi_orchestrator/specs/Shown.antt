@@ -10,9 +10,9 @@ use Rattle.csi_types.specs.Same.{same_text}
 use Rattle.csi_orchestrator.specs.declared.marks.Marks.{Marks}
 use Rattle.csi_orchestrator.specs.declared.row.Goal.{Goal as KeptGoal}
 use Rattle.csi_orchestrator.specs.declared.row.Goal.TheVariants as kept
-use Rattle.csi_orchestrator.specs.declared.row.Aim.{Aim}
-use Rattle.csi_orchestrator.specs.declared.row.Place.{Place}
+use Rattle.csi_orchestrator.specs.declared.row.NodeEntry.{NodeEntry}
 use Rattle.csi_orchestrator.specs.declared.row.Row.{Row}
+use Rattle.csi_orchestrator.specs.declared.row.TargetEntry.{TargetEntry}
 use Rattle.csi_orchestrator.specs.declared.thing.Thing.{Thing}
 use Rattle.csi_orchestrator.specs.declared.thing.Thing.TheVariants.{Exists, Attached, Staged, Published}
 use Rattle.csi_orchestrator.specs.declared.thing.Known.{Known}
@@ -22,14 +22,14 @@ use Rattle.csi_orchestrator.specs.History.{Arguments, Usage, Held, Goal, Create,
 use Rattle.csi_orchestrator.specs.Due.{Due, due_call}
 use Rattle.csi_orchestrator.specs.Agrees.{View, Agrees}
 
--- a node at which a volume is used, as it is shown
-pub record PlaceShown : Type 0 where
+-- what a row keeps of a node, as it is shown
+pub record NodeEntryShown : Type 0 where
   pub node : List ℕ
   pub capability : Capability
   pub readonly : Bool
   pub attached : Known
   pub staged : Known
-  pub aims : List Aim
+  pub target_entries : List TargetEntry
 
 -- a volume's row, as it is shown
 pub record RowShown : Type 0 where
@@ -40,10 +40,10 @@ pub record RowShown : Type 0 where
   pub goal : Option KeptGoal
   pub open_number : Option Number
   pub tries : ℕ
-  pub places : List PlaceShown
+  pub node_entries : List NodeEntryShown
 
-abbrev pub place_shown : Place → PlaceShown
-place_shown place = record { node = place.node; capability = place.capability; readonly = place.readonly; attached = place.attached; staged = place.staged; aims = place.aims.items }
+abbrev pub node_entry_shown : NodeEntry → NodeEntryShown
+node_entry_shown entry = record { node = entry.node; capability = entry.capability; readonly = entry.readonly; attached = entry.attached; staged = entry.staged; target_entries = entry.target_entries.items }
 
 abbrev pub row_shown : Row → RowShown
 row_shown row =
@@ -55,7 +55,7 @@ row_shown row =
       goal = row.goal;
       open_number = row.open_number;
       tries = row.tries;
-      places = map place_shown row.places.items;
+      node_entries = map node_entry_shown row.node_entries.items;
     }
 
 -- an orchestrator to its callers: its nodes, the number of its last call (or call 0 of a session without one), and its rows
@@ -68,26 +68,26 @@ pub record Parts : Type 0 where
 abbrev pub row_of : List RowShown → List ℕ → Option RowShown
 row_of rows name = find (λ row. same_text row.name name) rows
 
-abbrev pub place_of : RowShown → List ℕ → Option PlaceShown
-place_of row node = find (λ place. same_text place.node node) row.places
+abbrev pub node_entry_of : RowShown → List ℕ → Option NodeEntryShown
+node_entry_of row node = find (λ entry. same_text entry.node node) row.node_entries
 
-abbrev pub aim_of : PlaceShown → List ℕ → Option Aim
-aim_of place target = find (λ aim. same_text aim.target target) place.aims
+abbrev pub target_entry_of : NodeEntryShown → List ℕ → Option TargetEntry
+target_entry_of entry target = find (λ target_entry. same_text target_entry.target target) entry.target_entries
 
 -- what has no entry isn't so
 abbrev pub mark_in : {X : Type 0} → (X → Known) → Option X → Known
 mark_in mark None = No
 mark_in mark (Some x) = mark x
 
-abbrev pub published_in : List ℕ → PlaceShown → Known
-published_in target place = mark_in (λ aim. aim.published) (aim_of place target)
+abbrev pub published_in : List ℕ → NodeEntryShown → Known
+published_in target entry = mark_in (λ target_entry. target_entry.published) (target_entry_of entry target)
 
 -- what a row knows of a thing of its name
 abbrev pub mark_of : Thing → RowShown → Known
 mark_of (Exists name) row = row.exists
-mark_of (Attached name node) row = mark_in (λ place. place.attached) (place_of row node)
-mark_of (Staged name node) row = mark_in (λ place. place.staged) (place_of row node)
-mark_of (Published name node target) row = mark_in (published_in target) (place_of row node)
+mark_of (Attached name node) row = mark_in (λ entry. entry.attached) (node_entry_of row node)
+mark_of (Staged name node) row = mark_in (λ entry. entry.staged) (node_entry_of row node)
+mark_of (Published name node target) row = mark_in (published_in target) (node_entry_of row node)
 
 -- what is wanted of a row's volume
 abbrev pub goal_shown : RowShown → KeptGoal → Goal
@@ -100,16 +100,16 @@ abbrev pub goal_in : RowShown → Option Goal
 goal_in row = option_map (goal_shown row) row.goal
 
 -- how a row's volume is held at a node
-abbrev pub held_at : PlaceShown → Held
-held_at place = record { capability = place.capability; readonly = place.readonly }
+abbrev pub held_at : NodeEntryShown → Held
+held_at entry = record { capability = entry.capability; readonly = entry.readonly }
 
 abbrev pub held_in : RowShown → List ℕ → Option Held
-held_in row node = option_map held_at (place_of row node)
+held_in row node = option_map held_at (node_entry_of row node)
 
 -- some other target of the node may be published
-abbrev pub others_in : List ℕ → Option PlaceShown → Bool
+abbrev pub others_in : List ℕ → Option NodeEntryShown → Bool
 others_in target None = false
-others_in target (Some place) = list_any (λ aim. not (same_text aim.target target) && not (is_no aim.published)) place.aims
+others_in target (Some entry) = list_any (λ target_entry. not (same_text target_entry.target target) && not (is_no target_entry.published)) entry.target_entries
 
 -- what is known of what a goal names
 abbrev pub marks_of_volume : RowShown → Marks
@@ -119,10 +119,10 @@ abbrev pub marks_at : RowShown → List ℕ → List ℕ → Marks
 marks_at row node target =
     record {
       exists = row.exists;
-      attached = mark_in (λ place. place.attached) (place_of row node);
-      staged = mark_in (λ place. place.staged) (place_of row node);
-      published = mark_in (published_in target) (place_of row node);
-      others = others_in target (place_of row node);
+      attached = mark_in (λ entry. entry.attached) (node_entry_of row node);
+      staged = mark_in (λ entry. entry.staged) (node_entry_of row node);
+      published = mark_in (published_in target) (node_entry_of row node);
+      others = others_in target (node_entry_of row node);
     }
 
 abbrev pub marks_for : RowShown → KeptGoal → Marks
@@ -217,14 +217,14 @@ abbrev pub in_session : ℕ → Parts → Parts
 in_session session parts = record parts { last = record { session = session; call = 0 }; rows = map closed parts.rows }
 
 -- at each node of each row, a target has one entry
-abbrev pub AreTargetsApart : PlaceShown → Type 0
-AreTargetsApart place = EachTwo (λ (a b : Aim). same_text a.target b.target ≡ false) place.aims
+abbrev pub AreTargetsApart : NodeEntryShown → Type 0
+AreTargetsApart entry = EachTwo (λ (a b : TargetEntry). same_text a.target b.target ≡ false) entry.target_entries
 
-abbrev pub AreAimsApart : List RowShown → Type 0
-AreAimsApart rows = AllByRecursion (λ (row : RowShown). AllByRecursion AreTargetsApart row.places) rows
+abbrev pub AreAllTargetsApart : List RowShown → Type 0
+AreAllTargetsApart rows = AllByRecursion (λ (row : RowShown). AllByRecursion AreTargetsApart row.node_entries) rows
 
 -- the call that is due for a name, as the history tells it, is read from the name's row
 abbrev pub DueIsTold : Type 0
 DueIsTold =
-    (parts : Parts) (history : History) (name : List ℕ) → AreAimsApart parts.rows → AgreesWith parts history
+    (parts : Parts) (history : History) (name : List ℕ) → AreAllTargetsApart parts.rows → AgreesWith parts history
     → due_call history name ≡ option_and_then due_in (row_of parts.rows name)

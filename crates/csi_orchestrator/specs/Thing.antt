@@ -30,7 +30,7 @@ abbrev pub same_thing : Thing → Thing → Bool
 same_thing (Exists name) (Exists other) = same_text name other
 same_thing (Attached name node) (Attached other there) = same_text name other && same_text node there
 same_thing (Staged name node) (Staged other there) = same_text name other && same_text node there
-same_thing (Published name node target) (Published other there aim) = same_text name other && same_text node there && same_text target aim
+same_thing (Published name node target) (Published other there other_target) = same_text name other && same_text node there && same_text target other_target
 same_thing thing other = false
 
 -- what a call to this plugin does or undoes

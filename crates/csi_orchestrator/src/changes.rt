@@ -1,21 +1,21 @@
 //! What becomes of a row.
 ghost use Rattle.std.specs.Prelude.{◌≡◌, map, Some, None};
-ghost use Rattle.csi_orchestrator.specs.Shown.{row_shown, place_shown};
+ghost use Rattle.csi_orchestrator.specs.Shown.{row_shown, node_entry_shown};
 ghost use Rattle.csi_orchestrator.specs.RowChanges.{at_goal, aspect_of, marked_at, marked, sent, told_of, id_told as id_by_kind, succeeded, wanted, stopped_goal, dropped, new_row as new_row_shown};
 
-use crate::places::{mark_at, tidy};
-use crate::row::{Arguments, Goal, Place, Row};
+use crate::entries::{mark_at, tidy};
+use crate::row::{Arguments, Goal, NodeEntry, Row};
 use crate::thing::Known;
 use csi_types::{Kind, Name, Number, VolumeId};
 use std::alloc::Global;
 
 // Marks what a call of this kind does or undoes at the goal's node and target.
-fn mark_at_goal(places: &mut Vec<Place>, goal: &Option<Goal>, kind: Kind, known: Known)
-    ensures { map place_shown places.new.items ≡ at_goal (marked_at known (aspect_of kind)) goal.now (map place_shown places.old.items) }
+fn mark_at_goal(entries: &mut Vec<NodeEntry>, goal: &Option<Goal>, kind: Kind, known: Known)
+    ensures { map node_entry_shown entries.new.items ≡ at_goal (marked_at known (aspect_of kind)) goal.now (map node_entry_shown entries.old.items) }
 {
     match goal {
-        Some(Goal::Use(usage)) => mark_at(places, &usage.node, &usage.target, kind, known),
-        Some(Goal::Stop { node, target }) => mark_at(places, node, target, kind, known),
+        Some(Goal::Use(usage)) => mark_at(entries, &usage.node, &usage.target, kind, known),
+        Some(Goal::Stop { node, target }) => mark_at(entries, node, target, kind, known),
         Some(Goal::Create | Goal::Delete) | None => {}
     }
 }
@@ -31,7 +31,7 @@ pub(crate) fn mark(row: &mut Row, kind: Kind, known: Known)
         | Kind::NodeStageVolume
         | Kind::NodeUnstageVolume
         | Kind::NodePublishVolume
-        | Kind::NodeUnpublishVolume => mark_at_goal(&mut row.places, &row.goal, kind, known),
+        | Kind::NodeUnpublishVolume => mark_at_goal(&mut row.node_entries, &row.goal, kind, known),
     }
 }
 
@@ -119,7 +119,7 @@ pub(crate) fn drop_goal(row: &mut Row)
     row.goal = None;
     row.open_number = None;
     row.tries = 0;
-    tidy(&mut row.places);
+    tidy(&mut row.node_entries);
 }
 
 /// A row with creation as its goal. It takes no memory.
@@ -134,6 +134,6 @@ pub(crate) fn new_row(alloc: Global, name: Name, arguments: Arguments) -> Row
         goal: Some(Goal::Create),
         open_number: None,
         tries: 0,
-        places: Vec::new(alloc),
+        node_entries: Vec::new(alloc),
     }
 }

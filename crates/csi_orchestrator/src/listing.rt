@@ -2,12 +2,12 @@
 ghost use Rattle.std.specs.Prelude.{◌≡◌, ◌++◌, [], map, IfOk, IsOk, OnOk, IfErr};
 ghost use Rattle.std.specs.List.{flat_map};
 ghost use Rattle.csi_orchestrator.specs.declared.fault.OrchFault.{OrchFault as Fault};
-ghost use Rattle.csi_orchestrator.specs.Shown.{place_shown, row_shown};
+ghost use Rattle.csi_orchestrator.specs.Shown.{node_entry_shown, row_shown};
 ghost use Rattle.csi_orchestrator.specs.Kept.{AreKept};
-ghost use Rattle.csi_orchestrator.specs.Listing.{known_by_rows, ListsKnown, IsInOrder, noted, noted_of_aim, noted_of_place, noted_of_row, noted_in};
+ghost use Rattle.csi_orchestrator.specs.Listing.{known_by_rows, ListsKnown, IsInOrder, noted, noted_of_target, noted_of_node, noted_of_row, noted_in};
 
 use crate::fault::OrchFault;
-use crate::row::{Aim, Place, Row};
+use crate::row::{NodeEntry, Row, TargetEntry};
 use crate::sorting::put_in_order;
 use crate::thing::{Known, Thing};
 use csi_types::{Name, NodeId};
@@ -30,94 +30,105 @@ fn add_exists(things: &mut Vec<(Thing, Known)>, row: &Row) -> Result<(), OrchFau
 fn add_attached(
     things: &mut Vec<(Thing, Known)>,
     name: &Name,
-    place: &Place,
+    entry: &NodeEntry,
 ) -> Result<(), OrchFault>
-    ensures ok { OnOk result (things.new.items ≡ things.old.items ++ noted (Thing.Attached name.now place.now.node) place.now.attached) }
+    ensures ok { OnOk result (things.new.items ≡ things.old.items ++ noted (Thing.Attached name.now entry.now.node) entry.now.attached) }
     ensures err { IfErr result (λ fault. fault ≡ Fault.NoMemory) }
-    ensures empty { noted (Thing.Attached name.now place.now.node) place.now.attached ≡ [] → IsOk result }
+    ensures empty { noted (Thing.Attached name.now entry.now.node) entry.now.attached ≡ [] → IsOk result }
 {
-    if !place.attached.is_no() {
+    if !entry.attached.is_no() {
         let name = name.clone()?;
-        let node = place.node.clone()?;
-        things.push((Thing::Attached { name, node }, place.attached))?;
+        let node = entry.node.clone()?;
+        things.push((Thing::Attached { name, node }, entry.attached))?;
     }
     Ok(())
 }
 
 // Adds that it is staged there, where it may be.
-fn add_staged(things: &mut Vec<(Thing, Known)>, name: &Name, place: &Place) -> Result<(), OrchFault>
-    ensures ok { OnOk result (things.new.items ≡ things.old.items ++ noted (Thing.Staged name.now place.now.node) place.now.staged) }
+fn add_staged(
+    things: &mut Vec<(Thing, Known)>,
+    name: &Name,
+    entry: &NodeEntry,
+) -> Result<(), OrchFault>
+    ensures ok { OnOk result (things.new.items ≡ things.old.items ++ noted (Thing.Staged name.now entry.now.node) entry.now.staged) }
     ensures err { IfErr result (λ fault. fault ≡ Fault.NoMemory) }
-    ensures empty { noted (Thing.Staged name.now place.now.node) place.now.staged ≡ [] → IsOk result }
+    ensures empty { noted (Thing.Staged name.now entry.now.node) entry.now.staged ≡ [] → IsOk result }
 {
-    if !place.staged.is_no() {
+    if !entry.staged.is_no() {
         let name = name.clone()?;
-        let node = place.node.clone()?;
-        things.push((Thing::Staged { name, node }, place.staged))?;
+        let node = entry.node.clone()?;
+        things.push((Thing::Staged { name, node }, entry.staged))?;
     }
     Ok(())
 }
 
 // Adds that it is published at a target there, where it may be.
-fn add_aim(
+fn add_target(
     things: &mut Vec<(Thing, Known)>,
     name: &Name,
     node: &NodeId,
-    aim: &Aim,
+    target_entry: &TargetEntry,
 ) -> Result<(), OrchFault>
-    ensures ok { OnOk result (things.new.items ≡ things.old.items ++ noted_of_aim name.now node.now aim.now) }
+    ensures ok { OnOk result (things.new.items ≡ things.old.items ++ noted_of_target name.now node.now target_entry.now) }
     ensures err { IfErr result (λ fault. fault ≡ Fault.NoMemory) }
-    ensures empty { noted_of_aim name.now node.now aim.now ≡ [] → IsOk result }
+    ensures empty { noted_of_target name.now node.now target_entry.now ≡ [] → IsOk result }
 {
-    if !aim.published.is_no() {
+    if !target_entry.published.is_no() {
         let name = name.clone()?;
         let node = node.clone()?;
-        let target = aim.target.clone()?;
-        things.push((Thing::Published { name, node, target }, aim.published))?;
+        let target = target_entry.target.clone()?;
+        things.push((
+            Thing::Published { name, node, target },
+            target_entry.published,
+        ))?;
     }
     Ok(())
 }
 
 // The same for each of these targets.
-fn add_aims(
+fn add_targets(
     things: &mut Vec<(Thing, Known)>,
     name: &Name,
     node: &NodeId,
-    aims: &[Aim],
+    target_entries: &[TargetEntry],
 ) -> Result<(), OrchFault>
-    ensures ok { OnOk result (things.new.items ≡ things.old.items ++ flat_map (noted_of_aim name.now node.now) aims.now) }
+    ensures ok { OnOk result (things.new.items ≡ things.old.items ++ flat_map (noted_of_target name.now node.now) target_entries.now) }
     ensures err { IfErr result (λ fault. fault ≡ Fault.NoMemory) }
-    ensures empty { flat_map (noted_of_aim name.now node.now) aims.now ≡ [] → IsOk result }
+    ensures empty { flat_map (noted_of_target name.now node.now) target_entries.now ≡ [] → IsOk result }
 {
-    for aim in aims {
-        add_aim(things, name, node, aim)?;
+    for target_entry in target_entries {
+        add_target(things, name, node, target_entry)?;
     }
     Ok(())
 }
 
 // Adds what is known of the volume at a node.
-fn add_place(things: &mut Vec<(Thing, Known)>, name: &Name, place: &Place) -> Result<(), OrchFault>
-    ensures ok { OnOk result (things.new.items ≡ things.old.items ++ noted_of_place name.now (place_shown place.now)) }
+fn add_node(
+    things: &mut Vec<(Thing, Known)>,
+    name: &Name,
+    entry: &NodeEntry,
+) -> Result<(), OrchFault>
+    ensures ok { OnOk result (things.new.items ≡ things.old.items ++ noted_of_node name.now (node_entry_shown entry.now)) }
     ensures err { IfErr result (λ fault. fault ≡ Fault.NoMemory) }
-    ensures empty { noted_of_place name.now (place_shown place.now) ≡ [] → IsOk result }
+    ensures empty { noted_of_node name.now (node_entry_shown entry.now) ≡ [] → IsOk result }
 {
-    add_attached(things, name, place)?;
-    add_staged(things, name, place)?;
-    add_aims(things, name, &place.node, &place.aims)
+    add_attached(things, name, entry)?;
+    add_staged(things, name, entry)?;
+    add_targets(things, name, &entry.node, &entry.target_entries)
 }
 
 // The same for each of these nodes.
-fn add_places(
+fn add_nodes(
     things: &mut Vec<(Thing, Known)>,
     name: &Name,
-    places: &[Place],
+    entries: &[NodeEntry],
 ) -> Result<(), OrchFault>
-    ensures ok { OnOk result (things.new.items ≡ things.old.items ++ flat_map (noted_of_place name.now) (map place_shown places.now)) }
+    ensures ok { OnOk result (things.new.items ≡ things.old.items ++ flat_map (noted_of_node name.now) (map node_entry_shown entries.now)) }
     ensures err { IfErr result (λ fault. fault ≡ Fault.NoMemory) }
-    ensures empty { flat_map (noted_of_place name.now) (map place_shown places.now) ≡ [] → IsOk result }
+    ensures empty { flat_map (noted_of_node name.now) (map node_entry_shown entries.now) ≡ [] → IsOk result }
 {
-    for place in places {
-        add_place(things, name, place)?;
+    for entry in entries {
+        add_node(things, name, entry)?;
     }
     Ok(())
 }
@@ -129,7 +140,7 @@ fn add_row(things: &mut Vec<(Thing, Known)>, row: &Row) -> Result<(), OrchFault>
     ensures empty { noted_of_row (row_shown row.now) ≡ [] → IsOk result }
 {
     add_exists(things, row)?;
-    add_places(things, &row.name, &row.places)
+    add_nodes(things, &row.name, &row.node_entries)
 }
 
 // What these rows know, row by row.

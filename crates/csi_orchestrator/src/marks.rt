@@ -4,8 +4,8 @@ ghost use Rattle.csi_types.specs.Same.{same_text};
 ghost use Rattle.csi_orchestrator.specs.Thing.{is_no};
 ghost use Rattle.csi_orchestrator.specs.Shown.{row_shown, marks_of_volume, marks_at, marks_for};
 
-use crate::row::{Aim, Goal, Row};
-use crate::state::{place_at, published_at};
+use crate::row::{Goal, Row, TargetEntry};
+use crate::state::{node_entry_at, published_at};
 use crate::thing::Known;
 use csi_types::{NodeId, Target};
 
@@ -21,12 +21,12 @@ pub(crate) struct Marks {
 }
 
 /// At how many of these targets, other than this one, the volume may be published.
-pub(crate) fn others_of(aims: &[Aim], target: &Target) -> usize
-    ensures { result ≡ count_by (λ aim. not (same_text aim.target target.now) && not (is_no aim.published)) aims.now }
+pub(crate) fn others_of(target_entries: &[TargetEntry], target: &Target) -> usize
+    ensures { result ≡ count_by (λ target_entry. not (same_text target_entry.target target.now) && not (is_no target_entry.published)) target_entries.now }
 {
     let mut count = 0;
-    for aim in aims {
-        if aim.target != *target && !aim.published.is_no() {
+    for target_entry in target_entries {
+        if target_entry.target != *target && !target_entry.published.is_no() {
             count += 1;
         }
     }
@@ -50,13 +50,13 @@ pub(crate) fn of_volume(row: &Row) -> Marks
 pub(crate) fn marks_in(row: &Row, node: &NodeId, target: &Target) -> Marks
     ensures { result ≡ marks_at (row_shown row.now) node.now target.now }
 {
-    match place_at(row, node) {
-        Some(place) => Marks {
+    match node_entry_at(row, node) {
+        Some(entry) => Marks {
             exists: row.exists,
-            attached: place.attached,
-            staged: place.staged,
-            published: published_at(place, target),
-            others: others_of(&place.aims, target) > 0,
+            attached: entry.attached,
+            staged: entry.staged,
+            published: published_at(entry, target),
+            others: others_of(&entry.target_entries, target) > 0,
         },
         None => of_volume(row),
     }

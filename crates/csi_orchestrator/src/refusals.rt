@@ -80,10 +80,10 @@ fn use_fault(nodes: &[NodeId], usage: &Usage, row: &Row) -> Option<OrchFault>
     ) {
         return Some(OrchFault::NotCapable);
     }
-    if is_held_elsewhere(&row.places, usage) {
+    if is_held_elsewhere(&row.node_entries, usage) {
         return Some(OrchFault::HeldElsewhere);
     }
-    if is_written_elsewhere(&row.places, usage) {
+    if is_written_elsewhere(&row.node_entries, usage) {
         return Some(OrchFault::WriterElsewhere);
     }
     if is_held_otherwise(row, usage) {
@@ -145,7 +145,7 @@ fn delete_fault(row: &Row) -> Option<OrchFault>
     if row.id.is_none() {
         return Some(OrchFault::NotCreated);
     }
-    if is_attached_somewhere(&row.places) {
+    if is_attached_somewhere(&row.node_entries) {
         return Some(OrchFault::InUse);
     }
     None

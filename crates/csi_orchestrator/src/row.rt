@@ -33,22 +33,22 @@ pub(crate) enum Goal {
     Delete,
 }
 
-/// A target of a node, and whether the volume is published at it.
+/// What a row keeps of a target of a node: whether the volume is published at it.
 #[derive(Drop)]
-pub(crate) struct Aim {
+pub(crate) struct TargetEntry {
     pub target: Target,
     pub published: Known,
 }
 
-/// A node at which a volume is used, and how it is held there.
+/// What a row keeps of a node at which the volume is used: how it is held there.
 #[derive(Drop)]
-pub(crate) struct Place {
+pub(crate) struct NodeEntry {
     pub node: NodeId,
     pub capability: Capability,
     pub readonly: bool,
     pub attached: Known,
     pub staged: Known,
-    pub aims: Vec<Aim>,
+    pub target_entries: Vec<TargetEntry>,
 }
 
 /// A volume's row.
@@ -64,5 +64,5 @@ pub(crate) struct Row {
     pub open_number: Option<Number>,
     /// How often a call was sent since the goal was set or a success was heard, counted up to 3.
     pub tries: u64,
-    pub places: Vec<Place>,
+    pub node_entries: Vec<NodeEntry>,
 }

@@ -4,7 +4,7 @@ ghost use Rattle.csi_orchestrator.specs.Commands.{next_number as number_after};
 ghost use Rattle.csi_orchestrator.specs.Shown.{row_shown};
 ghost use Rattle.csi_orchestrator.specs.Found.{due_shown, IsQuiet};
 ghost use Rattle.csi_orchestrator.specs.RowMoves.{IsRefusal};
-ghost use Rattle.csi_orchestrator.specs.RowSteps.{outgoing_by, gone_on};
+ghost use Rattle.csi_orchestrator.specs.RowSteps.{outgoing_by, sent_or_dropped};
 
 use crate::calls::frame_of;
 use crate::changes::{drop_goal, note_sent};
@@ -47,7 +47,7 @@ pub(crate) fn outgoing_for(
 
 /// Records that the call is sent. Where none is due, the goal is dropped.
 pub(crate) fn note_sent_or_drop(row: &mut Row, next: &Option<Outgoing>)
-    ensures { row_shown row.new ≡ gone_on next.now (row_shown row.old) }
+    ensures { row_shown row.new ≡ sent_or_dropped next.now (row_shown row.old) }
 {
     match next {
         Some(next) => note_sent(row, next.number, next.kind),

@@ -4,12 +4,12 @@ ghost use Rattle.std.specs.List.{list_any};
 ghost use Rattle.csi_types.specs.Same.{same_text};
 ghost use Rattle.csi_orchestrator.specs.Thing.{is_no};
 ghost use Rattle.csi_orchestrator.specs.Commands.{is_for_one_node as is_one_node, is_second_writer as is_second, is_otherwise as is_other};
-ghost use Rattle.csi_orchestrator.specs.Shown.{row_shown, place_shown, place_of, held_at};
-ghost use Rattle.csi_orchestrator.specs.RowRefusals.{is_so_elsewhere, is_place_otherwise, others_count as count_others};
+ghost use Rattle.csi_orchestrator.specs.Shown.{row_shown, node_entry_shown, node_entry_of, held_at};
+ghost use Rattle.csi_orchestrator.specs.RowRefusals.{is_so_elsewhere, is_entry_otherwise, others_count as count_others};
 
 use crate::marks::others_of;
-use crate::row::{Place, Row, Usage};
-use crate::state::place_at;
+use crate::row::{NodeEntry, Row, Usage};
+use crate::state::node_entry_at;
 use csi_types::{NodeId, Target, same_way, single_node, two_writers};
 
 /// Whether the node is one of these.
@@ -24,27 +24,28 @@ pub(crate) fn has_node(nodes: &[NodeId], node: &NodeId) -> bool
     false
 }
 
-// Whether the place is of another node, at which the volume may be attached.
-fn is_elsewhere(node: &NodeId, place: &Place) -> bool
-    ensures { result ≡ (not (same_text place.now.node node.now) && not (is_no place.now.attached)) }
+// Whether the entry is of another node, and the volume may be attached there.
+fn is_elsewhere(node: &NodeId, entry: &NodeEntry) -> bool
+    ensures { result ≡ (not (same_text entry.now.node node.now) && not (is_no entry.now.attached)) }
 {
-    place.node != *node && !place.attached.is_no()
+    entry.node != *node && !entry.attached.is_no()
 }
 
 // Whether it may be attached at this other node, and one of the two modes is for one node.
-fn excludes(usage: &Usage, place: &Place) -> bool
-    ensures { result ≡ is_so_elsewhere (is_one_node usage.now) usage.now.node (place_shown place.now) }
+fn excludes(usage: &Usage, entry: &NodeEntry) -> bool
+    ensures { result ≡ is_so_elsewhere (is_one_node usage.now) usage.now.node (node_entry_shown entry.now) }
 {
-    is_elsewhere(&usage.node, place)
-        && (single_node(place.capability.mode) || single_node(usage.capability.mode))
+    is_elsewhere(&usage.node, entry)
+        && (single_node(entry.capability.mode) || single_node(usage.capability.mode))
 }
 
-/// Whether the volume may be attached at one of these places, of another node, and one of the two modes is for one node.
-pub(crate) fn is_held_elsewhere(places: &[Place], usage: &Usage) -> bool
-    ensures { result ≡ list_any (is_so_elsewhere (is_one_node usage.now) usage.now.node) (map place_shown places.now) }
+/// Whether one of these entries is of another node, at which the volume may be attached, and one of the two modes is for one
+/// node.
+pub(crate) fn is_held_elsewhere(entries: &[NodeEntry], usage: &Usage) -> bool
+    ensures { result ≡ list_any (is_so_elsewhere (is_one_node usage.now) usage.now.node) (map node_entry_shown entries.now) }
 {
-    for place in places {
-        if excludes(usage, place) {
+    for entry in entries {
+        if excludes(usage, entry) {
             return true;
         }
     }
@@ -52,38 +53,38 @@ pub(crate) fn is_held_elsewhere(places: &[Place], usage: &Usage) -> bool
 }
 
 // Whether it may be attached at this other node, and the use would be a second writer.
-fn writes_beside(usage: &Usage, place: &Place) -> bool
-    ensures { result ≡ is_so_elsewhere (is_second usage.now) usage.now.node (place_shown place.now) }
+fn writes_beside(usage: &Usage, entry: &NodeEntry) -> bool
+    ensures { result ≡ is_so_elsewhere (is_second usage.now) usage.now.node (node_entry_shown entry.now) }
 {
-    is_elsewhere(&usage.node, place)
+    is_elsewhere(&usage.node, entry)
         && two_writers(
-            place.capability.mode,
-            place.readonly,
+            entry.capability.mode,
+            entry.readonly,
             usage.capability.mode,
             usage.readonly,
         )
 }
 
-/// Whether the volume may be attached at one of these places, of another node, both write, and one of the two modes has a
-/// single writer.
-pub(crate) fn is_written_elsewhere(places: &[Place], usage: &Usage) -> bool
-    ensures { result ≡ list_any (is_so_elsewhere (is_second usage.now) usage.now.node) (map place_shown places.now) }
+/// Whether one of these entries is of another node, at which the volume may be attached, both write, and one of the two modes
+/// has a single writer.
+pub(crate) fn is_written_elsewhere(entries: &[NodeEntry], usage: &Usage) -> bool
+    ensures { result ≡ list_any (is_so_elsewhere (is_second usage.now) usage.now.node) (map node_entry_shown entries.now) }
 {
-    for place in places {
-        if writes_beside(usage, place) {
+    for entry in entries {
+        if writes_beside(usage, entry) {
             return true;
         }
     }
     false
 }
 
-// Whether the volume is held so at the place.
-fn is_so(usage: &Usage, place: &Place) -> bool
-    ensures { not result ≡ is_other usage.now (Some (held_at (place_shown place.now))) }
+// Whether the volume is held so by the entry.
+fn is_so(usage: &Usage, entry: &NodeEntry) -> bool
+    ensures { not result ≡ is_other usage.now (Some (held_at (node_entry_shown entry.now))) }
 {
     same_way(
-        place.capability.lend(),
-        place.readonly,
+        entry.capability.lend(),
+        entry.readonly,
         usage.capability.lend(),
         usage.readonly,
     )
@@ -91,30 +92,30 @@ fn is_so(usage: &Usage, place: &Place) -> bool
 
 /// Whether the volume may be attached at this node with another capability or flag.
 pub(crate) fn is_held_otherwise(row: &Row, usage: &Usage) -> bool
-    ensures { result ≡ is_place_otherwise usage.now (place_of (row_shown row.now) usage.now.node) }
+    ensures { result ≡ is_entry_otherwise usage.now (node_entry_of (row_shown row.now) usage.now.node) }
 {
-    match place_at(row, &usage.node) {
-        Some(place) => !place.attached.is_no() && !is_so(usage, place),
+    match node_entry_at(row, &usage.node) {
+        Some(entry) => !entry.attached.is_no() && !is_so(usage, entry),
         None => false,
     }
 }
 
 /// At how many other targets of the node the volume may be published.
 pub(crate) fn others_count(row: &Row, node: &NodeId, target: &Target) -> usize
-    ensures { result ≡ count_others target.now (place_of (row_shown row.now) node.now) }
+    ensures { result ≡ count_others target.now (node_entry_of (row_shown row.now) node.now) }
 {
-    match place_at(row, node) {
-        Some(place) => others_of(&place.aims, target),
+    match node_entry_at(row, node) {
+        Some(entry) => others_of(&entry.target_entries, target),
         None => 0,
     }
 }
 
-/// Whether the volume may be attached at one of these places.
-pub(crate) fn is_attached_somewhere(places: &[Place]) -> bool
-    ensures { result ≡ list_any (λ place. not (is_no place.attached)) (map place_shown places.now) }
+/// Whether the volume may be attached at the node of one of these entries.
+pub(crate) fn is_attached_somewhere(entries: &[NodeEntry]) -> bool
+    ensures { result ≡ list_any (λ entry. not (is_no entry.attached)) (map node_entry_shown entries.now) }
 {
-    for place in places {
-        if !place.attached.is_no() {
+    for entry in entries {
+        if !entry.attached.is_no() {
             return true;
         }
     }

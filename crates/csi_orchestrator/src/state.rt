@@ -3,14 +3,14 @@ ghost use Rattle.std.specs.Prelude.{◌≡◌, ◌+◌, ◌<◌, ◌^◌, IfErr,
 ghost use Rattle.std.specs.Option.{option_copied};
 ghost use Rattle.csi_orchestrator.specs.declared.fault.OrchFault.{OrchFault as Fault};
 ghost use Rattle.csi_orchestrator.specs.Thing.{name_in};
-ghost use Rattle.csi_orchestrator.specs.Shown.{row_shown, place_shown, row_of, place_of, aim_of, mark_in, mark_of, published_in, without_call};
+ghost use Rattle.csi_orchestrator.specs.Shown.{row_shown, node_entry_shown, row_of, node_entry_of, target_entry_of, mark_in, mark_of, published_in, without_call};
 ghost use Rattle.csi_orchestrator.specs.Catalog.{rows_of, IsIndexed};
 ghost use Rattle.csi_orchestrator.specs.Core.{parts_of, IsFiled};
 
 use crate::catalog::Catalog;
+use crate::entries::{node_index, target_index};
 use crate::fault::OrchFault;
-use crate::places::{aim_index, place_index};
-use crate::row::{Aim, Place, Row};
+use crate::row::{NodeEntry, Row, TargetEntry};
 use crate::thing::{Known, Thing};
 use csi_types::{NodeId, Number, Target};
 use std::alloc::Global;
@@ -26,31 +26,31 @@ pub(crate) struct Core {
 }
 
 // What the row has of this node, as it is shown.
-pub(crate) fn place_at<'a>(row: &'a Row, node: &NodeId) -> Option<&'a Place>
-    ensures { option_map place_shown (option_copied result) ≡ place_of (row_shown row.now) node.now }
+pub(crate) fn node_entry_at<'a>(row: &'a Row, node: &NodeId) -> Option<&'a NodeEntry>
+    ensures { option_map node_entry_shown (option_copied result) ≡ node_entry_of (row_shown row.now) node.now }
 {
-    match place_index(&row.places, node) {
-        Some(index) => Some(&row.places[index]),
+    match node_index(&row.node_entries, node) {
+        Some(index) => Some(&row.node_entries[index]),
         None => None,
     }
 }
 
-// What the place has of this target.
-fn aim_at<'a>(place: &'a Place, target: &Target) -> Option<&'a Aim>
-    ensures { option_copied result ≡ aim_of (place_shown place.now) target.now }
+// What a node's entry has of this target.
+fn target_entry_at<'a>(entry: &'a NodeEntry, target: &Target) -> Option<&'a TargetEntry>
+    ensures { option_copied result ≡ target_entry_of (node_entry_shown entry.now) target.now }
 {
-    match aim_index(&place.aims, target) {
-        Some(index) => Some(&place.aims[index]),
+    match target_index(&entry.target_entries, target) {
+        Some(index) => Some(&entry.target_entries[index]),
         None => None,
     }
 }
 
 // What is known of the volume's publication at the target.
-pub(crate) fn published_at(place: &Place, target: &Target) -> Known
-    ensures { result ≡ published_in target.now (place_shown place.now) }
+pub(crate) fn published_at(entry: &NodeEntry, target: &Target) -> Known
+    ensures { result ≡ published_in target.now (node_entry_shown entry.now) }
 {
-    match aim_at(place, target) {
-        Some(aim) => aim.published,
+    match target_entry_at(entry, target) {
+        Some(target_entry) => target_entry.published,
         None => Known::No,
     }
 }
@@ -61,16 +61,16 @@ fn known_at(row: &Row, thing: &Thing) -> Known
 {
     match thing {
         Thing::Exists { .. } => row.exists,
-        Thing::Attached { node, .. } => match place_at(row, node) {
-            Some(place) => place.attached,
+        Thing::Attached { node, .. } => match node_entry_at(row, node) {
+            Some(entry) => entry.attached,
             None => Known::No,
         },
-        Thing::Staged { node, .. } => match place_at(row, node) {
-            Some(place) => place.staged,
+        Thing::Staged { node, .. } => match node_entry_at(row, node) {
+            Some(entry) => entry.staged,
             None => Known::No,
         },
-        Thing::Published { node, target, .. } => match place_at(row, node) {
-            Some(place) => published_at(place, target),
+        Thing::Published { node, target, .. } => match node_entry_at(row, node) {
+            Some(entry) => published_at(entry, target),
             None => Known::No,
         },
     }

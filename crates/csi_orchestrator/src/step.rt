@@ -1,14 +1,14 @@
 //! What is asked of a volume or comes for it, and what becomes of its row.
 ghost use Rattle.std.specs.Prelude.{◌≡◌, false, Ok, Some, IfOk, IfErr, IsOk, OnOk, OnErr};
 ghost use Rattle.csi_orchestrator.specs.RowMoves.{IsRefusal};
-ghost use Rattle.csi_orchestrator.specs.RowSteps.{is_met as is_so, waits as is_left, timed_out, failed, changed, needs_entry, row_goes_on, row_step, SendsNothing};
+ghost use Rattle.csi_orchestrator.specs.RowSteps.{is_met as is_so, waits as is_left, timed_out, failed, changed, needs_entry, row_sends_due, row_step, SendsNothing};
 ghost use Rattle.csi_orchestrator.specs.Hearing.{Fits};
 ghost use Rattle.csi_orchestrator.specs.Shown.{row_shown};
 
 use crate::changes::{stop_use, succeed, want};
+use crate::entries::add_node;
 use crate::fault::OrchFault;
 use crate::next_call::{due_then, due_to_use, is_given_up};
-use crate::places::add_place;
 use crate::refusals::{late_fault, step_fault};
 use crate::row::{Arguments, Goal, Row, Usage};
 use crate::sending::{Outgoing, note_sent_or_drop, outgoing_for};
@@ -93,7 +93,7 @@ fn change(alloc: Global, row: &mut Row, step: Step) -> Result<(), OrchFault>
             want(row, Goal::Create);
         }
         Step::Use(usage) => {
-            add_place(alloc, &mut row.places, &usage)?;
+            add_node(alloc, &mut row.node_entries, &usage)?;
             want(row, Goal::Use(usage));
         }
         Step::Stop { node, target } => want(row, Goal::Stop { node, target }),
@@ -106,17 +106,17 @@ fn change(alloc: Global, row: &mut Row, step: Step) -> Result<(), OrchFault>
 }
 
 // The row takes the step, and its due call is sent.
-fn go_on(
+fn send_due(
     alloc: Global,
     row: &mut Row,
     last: Number,
     step: Step,
 ) -> Result<Option<Outgoing>, OrchFault>
     requires { Fits step (row_shown row.old) }
-    ensures ok { IfOk result (λ next. row_goes_on last (changed step (row_shown row.old)) ≡ Ok (record { outgoing = next; row = row_shown row.new })) }
-    ensures err { IfErr result (IsRefusal (row_goes_on last (changed step (row_shown row.old)))) }
+    ensures ok { IfOk result (λ next. row_sends_due last (changed step (row_shown row.old)) ≡ Ok (record { outgoing = next; row = row_shown row.new })) }
+    ensures err { IfErr result (IsRefusal (row_sends_due last (changed step (row_shown row.old)))) }
     ensures stays { OnErr result (row_shown row.new ≡ row_shown row.old) }
-    ensures quiet { needs_entry step ≡ false → SendsNothing (row_goes_on last (changed step (row_shown row.old))) → IsOk result }
+    ensures quiet { needs_entry step ≡ false → SendsNothing (row_sends_due last (changed step (row_shown row.old))) → IsOk result }
     ensures delete { step ≡ Step.Delete → IfErr result (λ fault. fault ≡ OrchFault.NoMemory → ⊥) }
 {
     let next = outgoing_for(last, &due_then(row, &step))?;
@@ -154,5 +154,5 @@ pub(crate) fn take(
     if let Some(fault) = late_fault(last, row, &step) {
         return Err(fault);
     }
-    go_on(alloc, row, last, step)
+    send_due(alloc, row, last, step)
 }

@@ -2,20 +2,20 @@
 use Rattle.std.proofs.Common.{not, rules}
 use Rattle.std.specs.Prelude.{◌&&◌}
 use Rattle.csi_types.specs.Same.{same_text}
-use Rattle.csi_orchestrator.specs.declared.row.Aim.{Aim}
+use Rattle.csi_orchestrator.specs.declared.row.TargetEntry.{TargetEntry}
 use Rattle.csi_orchestrator.specs.Thing.{is_no}
 use Rattle.csi_orchestrator.proofs.EntriesShown.{counted-more, counted-same}
 use Rattle.csi_orchestrator.proofs.marks.others_of.Goals as goal
 use Rattle.csi_orchestrator.proofs.marks.others_of.Goals.{then-ne+then-not-is_no, else-ne, else-ne-via-then-ne+else-not-is_no, else-ne-via-else-ne}
 
-pub loop-aim-preserved : goal.loop-aim-preserved
-loop-aim-preserved c =
-    let is_other = λ (aim : Aim). not (same_text aim.target c.args.target.now) && not (is_no aim.published) in
-    let aims = c.args.aims.now in
-    let i = c.loop-aim.aim-index in
-    let aim = c.aim-item.result in
+pub loop-target_entry-preserved : goal.loop-target_entry-preserved
+loop-target_entry-preserved c =
+    let is_other = λ (target_entry : TargetEntry). not (same_text target_entry.target c.args.target.now) && not (is_no target_entry.published) in
+    let target_entries = c.args.target_entries.now in
+    let i = c.loop-target_entry.target_entry-index in
+    let target_entry = c.target_entry-item.result in
     elim c.if-ne.branch [
-      | then-ne+then-not-is_no w ↦ counted-more is_other aims i aim c.loop-aim.count c.if-ne.count c.loop-aim-test.true c.aim-item.is c.loop-aim.invariant (search rules) w.count-is
-      | else-ne w ↦ counted-same is_other aims i aim c.loop-aim.count c.if-ne.count c.loop-aim-test.true c.aim-item.is c.loop-aim.invariant
+      | then-ne+then-not-is_no w ↦ counted-more is_other target_entries i target_entry c.loop-target_entry.count c.if-ne.count c.loop-target_entry-test.true c.target_entry-item.is c.loop-target_entry.invariant (search rules) w.count-is
+      | else-ne w ↦ counted-same is_other target_entries i target_entry c.loop-target_entry.count c.if-ne.count c.loop-target_entry-test.true c.target_entry-item.is c.loop-target_entry.invariant
           (elim w.else-ne.branch [ else-ne-via-then-ne+else-not-is_no v ↦ search rules | else-ne-via-else-ne v ↦ search rules ]) w.count-is
     ]

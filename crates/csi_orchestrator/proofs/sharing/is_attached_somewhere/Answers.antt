@@ -1,9 +1,9 @@
--- This place is so.
+-- This entry is so.
 use Rattle.std.proofs.Common.{sym, not}
-use Rattle.csi_orchestrator.specs.Shown.{PlaceShown, place_shown}
+use Rattle.csi_orchestrator.specs.Shown.{NodeEntryShown, node_entry_shown}
 use Rattle.csi_orchestrator.specs.Thing.{is_no}
 use Rattle.csi_orchestrator.proofs.EntriesShown.{one-here}
 use Rattle.csi_orchestrator.proofs.sharing.is_attached_somewhere.Goals as goal
 
 pub returns-then-not-is_no : goal.returns-then-not-is_no
-returns-then-not-is_no c = sym (one-here place_shown (λ (place : PlaceShown). not (is_no place.attached)) c.args.places.now c.loop-place.place-index c.place-item.result c.loop-place-test.true c.place-item.is (cc))
+returns-then-not-is_no c = sym (one-here node_entry_shown (λ (entry : NodeEntryShown). not (is_no entry.attached)) c.args.entries.now c.loop-entry.entry-index c.entry-item.result c.loop-entry-test.true c.entry-item.is (cc))

@@ -1,10 +1,10 @@
--- This place is so.
+-- This entry is so.
 use Rattle.std.proofs.Common.{sym}
 use Rattle.csi_orchestrator.specs.Commands.{is_second_writer}
 use Rattle.csi_orchestrator.specs.RowRefusals.{is_so_elsewhere}
-use Rattle.csi_orchestrator.specs.Shown.{place_shown}
+use Rattle.csi_orchestrator.specs.Shown.{node_entry_shown}
 use Rattle.csi_orchestrator.proofs.EntriesShown.{one-here}
 use Rattle.csi_orchestrator.proofs.sharing.is_written_elsewhere.Goals as goal
 
 pub returns-then-writes_beside : goal.returns-then-writes_beside
-returns-then-writes_beside c = sym (one-here place_shown (is_so_elsewhere (is_second_writer c.args.usage.now) c.args.usage.now.node) c.args.places.now c.loop-place.place-index c.place-item.result c.loop-place-test.true c.place-item.is (cc))
+returns-then-writes_beside c = sym (one-here node_entry_shown (is_so_elsewhere (is_second_writer c.args.usage.now) c.args.usage.now.node) c.args.entries.now c.loop-entry.entry-index c.entry-item.result c.loop-entry-test.true c.entry-item.is (cc))

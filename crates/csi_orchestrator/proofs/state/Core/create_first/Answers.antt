@@ -8,7 +8,7 @@ use Rattle.csi_orchestrator.specs.declared.sending.Outgoing.{Outgoing}
 use Rattle.csi_orchestrator.specs.Catalog.{rows_of, IsReady, call_in}
 use Rattle.csi_orchestrator.specs.Commands.{next_number}
 use Rattle.csi_orchestrator.specs.Core.{parts_of}
-use Rattle.csi_orchestrator.specs.RowSteps.{RowTold, outgoing_by, gone_on, row_after, row_goes_on}
+use Rattle.csi_orchestrator.specs.RowSteps.{RowTold, outgoing_by, sent_or_dropped, row_after, row_sends_due}
 use Rattle.csi_orchestrator.specs.Due.{Due}
 use Rattle.csi_orchestrator.specs.Found.{due_shown}
 use Rattle.csi_orchestrator.specs.RowChanges.{new_row}
@@ -19,20 +19,20 @@ use Rattle.csi_orchestrator.proofs.RowsByName.{first-told}
 use Rattle.csi_orchestrator.proofs.OpenCalls.{next-created}
 use Rattle.csi_orchestrator.proofs.state.Core.create_first.Goals as goal
 
--- the row goes on by what is found of the one that was made
-goes-on : (last : Number) (row made sent : RowShown) (due : Option Due) (next : Option Outgoing) → made ≡ row → due ≡ due_in made → outgoing_by due (next_number last) ≡ Ok next
-    → sent ≡ gone_on next made
-    → row_goes_on last row ≡ Ok (record { outgoing = next; row = sent })
-goes-on last row made sent due next same is found then =
+-- the row's due call is sent, by what is found of the one that was made
+sends-due : (last : Number) (row made sent : RowShown) (due : Option Due) (next : Option Outgoing) → made ≡ row → due ≡ due_in made → outgoing_by due (next_number last) ≡ Ok next
+    → sent ≡ sent_or_dropped next made
+    → row_sends_due last row ≡ Ok (record { outgoing = next; row = sent })
+sends-due last row made sent due next same is found then =
     ap (row_after row) (ap (λ d. outgoing_by d (next_number last)) (ap due_in (sym same) ∙ sym is) ∙ found)
-    ∙ ap (λ r. let told : RowTold = record { outgoing = next; row = r } in Ok told) (ap (gone_on next) (sym same) ∙ sym then)
+    ∙ ap (λ r. let told : RowTold = record { outgoing = next; row = r } in Ok told) (ap (sent_or_dropped next) (sym same) ∙ sym then)
 
 pub issue-requires-clause-ready : goal.issue-requires-clause-ready
 issue-requires-clause-ready c =
     let core = c.args.self.now in
     let next = c.in_ok-next.next in
     let sent = c.note_sent_or_drop.new.row in
-    let on = goes-on core.last (new_row c.args.name c.args.arguments) (row_shown c.new_row-row.result) (row_shown sent) (option_map due_shown c.due_now.result) next
+    let on = sends-due core.last (new_row c.args.name c.args.arguments) (row_shown c.new_row-row.result) (row_shown sent) (option_map due_shown c.due_now.result) next
     c.new_row-row.ensures c.due_now.ensures c.in_ok-next.ensures.ok c.note_sent_or_drop.ensures in
     let long : length (rows_of core.catalog) ≡ c.len-index.result = length-map core.catalog.rows.entries (λ (e : List ℕ × Row). e.1) ∙ sym c.len-index.ensures.len in
     subst (λ (n : ℕ). IsReady c.add.new.self n (call_in next)) long
@@ -43,7 +43,7 @@ returns-clause-ok c =
     let core = c.args.self.now in
     let next = c.in_ok-next.next in
     let sent = c.note_sent_or_drop.new.row in
-    let on = goes-on core.last (new_row c.args.name c.args.arguments) (row_shown c.new_row-row.result) (row_shown sent) (option_map due_shown c.due_now.result) next
+    let on = sends-due core.last (new_row c.args.name c.args.arguments) (row_shown c.new_row-row.result) (row_shown sent) (option_map due_shown c.due_now.result) next
     c.new_row-row.ensures c.due_now.ensures c.in_ok-next.ensures.ok c.note_sent_or_drop.ensures in
     let made = next-created core.catalog core.last c.args.name c.args.arguments sent next c.requires.filed.known on in
     let fits = ap (λ (rows : List Row). first_fault core.last (map row_shown rows)) (sym c.rows.ensures) ∙ sym c.first_fault.ensures ∙ c.in_default.is in

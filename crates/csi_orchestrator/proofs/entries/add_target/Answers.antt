@@ -1,0 +1,23 @@
+-- The target has an entry where one is found.
+use Rattle.std.proofs.Common.{◌≡◌, Bool, true, false, cond, [], ◌∷◌, ◌++◌, sym, ◌∙◌, ap}
+use Rattle.std.specs.Prelude.{position, is_some}
+use Rattle.csi_types.specs.Same.{same_text}
+use Rattle.csi_orchestrator.specs.declared.row.TargetEntry.{TargetEntry}
+use Rattle.csi_orchestrator.specs.RowChanges.{new_target_entry}
+use Rattle.csi_orchestrator.proofs.ChangedEntries.{placed-found}
+use Rattle.csi_orchestrator.proofs.entries.add_target.Goals as goal
+
+pub returns-then-is_some-clause-ok : goal.returns-then-is_some-clause-ok
+returns-then-is_some-clause-ok c =
+    let target_entries = c.args.target_entries.now.items in
+    let target = c.args.target.now in
+    let placed : is_some (position (λ (target_entry : TargetEntry). same_text target_entry.target target) target_entries) ≡ true = cc in
+    sym (ap (λ (b : Bool). cond b target_entries (target_entries ++ new_target_entry target ∷ [])) (placed-found (λ (target_entry : TargetEntry). same_text target_entry.target target) target_entries (new_target_entry target) ∙ placed))
+
+pub returns-clause-ok : goal.returns-clause-ok
+returns-clause-ok c =
+    let target_entries = c.args.target_entries.now.items in
+    let target = c.args.target.now in
+    let placed : is_some (position (λ (target_entry : TargetEntry). same_text target_entry.target target) target_entries) ≡ false = cc in
+    let found = placed-found (λ (target_entry : TargetEntry). same_text target_entry.target target) target_entries (new_target_entry target) ∙ placed in
+    c.in_ok-push.ensures.items ∙ ap (λ (target_entry : TargetEntry). target_entries ++ target_entry ∷ []) c.in_ok-target_entry.ensures ∙ sym (ap (λ (b : Bool). cond b target_entries (target_entries ++ new_target_entry target ∷ [])) found)

@@ -1,0 +1,188 @@
+//! The entries of a row: where they stand, and how they are marked, tidied and added.
+ghost use Rattle.std.specs.Prelude.{◌≡◌, map, filter, find, position, Some, None, IfOk, OnOk, OnErr};
+ghost use Rattle.csi_types.specs.Same.{same_text};
+ghost use Rattle.csi_orchestrator.specs.Shown.{node_entry_shown};
+ghost use Rattle.csi_orchestrator.specs.RowChanges.{aspect_of, node_marked, marked_at, target_marked, is_target_kept as is_kept_target, is_node_kept as is_kept_shown, with_kept_targets, tidied, with_target, entry_for, new_target_entry as new_target_entry_shown};
+ghost use Rattle.csi_orchestrator.specs.Keyed.{put_by};
+
+use crate::row::{NodeEntry, TargetEntry, Usage};
+use crate::thing::Known;
+use csi_types::{Kind, NoMemory, NodeId, Target};
+use std::alloc::Global;
+
+/// Where the entry of this node stands.
+pub(crate) fn node_index(entries: &[NodeEntry], node: &NodeId) -> Option<usize>
+    ensures { result ≡ position (λ entry. same_text entry.node node.now) entries.now }
+{
+    entries.iter().position(|entry| entry.node == *node)
+}
+
+/// Where the entry of this target stands.
+pub(crate) fn target_index(target_entries: &[TargetEntry], target: &Target) -> Option<usize>
+    ensures { result ≡ position (λ target_entry. same_text target_entry.target target.now) target_entries.now }
+{
+    target_entries
+        .iter()
+        .position(|target_entry| target_entry.target == *target)
+}
+
+// Marks whether it is published at the target, if the target has an entry.
+fn mark_target(target_entries: &mut Vec<TargetEntry>, target: &Target, known: Known)
+    ensures { target_entries.new.items ≡ target_marked known target.now target_entries.old.items }
+{
+    if let Some(index) = target_index(target_entries, target) {
+        target_entries[index].published = known;
+    }
+}
+
+// Marks in the entry of a node what a call of this kind does or undoes there.
+fn mark_node(entry: &mut NodeEntry, target: &Target, kind: Kind, known: Known)
+    ensures { node_entry_shown entry.new ≡ node_marked known (aspect_of kind) target.now (node_entry_shown entry.old) }
+{
+    match kind {
+        Kind::CreateVolume | Kind::DeleteVolume => {}
+        Kind::ControllerPublishVolume | Kind::ControllerUnpublishVolume => entry.attached = known,
+        Kind::NodeStageVolume | Kind::NodeUnstageVolume => entry.staged = known,
+        Kind::NodePublishVolume | Kind::NodeUnpublishVolume => {
+            mark_target(&mut entry.target_entries, target, known)
+        }
+    }
+}
+
+/// Marks what a call of this kind does or undoes at the node and the target, if the node has an entry.
+pub(crate) fn mark_at(
+    entries: &mut Vec<NodeEntry>,
+    node: &NodeId,
+    target: &Target,
+    kind: Kind,
+    known: Known,
+)
+    ensures { map node_entry_shown entries.new.items ≡ marked_at known (aspect_of kind) node.now target.now (map node_entry_shown entries.old.items) }
+{
+    if let Some(index) = node_index(entries, node) {
+        mark_node(&mut entries[index], target, kind, known);
+    }
+}
+
+// Whether the volume may be published at the target.
+fn is_target_kept(target_entry: &TargetEntry) -> bool
+    ensures { result ≡ is_kept_target target_entry.now }
+{
+    !target_entry.published.is_no()
+}
+
+// Keeps the targets at which the volume may be published.
+fn keep_targets(target_entries: &mut Vec<TargetEntry>)
+    ensures { target_entries.new.items ≡ filter is_kept_target target_entries.old.items }
+{
+    target_entries.retain(is_target_kept);
+}
+
+// The same, at every node.
+fn keep_targets_of_all(entries: &mut Vec<NodeEntry>)
+    ensures { map node_entry_shown entries.new.items ≡ map with_kept_targets (map node_entry_shown entries.old.items) }
+{
+    for entry in entries.iter_mut() {
+        keep_targets(&mut entry.target_entries);
+    }
+}
+
+// Whether the volume may be attached, staged or published at the node.
+fn is_node_kept(entry: &NodeEntry) -> bool
+    ensures { result ≡ is_kept_shown (node_entry_shown entry.now) }
+{
+    !(entry.attached.is_no() && entry.staged.is_no() && entry.target_entries.is_empty())
+}
+
+// Keeps the nodes at which something may be so.
+fn keep_nodes(entries: &mut Vec<NodeEntry>)
+    ensures { entries.new.items ≡ filter (λ entry. is_kept_shown (node_entry_shown entry)) entries.old.items }
+{
+    entries.retain(is_node_kept);
+}
+
+/// Keeps the entries of which something may be so.
+pub(crate) fn tidy(entries: &mut Vec<NodeEntry>)
+    ensures { map node_entry_shown entries.new.items ≡ tidied (map node_entry_shown entries.old.items) }
+{
+    keep_targets_of_all(entries);
+    keep_nodes(entries);
+}
+
+// An entry of a target, at which nothing is published.
+fn new_target_entry(target: &Target) -> Result<TargetEntry, NoMemory>
+    ensures { IfOk result (λ target_entry. target_entry ≡ new_target_entry_shown target.now) }
+{
+    let target = target.clone()?;
+    Ok(TargetEntry {
+        target,
+        published: Known::No,
+    })
+}
+
+// Adds the target, unless it has an entry. A refusal changes nothing.
+fn add_target(target_entries: &mut Vec<TargetEntry>, target: &Target) -> Result<(), NoMemory>
+    ensures ok { OnOk result (target_entries.new.items ≡ with_target target.now target_entries.old.items) }
+    ensures err { OnErr result (target_entries.new.items ≡ target_entries.old.items) }
+{
+    if target_index(target_entries, target).is_some() {
+        return Ok(());
+    }
+    let target_entry = new_target_entry(target)?;
+    target_entries.push(target_entry)?;
+    Ok(())
+}
+
+// An entry of the node of a use.
+fn new_node_entry(alloc: Global, usage: &Usage) -> Result<NodeEntry, NoMemory>
+    ensures { IfOk result (λ entry. node_entry_shown entry ≡ entry_for usage.now None) }
+{
+    let node = usage.node.clone()?;
+    let capability = usage.capability.clone()?;
+    let target_entry = new_target_entry(&usage.target)?;
+    let mut target_entries = Vec::new(alloc);
+    target_entries.push(target_entry)?;
+    Ok(NodeEntry {
+        node,
+        capability,
+        readonly: usage.readonly,
+        attached: Known::No,
+        staged: Known::No,
+        target_entries,
+    })
+}
+
+// Adds what the entry of its node lacks for a use. A refusal changes nothing.
+fn add_to(entry: &mut NodeEntry, usage: &Usage) -> Result<(), NoMemory>
+    ensures ok { OnOk result (node_entry_shown entry.new ≡ entry_for usage.now (Some (node_entry_shown entry.old))) }
+    ensures err { OnErr result (node_entry_shown entry.new ≡ node_entry_shown entry.old) }
+{
+    if !entry.attached.is_no() {
+        return add_target(&mut entry.target_entries, &usage.target);
+    }
+    let capability = usage.capability.clone()?;
+    add_target(&mut entry.target_entries, &usage.target)?;
+    entry.capability = capability;
+    entry.readonly = usage.readonly;
+    Ok(())
+}
+
+/// Adds an entry for a use: a new one, or what the one of its node lacks. A refusal changes nothing.
+pub(crate) fn add_node(
+    alloc: Global,
+    entries: &mut Vec<NodeEntry>,
+    usage: &Usage,
+) -> Result<(), NoMemory>
+    ensures ok { OnOk result (map node_entry_shown entries.new.items
+        ≡ put_by (λ entry. entry.node) (entry_for usage.now (find (λ entry. same_text entry.node usage.now.node) (map node_entry_shown entries.old.items))) (map node_entry_shown entries.old.items)) }
+    ensures err { OnErr result (map node_entry_shown entries.new.items ≡ map node_entry_shown entries.old.items) }
+{
+    match node_index(entries, &usage.node) {
+        Some(index) => add_to(&mut entries[index], usage),
+        None => {
+            let entry = new_node_entry(alloc, usage)?;
+            entries.push(entry)?;
+            Ok(())
+        }
+    }
+}
