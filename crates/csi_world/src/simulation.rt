@@ -21,10 +21,11 @@ fn new_system(alloc: Global, config: &Config) -> Result<System, NoMemory>
     ensures { IfOk result (λ system. IsRun config.now [] (shown_of system)) }
 {
     config.fit_law();
-    let nodes = new_nodes(alloc, config.nodes())?;
-    let ids = ids_of(alloc, config.nodes())?;
     let own = copied_config(config)?;
-    let controller = Controller::new(alloc, copied_config(config)?);
+    let given = copied_config(config)?;
+    let ids = ids_of(alloc, config.nodes())?;
+    let nodes = new_nodes(alloc, config.nodes())?;
+    let controller = Controller::new(alloc, given);
     let orchestrator = Orchestrator::new(alloc, ids);
     Ok(System {
         alloc,
