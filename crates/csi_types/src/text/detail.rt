@@ -10,8 +10,8 @@ use arrayvec::ArrayString;
 use std::alloc::Global;
 use std::marker::Model;
 
-// The most bytes of a text that lies in its own value. Each refusal that a plugin makes is among them, and the value is
-// no larger than one that points to its text.
+// The most bytes of a text that lies in its own value. The constant texts that a plugin answers have 19 at the most; the
+// name of a node or a target may have more.
 const INLINE_LEN: usize = 23;
 
 // A text, which takes memory only where it is long.
