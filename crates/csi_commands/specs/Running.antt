@@ -3,7 +3,7 @@ use Rattle.std.specs.Prelude.{◌≡◌, ℕ, List, [], ◌∷◌, ◌++◌, Ok,
 use Rattle.std.specs.Str.{IsUtf8}
 use Rattle.csi_schedules.specs.Schedule.{Schedule, text_schedule}
 use Rattle.csi_world.specs.After.{after}
-use Rattle.csi_world.specs.Simulated.{WorldShown, ShowsRun}
+use Rattle.csi_world.specs.Simulated.{WorldParts, ShowsRun}
 use Rattle.csi_reports.specs.Report.{IsReport}
 use Rattle.csi_commands.specs.declared.ending.Ending.{Ending}
 use Rattle.csi_commands.specs.declared.ending.Ending.TheVariants as endings
@@ -12,7 +12,7 @@ use Rattle.csi_schedules.specs.declared.schedule.ScheduleFault.TheVariants.{NotJ
 
 -- the text is the report of the world to which the schedule's events lead from an empty one
 pub record IsReportOf (schedule : Schedule) (text : List ℕ) : Type 0 where
-  pub world : WorldShown
+  pub world : WorldParts
   pub shows : ShowsRun world (after schedule.config schedule.events)
   pub reported : IsReport world text
 

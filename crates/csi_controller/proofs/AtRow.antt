@@ -31,7 +31,7 @@ use Rattle.csi_controller.specs.State.{Volume, ControllerState, is_row_for}
 use Rattle.csi_controller.specs.Table.{Outcome, delete, publish, unpublish}
 use Rattle.csi_controller.specs.Fenced.{fenced_call, kept_for}
 use Rattle.csi_controller.specs.Shown.{volume_of_row}
-use Rattle.csi_controller.specs.Core.{IsShown, IsSound, IsSoundRow, held_by, IsSameRow, IsAnsweredOk}
+use Rattle.csi_controller.specs.Core.{Shows, IsSound, IsSoundRow, held_by, IsSameRow, IsAnsweredOk}
 use Rattle.csi_controller.specs.Step.{Answers}
 use Rattle.csi_controller.specs.OneRow.{RowOutcome}
 use Rattle.csi_controller.specs.AtRow.{RowGives, row_after}
@@ -79,7 +79,7 @@ sound-refused p n rows place row new sound at is same =
 
 -- after a refusal the rows show the state that they showed
 pub shown-refused : (p : ControllerRow → Bool) (config : Config) (n : ℕ) (rows : List ControllerRow) (state : ControllerState) (place : ℕ) (row new : ControllerRow) → IsSound n rows
-    → Some place ≡ position p rows → row ≡ get_or rows place row → IsSameRow row new → IsShown (record { config = config; next_id = n; rows = rows }) state → IsShown (record { config = config; next_id = n; rows = set rows place new }) state
+    → Some place ≡ position p rows → row ≡ get_or rows place row → IsSameRow row new → Shows (record { config = config; next_id = n; rows = rows }) state → Shows (record { config = config; next_id = n; rows = set rows place new }) state
 shown-refused p config n rows state place row new sound at is same shown =
     shown-same config n rows state place row new shown (FirstAt-is_at p rows place row (at-place p rows place row at is)) (rising-one rows sound.rising) same.volume same.items
 
@@ -107,7 +107,7 @@ deletes rows place row (NodeUnpublishVolume id target) first kind = absurd (let 
 
 -- a call at its row
 pub there-answers : (config : Config) (n : ℕ) (rows : List ControllerRow) (counts : List ℕ) (state : ControllerState) (number : Number) (call : Call) (place : ℕ) (row new : ControllerRow) (frame : Frame)
-    → IsSound n rows → AreCounted config.nodes rows counts → IsShown (record { config = config; next_id = n; rows = rows }) state
+    → IsSound n rows → AreCounted config.nodes rows counts → Shows (record { config = config; next_id = n; rows = rows }) state
     → FirstAt (λ (r : ControllerRow). is_row_for call (volume_of_row r)) rows place row
     → RowGives new frame (row_after number (kind_of call) (row_line config.nodes counts row call) row (verdict_of (Some row.last) number))
     → Answers (record { config = config; next_id = n; rows = set rows place new }) frame (fenced_call config state number call (kept_for call state))
@@ -127,7 +127,7 @@ nowhere p rows none = let past : length rows ≤ position_or_len p rows = grind 
 
 -- a call that has no row
 pub delete-nowhere : (config : Config) (n : ℕ) (rows : List ControllerRow) (state : ControllerState) (number : Number) (id : ℕ) (frame : Frame)
-    → IsShown (record { config = config; next_id = n; rows = rows }) state → None ≡ position (λ (r : ControllerRow). r.id == id) rows → frame ≡ reply_frame number Controller kinds.DeleteVolume ok_reply
+    → Shows (record { config = config; next_id = n; rows = rows }) state → None ≡ position (λ (r : ControllerRow). r.id == id) rows → frame ≡ reply_frame number Controller kinds.DeleteVolume ok_reply
     → Answers (record { config = config; next_id = n; rows = rows }) frame (fenced_call config state number (DeleteVolume id) (kept_for (DeleteVolume id) state))
 delete-nowhere config n rows state number id frame shown none is =
     let none_found = nowhere (λ (r : ControllerRow). r.id == id) rows none in
@@ -135,7 +135,7 @@ delete-nowhere config n rows state number id frame shown none is =
 
 -- ControllerUnpublishVolume of an id that no row has is answered OK, and the rows show the state after it
 pub unpublish-nowhere : (config : Config) (n : ℕ) (rows : List ControllerRow) (state : ControllerState) (number : Number) (id : ℕ) (node : List ℕ) (frame : Frame)
-    → IsShown (record { config = config; next_id = n; rows = rows }) state → None ≡ position (λ (r : ControllerRow). r.id == id) rows → frame ≡ reply_frame number Controller kinds.ControllerUnpublishVolume ok_reply
+    → Shows (record { config = config; next_id = n; rows = rows }) state → None ≡ position (λ (r : ControllerRow). r.id == id) rows → frame ≡ reply_frame number Controller kinds.ControllerUnpublishVolume ok_reply
     → Answers (record { config = config; next_id = n; rows = rows }) frame (fenced_call config state number (ControllerUnpublishVolume id node) (kept_for (ControllerUnpublishVolume id node) state))
 unpublish-nowhere config n rows state number id node frame shown none is =
     let none_found = nowhere (λ (r : ControllerRow). r.id == id) rows none in
@@ -143,7 +143,7 @@ unpublish-nowhere config n rows state number id node frame shown none is =
 
 -- ControllerPublishVolume of such an id is answered that there is no such volume
 pub publish-nowhere : (config : Config) (n : ℕ) (rows : List ControllerRow) (state : ControllerState) (number : Number) (id : ℕ) (wanted : NodeHolding) (frame : Frame)
-    → IsShown (record { config = config; next_id = n; rows = rows }) state → None ≡ position (λ (r : ControllerRow). r.id == id) rows
+    → Shows (record { config = config; next_id = n; rows = rows }) state → None ≡ position (λ (r : ControllerRow). r.id == id) rows
     → frame ≡ reply_frame number Controller kinds.ControllerPublishVolume (plain_reply NotFound (codes "volume"))
     → Answers (record { config = config; next_id = n; rows = rows }) frame
     (fenced_call config state number (ControllerPublishVolume id wanted.node wanted.capability wanted.readonly) (kept_for (ControllerPublishVolume id wanted.node wanted.capability wanted.readonly) state))
@@ -154,7 +154,7 @@ publish-nowhere config n rows state number id wanted frame shown none is =
 
 -- a call that the table answers with 0 is let through at its row
 pub let_through : (config : Config) (n : ℕ) (rows : List ControllerRow) (counts : List ℕ) (state : ControllerState) (number : Number) (call : Call) (place : ℕ) (row : ControllerRow)
-    → IsSound n rows → AreCounted config.nodes rows counts → IsShown (record { config = config; next_id = n; rows = rows }) state
+    → IsSound n rows → AreCounted config.nodes rows counts → Shows (record { config = config; next_id = n; rows = rows }) state
     → FirstAt (λ (r : ControllerRow). is_row_for call (volume_of_row r)) rows place row → IsAnsweredOk config state number call
     → (verdict_of (Some row.last) number ≡ Fresh) × ((row_line config.nodes counts row call).reply.status ≡ Ok)
 let_through config n rows counts state number call place row sound counted shown first answered = (
@@ -164,13 +164,13 @@ let_through config n rows counts state number call place row sound counted shown
 
 -- a call whose plain reply is kept, at its row, and without one
 pub repeat-there : (config : Config) (n : ℕ) (rows : List ControllerRow) (state : ControllerState) (number : Number) (call : Call) (place : ℕ) (row : ControllerRow)
-    → IsShown (record { config = config; next_id = n; rows = rows }) state → FirstAt (λ (r : ControllerRow). is_row_for call (volume_of_row r)) rows place row
+    → Shows (record { config = config; next_id = n; rows = rows }) state → FirstAt (λ (r : ControllerRow). is_row_for call (volume_of_row r)) rows place row
     → IsPlainRepeat (kept_for call state) number → (verdict_of (Some row.last) number ≡ Repeated) × (row.reply.detail ≡ [])
 repeat-there config n rows state number call place row shown first repeat = subst (λ (k : Option Kept). IsPlainRepeat k number) (kept-there config n rows state call place row shown first) repeat
 
 -- a call that has no row has no reply kept
 pub repeat-nowhere : (config : Config) (n : ℕ) (rows : List ControllerRow) (state : ControllerState) (number : Number) (call : Call)
-    → IsShown (record { config = config; next_id = n; rows = rows }) state → find (λ (r : ControllerRow). is_row_for call (volume_of_row r)) rows ≡ None → IsPlainRepeat (kept_for call state) number → ⊥
+    → Shows (record { config = config; next_id = n; rows = rows }) state → find (λ (r : ControllerRow). is_row_for call (volume_of_row r)) rows ≡ None → IsPlainRepeat (kept_for call state) number → ⊥
 repeat-nowhere config n rows state number call shown none repeat = subst (λ (k : Option Kept). IsPlainRepeat k number) (kept-nowhere config n rows state call shown none) repeat
 
 -- what follows from a success and from a refusal alike

@@ -13,7 +13,7 @@ use Rattle.csi_types.specs.declared.holding.Holding.{Holding}
 use Rattle.csi_controller.specs.declared.row.NodeHolding.{NodeHolding}
 use Rattle.csi_controller.specs.declared.row.ControllerRow.{ControllerRow}
 use Rattle.csi_controller.specs.Shown.{holdings_in_row, holdings_in}
-use Rattle.csi_controller.specs.Core.{Parts, IsShown, IsSound, IsRising, held_by}
+use Rattle.csi_controller.specs.Core.{Parts, Shows, IsSound, IsRising, held_by}
 use Rattle.csi_controller.specs.Views.{attached, IsHeldBefore, HasHoldingsOf}
 use Rattle.csi_controller.proofs.Sound.{rising-one}
 use Rattle.csi_controller.specs.State.{ControllerState}
@@ -62,7 +62,7 @@ attached-of (r ∷ rs) id one =
     by false e rest = rest
 
 -- the rows' holdings have each volume's, in order, of the state that the rows show
-pub attached-shown : (parts : Parts) (state : ControllerState) → IsSound parts.next_id parts.rows → IsShown parts state → HasHoldingsOf state (attached parts.rows)
+pub attached-shown : (parts : Parts) (state : ControllerState) → IsSound parts.next_id parts.rows → Shows parts state → HasHoldingsOf state (attached parts.rows)
 attached-shown parts state sound shown = λ id. attached-of parts.rows id (rising-one parts.rows sound.rising) ∙ shown.shows.holdings id
 
 -- the holdings stand by rising id of their volumes

@@ -12,7 +12,7 @@ use Rattle.csi_types.specs.Same.{same_text}
 use Rattle.csi_controller.specs.declared.row.ControllerRow.{ControllerRow}
 use Rattle.csi_controller.specs.State.{Volume, ControllerState}
 use Rattle.csi_controller.specs.Shown.{volume_of_row, holdings_in}
-use Rattle.csi_controller.specs.Core.{IsShown, IsSound, IsSoundRow, IsRising, IsSameRow, held_by}
+use Rattle.csi_controller.specs.Core.{Shows, IsSound, IsSoundRow, IsRising, IsSameRow, held_by}
 use Rattle.csi_controller.specs.Views.{AreSameRows}
 use Rattle.csi_controller.proofs.Sound.{sound-same, rising-one}
 
@@ -47,7 +47,7 @@ holdings-same (r ∷ rs) (c ∷ cs) id same =
     by false h own = h
 
 -- copies of a controller's rows show the same state
-pub shown-copies : (config : Config) (n : ℕ) (rows copies : List ControllerRow) (state : ControllerState) → AreSameRows rows copies → IsShown (record { config = config; next_id = n; rows = rows }) state → IsShown (record { config = config; next_id = n; rows = copies }) state
+pub shown-copies : (config : Config) (n : ℕ) (rows copies : List ControllerRow) (state : ControllerState) → AreSameRows rows copies → Shows (record { config = config; next_id = n; rows = rows }) state → Shows (record { config = config; next_id = n; rows = copies }) state
 shown-copies config n rows copies state same shown =
     record {
       shows = record {

@@ -39,7 +39,7 @@ use Rattle.csi_controller.specs.State.{Volume, ControllerState, volume_named}
 use Rattle.csi_controller.specs.Table.{Outcome, Stays, Makes, create, create_named, controller_row, refused}
 use Rattle.csi_controller.specs.Fenced.{fenced_call, kept_for, carried_out, kept_in}
 use Rattle.csi_controller.specs.Shown.{volume_of_row, holdings_in}
-use Rattle.csi_controller.specs.Core.{IsShown, IsSound, IsSoundRow, IsRising, AreCompatible, held_by, next_shown}
+use Rattle.csi_controller.specs.Core.{Shows, IsSound, IsSoundRow, IsRising, AreCompatible, held_by, next_shown}
 use Rattle.csi_controller.specs.Step.{Answers}
 use Rattle.csi_controller.specs.RowTable.{argument_fault}
 use Rattle.csi_controller.proofs.RowTable.{length-view}
@@ -86,12 +86,12 @@ no_fault config state name required limit (capability ∷ others) e = by (is_bad
     by false false h = refl
 
 -- a name that no row has is no volume's in the state that the rows show
-named-nowhere : (config : Config) (n : ℕ) (rows : List ControllerRow) (state : ControllerState) (name : List ℕ) → IsShown (record { config = config; next_id = n; rows = rows }) state → find (λ (r : ControllerRow). same_text r.name name) rows ≡ None → volume_named name state ≡ None
+named-nowhere : (config : Config) (n : ℕ) (rows : List ControllerRow) (state : ControllerState) (name : List ℕ) → Shows (record { config = config; next_id = n; rows = rows }) state → find (λ (r : ControllerRow). same_text r.name name) rows ≡ None → volume_named name state ≡ None
 named-nowhere config n rows state name shown none =
     ap (find (λ (v : Volume). same_text v.name name)) (sym shown.shows.volumes) ∙ find-of_map (λ (v : Volume). same_text v.name name) volume_of_row rows ∙ ap (option_map volume_of_row) none
 
 -- a new name is answered by how many rows there are and by the next id
-new-told : (config : Config) (n : ℕ) (rows : List ControllerRow) (state : ControllerState) (name : List ℕ) (required limit : ℕ) (wished : List Capability) → IsShown (record { config = config; next_id = n; rows = rows }) state
+new-told : (config : Config) (n : ℕ) (rows : List ControllerRow) (state : ControllerState) (name : List ℕ) (required limit : ℕ) (wished : List Capability) → Shows (record { config = config; next_id = n; rows = rows }) state
     → find (λ (r : ControllerRow). same_text r.name name) rows ≡ None → argument_fault required limit wished ≡ None
     → create config state name required limit wished ≡ new_line config.greatest (length rows) (next_shown n) name required limit wished
 new-told config n rows state name required limit wished shown none good =
@@ -102,7 +102,7 @@ new-told config n rows state name required limit wished shown none good =
 
 -- a refusal of a new name
 pub fault-answers : (config : Config) (n : ℕ) (rows : List ControllerRow) (state : ControllerState) (number : Number) (name : List ℕ) (required limit : ℕ) (wished : List Capability) (frame : Frame) (reply : Reply)
-    → IsShown (record { config = config; next_id = n; rows = rows }) state → find (λ (r : ControllerRow). same_text r.name name) rows ≡ None → argument_fault required limit wished ≡ Some reply
+    → Shows (record { config = config; next_id = n; rows = rows }) state → find (λ (r : ControllerRow). same_text r.name name) rows ≡ None → argument_fault required limit wished ≡ Some reply
     → frame ≡ reply_frame number Controller kinds.CreateVolume reply
     → Answers (record { config = config; next_id = n; rows = rows }) frame (fenced_call config state number (CreateVolume name required limit wished) (kept_for (CreateVolume name required limit wished) state))
 fault-answers config n rows state number name required limit wished frame reply shown none fault is =
@@ -110,7 +110,7 @@ fault-answers config n rows state number name required limit wished frame reply 
 
 -- where a new name is refused, that is the answer, and the same rows show the state
 pub refused-answers : (config : Config) (n : ℕ) (rows : List ControllerRow) (state : ControllerState) (number : Number) (name : List ℕ) (required limit : ℕ) (wished : List Capability) (frame : Frame) (reply : Reply)
-    → IsShown (record { config = config; next_id = n; rows = rows }) state → find (λ (r : ControllerRow). same_text r.name name) rows ≡ None → argument_fault required limit wished ≡ None
+    → Shows (record { config = config; next_id = n; rows = rows }) state → find (λ (r : ControllerRow). same_text r.name name) rows ≡ None → argument_fault required limit wished ≡ None
     → new_line config.greatest (length rows) (next_shown n) name required limit wished ≡ record { reply = reply; change = Stays }
     → frame ≡ reply_frame number Controller kinds.CreateVolume reply
     → Answers (record { config = config; next_id = n; rows = rows }) frame (fenced_call config state number (CreateVolume name required limit wished) (kept_for (CreateVolume name required limit wished) state))
@@ -143,7 +143,7 @@ same_either_way false x = refl
 
 -- a volume is made
 pub made-answers : (config : Config) (n : ℕ) (rows : List ControllerRow) (state : ControllerState) (number : Number) (name : List ℕ) (required limit capacity id : ℕ) (wished : List Capability) (row : ControllerRow) (frame : Frame)
-    → IsShown (record { config = config; next_id = n; rows = rows }) state → find (λ (r : ControllerRow). same_text r.name name) rows ≡ None → argument_fault required limit wished ≡ None
+    → Shows (record { config = config; next_id = n; rows = rows }) state → find (λ (r : ControllerRow). same_text r.name name) rows ≡ None → argument_fault required limit wished ≡ None
     → new_line config.greatest (length rows) (next_shown n) name required limit wished ≡ record { reply = ok_reply_with id; change = Makes name capacity wished }
     → id ≡ n → 0 < id → n < 18446744073709551616 → frame ≡ reply_frame number Controller kinds.CreateVolume (ok_reply_with id)
     → volume_of_row row ≡ made_volume number id name capacity wished → row.holdings.items ≡ []

@@ -29,7 +29,7 @@ use Rattle.csi_controller.specs.Table.{controller_row}
 use Rattle.csi_controller.specs.Fenced.{Fenced, carried_out, fenced_parts, fenced_call, kept_for}
 use Rattle.csi_controller.specs.Laws.{LeavesOthers, IsLetThrough}
 use Rattle.csi_controller.specs.Shown.{volume_of_row, holdings_in}
-use Rattle.csi_controller.specs.Core.{Parts, IsShown}
+use Rattle.csi_controller.specs.Core.{Parts, Shows}
 use Rattle.csi_controller.specs.RowsLaw.{AreOf, ChangesOnly, last_call, after_frame, ControllerRowsLaw}
 use Rattle.csi_controller.proofs.Moves.{Judgement, was_first, was_fresh, was_repeated, was_stale, was_judged}
 use Rattle.csi_controller.proofs.OwnRow.{AreHeldReal, row-carried, judged-nowhere, judged-spent}
@@ -173,7 +173,7 @@ of_reply config state number Controller kind reply = refl
 of_reply config state number (Node id) kind reply = refl
 
 -- in a state that a controller shows, each holding is of a volume that was made
-held_real : (parts : Parts) (state : ControllerState) → IsShown parts state → AreHeldReal state
+held_real : (parts : Parts) (state : ControllerState) → Shows parts state → AreHeldReal state
 held_real parts state shown id none =
     sym (shown.shows.holdings id) ∙ ap holdings_in (none-from_map volume_of_row _ (sym (with_id-shown parts state id shown) ∙ none))
 

@@ -17,11 +17,11 @@ use Rattle.csi_controller.specs.Shown.{volume_of_row}
 use Rattle.csi_controller.specs.Catalog.{rows_of}
 use Rattle.csi_controller.specs.Counts.{AreCounted}
 use Rattle.csi_controller.specs.Step.{Answers}
-use Rattle.csi_controller.specs.Core.{IsShown, IsSound}
+use Rattle.csi_controller.specs.Core.{Shows, IsSound}
 use Rattle.csi_controller.specs.OneRow.{RowOutcome}
 use Rattle.csi_controller.specs.AtRow.{RowAnswers, IsLeft}
 use Rattle.csi_controller.specs.RowTable.{row_line}
-use Rattle.csi_controller.specs.CoreParts.{parts_of, IsKept}
+use Rattle.csi_controller.specs.CoreParts.{parts_of, IsSoundCore}
 use Rattle.csi_controller.proofs.AtRow.{at-place, same_id, same_name, sound-gives, sound-refused}
 use Rattle.csi_controller.proofs.RowOutcomes.{line-good}
 use Rattle.csi_controller.proofs.CatalogMaps.{read-at, rows-set, indexed-set}
@@ -43,13 +43,13 @@ answers-set core place new frame answer told =
 
 -- the state that these rows show, the core with this one shows
 pub shown-set : (core : Core) (place : ℕ) (new : ControllerRow) (state : ControllerState)
-    → IsShown (record { config = core.config; next_id = core.next_id; rows = set (rows_of core.catalog) place new }) state → IsShown (parts_of (core_with core place new)) state
+    → Shows (record { config = core.config; next_id = core.next_id; rows = set (rows_of core.catalog) place new }) state → Shows (parts_of (core_with core place new)) state
 shown-set core place new state shown =
-    subst (λ (rows : List ControllerRow). IsShown (record { config = core.config; next_id = core.next_id; rows = rows }) state) (sym (rows-set core.catalog.rows place new)) shown
+    subst (λ (rows : List ControllerRow). Shows (record { config = core.config; next_id = core.next_id; rows = rows }) state) (sym (rows-set core.catalog.rows place new)) shown
 
 -- a core keeps its rules with another row of the same id and name at a place, where the rows do and the counts are right
-kept-set : (core : Core) (place : ℕ) (row new : ControllerRow) → IsKept core → slice_get (rows_of core.catalog) place ≡ Some row → new.id ≡ row.id → new.name ≡ row.name
-    → IsSound core.next_id (set (rows_of core.catalog) place new) → (counts : List ℕ) → AreCounted core.config.nodes (set (rows_of core.catalog) place new) counts → IsKept (recounted_core core place new counts)
+kept-set : (core : Core) (place : ℕ) (row new : ControllerRow) → IsSoundCore core → slice_get (rows_of core.catalog) place ≡ Some row → new.id ≡ row.id → new.name ≡ row.name
+    → IsSound core.next_id (set (rows_of core.catalog) place new) → (counts : List ℕ) → AreCounted core.config.nodes (set (rows_of core.catalog) place new) counts → IsSoundCore (recounted_core core place new counts)
 kept-set core place row new kept at id name sound counts counted =
     record {
       sound = subst (IsSound core.next_id) (sym (rows-set core.catalog.rows place new)) sound;
@@ -59,8 +59,8 @@ kept-set core place row new kept at id name sound counts counted =
 
 -- the rules hold after a row's answer
 pub kept-answered : (core : Core) (place : ℕ) (row new : ControllerRow) (counts : List ℕ) (number : Number) (call : Call) (verdict : Verdict) (frame : Frame)
-    → IsKept core → Some place ≡ position (λ (r : ControllerRow). is_row_for call (volume_of_row r)) (rows_of core.catalog) → slice_get (rows_of core.catalog) place ≡ Some row → IsTrue (is_party_of (kind_of call) Controller)
-    → RowAnswers core.config.nodes row new core.counts counts number call verdict frame → IsKept (recounted_core core place new counts)
+    → IsSoundCore core → Some place ≡ position (λ (r : ControllerRow). is_row_for call (volume_of_row r)) (rows_of core.catalog) → slice_get (rows_of core.catalog) place ≡ Some row → IsTrue (is_party_of (kind_of call) Controller)
+    → RowAnswers core.config.nodes row new core.counts counts number call verdict frame → IsSoundCore (recounted_core core place new counts)
 kept-answered core place row new counts number call verdict frame kept at stands party answered =
     let rows = rows_of core.catalog in
     let p : ControllerRow → Bool = λ r. is_row_for call (volume_of_row r) in
@@ -74,8 +74,8 @@ kept-answered core place row new counts number call verdict frame kept at stands
     (answered-counted core.config.nodes rows place row new core.counts counts number call verdict frame kept.counted kept.sound.limit (FirstAt-within p rows place row (at-place p rows place row at own)) own good.count answered)
 
 -- and after its refusal
-pub kept-left : (p : ControllerRow → Bool) (core : Core) (place : ℕ) (row new : ControllerRow) (counts : List ℕ) → IsKept core → Some place ≡ position p (rows_of core.catalog)
-    → slice_get (rows_of core.catalog) place ≡ Some row → IsLeft row new core.counts counts → IsKept (recounted_core core place new counts)
+pub kept-left : (p : ControllerRow → Bool) (core : Core) (place : ℕ) (row new : ControllerRow) (counts : List ℕ) → IsSoundCore core → Some place ≡ position p (rows_of core.catalog)
+    → slice_get (rows_of core.catalog) place ≡ Some row → IsLeft row new core.counts counts → IsSoundCore (recounted_core core place new counts)
 kept-left p core place row new counts kept at stands left =
     let rows = rows_of core.catalog in
     let own = read-at rows place row stands in

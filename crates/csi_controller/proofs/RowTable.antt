@@ -22,7 +22,7 @@ use Rattle.csi_controller.specs.declared.row.NodeHolding.{NodeHolding}
 use Rattle.csi_controller.specs.declared.row.ControllerRow.{ControllerRow}
 use Rattle.csi_controller.specs.State.{Volume, ControllerState, is_row_for, volume_named, live_volume, holdings_of, holding_at}
 use Rattle.csi_controller.specs.Table.{controller_row, create, create_named, delete, delete_live, publish, publish_held, attach, is_full, unpublish, met, serves, refused}
-use Rattle.csi_controller.specs.Shown.{Shows, volume_of_row, holdings_in}
+use Rattle.csi_controller.specs.Shown.{RowsShow, volume_of_row, holdings_in}
 use Rattle.csi_controller.specs.Core.{IsSound, IsSoundRow, held_by}
 use Rattle.csi_controller.specs.OneRow.{outcome_of, row_done, row_refused, RowStays, RowDetaches}
 use Rattle.csi_controller.specs.RowTable.{create_line, again_line, by_fault, delete_line, publish_line, held_line, attach_line, unpublish_line, row_line}
@@ -135,7 +135,7 @@ publish-told config state row wanted configured full sees has e =
 
 -- whether the node takes no more volumes, by what the rows hold
 is_full-told : (config : Config) (n : ℕ) (rows : List ControllerRow) (state : ControllerState) (row : ControllerRow) (node : List ℕ) → AllByRecursion (IsSoundRow n) rows → ((id : ℕ) → AtMostOne (λ (r : ControllerRow). r.id == id) rows)
-    → Shows n rows state → SeesRow state row
+    → RowsShow n rows state → SeesRow state row
     → is_full config state row.id node
     ≡ (list_any (λ entry. same_text entry.id node && nat_le entry.slots (count_by (λ (r : ControllerRow). list_any (λ (held : NodeHolding). same_text held.node node) r.holdings.items) rows)) config.nodes
     || nat_le 64 (length row.holdings.items))
@@ -146,7 +146,7 @@ is_full-told config n rows state row node sound one shows sees =
     ∙ ap (λ k. list_any (λ (entry : NodeSlots). same_text entry.id node && nat_le entry.slots (count_by (λ (r : ControllerRow). list_any (λ (held : NodeHolding). same_text held.node node) r.holdings.items) rows)) config.nodes || nat_le 64 k) some
 
 -- the row of an id, as the state has it
-sees-row : (n : ℕ) (rows : List ControllerRow) (state : ControllerState) (place : ℕ) (row : ControllerRow) → Shows n rows state → FirstAt (λ (r : ControllerRow). r.id == row.id) rows place row
+sees-row : (n : ℕ) (rows : List ControllerRow) (state : ControllerState) (place : ℕ) (row : ControllerRow) → RowsShow n rows state → FirstAt (λ (r : ControllerRow). r.id == row.id) rows place row
     → AtMostOne (λ (r : ControllerRow). r.id == row.id) rows → SeesRow state row
 sees-row n rows state place row shows first one =
     record {
@@ -156,14 +156,14 @@ sees-row n rows state place row shows first one =
     }
 
 -- the row that a call finds by this id
-sees-id : (n : ℕ) (rows : List ControllerRow) (state : ControllerState) (place : ℕ) (row : ControllerRow) (id : ℕ) → IsSound n rows → Shows n rows state → FirstAt (λ (r : ControllerRow). r.id == id) rows place row
+sees-id : (n : ℕ) (rows : List ControllerRow) (state : ControllerState) (place : ℕ) (row : ControllerRow) (id : ℕ) → IsSound n rows → RowsShow n rows state → FirstAt (λ (r : ControllerRow). r.id == id) rows place row
     → (row.id ≡ id) × SeesRow state row
 sees-id n rows state place row id sound shows first =
     let same : row.id ≡ id = eqb-true row.id id (FirstAt-passes (λ (r : ControllerRow). r.id == id) rows place row first) in
     (same, sees-row n rows state place row shows (subst (λ k. FirstAt (λ (r : ControllerRow). r.id == k) rows place row) (sym same) first) (rising-one rows sound.rising row.id))
 
 -- the table's answer to a call is that of its row, by the counts of the nodes
-pub line-told : (config : Config) (n : ℕ) (rows : List ControllerRow) (state : ControllerState) (counts : List ℕ) (place : ℕ) (row : ControllerRow) (call : Call) → IsSound n rows → Shows n rows state
+pub line-told : (config : Config) (n : ℕ) (rows : List ControllerRow) (state : ControllerState) (counts : List ℕ) (place : ℕ) (row : ControllerRow) (call : Call) → IsSound n rows → RowsShow n rows state
     → AreCounted config.nodes rows counts → FirstAt (λ (r : ControllerRow). is_row_for call (volume_of_row r)) rows place row → controller_row config state call ≡ outcome_of row.id (row_line config.nodes counts row call)
 line-told config n rows state counts place row (calls.CreateVolume name required limit capabilities) sound shows counted first =
     create-told config state name required limit capabilities row
@@ -185,13 +185,13 @@ line-told config n rows state counts place row (calls.ControllerUnpublishVolume 
 line-told config n rows state counts place row call sound shows counted first = refl
 
 -- an id that no row has
-pub live-nowhere : (n : ℕ) (rows : List ControllerRow) (state : ControllerState) (id : ℕ) → Shows n rows state → find (λ (r : ControllerRow). r.id == id) rows ≡ None → live_volume id state ≡ None
+pub live-nowhere : (n : ℕ) (rows : List ControllerRow) (state : ControllerState) (id : ℕ) → RowsShow n rows state → find (λ (r : ControllerRow). r.id == id) rows ≡ None → live_volume id state ≡ None
 live-nowhere n rows state id shows none =
     ap (find (λ (volume : Volume). (volume.id == id) && volume.is_live)) (sym shows.volumes)
     ∙ find-and_none volume_of_row (λ (volume : Volume). volume.id == id) (λ (volume : Volume). volume.is_live) rows none
 
 -- an id that no row has is held at no node
-pub held-nowhere : (n : ℕ) (rows : List ControllerRow) (state : ControllerState) (id : ℕ) (node : List ℕ) → Shows n rows state → find (λ (r : ControllerRow). r.id == id) rows ≡ None → holding_at id node state ≡ None
+pub held-nowhere : (n : ℕ) (rows : List ControllerRow) (state : ControllerState) (id : ℕ) (node : List ℕ) → RowsShow n rows state → find (λ (r : ControllerRow). r.id == id) rows ≡ None → holding_at id node state ≡ None
 held-nowhere n rows state id node shows none =
     find-and_filter (λ (h : Holding). h.volume == id) (λ (h : Holding). same_text h.node node) state.holdings
     ∙ ap (find (λ (h : Holding). same_text h.node node)) (sym (shows.holdings id) ∙ ap holdings_in none)

@@ -14,7 +14,7 @@ use Rattle.csi_controller.specs.declared.row.NodeHolding.{NodeHolding}
 use Rattle.csi_controller.specs.declared.row.ControllerRow.{ControllerRow}
 use Rattle.csi_controller.specs.State.{Volume, ControllerState, volume_with_id, holdings_of}
 use Rattle.csi_controller.specs.Shown.{volume_of_row, holdings_in, holdings_in_row}
-use Rattle.csi_controller.specs.Core.{Parts, IsShown, IsSoundRow, IsRising, IsSameRow, held_by}
+use Rattle.csi_controller.specs.Core.{Parts, Shows, IsSoundRow, IsRising, IsSameRow, held_by}
 use Rattle.csi_controller.specs.Views.{AreSameRows, IsCopyOf}
 use Rattle.csi_controller.specs.RowsLaw.{AreOf, IsSameAt}
 use Rattle.csi_controller.proofs.OrderlyStates.{IsOwn, IsOrderly}
@@ -54,12 +54,12 @@ row-told (Some old) None volume held = absurd (some_is_not_none (volume_of_row o
 row-told (Some old) (Some new) volume held = same_row old new (let e = volume in cc) held
 
 -- a state's volume of an id is that of the row
-pub with_id-shown : (parts : Parts) (state : ControllerState) (id : ℕ) → IsShown parts state → volume_with_id id state ≡ option_map volume_of_row (find (λ (r : ControllerRow). r.id == id) parts.rows)
+pub with_id-shown : (parts : Parts) (state : ControllerState) (id : ℕ) → Shows parts state → volume_with_id id state ≡ option_map volume_of_row (find (λ (r : ControllerRow). r.id == id) parts.rows)
 with_id-shown parts state id shown =
     ap (find (λ (v : Volume). v.id == id)) (sym shown.shows.volumes) ∙ find-of_map (λ (v : Volume). v.id == id) volume_of_row parts.rows
 
 -- rows of states that have the same volume of an id, held so
-pub same-at : (old new : Parts) (before after : ControllerState) (id : ℕ) → IsShown old before → IsShown new after → volume_with_id id after ≡ volume_with_id id before → holdings_of id after ≡ holdings_of id before → IsSameAt id old new
+pub same-at : (old new : Parts) (before after : ControllerState) (id : ℕ) → Shows old before → Shows new after → volume_with_id id after ≡ volume_with_id id before → holdings_of id after ≡ holdings_of id before → IsSameAt id old new
 same-at old new before after id shown shown_new volumes held =
     row-told _ _ (sym (with_id-shown old before id shown) ∙ sym volumes ∙ with_id-shown new after id shown_new)
     (shown.shows.holdings id ∙ sym held ∙ sym (shown_new.shows.holdings id))

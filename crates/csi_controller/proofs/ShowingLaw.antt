@@ -4,7 +4,7 @@ use Rattle.std.specs.Prelude.{◌==◌}
 use Rattle.std.proofs.lemmas.Bool.{eqb-true, eqb-false}
 use Rattle.csi_controller.specs.State.{ControllerState}
 use Rattle.csi_controller.specs.Shown.{volume_of_row}
-use Rattle.csi_controller.specs.Core.{Parts, IsShown, IsSound, next_shown}
+use Rattle.csi_controller.specs.Core.{Parts, Shows, IsSound, next_shown}
 use Rattle.csi_controller.specs.Views.{attached}
 use Rattle.csi_controller.proofs.Attached.{attached-of}
 use Rattle.csi_controller.proofs.Sound.{rising-one}
@@ -19,7 +19,7 @@ next-by n true e below = (let zero : n ≡ 0 = eqb-true n 0 e in omega arith, om
 next-by n false e below = (omega arith, (let some = eqb-false n 0 e in omega arith), omega arith)
 
 -- rows that keep the rules show a state
-pub shows-a_state : (parts : Parts) → IsSound parts.next_id parts.rows → parts.next_id < 2 ^ 64 → (state : ControllerState) × IsShown parts state
+pub shows-a_state : (parts : Parts) → IsSound parts.next_id parts.rows → parts.next_id < 2 ^ 64 → (state : ControllerState) × Shows parts state
 shows-a_state parts sound below =
     let next = next-by parts.next_id (parts.next_id == 0) refl below in (
       state_by_id parts,

@@ -25,7 +25,7 @@ use Rattle.csi_controller.specs.State.{Volume, ControllerState, is_row_for, row_
 use Rattle.csi_controller.specs.Table.{Outcome, Stays, controller_row, changed, ended}
 use Rattle.csi_controller.specs.Fenced.{kept_in, keep, carried_out, judged, fenced_call, kept_for}
 use Rattle.csi_controller.specs.Shown.{volume_of_row, holdings_in}
-use Rattle.csi_controller.specs.Core.{IsShown, held_by}
+use Rattle.csi_controller.specs.Core.{Shows, held_by}
 use Rattle.csi_controller.specs.Step.{Answers}
 use Rattle.csi_controller.specs.OneRow.{RowChange, RowStays, RowEnds, RowAttaches, RowDetaches, RowOutcome, outcome_of, change_of, live_after, items_after}
 use Rattle.csi_controller.specs.AtRow.{RowGives, row_after}
@@ -59,10 +59,10 @@ made-after state kept id (RowDetaches node) = refl
 
 -- the rows where one is another, and a state that changed so
 pub shown-after : (config : Config) (n : ℕ) (rows : List ControllerRow) (state new_state : ControllerState) (place : ℕ) (row new : ControllerRow) (change : RowChange)
-    → IsShown (record { config = config; next_id = n; rows = rows }) state → IsAt rows place row → ((id : ℕ) → AtMostOne (λ (r : ControllerRow). r.id == id) rows)
+    → Shows (record { config = config; next_id = n; rows = rows }) state → IsAt rows place row → ((id : ℕ) → AtMostOne (λ (r : ControllerRow). r.id == id) rows)
     → new_state.next_id ≡ state.next_id → map volume_of_row (set rows place new) ≡ new_state.volumes → new_state.holdings ≡ held_after row.id change state.holdings
     → new.id ≡ row.id → new.holdings.items ≡ items_after change row.holdings.items
-    → IsShown (record { config = config; next_id = n; rows = set rows place new }) new_state
+    → Shows (record { config = config; next_id = n; rows = set rows place new }) new_state
 shown-after config n rows state new_state place row new change shown at one next volumes holdings same items =
     record {
       shows = record {
@@ -100,9 +100,9 @@ same-volumes (r ∷ rs) (suc place) row new at same = ap (λ vs. volume_of_row r
 
 -- rows with one in a row's place that says the same show the same state
 pub shown-same : (config : Config) (n : ℕ) (rows : List ControllerRow) (state : ControllerState) (place : ℕ) (row new : ControllerRow)
-    → IsShown (record { config = config; next_id = n; rows = rows }) state → IsAt rows place row → ((id : ℕ) → AtMostOne (λ (r : ControllerRow). r.id == id) rows)
+    → Shows (record { config = config; next_id = n; rows = rows }) state → IsAt rows place row → ((id : ℕ) → AtMostOne (λ (r : ControllerRow). r.id == id) rows)
     → volume_of_row new ≡ volume_of_row row → new.holdings.items ≡ row.holdings.items
-    → IsShown (record { config = config; next_id = n; rows = set rows place new }) state
+    → Shows (record { config = config; next_id = n; rows = set rows place new }) state
 shown-same config n rows state place row new shown at one volume items =
     shown-after config n rows state state place row new RowStays shown at one refl (same-volumes rows place row new at volume ∙ shown.shows.volumes) refl (ap (λ (v : Volume). v.id) volume) items
 
@@ -132,7 +132,7 @@ volumes-after call kept rows place row new RowEnds first one ends is =
 
 -- a call that is carried out at its row
 fresh-answers : (config : Config) (n : ℕ) (rows : List ControllerRow) (state : ControllerState) (number : Number) (call : Call) (place : ℕ) (row new : ControllerRow) (frame : Frame) (outcome : RowOutcome)
-    → IsShown (record { config = config; next_id = n; rows = rows }) state → FirstAt (λ (r : ControllerRow). is_row_for call (volume_of_row r)) rows place row
+    → Shows (record { config = config; next_id = n; rows = rows }) state → FirstAt (λ (r : ControllerRow). is_row_for call (volume_of_row r)) rows place row
     → AtMostOne (λ (r : ControllerRow). is_row_for call (volume_of_row r)) rows → ((id : ℕ) → AtMostOne (λ (r : ControllerRow). r.id == id) rows)
     → (outcome.change ≡ RowEnds → call ≡ DeleteVolume row.id) → RowGives new frame (row_after number (kind_of call) outcome row Fresh)
     → Answers (record { config = config; next_id = n; rows = set rows place new }) frame (carried_out state number call (outcome_of row.id outcome))
@@ -150,7 +150,7 @@ fresh-answers config n rows state number call place row new frame outcome shown 
 
 -- a call, behind the fence, at its row
 judged-answers : (config : Config) (n : ℕ) (rows : List ControllerRow) (state : ControllerState) (number : Number) (call : Call) (place : ℕ) (row new : ControllerRow) (frame : Frame) (outcome : RowOutcome)
-    → IsShown (record { config = config; next_id = n; rows = rows }) state → FirstAt (λ (r : ControllerRow). is_row_for call (volume_of_row r)) rows place row
+    → Shows (record { config = config; next_id = n; rows = rows }) state → FirstAt (λ (r : ControllerRow). is_row_for call (volume_of_row r)) rows place row
     → AtMostOne (λ (r : ControllerRow). is_row_for call (volume_of_row r)) rows → ((id : ℕ) → AtMostOne (λ (r : ControllerRow). r.id == id) rows)
     → (outcome.change ≡ RowEnds → call ≡ DeleteVolume row.id) → controller_row config state call ≡ outcome_of row.id outcome → (verdict : Verdict) → RowGives new frame (row_after number (kind_of call) outcome row verdict)
     → Answers (record { config = config; next_id = n; rows = set rows place new }) frame (judged config state number call (record { number = row.last; kind = row.kind; reply = row.reply }) verdict)
@@ -164,7 +164,7 @@ judged-answers config n rows state number call place row new frame outcome shown
 
 -- a call that has a row is answered as the row answers it, behind the fence, and the rows with the new one show the state then
 pub row-answers : (config : Config) (n : ℕ) (rows : List ControllerRow) (state : ControllerState) (number : Number) (call : Call) (place : ℕ) (row new : ControllerRow) (frame : Frame) (outcome : RowOutcome)
-    → IsShown (record { config = config; next_id = n; rows = rows }) state → FirstAt (λ (r : ControllerRow). is_row_for call (volume_of_row r)) rows place row
+    → Shows (record { config = config; next_id = n; rows = rows }) state → FirstAt (λ (r : ControllerRow). is_row_for call (volume_of_row r)) rows place row
     → AtMostOne (λ (r : ControllerRow). is_row_for call (volume_of_row r)) rows → ((id : ℕ) → AtMostOne (λ (r : ControllerRow). r.id == id) rows)
     → (outcome.change ≡ RowEnds → call ≡ DeleteVolume row.id) → controller_row config state call ≡ outcome_of row.id outcome → RowGives new frame (row_after number (kind_of call) outcome row (verdict_of (Some row.last) number))
     → Answers (record { config = config; next_id = n; rows = set rows place new }) frame (fenced_call config state number call (kept_for call state))
@@ -177,7 +177,7 @@ row-answers config n rows state number call place row new frame outcome shown fi
 
 -- a call that has no row, and changes nothing
 pub nowhere-answers : (config : Config) (n : ℕ) (rows : List ControllerRow) (state : ControllerState) (number : Number) (call : Call) (frame : Frame) (reply : Reply)
-    → IsShown (record { config = config; next_id = n; rows = rows }) state → find (λ (r : ControllerRow). is_row_for call (volume_of_row r)) rows ≡ None
+    → Shows (record { config = config; next_id = n; rows = rows }) state → find (λ (r : ControllerRow). is_row_for call (volume_of_row r)) rows ≡ None
     → controller_row config state call ≡ record { reply = reply; change = Stays } → frame ≡ reply_frame number Controller (kind_of call) reply
     → Answers (record { config = config; next_id = n; rows = rows }) frame (fenced_call config state number call (kept_for call state))
 nowhere-answers config n rows state number call frame reply shown none line is =
@@ -200,14 +200,14 @@ nowhere-answers config n rows state number call frame reply shown none line is =
 
 -- nothing is kept for a call that has no row
 pub kept-nowhere : (config : Config) (n : ℕ) (rows : List ControllerRow) (state : ControllerState) (call : Call)
-    → IsShown (record { config = config; next_id = n; rows = rows }) state → find (λ (r : ControllerRow). is_row_for call (volume_of_row r)) rows ≡ None → kept_for call state ≡ None
+    → Shows (record { config = config; next_id = n; rows = rows }) state → find (λ (r : ControllerRow). is_row_for call (volume_of_row r)) rows ≡ None → kept_for call state ≡ None
 kept-nowhere config n rows state call shown none =
     ap (option_map (λ (v : Volume). v.kept))
     (ap (find (is_row_for call)) (sym shown.shows.volumes) ∙ find-of_map (is_row_for call) volume_of_row rows ∙ ap (option_map volume_of_row) none)
 
 -- what is kept in the row of a call
 pub kept-there : (config : Config) (n : ℕ) (rows : List ControllerRow) (state : ControllerState) (call : Call) (place : ℕ) (row : ControllerRow)
-    → IsShown (record { config = config; next_id = n; rows = rows }) state → FirstAt (λ (r : ControllerRow). is_row_for call (volume_of_row r)) rows place row
+    → Shows (record { config = config; next_id = n; rows = rows }) state → FirstAt (λ (r : ControllerRow). is_row_for call (volume_of_row r)) rows place row
     → kept_for call state ≡ Some (record { number = row.last; kind = row.kind; reply = row.reply })
 kept-there config n rows state call place row shown first =
     ap (option_map (λ (v : Volume). v.kept))

@@ -18,7 +18,7 @@ use Rattle.csi_controller.specs.declared.row.ControllerRow.{ControllerRow}
 use Rattle.csi_controller.specs.State.{ControllerState}
 use Rattle.csi_controller.specs.Table.{controller_row}
 use Rattle.csi_controller.specs.Laws.{IsLetThrough}
-use Rattle.csi_controller.specs.Shown.{Shows, volume_of_row}
+use Rattle.csi_controller.specs.Shown.{RowsShow, volume_of_row}
 
 -- what a controller is to its callers: its configuration, the next id (0 once all were given), and its rows by rising id
 pub record Parts : Type 0 where
@@ -27,8 +27,8 @@ pub record Parts : Type 0 where
   pub rows : List ControllerRow
 
 -- these parts show the state; its next id is from 1 to 2^64
-pub record IsShown (parts : Parts) (state : ControllerState) : Type 0 where
-  pub shows : Shows parts.next_id parts.rows state
+pub record Shows (parts : Parts) (state : ControllerState) : Type 0 where
+  pub shows : RowsShow parts.next_id parts.rows state
   pub next_from : 1 ≤ state.next_id
   pub next_to : state.next_id ≤ 2 ^ 64
 

@@ -8,7 +8,7 @@ abbrev pub parts_of : Core → Parts
 parts_of core = record { config = core.config; next_id = core.next_id; rows = rows_of core.catalog }
 
 -- the rules of its rows, those of its maps, and those of its counts
-pub record IsKept (core : Core) : Type 0 where
+pub record IsSoundCore (core : Core) : Type 0 where
   pub sound : IsSound core.next_id (rows_of core.catalog)
   pub indexed : IsIndexed core.catalog
   pub counted : AreCounted core.config.nodes (rows_of core.catalog) core.counts

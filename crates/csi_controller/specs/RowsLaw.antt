@@ -10,13 +10,13 @@ use Rattle.csi_types.specs.Frame.{Frame}
 use Rattle.csi_controller.specs.declared.row.ControllerRow.{ControllerRow}
 use Rattle.csi_controller.specs.State.{Volume, ControllerState, row_for}
 use Rattle.csi_controller.specs.Fenced.{fenced}
-use Rattle.csi_controller.specs.Core.{Parts, IsShown, IsSound}
+use Rattle.csi_controller.specs.Core.{Parts, Shows, IsSound}
 use Rattle.csi_controller.specs.Views.{AreSameRows, IsCopyOf}
 
 -- the parts of a controller, which show this state
 pub record AreOf (parts : Parts) (state : ControllerState) : Type 0 where
   pub sound : IsSound parts.next_id parts.rows
-  pub shown : IsShown parts state
+  pub shown : Shows parts state
 
 -- a volume's id, and the number of the last call that was answered for it
 abbrev pub last_call : Volume → ℕ × Number

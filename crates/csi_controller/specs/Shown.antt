@@ -28,7 +28,7 @@ holdings_in (Some row) = holdings_in_row row
 
 -- the rows are the volumes in order, each with its holdings in order; how the holdings of different volumes
 -- are mixed doesn't show. A next id of 0 stands for none: all ids were given
-pub record Shows (next_id : ℕ) (rows : List ControllerRow) (state : ControllerState) : Type 0 where
+pub record RowsShow (next_id : ℕ) (rows : List ControllerRow) (state : ControllerState) : Type 0 where
   pub next : next_id ≡ state.next_id % 2 ^ 64
   pub volumes : map volume_of_row rows ≡ state.volumes
   pub holdings : (id : ℕ) → holdings_in (find (λ row. row.id == id) rows) ≡ holdings_of id state

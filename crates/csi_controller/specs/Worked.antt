@@ -18,7 +18,7 @@ use Rattle.csi_types.specs.Frame.{Frame}
 use Rattle.csi_types.specs.Replies.{plain_reply, ok_reply, ok_reply_with, call_frame}
 use Rattle.csi_controller.specs.State.{ControllerState, empty_controller, holding_at}
 use Rattle.csi_controller.specs.Fenced.{fenced, after_frames}
-use Rattle.csi_controller.specs.Shown.{Shows}
+use Rattle.csi_controller.specs.Shown.{RowsShow}
 use Rattle.csi_controller.specs.Laws.{ControllerTableLaw, state_after}
 
 -- a block capability
@@ -109,7 +109,7 @@ pub record FenceRow : Type 0 where
 
 -- a controller that has answered nothing is shown by a record without rows, whose next id is 1
 abbrev pub EmptyIsShown : Type 0
-EmptyIsShown = Shows 1 [] empty_controller
+EmptyIsShown = RowsShow 1 [] empty_controller
 
 -- v was made, to be used by a single writer at several nodes
 abbrev pub made_v : List Frame

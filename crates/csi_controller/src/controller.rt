@@ -50,13 +50,13 @@ pub struct Controller {
 
 impl Model for Controller {
     ghost use Rattle.csi_controller.specs.Core.{Parts};
-    ghost use Rattle.csi_controller.specs.CoreParts.{parts_of, IsKept};
+    ghost use Rattle.csi_controller.specs.CoreParts.{parts_of, IsSoundCore};
 
     ghost Value = { Parts };
 
     ghost view = { λ controller. parts_of controller.core };
 
-    ghost invariant = { λ controller. IsKept controller.core };
+    ghost invariant = { λ controller. IsSoundCore controller.core };
 }
 
 impl Controller {
@@ -67,12 +67,12 @@ impl Controller {
     ghost use Rattle.csi_controller.specs.Step.{answer_frame};
     ghost use Rattle.csi_lists.specs.Members.{EachTwo};
     ghost use Rattle.csi_controller.specs.Views.{shown_if_live, attached, IsHeldBefore, HasHoldingsOf, IsCopyOf, IsRowOf};
-    ghost use Rattle.csi_controller.specs.Core.{IsShown, IsSound, IsAnsweredOk, IsUndoing};
+    ghost use Rattle.csi_controller.specs.Core.{Shows, IsSound, IsAnsweredOk, IsUndoing};
 
     /// A controller that made no volume. It takes no memory.
     pub fn new(alloc: Global, config: Config) -> Controller
         ensures config { result.config ≡ config }
-        ensures empty { IsShown result empty_controller }
+        ensures empty { Shows result empty_controller }
     {
         config.fit_law();
         let catalog = Catalog::new(alloc);
@@ -95,15 +95,15 @@ impl Controller {
     /// again. A refusal for want of memory leaves the controller as it was.
     pub fn step(&mut self, frame: &Frame) -> Result<Option<Frame>, CoreFault>
         // the answer and the new state are the definition's
-        ensures reply { (state : ControllerState) → IsShown self.old state → IfOk result (λ reply. reply ≡ (fenced self.old.config state frame.now).reply) }
-        ensures state { (state : ControllerState) → IsShown self.old state → OnOk result (IsShown self.new (fenced self.old.config state frame.now).state) }
+        ensures reply { (state : ControllerState) → Shows self.old state → IfOk result (λ reply. reply ≡ (fenced self.old.config state frame.now).reply) }
+        ensures state { (state : ControllerState) → Shows self.old state → OnOk result (Shows self.new (fenced self.old.config state frame.now).state) }
         ensures config { self.new.config ≡ self.old.config }
-        ensures err { (state : ControllerState) → IsShown self.old state → OnErr result (IsShown self.new state) }
+        ensures err { (state : ControllerState) → Shows self.old state → OnErr result (Shows self.new state) }
         // what takes no memory succeeds
         ensures silent { (state : ControllerState) → (fenced self.old.config state frame.now).reply ≡ None → IsOk result }
-        ensures undone { (state : ControllerState) (call : OneCall) → IsShown self.old state → frame.now.body ≡ Body.Call call → IsUndoing call
+        ensures undone { (state : ControllerState) (call : OneCall) → Shows self.old state → frame.now.body ≡ Body.Call call → IsUndoing call
             → IsAnsweredOk self.old.config state frame.now.number call → IsOk result }
-        ensures repeated { (state : ControllerState) (call : OneCall) → IsShown self.old state → frame.now.body ≡ Body.Call call
+        ensures repeated { (state : ControllerState) (call : OneCall) → Shows self.old state → frame.now.body ≡ Body.Call call
             → IsPlainRepeat (kept_for call state) frame.now.number → IsOk result }
     {
         self.core.step(frame)
@@ -119,19 +119,19 @@ impl Controller {
         call: &CallRef<'_>,
     ) -> Result<Option<(Kind, Reply)>, CoreFault>
         // what a frame of the call gets, for any plugin that it is for
-        ensures reply { (state : ControllerState) (party : OneParty) → IsShown self.old state → IsAllowed party (Body.Call (lent_call call.now)) → HasFitTexts (lent_call call.now)
+        ensures reply { (state : ControllerState) (party : OneParty) → Shows self.old state → IsAllowed party (Body.Call (lent_call call.now)) → HasFitTexts (lent_call call.now)
             → IfOk result (λ answer. option_map (answer_frame number) answer ≡ (fenced self.old.config state (call_frame number party (lent_call call.now))).reply) }
-        ensures state { (state : ControllerState) (party : OneParty) → IsShown self.old state → IsAllowed party (Body.Call (lent_call call.now)) → HasFitTexts (lent_call call.now)
-            → OnOk result (IsShown self.new (fenced self.old.config state (call_frame number party (lent_call call.now))).state) }
+        ensures state { (state : ControllerState) (party : OneParty) → Shows self.old state → IsAllowed party (Body.Call (lent_call call.now)) → HasFitTexts (lent_call call.now)
+            → OnOk result (Shows self.new (fenced self.old.config state (call_frame number party (lent_call call.now))).state) }
         ensures allowed { IfOk result (λ answer. IfSome answer (λ own. IsAllowed Party.Controller (Body.Reply own.0 own.1))) }
         ensures config { self.new.config ≡ self.old.config }
-        ensures err { (state : ControllerState) → IsShown self.old state → OnErr result (IsShown self.new state) }
+        ensures err { (state : ControllerState) → Shows self.old state → OnErr result (Shows self.new state) }
         // no frame has a call with such a text
         ensures unfit { (HasFitTexts (lent_call call.now) → ⊥) → (result ≡ Ok None) × (self.new ≡ self.old) }
         // what takes no memory succeeds
         ensures others { IsTrue (not (is_party_of (kind_of (lent_call call.now)) Party.Controller)) → result ≡ Ok None }
-        ensures undone { (state : ControllerState) → IsShown self.old state → IsUndoing (lent_call call.now) → IsAnsweredOk self.old.config state number (lent_call call.now) → IsOk result }
-        ensures repeated { (state : ControllerState) → IsShown self.old state → IsPlainRepeat (kept_for (lent_call call.now) state) number → IsOk result }
+        ensures undone { (state : ControllerState) → Shows self.old state → IsUndoing (lent_call call.now) → IsAnsweredOk self.old.config state number (lent_call call.now) → IsOk result }
+        ensures repeated { (state : ControllerState) → Shows self.old state → IsPlainRepeat (kept_for (lent_call call.now) state) number → IsOk result }
     {
         if !call.is_within_limits() {
             return Ok(None);
@@ -141,14 +141,14 @@ impl Controller {
 
     /// Id and capacity in bytes of the volume of this name, unless it was deleted. It takes no memory.
     pub fn volume(&self, name: &Name) -> Option<(VolumeId, u64)>
-        ensures { (state : ControllerState) → IsShown self.now state → result ≡ shown_if_live (volume_named name.now state) }
+        ensures { (state : ControllerState) → Shows self.now state → result ≡ shown_if_live (volume_named name.now state) }
     {
         self.core.volume(name.as_str())
     }
 
     /// The id of the volume of this name, deleted or not. It takes no memory.
     pub fn id_of(&self, name: &Name) -> Option<VolumeId>
-        ensures { (state : ControllerState) → IsShown self.now state → result ≡ option_map (λ volume. volume.id) (volume_named name.now state) }
+        ensures { (state : ControllerState) → Shows self.now state → result ≡ option_map (λ volume. volume.id) (volume_named name.now state) }
     {
         self.core.id_of(name.as_str())
     }
@@ -156,7 +156,7 @@ impl Controller {
     /// The id of the next volume, 0 once all were given. It takes no memory.
     pub fn next_id(&self) -> u64
         ensures value { result ≡ self.now.next_id }
-        ensures state { (state : ControllerState) → IsShown self.now state → result ≡ state.next_id % 2 ^ 64 }
+        ensures state { (state : ControllerState) → Shows self.now state → result ≡ state.next_id % 2 ^ 64 }
     {
         self.core.next_id
     }
@@ -187,8 +187,8 @@ impl Controller {
 
     /// The record of this controller.
     pub fn record(&self) -> Result<ControllerRecord, CoreFault>
-        ensures { (state : ControllerState) → IsShown self.now state →
-            IfOk result (λ kept. IsShown (record { config = self.now.config; next_id = kept.next_id; rows = kept.rows }) state) }
+        ensures { (state : ControllerState) → Shows self.now state →
+            IfOk result (λ kept. Shows (record { config = self.now.config; next_id = kept.next_id; rows = kept.rows }) state) }
     {
         let core = &self.core;
         let catalog = core.catalog.copied(core.alloc, core.next_id)?;
@@ -198,7 +198,7 @@ impl Controller {
     /// The row of the volume of this id, deleted or not, as the record has it. Where there is none it takes no memory.
     pub fn row(&self, id: VolumeId) -> Result<Option<ControllerRow>, CoreFault>
         ensures copy { IfOk result (λ copy. IsCopyOf (find (λ row. row.id == id) self.now.rows) copy) }
-        ensures state { (state : ControllerState) → IsShown self.now state → IfOk result (IsRowOf state id) }
+        ensures state { (state : ControllerState) → Shows self.now state → IfOk result (IsRowOf state id) }
         ensures succeeds { find (λ row. row.id == id) self.now.rows ≡ None → IsOk result }
     {
         self.core.row(id)
@@ -215,7 +215,7 @@ impl Controller {
     /// no such volume. A CreateVolume's volume is that of its name, and each other call's that of its id. It takes no memory.
     /// This profile's own.
     pub fn last_for(&self, call: &Call) -> Option<(VolumeId, Number)>
-        ensures { (state : ControllerState) → IsShown self.now state → result ≡ option_map last_call (row_for call.now state) }
+        ensures { (state : ControllerState) → Shows self.now state → result ≡ option_map last_call (row_for call.now state) }
     {
         // the proof has to be told the types of a lent call's parts
         let _parts: Option<(&CapabilityList, CapabilityRef<'_>)> = None;
@@ -226,7 +226,7 @@ impl Controller {
     pub fn attachments(&self) -> Result<Vec<Holding>, CoreFault>
         ensures order { IfOk result (λ all. all.items ≡ attached self.now.rows) }
         ensures rising { IfOk result (λ all. EachTwo IsHeldBefore all.items) }
-        ensures state { (state : ControllerState) → IsShown self.now state → IfOk result (λ all. HasHoldingsOf state all.items) }
+        ensures state { (state : ControllerState) → Shows self.now state → IfOk result (λ all. HasHoldingsOf state all.items) }
     {
         attachments(self.core.catalog.rows(), self.core.alloc)
     }

@@ -1,6 +1,6 @@
 //! The laws of the controller.
 ghost use Rattle.std.specs.List.{AllByRecursion};
-ghost use Rattle.csi_controller.specs.Core.{IsShown, IsSound};
+ghost use Rattle.csi_controller.specs.Core.{Shows, IsSound};
 ghost use Rattle.csi_controller.specs.Exclusive.{IsRowExclusive};
 ghost use Rattle.csi_controller.specs.Laws.{ControllerTableLaw};
 ghost use Rattle.csi_controller.specs.RowsLaw.{ControllerRowsLaw};
@@ -53,7 +53,7 @@ pub fn exclusive_law(controller: &Controller)
 /// A law, and nothing that runs: every controller, whatever it was asked and whichever record it was made of, shows a state, so
 /// that what the other contracts say of each state that a controller shows is said of every controller. This profile's own.
 pub fn showing_law(controller: &Controller)
-    ensures { (state : ControllerState) × IsShown controller.now state }
+    ensures { (state : ControllerState) × Shows controller.now state }
 {
     controller.assert_sound();
     let _next = controller.next_id();

@@ -19,9 +19,9 @@ use Rattle.csi_node.specs.declared.row.NodeRow.{NodeRow}
 use Rattle.csi_node.specs.State.{NodeState, volume_of}
 use Rattle.csi_node.specs.Table.{lifecycle_row}
 use Rattle.csi_node.specs.Fenced.{Fenced, answer_frame, fenced_call, kept_for}
-use Rattle.csi_node.specs.Shown.{Shows}
-use Rattle.csi_node.specs.OneRow.{RowShown, shown, alone, row_anew, IsRow, IsAfter, RowAnswers}
-use Rattle.csi_node.specs.Record.{parts, id_at, IsAt, IsGapFor, IsRecord, Gives}
+use Rattle.csi_node.specs.Shown.{RowsShow}
+use Rattle.csi_node.specs.OneRow.{RowShown, shown, alone, row_anew, IsSoundRow, IsAfter, RowAnswers}
+use Rattle.csi_node.specs.Record.{parts, id_at, IsAt, IsGapFor, IsSound, Gives}
 use Rattle.csi_node.proofs.ShownAfter.{row_of, all-from_shows, shows-from_all}
 use Rattle.csi_node.proofs.AnsweredRows.{GivesAll, gives-again, gives-anew, gives-full}
 use Rattle.csi_node.proofs.RecordRules.{id_at-parts, found-at, absent-gap, after-set, after-insert, rules-set, rules-insert}
@@ -47,11 +47,11 @@ gives-from_all rows frame fenced gives = record { reply = gives.reply; shows = s
 pub record There (rows : List NodeRow) (id place : ℕ) (row : NodeRow) : Type 0 where
   pub own : row.id ≡ id
   pub found : row_of id (parts rows) ≡ Some (shown row)
-  pub rules : IsRow (shown row)
+  pub rules : IsSoundRow (shown row)
   pub at_place : row.id ≡ id_at (parts rows) place
 
 -- the row at the place of an id is that id's, is found by it, and keeps the rules
-pub there : (rows : List NodeRow) (id place : ℕ) (row : NodeRow) → row ≡ get_or rows place row → IsRecord (parts rows) → IsAt (parts rows) id place → There rows id place row
+pub there : (rows : List NodeRow) (id place : ℕ) (row : NodeRow) → row ≡ get_or rows place row → IsSound (parts rows) → IsAt (parts rows) id place → There rows id place row
 there rows id place row is rules at =
     let shown_at : get_or (parts rows) place (shown row) ≡ shown row = parts-at rows place row ∙ ap shown (sym is) in
     let many = length-map rows shown in
@@ -60,7 +60,7 @@ there rows id place row is rules at =
     record {
       own = at_place ∙ at.has_id;
       found = found-at (parts rows) id place (shown row) rules.rising at ∙ ap Some shown_at;
-      rules = subst IsRow shown_at (rules.each place (shown row) at.within);
+      rules = subst IsSoundRow shown_at (rules.each place (shown row) at.within);
       at_place = at_place;
     }
 
@@ -78,7 +78,7 @@ kept_id (Err fault) number call old new verdict ok err = ap (λ (r : RowShown). 
 
 -- a call of a volume that has a row
 pub gives-there : (node : List ℕ) (id : ℕ) (number : Number) (call : Call) (rows : List NodeRow) (place : ℕ) (row new : NodeRow) (state : NodeState) → volume_of call ≡ Some id
-    → IsRecord (parts rows) → IsAt (parts rows) id place → There rows id place row → Shows rows state
+    → IsSound (parts rows) → IsAt (parts rows) id place → There rows id place row → RowsShow rows state
     → (answer : Kind × Reply) → RowAnswers number call (shown row) (shown new) answer (verdict_of (Some row.last) number)
     → Gives (set rows place new) (answer_frame node number answer) (fenced_call node state number call (kept_for call state))
 gives-there node id number call rows place row new state v rules at is shows answer answers =
@@ -88,14 +88,14 @@ gives-there node id number call rows place row new state v rules at is shows ans
     (after-set (parts rows) id place (shown new) (shown row) rules.rising at own) answers))
 
 -- the rules then
-pub rules-there : (id : ℕ) (rows : List NodeRow) (place : ℕ) (row new : NodeRow) → IsRecord (parts rows) → IsAt (parts rows) id place → There rows id place row → IsRow (shown new) → new.id ≡ row.id
-    → IsRecord (parts (set rows place new))
+pub rules-there : (id : ℕ) (rows : List NodeRow) (place : ℕ) (row new : NodeRow) → IsSound (parts rows) → IsAt (parts rows) id place → There rows id place row → IsSoundRow (shown new) → new.id ≡ row.id
+    → IsSound (parts (set rows place new))
 rules-there id rows place row new rules at is own same =
-    subst IsRecord (sym (map-set shown rows place new)) (rules-set (parts rows) place (shown new) rules own (same ∙ is.at_place) at.within)
+    subst IsSound (sym (map-set shown rows place new)) (rules-set (parts rows) place (shown new) rules own (same ∙ is.at_place) at.within)
 
 -- the first call of a volume
 pub gives-first : (node : List ℕ) (id : ℕ) (number : Number) (call : Call) (rows : List NodeRow) (place : ℕ) (new : NodeRow) (state : NodeState) (answer : Kind × Reply) → volume_of call ≡ Some id
-    → IsGapFor (parts rows) id place → length rows < 4096 → Shows rows state
+    → IsGapFor (parts rows) id place → length rows < 4096 → RowsShow rows state
     → answer ≡ (kind_of call, (lifecycle_row (alone (row_anew id number (kind_of call))) call).reply)
     → IsAfter number call (row_anew id number (kind_of call)) (shown new)
     → Gives (insert rows place new) (answer_frame node number answer) (fenced_call node state number call (kept_for call state))
@@ -105,13 +105,13 @@ gives-first node id number call rows place new state answer v gap few shows is a
     (let many = length-map rows shown in omega arith) (after-insert (parts rows) id place (shown new) gap after.id) is after))
 
 -- the rules once a new row stands in the gap of its id
-pub rules-first : (id : ℕ) (rows : List NodeRow) (place : ℕ) (new : NodeRow) → IsRecord (parts rows) → IsGapFor (parts rows) id place → length rows < 4096 → IsRow (shown new) → new.id ≡ id
-    → IsRecord (parts (insert rows place new))
+pub rules-first : (id : ℕ) (rows : List NodeRow) (place : ℕ) (new : NodeRow) → IsSound (parts rows) → IsGapFor (parts rows) id place → length rows < 4096 → IsSoundRow (shown new) → new.id ≡ id
+    → IsSound (parts (insert rows place new))
 rules-first id rows place new rules gap few own same =
-    subst IsRecord (sym (parts-insert rows place new)) (rules-insert (parts rows) id place (shown new) rules own same gap (let many = length-map rows shown in omega arith))
+    subst IsSound (sym (parts-insert rows place new)) (rules-insert (parts rows) id place (shown new) rules own same gap (let many = length-map rows shown in omega arith))
 
 -- where there is no room
-pub gives-none : (node : List ℕ) (id : ℕ) (number : Number) (call : Call) (rows : List NodeRow) (place : ℕ) (state : NodeState) → volume_of call ≡ Some id → IsGapFor (parts rows) id place → 4096 ≤ length rows → Shows rows state
+pub gives-none : (node : List ℕ) (id : ℕ) (number : Number) (call : Call) (rows : List NodeRow) (place : ℕ) (state : NodeState) → volume_of call ≡ Some id → IsGapFor (parts rows) id place → 4096 ≤ length rows → RowsShow rows state
     → (answer : Kind × Reply) → answer ≡ (kind_of call, plain_reply ResourceExhausted (codes "rows"))
     → Gives rows (answer_frame node number answer) (fenced_call node state number call (kept_for call state))
 gives-none node id number call rows place state v gap many shows answer is =

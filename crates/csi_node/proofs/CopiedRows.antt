@@ -3,7 +3,7 @@ use Rattle.std.proofs.Common.{◌≡◌, ℕ, List, sym, ◌∙◌, ap, subst, N
 use Rattle.std.specs.Prelude.{OnErr, Option, Some, option_map}
 use Rattle.csi_node.specs.declared.row.NodeRow.{NodeRow}
 use Rattle.csi_node.specs.State.{NodeState, row_with_id}
-use Rattle.csi_node.specs.Shown.{Shows, row_in, answered_of_row}
+use Rattle.csi_node.specs.Shown.{RowsShow, row_in, answered_of_row}
 use Rattle.csi_node.specs.OneRow.{shown}
 use Rattle.csi_node.specs.Record.{parts, IsGapFor}
 use Rattle.csi_node.proofs.ShownAfter.{ShowsAll, answered_of, row_of-shown, kept-shown, all-from_shows, shows-from_all}
@@ -11,7 +11,7 @@ use Rattle.csi_node.proofs.RecordRules.{absent-gap}
 use Rattle.csi_node.proofs.AtRow.{There}
 
 -- rows that are as they were
-pub shows-same : (old new : List NodeRow) (state : NodeState) → Shows old state → parts new ≡ parts old → Shows new state
+pub shows-same : (old new : List NodeRow) (state : NodeState) → RowsShow old state → parts new ≡ parts old → RowsShow new state
 shows-same old new state shows same = shows-from_all new state (subst (λ l. ShowsAll l state) (sym same) (all-from_shows old state shows))
 
 -- what is so anyway is so of an error
@@ -35,6 +35,6 @@ pub row-clash : (rows : List NodeRow) (id place : ℕ) (row : NodeRow) → There
 row-clash rows id place row is none = none_is_not_some (shown row) (sym (row_of-shown id rows ∙ ap (option_map shown) none) ∙ is.found)
 
 -- what a copy of a row keeps is what the state keeps
-pub row-shows : (rows : List NodeRow) (state : NodeState) (id : ℕ) → Shows rows state → (row : Option NodeRow) → option_map shown row ≡ option_map shown (row_in id rows)
+pub row-shows : (rows : List NodeRow) (state : NodeState) (id : ℕ) → RowsShow rows state → (row : Option NodeRow) → option_map shown row ≡ option_map shown (row_in id rows)
     → option_map answered_of_row row ≡ row_with_id id state
 row-shows rows state id shows row same = sym (kept-shown row) ∙ ap (option_map answered_of) same ∙ kept-shown (row_in id rows) ∙ shows.kept id

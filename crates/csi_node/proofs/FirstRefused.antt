@@ -6,8 +6,8 @@ use Rattle.std.proofs.lemmas.List.{get_or_append_left, get_or_push, length-appen
 use Rattle.std.proofs.lemmas.List.Elements.{All-push}
 use Rattle.csi_node.specs.declared.row.NodeRow.{NodeRow}
 use Rattle.csi_node.specs.Judging.{IsFirstRefused, may_follow}
-use Rattle.csi_node.specs.OneRow.{RowShown, shown, IsRow}
-use Rattle.csi_node.specs.Record.{parts, id_at, IsRecord}
+use Rattle.csi_node.specs.OneRow.{RowShown, shown, IsSoundRow}
+use Rattle.csi_node.specs.Record.{parts, id_at, IsSound}
 use Rattle.csi_node.specs.SoundRow.{is_sound_row}
 use Rattle.csi_node.proofs.RecordRules.{IsRising}
 use Rattle.csi_node.proofs.SoundRow.{row-sound, sound-row}
@@ -90,13 +90,13 @@ last_id-below n (r ∷ rs) row above rising =
 -- ---- the rules of the first rows
 
 -- where each row keeps the rules, each of a front does
-all-front : (rows more : List RowShown) → All IsRow (rows ++ more) → All IsRow rows
+all-front : (rows more : List RowShown) → All IsSoundRow (rows ++ more) → All IsSoundRow rows
 all-front rows more all = λ k d inside.
     let long : length (rows ++ more) ≡ length rows + length more = length-append rows more in
-    subst IsRow (get_or_append_left rows more d k inside) (all k d (omega (arith, long)))
+    subst IsSoundRow (get_or_append_left rows more d k inside) (all k d (omega (arith, long)))
 
 -- a front of a record's rows is a record's
-rules-front : (rows more : List RowShown) → IsRecord (rows ++ more) → IsRecord rows
+rules-front : (rows more : List RowShown) → IsSound (rows ++ more) → IsSound rows
 rules-front rows more rules =
     record {
       rising = IsRising-front rows more rules.rising;
@@ -105,21 +105,21 @@ rules-front rows more rules =
     }
 
 -- the first rows of a record's, as they are shown, are a record's
-rules-take_shown : (rows : List RowShown) (k : ℕ) → IsRecord rows → IsRecord (take k rows)
-rules-take_shown rows k rules = rules-front (take k rows) (drop k rows) (subst IsRecord (sym (take-append-drop k rows)) rules)
+rules-take_shown : (rows : List RowShown) (k : ℕ) → IsSound rows → IsSound (take k rows)
+rules-take_shown rows k rules = rules-front (take k rows) (drop k rows) (subst IsSound (sym (take-append-drop k rows)) rules)
 
 -- the first rows of a record's are a record's
-pub rules-take : (rows : List NodeRow) (k : ℕ) → IsRecord (parts rows) → IsRecord (parts (take k rows))
-rules-take rows k rules = subst IsRecord (take-map shown k rows) (rules-take_shown (parts rows) k rules)
+pub rules-take : (rows : List NodeRow) (k : ℕ) → IsSound (parts rows) → IsSound (parts (take k rows))
+rules-take rows k rules = subst IsSound (take-map shown k rows) (rules-take_shown (parts rows) k rules)
 
 -- rows that are a record's have no first one that no record has there
-pub not-both : (rows : List NodeRow) (place : ℕ) → IsFirstRefused rows place → IsRecord (parts rows) → ⊥
+pub not-both : (rows : List NodeRow) (place : ℕ) → IsFirstRefused rows place → IsSound (parts rows) → ⊥
 not-both rows place first rules = first.refused (rules-take rows place rules)
 
 -- the first refused row isn't at an earlier place too
 not-earlier : (rows : List NodeRow) (a b : ℕ) → IsFirstRefused rows a → IsFirstRefused rows b → a < b → ⊥
 not-earlier rows a b one other less =
-    one.refused (subst (λ (l : List NodeRow). IsRecord (parts l)) (take-take a (b - 1) rows (omega arith)) (rules-take (take (b - 1) rows) a other.before))
+    one.refused (subst (λ (l : List NodeRow). IsSound (parts l)) (take-take a (b - 1) rows (omega arith)) (rules-take (take (b - 1) rows) a other.before))
 
 -- there is one such place
 pub same-place : (rows : List NodeRow) (a b : ℕ) → IsFirstRefused rows a → IsFirstRefused rows b → a ≡ b
@@ -133,7 +133,7 @@ same-place rows a b one other = by (cases_order a b)
 -- ---- one more row
 
 -- a row that may follow a record's rows makes a record with them
-rules-more : (rows : List RowShown) (row : RowShown) → IsRecord rows → may_follow (length rows) (last_id 0 rows) row ≡ true → IsRecord (rows ++ row ∷ [])
+rules-more : (rows : List RowShown) (row : RowShown) → IsSound rows → may_follow (length rows) (last_id 0 rows) row ≡ true → IsSound (rows ++ row ∷ [])
 rules-more rows row rules follows =
     let all = and_parts (nat_lt (length rows) 4096 && nat_lt (last_id 0 rows) row.id) (is_sound_row row) follows in
     let places = and_parts (nat_lt (length rows) 4096) (nat_lt (last_id 0 rows) row.id) all.0 in
@@ -142,15 +142,15 @@ rules-more rows row rules follows =
       limit =
           let room : length rows < 4096 = ltb-true (length rows) 4096 places.0 in
           let long : length (rows ++ row ∷ []) ≡ length rows + 1 = length_push rows row in omega (arith, room, long);
-      each = All-push IsRow rows row rules.each (sound-row row all.1);
+      each = All-push IsSoundRow rows row rules.each (sound-row row all.1);
     }
 
 -- a row with which rows are a record's may follow them
-follows-rules : (rows : List RowShown) (row : RowShown) → 0 < row.id → IsRecord (rows ++ row ∷ []) → may_follow (length rows) (last_id 0 rows) row ≡ true
+follows-rules : (rows : List RowShown) (row : RowShown) → 0 < row.id → IsSound (rows ++ row ∷ []) → may_follow (length rows) (last_id 0 rows) row ≡ true
 follows-rules rows row from rules =
     let long : length (rows ++ row ∷ []) ≡ length rows + 1 = length_push rows row in
     let room : length rows < 4096 = let limit = rules.limit in omega (arith, limit, long) in
-    let own : IsRow row = subst IsRow (get_or_push rows row row (length rows) refl) (rules.each (length rows) row (omega (arith, long))) in
+    let own : IsSoundRow row = subst IsSoundRow (get_or_push rows row row (length rows) refl) (rules.each (length rows) row (omega (arith, long))) in
     and_from (nat_lt (length rows) 4096 && nat_lt (last_id 0 rows) row.id) (is_sound_row row)
     (and_from (nat_lt (length rows) 4096) (nat_lt (last_id 0 rows) row.id) (lt-ltb (length rows) 4096 room) (lt-ltb (last_id 0 rows) row.id (last_id-below 0 rows row from rules.rising)))
     (row-sound row own)
@@ -159,7 +159,7 @@ follows-rules rows row from rules =
 
 -- the rows before a place are a record's, and this is their last id
 pub record SoFar (rows : List NodeRow) (place last : ℕ) : Type 0 where
-  pub rules : IsRecord (parts (take place rows))
+  pub rules : IsSound (parts (take place rows))
   pub is_last : last ≡ last_id 0 (parts (take place rows))
 
 -- the rows up to a place and the one there are the rows of one place more
@@ -182,7 +182,7 @@ pub goes_on : (rows : List NodeRow) (place last : ℕ) (row : NodeRow) → SoFar
 goes_on rows place last row so inside is follows =
     let more : parts (take (place + 1) rows) ≡ parts (take place rows) ++ shown row ∷ [] = one-more rows place row inside is in
     record {
-      rules = subst IsRecord (sym more) (rules-more (parts (take place rows)) (shown row) so.rules (same-test rows place last row so inside ∙ follows));
+      rules = subst IsSound (sym more) (rules-more (parts (take place rows)) (shown row) so.rules (same-test rows place last row so inside ∙ follows));
       is_last = sym (ap (last_id 0) more ∙ last_id-append 0 (parts (take place rows)) (shown row));
     }
 
@@ -194,12 +194,12 @@ refused-there rows place last row so inside is from fails =
     record {
       from = omega arith;
       to = omega arith;
-      before = subst (λ k. IsRecord (parts (take k rows))) back so.rules;
+      before = subst (λ k. IsSound (parts (take k rows))) back so.rules;
       refused = λ whole.
-          let more : IsRecord (parts (take place rows) ++ shown row ∷ []) = subst IsRecord (one-more rows place row inside is) whole in
+          let more : IsSound (parts (take place rows) ++ shown row ∷ []) = subst IsSound (one-more rows place row inside is) whole in
           false≢true (sym fails ∙ sym (same-test rows place last row so inside) ∙ follows-rules (parts (take place rows)) (shown row) from more);
     }
 
 -- where the walk is through, the rows are a record's
-pub ends : (rows : List NodeRow) (place last : ℕ) → SoFar rows place last → length rows ≤ place → IsRecord (parts rows)
-ends rows place last so end = subst (λ (l : List NodeRow). IsRecord (parts l)) (take_all place rows end) so.rules
+pub ends : (rows : List NodeRow) (place last : ℕ) → SoFar rows place last → length rows ≤ place → IsSound (parts rows)
+ends rows place last so end = subst (λ (l : List NodeRow). IsSound (parts l)) (take_all place rows end) so.rules

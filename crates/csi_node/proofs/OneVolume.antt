@@ -18,7 +18,7 @@ use Rattle.csi_types.specs.Same.{same_number}
 use Rattle.csi_node.specs.declared.row.NodeRow.{NodeRow}
 use Rattle.csi_node.specs.OneRow.{RowShown, shown, RowAnswers}
 use Rattle.csi_node.specs.OneVolume.{row_by_id, last_of, put_row, IsOneRowPut, AreRowsAfter}
-use Rattle.csi_node.specs.Record.{parts, id_at, IsAt, IsGapFor, IsRecord}
+use Rattle.csi_node.specs.Record.{parts, id_at, IsAt, IsGapFor, IsSound}
 use Rattle.csi_node.proofs.SpentNumbers.{answered_spent}
 use Rattle.csi_node.proofs.RecordRules.{IsRising, found-at, absent-gap, after-set, after-insert}
 use Rattle.csi_node.proofs.AtRow.{There, parts-at, parts-insert, answers-id}
@@ -126,7 +126,7 @@ put-nowhere id rows place gap = record {
 
 -- an answered call of a volume that has a row
 pub one-there : (id : ℕ) (number : Number) (call : Call) (rows : List NodeRow) (place : ℕ) (row new : NodeRow)
-    → row ≡ get_or rows place row → IsRecord (parts rows) → IsAt (parts rows) id place → There rows id place row
+    → row ≡ get_or rows place row → IsSound (parts rows) → IsAt (parts rows) id place → There rows id place row
     → (answer : Kind × Reply) → RowAnswers number call (shown row) (shown new) answer (verdict_of (Some row.last) number)
     → IsOneRowPut id (parts rows) (parts (set rows place new))
 one-there id number call rows place row new at_place rules at is answer answers =

@@ -15,9 +15,9 @@ use Rattle.csi_lists.proofs.Filters.{filter-each, filter-no_one, each-passes}
 use Rattle.csi_node.specs.declared.row.NodeRow.{NodeRow}
 use Rattle.csi_node.specs.declared.row.NodeTarget.{NodeTarget}
 use Rattle.csi_node.specs.State.{NodeState, StagedVolume, PublishedVolume}
-use Rattle.csi_node.specs.Shown.{Shows}
+use Rattle.csi_node.specs.Shown.{RowsShow}
 use Rattle.csi_node.specs.OneRow.{RowShown, shown, alone, staged_by, published_by, published_so}
-use Rattle.csi_node.specs.Record.{parts, id_at, IsRecord}
+use Rattle.csi_node.specs.Record.{parts, id_at, IsSound}
 use Rattle.csi_node.specs.Views.{IsStagedBefore, IsPublishedBefore, ListsStaged, ListsPublished}
 use Rattle.csi_node.proofs.ShownAfter.{ShowsAll, row_of, alone_in, all-from_shows}
 use Rattle.csi_node.proofs.RecordRules.{IsRising}
@@ -184,13 +184,13 @@ module _ (rows : List RowShown) (state : NodeState) (rise : EachTwo IsRowBefore 
   }
 
 -- what a record's rows have staged, one after another, lists what the state has staged
-pub lists-staged : (rows : List NodeRow) (state : NodeState) (list : List StagedVolume) → IsRecord (parts rows) → Shows rows state → list ≡ flat_map (λ (row : NodeRow). (alone (shown row)).staged) rows → ListsStaged list state
+pub lists-staged : (rows : List NodeRow) (state : NodeState) (list : List StagedVolume) → IsSound (parts rows) → RowsShow rows state → list ≡ flat_map (λ (row : NodeRow). (alone (shown row)).staged) rows → ListsStaged list state
 lists-staged rows state list rules shows is =
     subst (λ (l : List StagedVolume). ListsStaged l state) (flat_map-map (λ (row : RowShown). (alone row).staged) shown rows ∙ sym is)
     (staged_listed (parts rows) state (rows_rise (parts rows) rules.rising) (all-from_shows rows state shows))
 
 -- what a record's rows have published, one after another, lists what the state has published
-pub lists-published : (rows : List NodeRow) (state : NodeState) (list : List PublishedVolume) → IsRecord (parts rows) → Shows rows state → list ≡ flat_map (λ (row : NodeRow). (alone (shown row)).published) rows → ListsPublished list state
+pub lists-published : (rows : List NodeRow) (state : NodeState) (list : List PublishedVolume) → IsSound (parts rows) → RowsShow rows state → list ≡ flat_map (λ (row : NodeRow). (alone (shown row)).published) rows → ListsPublished list state
 lists-published rows state list rules shows is =
     subst (λ (l : List PublishedVolume). ListsPublished l state) (flat_map-map (λ (row : RowShown). (alone row).published) shown rows ∙ sym is)
     (published_listed (parts rows) state (rows_rise (parts rows) rules.rising) (all-from_shows rows state shows))

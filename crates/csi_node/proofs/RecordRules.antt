@@ -11,8 +11,8 @@ use Rattle.std.proofs.lemmas.List.Edits.{length-insert, get_or-insert_below, get
 use Rattle.std.proofs.lemmas.Bool.{cases_lt}
 use Rattle.std.proofs.lemmas.Bool.Decides.{nat_tests}
 use Rattle.csi_node.specs.declared.row.NodeRow.{NodeRow}
-use Rattle.csi_node.specs.OneRow.{RowShown, shown, IsRow}
-use Rattle.csi_node.specs.Record.{parts, id_at, ids, IsAt, IsGapFor, IsRecord}
+use Rattle.csi_node.specs.OneRow.{RowShown, shown, IsSoundRow}
+use Rattle.csi_node.specs.Record.{parts, id_at, ids, IsAt, IsGapFor, IsSound}
 use Rattle.csi_node.proofs.OneRow.{itself}
 use Rattle.csi_node.proofs.ShownAfter.{RowsAfter, grown, row_of}
 use Rattle.csi_node.proofs.FoundRows.{NoneBefore, row_of-absent, row_of-present, row_of-set, row_of-insert}
@@ -129,18 +129,18 @@ rows_same (row ∷ rows) zero new own = λ i. own i ∷ ids rows
 rows_same (row ∷ rows) (suc place) new own = ap (λ (l : List ℕ). row.id ∷ l) (rows_same rows place new own)
 
 -- the rules after that
-pub rules-set : (rows : List RowShown) (place : ℕ) (new : RowShown) → IsRecord rows → IsRow new → new.id ≡ id_at rows place → place < length rows → IsRecord (set rows place new)
+pub rules-set : (rows : List RowShown) (place : ℕ) (new : RowShown) → IsSound rows → IsSoundRow new → new.id ≡ id_at rows place → place < length rows → IsSound (set rows place new)
 rules-set rows place new rules row own within =
     let many = length-set rows place new in
     let same = rows_same rows place new own in
     record {
       rising = λ i j lt inside. subst (λ (l : List ℕ). get_or l i 0 < get_or l j 0) (sym same) (rules.rising i j lt (omega arith));
       limit = let few = rules.limit in omega arith;
-      each = All-set IsRow rows place new row rules.each;
+      each = All-set IsSoundRow rows place new row rules.each;
     }
 
 -- a row that keeps the rules, in the gap of its id, makes a record where there is room
-pub rules-insert : (rows : List RowShown) (id place : ℕ) (new : RowShown) → IsRecord rows → IsRow new → new.id ≡ id → IsGapFor rows id place → length rows < 4096 → IsRecord (insert rows place new)
+pub rules-insert : (rows : List RowShown) (id place : ℕ) (new : RowShown) → IsSound rows → IsSoundRow new → new.id ≡ id → IsGapFor rows id place → length rows < 4096 → IsSound (insert rows place new)
 rules-insert rows id place new rules row own gap few =
     let many = length-insert rows place new gap.within in
     record {
@@ -163,11 +163,11 @@ rules-insert rows id place new rules row own gap few =
         → (k < place → place ≤ length rows → get_or (insert rows place new) k d ≡ get_or rows k d)
         → (place ≤ length rows → get_or (insert rows place new) place d ≡ new)
         → (place ≤ k - 1 → place ≤ length rows → get_or (insert rows place new) (k - 1 + 1) d ≡ get_or rows (k - 1) d)
-        → IsRow (get_or (insert rows place new) k d)
+        → IsSoundRow (get_or (insert rows place new) k d)
     each_row k d inside low here high = elim (cases_lt k place) [
       | inl below ↦ rw (low below gap.within) (rules.each k d (omega (arith, gap.within)))
       | inr above ↦ elim (cases_lt place k) [
-        | inl past ↦ subst (λ (q : ℕ). IsRow (get_or (insert rows place new) q d)) {x = k - 1 + 1} (omega arith) (rw (high (omega arith) gap.within) (rules.each (k - 1) d (omega (arith, length-insert rows place new gap.within))))
-        | inr not_past ↦ subst (λ (q : ℕ). IsRow (get_or (insert rows place new) q d)) {x = place} (omega arith) (rw (here gap.within) row)
+        | inl past ↦ subst (λ (q : ℕ). IsSoundRow (get_or (insert rows place new) q d)) {x = k - 1 + 1} (omega arith) (rw (high (omega arith) gap.within) (rules.each (k - 1) d (omega (arith, length-insert rows place new gap.within))))
+        | inr not_past ↦ subst (λ (q : ℕ). IsSoundRow (get_or (insert rows place new) q d)) {x = place} (omega arith) (rw (here gap.within) row)
       ]
     ]

@@ -27,7 +27,7 @@ use Rattle.csi_node.specs.declared.line.Line.TheVariants.{Refused, Met, Done}
 use Rattle.csi_node.specs.State.{NodeState, StagedVolume, PublishedVolume, is_published_at, volume_of}
 use Rattle.csi_node.specs.Table.{Change, Outcome, lifecycle_row, changed, begins_with_slash}
 use Rattle.csi_node.specs.Line.{outcome_shown, reply_shown, WhereDone, is_done}
-use Rattle.csi_node.specs.OneRow.{RowShown, alone, staged_by, published_so, published_by, target_among, row_changed, change_of, CanChange, AreDistinct, AreAbsolute, TargetsFit, IsRow, IsAfter}
+use Rattle.csi_node.specs.OneRow.{RowShown, alone, staged_by, published_so, published_by, target_among, row_changed, change_of, CanChange, AreDistinct, AreAbsolute, TargetsFit, IsSoundRow, IsAfter}
 use Rattle.csi_node.proofs.OneRow.{itself, itself_and}
 
 -- texts differ both ways
@@ -215,7 +215,7 @@ no_id-by Met = refl
 no_id-by Done = refl
 
 -- the row after a call is carried out
-pub after-line : (old mid : RowShown) (number : Number) (call : Call) (line : Line) → volume_of call ≡ Some old.id → IsRow old
+pub after-line : (old mid : RowShown) (number : Number) (call : Call) (line : Line) → volume_of call ≡ Some old.id → IsSoundRow old
     → lifecycle_row (alone old) call ≡ outcome_shown (change_of call) line → WhereDone line (CanChange old call) → mid ≡ where_done line old call
     → IsAfter number call old (record mid { kept = record { number = number; kind = kind_of call; reply = reply_shown line } })
 after-line old mid number call line volume rules is can made =
@@ -227,8 +227,8 @@ after-line old mid number call line volume rules is can made =
     }
 
 -- and its rules
-pub row-line : (old mid : RowShown) (number : Number) (call : Call) (line : Line) → is_node_kind (kind_of call) ≡ true → IsRow old → WhereDone line (CanChange old call) → mid ≡ where_done line old call
-    → IsRow (record mid { kept = record { number = number; kind = kind_of call; reply = reply_shown line } })
+pub row-line : (old mid : RowShown) (number : Number) (call : Call) (line : Line) → is_node_kind (kind_of call) ≡ true → IsSoundRow old → WhereDone line (CanChange old call) → mid ≡ where_done line old call
+    → IsSoundRow (record mid { kept = record { number = number; kind = kind_of call; reply = reply_shown line } })
 row-line old mid number call line kind rules can made = record {
   kind = kind;
   no_id = no_id-by line;

@@ -13,9 +13,9 @@ use Rattle.csi_lists.proofs.Counts.{two-pass, no_fewer}
 use Rattle.csi_node.specs.declared.row.NodeRow.{NodeRow}
 use Rattle.csi_node.specs.declared.row.NodeTarget.{NodeTarget}
 use Rattle.csi_node.specs.State.{NodeState, PublishedVolume, staged_of, published_of}
-use Rattle.csi_node.specs.Shown.{Shows}
-use Rattle.csi_node.specs.OneRow.{RowShown, alone, published_so, published_by, IsRow}
-use Rattle.csi_node.specs.Record.{parts, IsRecord}
+use Rattle.csi_node.specs.Shown.{RowsShow}
+use Rattle.csi_node.specs.OneRow.{RowShown, alone, published_so, published_by, IsSoundRow}
+use Rattle.csi_node.specs.Record.{parts, IsSound}
 use Rattle.csi_node.specs.Safe.{AllowTwo, IsPublishedRight}
 use Rattle.csi_node.proofs.OneRow.{staged_of-alone}
 use Rattle.csi_node.proofs.StateChanges.{part-staged}
@@ -63,10 +63,10 @@ no_more : (id : ℕ) (o : Option Capability) (targets : List NodeTarget) → len
 no_more id None targets = omega arith
 no_more id (Some capability) targets = let same = length-map targets (published_so id capability) in omega arith
 
-module _ (rows : List RowShown) (state : NodeState) (each : All IsRow rows) (all : ShowsAll rows state) where
+module _ (rows : List RowShown) (state : NodeState) (each : All IsSoundRow rows) (all : ShowsAll rows state) where
   -- the row of an id keeps the rules, and stands for it
-  row_rules : (id : ℕ) (row : RowShown) → row_of id rows ≡ Some row → IsRow row
-  row_rules id row found = one-of_all IsRow rows row each (among-find (λ (r : RowShown). r.id == id) rows row found)
+  row_rules : (id : ℕ) (row : RowShown) → row_of id rows ≡ Some row → IsSoundRow row
+  row_rules id row found = one-of_all IsSoundRow rows row each (among-find (λ (r : RowShown). r.id == id) rows row found)
 
   own : (id : ℕ) (row : RowShown) → row_of id rows ≡ Some row → row.id ≡ id
   own id row found = eqb-true row.id id (find-passes (λ (r : RowShown). r.id == id) rows row found)
@@ -105,5 +105,5 @@ module _ (rows : List RowShown) (state : NodeState) (each : All IsRow rows) (all
   }
 
 -- in a state that a record's rows show, what is published is right
-pub right-from : (rows : List NodeRow) (state : NodeState) → IsRecord (parts rows) → Shows rows state → IsPublishedRight state
+pub right-from : (rows : List NodeRow) (state : NodeState) → IsSound (parts rows) → RowsShow rows state → IsPublishedRight state
 right-from rows state rules shows = published_right (parts rows) state rules.each (all-from_shows rows state shows)

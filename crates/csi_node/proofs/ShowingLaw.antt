@@ -6,9 +6,9 @@ use Rattle.std.proofs.lemmas.List.{length-map}
 use Rattle.csi_lists.proofs.Searches.{find-of_map}
 use Rattle.csi_node.specs.declared.row.NodeRow.{NodeRow}
 use Rattle.csi_node.specs.State.{NodeState, Answered, StagedVolume, PublishedVolume}
-use Rattle.csi_node.specs.Shown.{Shows}
+use Rattle.csi_node.specs.Shown.{RowsShow}
 use Rattle.csi_node.specs.OneRow.{RowShown, alone}
-use Rattle.csi_node.specs.Record.{parts, IsRecord}
+use Rattle.csi_node.specs.Record.{parts, IsSound}
 use Rattle.csi_node.proofs.ShownAfter.{row_of, answered_of, shows-from_all}
 use Rattle.csi_node.proofs.Readers.{rows_rise, of_one, staged_own, published_own, staged_part, published_part}
 
@@ -21,7 +21,7 @@ state_by_id rows = record {
 }
 
 -- rows that keep the rules of a record show a state
-pub shows-a_state : (rows : List NodeRow) → IsRecord (parts rows) → (state : NodeState) × Shows rows state
+pub shows-a_state : (rows : List NodeRow) → IsSound (parts rows) → (state : NodeState) × RowsShow rows state
 shows-a_state rows rules = (
   state_by_id (parts rows),
   shows-from_all rows (state_by_id (parts rows)) (record {

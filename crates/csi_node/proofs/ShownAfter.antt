@@ -17,7 +17,7 @@ use Rattle.csi_node.specs.State.{NodeState, Answered, StagedVolume, PublishedVol
 use Rattle.csi_node.specs.Table.{Change, Outcome, lifecycle_row, has_no_room, changed}
 use Rattle.csi_node.specs.Fenced.{kept_in, kept_rows, keep, kept_for}
 use Rattle.csi_node.specs.Laws.{is_another}
-use Rattle.csi_node.specs.Shown.{Shows, answered_of_row, published_in, staged_in, row_in}
+use Rattle.csi_node.specs.Shown.{RowsShow, answered_of_row, published_in, staged_in, row_in}
 use Rattle.csi_node.specs.OneRow.{RowShown, shown, alone}
 use Rattle.csi_node.proofs.OutcomeFacts.{lifecycle_facts}
 use Rattle.csi_node.proofs.LastCalls.{changed-rows, kept_in-id}
@@ -71,7 +71,7 @@ published-shown (Some row) = by row.staged refl
     by (Some capability) e = rw e refl
 
 -- rows that show a state show it as they are shown
-pub all-from_shows : (rows : List NodeRow) (state : NodeState) → Shows rows state → ShowsAll (map shown rows) state
+pub all-from_shows : (rows : List NodeRow) (state : NodeState) → RowsShow rows state → ShowsAll (map shown rows) state
 all-from_shows rows state shows = record {
   count = length-map rows shown ∙ shows.count;
   kept = λ id. ap (option_map answered_of) (row_of-shown id rows) ∙ kept-shown (row_in id rows) ∙ shows.kept id;
@@ -80,7 +80,7 @@ all-from_shows rows state shows = record {
 }
 
 -- rows that show a state as they are shown show it themselves
-pub shows-from_all : (rows : List NodeRow) (state : NodeState) → ShowsAll (map shown rows) state → Shows rows state
+pub shows-from_all : (rows : List NodeRow) (state : NodeState) → ShowsAll (map shown rows) state → RowsShow rows state
 shows-from_all rows state all = record {
   count = sym (length-map rows shown) ∙ all.count;
   kept = λ id. sym (kept-shown (row_in id rows)) ∙ ap (option_map answered_of) (sym (row_of-shown id rows)) ∙ all.kept id;

@@ -11,7 +11,7 @@ use Rattle.csi_types.specs.Call.{is_node_kind}
 use Rattle.csi_types.specs.Same.{same_text}
 use Rattle.csi_types.specs.Sharing.{allows_one_target}
 use Rattle.csi_node.specs.declared.row.NodeTarget.{NodeTarget}
-use Rattle.csi_node.specs.OneRow.{RowShown, AreAbsolute, AreDistinct, IsRow}
+use Rattle.csi_node.specs.OneRow.{RowShown, AreAbsolute, AreDistinct, IsSoundRow}
 use Rattle.csi_node.specs.SoundRow.{has_own_reply, fits_mode, has_target, are_distinct, are_absolute, has_fit_targets, is_sound_row}
 use Rattle.csi_node.specs.Table.{begins_with_slash}
 
@@ -72,7 +72,7 @@ distinct-tested (there ∷ later) all =
 -- ---- all
 
 -- a row that passes all tests keeps the rules
-pub sound-row : (row : RowShown) → is_sound_row row ≡ true → IsRow row
+pub sound-row : (row : RowShown) → is_sound_row row ≡ true → IsSoundRow row
 sound-row row h =
     let all = and_parts (has_own_reply row) (has_fit_targets row) h in
     let reply = and_parts (is_node_kind row.kept.kind) (not (is_some row.kept.reply.id)) all.0 in
@@ -92,7 +92,7 @@ sound-row row h =
     }
 
 -- a row that keeps the rules passes all tests
-pub row-sound : (row : RowShown) → IsRow row → is_sound_row row ≡ true
+pub row-sound : (row : RowShown) → IsSoundRow row → is_sound_row row ≡ true
 row-sound row rules =
     let fit = rules.targets in
     and_from (has_own_reply row) (has_fit_targets row)

@@ -4,15 +4,15 @@ use Rattle.csi_node.specs.declared.fault.RecordFault.{RecordFault}
 use Rattle.csi_node.specs.declared.fault.RecordFault.TheVariants.{BadRow, NoMemory}
 use Rattle.csi_node.specs.declared.row.NodeRow.{NodeRow}
 use Rattle.csi_node.specs.OneRow.{RowShown}
-use Rattle.csi_node.specs.Record.{parts, IsRecord}
+use Rattle.csi_node.specs.Record.{parts, IsSound}
 use Rattle.csi_node.specs.SoundRow.{is_sound_row}
 
 -- the row at this place, counted from 1: the rows before it are a record's, and with it they aren't
 pub record IsFirstRefused (rows : List NodeRow) (place : ℕ) : Type 0 where
   pub from : 1 ≤ place
   pub to : place ≤ length rows
-  pub before : IsRecord (parts (take (place - 1) rows))
-  pub refused : IsRecord (parts (take place rows)) → ⊥
+  pub before : IsSound (parts (take (place - 1) rows))
+  pub refused : IsSound (parts (take place rows)) → ⊥
 
 -- why these rows aren't made a record; no memory is asked for
 abbrev pub IsRefusal : List NodeRow → RecordFault → Type 0

@@ -111,7 +111,7 @@ pub record TargetsFit (staged : Option Capability) (targets : List NodeTarget) :
   pub limit : length targets ≤ 16
 
 -- the rules of a row of a record
-pub record IsRow (row : RowShown) : Type 0 where
+pub record IsSoundRow (row : RowShown) : Type 0 where
   pub kind : is_node_kind row.kept.kind ≡ true
   pub no_id : row.kept.reply.id ≡ None
   pub targets : TargetsFit row.staged row.targets

@@ -8,8 +8,8 @@ use Rattle.csi_types.specs.Frame.{Frame}
 use Rattle.csi_types.specs.Same.{same_text}
 use Rattle.csi_node.specs.declared.row.NodeRow.{NodeRow}
 use Rattle.csi_node.specs.Fenced.{Fenced}
-use Rattle.csi_node.specs.Shown.{Shows}
-use Rattle.csi_node.specs.OneRow.{RowShown, shown, IsRow}
+use Rattle.csi_node.specs.Shown.{RowsShow}
+use Rattle.csi_node.specs.OneRow.{RowShown, shown, IsSoundRow}
 
 -- a record: its node, and its rows
 pub record NodeParts : Type 0 where
@@ -27,10 +27,10 @@ abbrev pub id_at : List RowShown → ℕ → ℕ
 id_at rows place = slice_index_or (ids rows) place 0
 
 -- the rules of a record: its rows stand by rising id, at most 4,096, and each keeps the rules of a row
-pub record IsRecord (rows : List RowShown) : Type 0 where
+pub record IsSound (rows : List RowShown) : Type 0 where
   pub rising : (i j : ℕ) → i < j → j < length rows → id_at rows i < id_at rows j
   pub limit : length rows ≤ 4096
-  pub each : All IsRow rows
+  pub each : All IsSoundRow rows
 
 -- the row of the id is at this place
 pub record IsAt (rows : List RowShown) (id place : ℕ) : Type 0 where
@@ -52,4 +52,4 @@ is_call_for node Controller body = false
 -- the rows are those after a frame that was answered so
 pub record Gives (rows : List NodeRow) (frame : Frame) (fenced : Fenced) : Type 0 where
   pub reply : fenced.reply ≡ Some frame
-  pub shows : Shows rows fenced.state
+  pub shows : RowsShow rows fenced.state

@@ -30,7 +30,7 @@ row_in id rows = find (λ row. row.id == id) rows
 
 -- for each volume the row is the state's: its last call, how it is staged, and its targets in order; how
 -- different volumes are mixed doesn't show
-pub record Shows (rows : List NodeRow) (state : NodeState) : Type 0 where
+pub record RowsShow (rows : List NodeRow) (state : NodeState) : Type 0 where
   pub count : length rows ≡ length state.rows
   pub kept : (id : ℕ) → option_map answered_of_row (row_in id rows) ≡ row_with_id id state
   pub staged : (id : ℕ) → staged_in (row_in id rows) ≡ map (λ staged. staged.capability) (filter (λ staged. staged.volume == id) state.staged)

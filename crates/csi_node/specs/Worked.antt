@@ -19,7 +19,7 @@ use Rattle.csi_types.specs.Frame.{Frame}
 use Rattle.csi_types.specs.Replies.{plain_reply, ok_reply, call_frame, reply_frame}
 use Rattle.csi_node.specs.State.{NodeState, empty_node, staged_of, published_at, row_for}
 use Rattle.csi_node.specs.Fenced.{fenced, after_frames}
-use Rattle.csi_node.specs.Shown.{Shows}
+use Rattle.csi_node.specs.Shown.{RowsShow}
 use Rattle.csi_node.specs.Laws.{NodeTableLaw, state_after}
 
 -- a block capability
@@ -118,7 +118,7 @@ FullNodeRefuses =
 
 -- a node that has answered nothing is shown by a record without rows
 abbrev pub EmptyIsShown : Type 0
-EmptyIsShown = Shows [] empty_node
+EmptyIsShown = RowsShow [] empty_node
 
 -- what the laws tell of a publish of a staged volume: it is published as asked
 abbrev pub staged_v : List Frame

@@ -6,7 +6,7 @@ ghost use Rattle.csi_types.specs.Lent.{lent_call};
 ghost use Rattle.csi_types.specs.Replies.{plain_reply};
 ghost use Rattle.csi_node.specs.State.{volume_of};
 ghost use Rattle.csi_node.specs.Table.{lifecycle_row};
-ghost use Rattle.csi_node.specs.OneRow.{shown, alone, row_anew, IsRow, IsAfter, IsNodeAnswer, RowAnswers};
+ghost use Rattle.csi_node.specs.OneRow.{shown, alone, row_anew, IsSoundRow, IsAfter, IsNodeAnswer, RowAnswers};
 
 use crate::changes::change_where;
 use crate::fault::CoreFault;
@@ -25,11 +25,11 @@ pub(crate) fn carry_out(
 ) -> Result<(Kind, Reply), CoreFault>
     requires volume { volume_of (lent_call call.now) ≡ Some row.old.id }
     requires kind { is_node_kind (kind_of (lent_call call.now)) ≡ true }
-    requires rules { IsRow (shown row.old) }
+    requires rules { IsSoundRow (shown row.old) }
     ensures answer { IfOk result (λ answer. answer ≡ (kind_of (lent_call call.now), (lifecycle_row (alone (shown row.old)) (lent_call call.now)).reply)) }
     ensures fits { IfOk result IsNodeAnswer }
     ensures row { OnOk result (IsAfter number (lent_call call.now) (shown row.old) (shown row.new)) }
-    ensures rules { OnOk result (IsRow (shown row.new)) }
+    ensures rules { OnOk result (IsSoundRow (shown row.new)) }
     ensures err { OnErr result (shown row.new ≡ shown row.old) }
 {
     let line = line(row, call);
@@ -70,7 +70,7 @@ pub(crate) fn answer_with_new_row(
     ensures answer { IfOk result (λ made. made.1 ≡ (kind_of (lent_call call.now), (lifecycle_row (alone (row_anew id number (kind_of (lent_call call.now)))) (lent_call call.now)).reply)) }
     ensures fits { IfOk result (λ made. IsNodeAnswer made.1) }
     ensures row { IfOk result (λ made. IsAfter number (lent_call call.now) (row_anew id number (kind_of (lent_call call.now))) (shown made.0)) }
-    ensures rules { IfOk result (λ made. IsRow (shown made.0)) }
+    ensures rules { IfOk result (λ made. IsSoundRow (shown made.0)) }
 {
     let mut row = new_row(alloc, id, number, call.kind())?;
     let answer = carry_out(&mut row, alloc, number, call)?;
@@ -109,10 +109,10 @@ pub(crate) fn answer_at_row(
 ) -> Result<(Kind, Reply), CoreFault>
     requires volume { volume_of (lent_call call.now) ≡ Some row.old.id }
     requires kind { is_node_kind (kind_of (lent_call call.now)) ≡ true }
-    requires rules { IsRow (shown row.old) }
+    requires rules { IsSoundRow (shown row.old) }
     ensures ok { IfOk result (λ answer. RowAnswers number (lent_call call.now) (shown row.old) (shown row.new) answer (verdict_of (Some row.old.last) number)) }
     ensures fits { IfOk result IsNodeAnswer }
-    ensures rules { IsRow (shown row.new) }
+    ensures rules { IsSoundRow (shown row.new) }
     ensures err { OnErr result (shown row.new ≡ shown row.old) }
 {
     match verdict_of(Some(row.last), number) {

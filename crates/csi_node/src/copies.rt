@@ -1,7 +1,7 @@
 //! Copies of rows.
 ghost use Rattle.std.specs.Prelude.{◌≡◌, ◌++◌, ◌∷◌, [], None, IfOk, IsOk, OnOk, option_map};
 ghost use Rattle.csi_node.specs.OneRow.{shown};
-ghost use Rattle.csi_node.specs.Record.{parts, IsRecord};
+ghost use Rattle.csi_node.specs.Record.{parts, IsSound};
 ghost use Rattle.csi_node.specs.Shown.{row_in};
 
 use crate::fault::CoreFault;
@@ -39,7 +39,7 @@ pub(crate) fn copies_of(alloc: Global, rows: &[NodeRow]) -> Result<Vec<NodeRow>,
 
 /// A copy of the row of this volume, if it has one.
 pub(crate) fn copy_in(rows: &[NodeRow], id: VolumeId) -> Result<Option<NodeRow>, CoreFault>
-    requires { IsRecord (parts rows.now) }
+    requires { IsSound (parts rows.now) }
     ensures row { IfOk result (λ row. option_map shown row ≡ option_map shown (row_in id rows.now)) }
     ensures succeeds { row_in id rows.now ≡ None → IsOk result }
 {

@@ -2,7 +2,7 @@
 ghost use Rattle.std.specs.Prelude.{◌≡◌, MatchOption};
 ghost use Rattle.csi_node.specs.Judging.{IsFirstRefused, may_follow as is_fit_after};
 ghost use Rattle.csi_node.specs.OneRow.{shown};
-ghost use Rattle.csi_node.specs.Record.{parts, IsRecord};
+ghost use Rattle.csi_node.specs.Record.{parts, IsSound};
 
 use crate::row::NodeRow;
 use crate::sound_row::is_sound_row;
@@ -17,7 +17,7 @@ fn may_follow(count: usize, last: u64, row: &NodeRow) -> bool
 
 /// The place, counted from 1, of the first row that no record has there; `None` where all these rows are a record's.
 pub(crate) fn first_refused(rows: &[NodeRow]) -> Option<u64>
-    ensures { MatchOption result (IsRecord (parts rows.now)) (IsFirstRefused rows.now) }
+    ensures { MatchOption result (IsSound (parts rows.now)) (IsFirstRefused rows.now) }
 {
     let mut last = 0;
     for (index, row) in rows.iter().enumerate() {

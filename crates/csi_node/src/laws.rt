@@ -1,8 +1,8 @@
 //! The laws of the node's table, and of every node.
 ghost use Rattle.csi_node.specs.Laws.{NodeTableLaw};
-ghost use Rattle.csi_node.specs.Record.{parts, IsRecord};
+ghost use Rattle.csi_node.specs.Record.{parts, IsSound};
 ghost use Rattle.csi_node.specs.Safe.{NodeSafetyLaw, IsPublishedRight};
-ghost use Rattle.csi_node.specs.Shown.{Shows};
+ghost use Rattle.csi_node.specs.Shown.{RowsShow};
 ghost use Rattle.csi_node.specs.State.{NodeState};
 ghost use Rattle.csi_node.specs.View.{NodeDeliveryLaw};
 
@@ -35,7 +35,7 @@ pub fn delivery_law()
 /// target is published at one at most (CSI's spec.md, "Volume Lifecycle", and "NodePublishVolume" on several
 /// targets).
 pub fn publishing_law(node: &Node)
-    ensures { (state : NodeState) → Shows node.now.rows state → IsPublishedRight state }
+    ensures { (state : NodeState) → RowsShow node.now.rows state → IsPublishedRight state }
 {
     node.assert_rules();
 }
@@ -43,7 +43,7 @@ pub fn publishing_law(node: &Node)
 /// A law, and nothing that runs: the rows of every node, whatever it was asked and whichever record it was made of, keep the rules
 /// of a record: they stand by rising id, at most 4,096, and each keeps the rules of a row. This profile's own.
 pub fn record_law(node: &Node)
-    ensures { IsRecord (parts node.now.rows) }
+    ensures { IsSound (parts node.now.rows) }
 {
     node.assert_rules();
 }
@@ -51,7 +51,7 @@ pub fn record_law(node: &Node)
 /// A law, and nothing that runs: every node, whatever it was asked and whichever record it was made of, shows a state, so that
 /// what the other contracts say of each state that a node shows is said of every node. This profile's own.
 pub fn showing_law(node: &Node)
-    ensures { (state : NodeState) × Shows node.now.rows state }
+    ensures { (state : NodeState) × RowsShow node.now.rows state }
 {
     node.assert_rules();
 }

@@ -57,19 +57,19 @@ impl Node {
     ghost use Rattle.csi_types.specs.Lent.{HasFitTexts};
     ghost use Rattle.csi_types.specs.Replies.{call_frame};
     ghost use Rattle.csi_node.specs.Fenced.{fenced};
-    ghost use Rattle.csi_node.specs.Record.{parts, is_call_for, IsRecord};
-    ghost use Rattle.csi_node.specs.OneRow.{shown, alone, IsRow};
+    ghost use Rattle.csi_node.specs.Record.{parts, is_call_for, IsSound};
+    ghost use Rattle.csi_node.specs.OneRow.{shown, alone, IsSoundRow};
     ghost use Rattle.csi_node.specs.OneVolume.{row_by_id, called_volume, AreRowsAfter};
     ghost use Rattle.std.specs.List.{flat_map};
     ghost use Rattle.csi_node.specs.Views.{staged_shown, published_shown, ListsStaged, ListsPublished};
-    ghost use Rattle.csi_node.specs.Shown.{Shows, row_in, answered_of_row};
+    ghost use Rattle.csi_node.specs.Shown.{RowsShow, row_in, answered_of_row};
     ghost use Rattle.csi_node.specs.State.{NodeState, empty_node, row_with_id};
 
     /// A node of this id that has answered nothing. It takes no memory.
     pub fn new(alloc: Global, id: NodeId) -> Node
         ensures id { result.id ≡ id }
         ensures rows { result.rows ≡ [] }
-        ensures empty { Shows result.rows empty_node }
+        ensures empty { RowsShow result.rows empty_node }
     {
         Node {
             alloc,
@@ -89,12 +89,12 @@ impl Node {
     /// an allocation that was refused, leaves the node as it was.
     pub fn step(&mut self, frame: &Frame) -> Result<Option<Frame>, CoreFault>
         // What is answered, and the new state, are the definition's.
-        ensures reply { (state : NodeState) → Shows self.old.rows state →
+        ensures reply { (state : NodeState) → RowsShow self.old.rows state →
             IfOk result (λ reply. reply ≡ (fenced self.old.id state frame.now).reply) }
-        ensures state { (state : NodeState) → Shows self.old.rows state →
-            OnOk result (Shows self.new.rows (fenced self.old.id state frame.now).state) }
+        ensures state { (state : NodeState) → RowsShow self.old.rows state →
+            OnOk result (RowsShow self.new.rows (fenced self.old.id state frame.now).state) }
         ensures id { self.new.id ≡ self.old.id }
-        ensures err { (state : NodeState) → Shows self.old.rows state → OnErr result (Shows self.new.rows state) }
+        ensures err { (state : NodeState) → RowsShow self.old.rows state → OnErr result (RowsShow self.new.rows state) }
         // What becomes of the rows.
         ensures rows { OnOk result (AreRowsAfter (called_volume frame.now.body) (parts self.old.rows) (parts self.new.rows)) }
         ensures err_rows { OnErr result (parts self.new.rows ≡ parts self.old.rows) }
@@ -136,13 +136,13 @@ impl Node {
         call: &CallRef<'_>,
     ) -> Result<Option<(Kind, Reply)>, CoreFault>
         // What a frame of the call gets.
-        ensures reply { (state : NodeState) → Shows self.old.rows state → IsAllowed (OfNode self.old.id) (CallBody (lent_call call.now)) → HasFitTexts (lent_call call.now) →
+        ensures reply { (state : NodeState) → RowsShow self.old.rows state → IsAllowed (OfNode self.old.id) (CallBody (lent_call call.now)) → HasFitTexts (lent_call call.now) →
             IfOk result (λ answer. option_map (answer_frame self.old.id number) answer ≡ (fenced self.old.id state (call_frame number (OfNode self.old.id) (lent_call call.now))).reply) }
-        ensures state { (state : NodeState) → Shows self.old.rows state → IsAllowed (OfNode self.old.id) (CallBody (lent_call call.now)) → HasFitTexts (lent_call call.now) →
-            OnOk result (Shows self.new.rows (fenced self.old.id state (call_frame number (OfNode self.old.id) (lent_call call.now))).state) }
+        ensures state { (state : NodeState) → RowsShow self.old.rows state → IsAllowed (OfNode self.old.id) (CallBody (lent_call call.now)) → HasFitTexts (lent_call call.now) →
+            OnOk result (RowsShow self.new.rows (fenced self.old.id state (call_frame number (OfNode self.old.id) (lent_call call.now))).state) }
         ensures allowed { IfOk result (λ answer. IfSome answer (λ own. IsAllowed (OfNode self.old.id) (ReplyBody own.0 own.1))) }
         ensures id { self.new.id ≡ self.old.id }
-        ensures err { (state : NodeState) → Shows self.old.rows state → OnErr result (Shows self.new.rows state) }
+        ensures err { (state : NodeState) → RowsShow self.old.rows state → OnErr result (RowsShow self.new.rows state) }
         // What becomes of the rows.
         ensures rows { OnOk result (AreRowsAfter (volume_of (lent_call call.now)) (parts self.old.rows) (parts self.new.rows)) }
         ensures err_rows { OnErr result (parts self.new.rows ≡ parts self.old.rows) }
@@ -168,7 +168,7 @@ impl Node {
     pub fn record(&self) -> Result<NodeRecord, CoreFault>
         ensures id { IfOk result (λ copy. copy.id ≡ self.now.id) }
         ensures rows { IfOk result (λ copy. parts copy.rows ≡ parts self.now.rows) }
-        ensures shows { (state : NodeState) → Shows self.now.rows state → IfOk result (λ copy. Shows copy.rows state) }
+        ensures shows { (state : NodeState) → RowsShow self.now.rows state → IfOk result (λ copy. RowsShow copy.rows state) }
     {
         self.record.copy(self.alloc)
     }
@@ -185,7 +185,7 @@ impl Node {
     pub fn row(&self, id: VolumeId) -> Result<Option<NodeRow>, CoreFault>
         ensures row { IfOk result (λ row. option_map shown row ≡ option_map shown (row_in id self.now.rows)) }
         ensures succeeds { row_in id self.now.rows ≡ None → IsOk result }
-        ensures shows { (state : NodeState) → Shows self.now.rows state →
+        ensures shows { (state : NodeState) → RowsShow self.now.rows state →
             IfOk result (λ row. option_map answered_of_row row ≡ row_with_id id state) }
     {
         self.record.row(id)
@@ -194,7 +194,7 @@ impl Node {
     /// The row of a volume, if the node has one, as it is kept: it keeps the rules of a row. It takes no memory.
     pub fn row_with_id(&self, id: VolumeId) -> Option<&NodeRow>
         ensures row { option_map shown (option_copied result) ≡ row_by_id id (parts self.now.rows) }
-        ensures rules { IfSome (option_copied result) (λ row. IsRow (shown row)) }
+        ensures rules { IfSome (option_copied result) (λ row. IsSoundRow (shown row)) }
     {
         self.record.row_with_id(id)
     }
@@ -203,7 +203,7 @@ impl Node {
     /// refused.
     pub fn staged(&self) -> Result<Vec<Staged>, CoreFault>
         ensures list { IfOk result (λ list. map staged_shown list.items ≡ flat_map (λ row. (alone (shown row)).staged) self.now.rows) }
-        ensures shows { (state : NodeState) → Shows self.now.rows state →
+        ensures shows { (state : NodeState) → RowsShow self.now.rows state →
             IfOk result (λ list. ListsStaged (map staged_shown list.items) state) }
     {
         staged_in(self.alloc, self.record.rows())
@@ -213,7 +213,7 @@ impl Node {
     /// stays as it is. An `Err` is an allocation that was refused.
     pub fn published(&self) -> Result<Vec<Published>, CoreFault>
         ensures list { IfOk result (λ list. map published_shown list.items ≡ flat_map (λ row. (alone (shown row)).published) self.now.rows) }
-        ensures shows { (state : NodeState) → Shows self.now.rows state →
+        ensures shows { (state : NodeState) → RowsShow self.now.rows state →
             IfOk result (λ list. ListsPublished (map published_shown list.items) state) }
     {
         published_in(self.alloc, self.record.rows())
@@ -221,7 +221,7 @@ impl Node {
 
     // Nothing that runs: the rules of the rows hold.
     pub(crate) fn assert_rules(&self)
-        ensures { IsRecord (parts self.now.rows) }
+        ensures { IsSound (parts self.now.rows) }
     {
         let _rows = self.record.rows();
     }

@@ -23,13 +23,13 @@ pub struct NodeRecord {
 }
 
 impl Model for NodeRecord {
-    ghost use Rattle.csi_node.specs.Record.{NodeParts, parts, IsRecord};
+    ghost use Rattle.csi_node.specs.Record.{NodeParts, parts, IsSound};
 
     ghost Value = { NodeParts };
 
     ghost view = { λ record_. record { id = record_.id; rows = record_.rows.items } };
 
-    ghost invariant = { λ record_. IsRecord (parts record_.rows.items) };
+    ghost invariant = { λ record_. IsSound (parts record_.rows.items) };
 }
 
 impl NodeRecord {
@@ -38,9 +38,9 @@ impl NodeRecord {
     ghost use Rattle.csi_types.specs.Lent.{lent_call};
     ghost use Rattle.csi_node.specs.Fenced.{answer_frame, fenced_call, kept_for};
     ghost use Rattle.csi_node.specs.OneVolume.{IsOneRowPut, row_by_id};
-    ghost use Rattle.csi_node.specs.Record.{parts, IsRecord, Gives};
-    ghost use Rattle.csi_node.specs.Shown.{Shows, row_in};
-    ghost use Rattle.csi_node.specs.OneRow.{shown, IsRow, IsNodeAnswer};
+    ghost use Rattle.csi_node.specs.Record.{parts, IsSound, Gives};
+    ghost use Rattle.csi_node.specs.Shown.{RowsShow, row_in};
+    ghost use Rattle.csi_node.specs.OneRow.{shown, IsSoundRow, IsNodeAnswer};
     ghost use Rattle.csi_node.specs.State.{NodeState, volume_of};
 
     /// The record of the node of this id that has these rows, by rising id (this profile's own). It is refused with `BadRow` at
@@ -49,9 +49,9 @@ impl NodeRecord {
     /// 4,096 rows stand before it. It takes no memory, and so doesn't answer `NoMemory`.
     pub fn try_new(id: NodeId, rows: Vec<NodeRow>) -> Result<NodeRecord, RecordFault>
         ensures value { IfOk result (λ made. made ≡ record { id = id; rows = rows.items }) }
-        ensures rules { OnOk result (IsRecord (parts rows.items)) }
+        ensures rules { OnOk result (IsSound (parts rows.items)) }
         ensures refused { IfErr result (IsRefusal rows.items) }
-        ensures accepted { IsRecord (parts rows.items) → IsOk result }
+        ensures accepted { IsSound (parts rows.items) → IsOk result }
     {
         match first_refused(rows.as_slice()) {
             None => Ok(NodeRecord { id, rows }),
@@ -69,7 +69,7 @@ impl NodeRecord {
     /// The rows, by rising id.
     pub fn rows(&self) -> &[NodeRow]
         ensures value { result.now ≡ self.now.rows }
-        ensures rules { IsRecord (parts self.now.rows) }
+        ensures rules { IsSound (parts self.now.rows) }
     {
         self.rows.as_slice()
     }
@@ -94,7 +94,7 @@ impl NodeRecord {
     ) -> Result<(Kind, Reply), CoreFault>
         requires volume { volume_of (lent_call call.now) ≡ Some id }
         requires kind { is_node_kind (kind_of (lent_call call.now)) ≡ true }
-        ensures ok { (node : List ℕ) (state : NodeState) → Shows self.old.rows state → IfOk result (λ answer.
+        ensures ok { (node : List ℕ) (state : NodeState) → RowsShow self.old.rows state → IfOk result (λ answer.
             Gives self.new.rows (answer_frame node number answer) (fenced_call node state number (lent_call call.now) (kept_for (lent_call call.now) state))) }
         ensures fits { IfOk result IsNodeAnswer }
         ensures id { self.new.id ≡ self.old.id }
@@ -117,7 +117,7 @@ impl NodeRecord {
     /// The row of this volume, if it has one.
     pub(crate) fn row_with_id(&self, id: VolumeId) -> Option<&NodeRow>
         ensures row { option_map shown (option_copied result) ≡ row_by_id id (parts self.now.rows) }
-        ensures rules { IfSome (option_copied result) (λ row. IsRow (shown row)) }
+        ensures rules { IfSome (option_copied result) (λ row. IsSoundRow (shown row)) }
     {
         row_with_id(self.rows.as_slice(), id)
     }

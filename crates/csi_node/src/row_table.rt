@@ -5,7 +5,7 @@ ghost use Rattle.csi_types.specs.Lent.{lent_capability, lent_call};
 ghost use Rattle.csi_types.specs.Sharing.{allows_one_target as allows_one};
 ghost use Rattle.csi_types.specs.declared.status.Status.TheVariants.{AlreadyExists};
 ghost use Rattle.csi_node.specs.Line.{outcome_shown, WhereDone};
-ghost use Rattle.csi_node.specs.OneRow.{shown, alone, target_in, published_by, publish_by_row, change_of, CanChange, HasRoomFor, IsNew, IsRow};
+ghost use Rattle.csi_node.specs.OneRow.{shown, alone, target_in, published_by, publish_by_row, change_of, CanChange, HasRoomFor, IsNew, IsSoundRow};
 ghost use Rattle.csi_node.specs.State.{volume_of, published_at, PublishedVolume};
 ghost use Rattle.csi_node.specs.Table.{Change, Stages, Unstages, Publishes, Unpublishes, stage, unstage, refused, met, publish, publish_new, unpublish, lifecycle_row, begins_with_slash};
 
@@ -53,7 +53,7 @@ fn stage_line(row: &NodeRow, capability: &CapabilityRef<'_>) -> Line<'static>
 
 // NodeUnstageVolume.
 fn unstage_line(row: &NodeRow) -> Line<'_>
-    requires rules { IsRow (shown row.now) }
+    requires rules { IsSoundRow (shown row.now) }
     ensures line { unstage row.now.id (published_by row.now.id row.now.staged row.now.targets.items) ≡ outcome_shown (Unstages row.now.id) result }
     ensures ready { WhereDone result (row.now.targets.items ≡ []) }
 {
@@ -143,7 +143,7 @@ fn publish_line<'a>(
 
 // NodeUnpublishVolume.
 fn unpublish_line(row: &NodeRow, target: &str) -> Line<'static>
-    requires rules { IsRow (shown row.now) }
+    requires rules { IsSoundRow (shown row.now) }
     ensures { unpublish row.now.id target.now (published_at row.now.id target.now (alone (shown row.now))) ≡ outcome_shown (Unpublishes row.now.id target.now) result }
 {
     match find_target(row, target) {
@@ -156,7 +156,7 @@ fn unpublish_line(row: &NodeRow, target: &str) -> Line<'static>
 pub(crate) fn line<'a>(row: &'a NodeRow, call: &CallRef<'_>) -> Line<'a>
     requires volume { volume_of (lent_call call.now) ≡ Some row.now.id }
     requires kind { is_node_kind (kind_of (lent_call call.now)) ≡ true }
-    requires rules { IsRow (shown row.now) }
+    requires rules { IsSoundRow (shown row.now) }
     ensures line { lifecycle_row (alone (shown row.now)) (lent_call call.now) ≡ outcome_shown (change_of (lent_call call.now)) result }
     ensures ready { WhereDone result (CanChange (shown row.now) (lent_call call.now)) }
 {

@@ -5,8 +5,8 @@ ghost use Rattle.csi_types.specs.Lent.{lent_call};
 ghost use Rattle.csi_node.specs.Fenced.{answer_frame, fenced_call, kept_for};
 ghost use Rattle.csi_node.specs.OneRow.{IsNodeAnswer};
 ghost use Rattle.csi_node.specs.OneVolume.{IsOneRowPut};
-ghost use Rattle.csi_node.specs.Record.{parts, IsRecord, IsAt, IsGapFor, Gives};
-ghost use Rattle.csi_node.specs.Shown.{Shows};
+ghost use Rattle.csi_node.specs.Record.{parts, IsSound, IsAt, IsGapFor, Gives};
+ghost use Rattle.csi_node.specs.Shown.{RowsShow};
 ghost use Rattle.csi_node.specs.State.{NodeState, volume_of};
 
 use crate::at_row::{answer_at_row, answer_with_new_row, refusal};
@@ -20,7 +20,7 @@ pub(crate) const MAX_ROWS: usize = 4096;
 
 /// Where the row of this id is, or where it would go.
 pub(crate) fn place_of(rows: &[NodeRow], id: VolumeId) -> Result<usize, usize>
-    requires { IsRecord (parts rows.now) }
+    requires { IsSound (parts rows.now) }
     ensures found { IfOk result (IsAt (parts rows.now) id) }
     ensures absent { IfErr result (IsGapFor (parts rows.now) id) }
 {
@@ -38,12 +38,12 @@ fn answer_with_row(
 ) -> Result<(Kind, Reply), CoreFault>
     requires volume { volume_of (lent_call call.now) ≡ Some id }
     requires kind { is_node_kind (kind_of (lent_call call.now)) ≡ true }
-    requires rules { IsRecord (parts rows.old.items) }
+    requires rules { IsSound (parts rows.old.items) }
     requires place { IsAt (parts rows.old.items) id place }
-    ensures ok { (node : List ℕ) (state : NodeState) → Shows rows.old.items state → IfOk result (λ answer.
+    ensures ok { (node : List ℕ) (state : NodeState) → RowsShow rows.old.items state → IfOk result (λ answer.
         Gives rows.new.items (answer_frame node number answer) (fenced_call node state number (lent_call call.now) (kept_for (lent_call call.now) state))) }
     ensures fits { IfOk result IsNodeAnswer }
-    ensures rules { IsRecord (parts rows.new.items) }
+    ensures rules { IsSound (parts rows.new.items) }
     ensures one { OnOk result (IsOneRowPut id (parts rows.old.items) (parts rows.new.items)) }
     ensures err { OnErr result (parts rows.new.items ≡ parts rows.old.items) }
 {
@@ -61,12 +61,12 @@ fn answer_without_row(
 ) -> Result<(Kind, Reply), CoreFault>
     requires volume { volume_of (lent_call call.now) ≡ Some id }
     requires kind { is_node_kind (kind_of (lent_call call.now)) ≡ true }
-    requires rules { IsRecord (parts rows.old.items) }
+    requires rules { IsSound (parts rows.old.items) }
     requires place { IsGapFor (parts rows.old.items) id place }
-    ensures ok { (node : List ℕ) (state : NodeState) → Shows rows.old.items state → IfOk result (λ answer.
+    ensures ok { (node : List ℕ) (state : NodeState) → RowsShow rows.old.items state → IfOk result (λ answer.
         Gives rows.new.items (answer_frame node number answer) (fenced_call node state number (lent_call call.now) (kept_for (lent_call call.now) state))) }
     ensures fits { IfOk result IsNodeAnswer }
-    ensures rules { IsRecord (parts rows.new.items) }
+    ensures rules { IsSound (parts rows.new.items) }
     ensures one { OnOk result (IsOneRowPut id (parts rows.old.items) (parts rows.new.items)) }
     ensures err { OnErr result (parts rows.new.items ≡ parts rows.old.items) }
 {
@@ -88,11 +88,11 @@ pub(crate) fn answer(
 ) -> Result<(Kind, Reply), CoreFault>
     requires volume { volume_of (lent_call call.now) ≡ Some id }
     requires kind { is_node_kind (kind_of (lent_call call.now)) ≡ true }
-    requires rules { IsRecord (parts rows.old.items) }
-    ensures ok { (node : List ℕ) (state : NodeState) → Shows rows.old.items state → IfOk result (λ answer.
+    requires rules { IsSound (parts rows.old.items) }
+    ensures ok { (node : List ℕ) (state : NodeState) → RowsShow rows.old.items state → IfOk result (λ answer.
         Gives rows.new.items (answer_frame node number answer) (fenced_call node state number (lent_call call.now) (kept_for (lent_call call.now) state))) }
     ensures fits { IfOk result IsNodeAnswer }
-    ensures rules { IsRecord (parts rows.new.items) }
+    ensures rules { IsSound (parts rows.new.items) }
     ensures one { OnOk result (IsOneRowPut id (parts rows.old.items) (parts rows.new.items)) }
     ensures err { OnErr result (parts rows.new.items ≡ parts rows.old.items) }
 {

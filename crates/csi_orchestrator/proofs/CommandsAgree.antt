@@ -18,15 +18,15 @@ use Rattle.csi_orchestrator.specs.WellFormed.{IsWellFormed}
 use Rattle.csi_orchestrator.specs.Commands.{create_fault, use_fault, use_room_fault, stop_fault, delete_fault, delete_busy_fault}
 use Rattle.csi_orchestrator.specs.Moves.{Answer, Sends, Moved, met, send_due, command, use_when, delete_when}
 use Rattle.csi_orchestrator.specs.Following.{after_noted}
-use Rattle.csi_orchestrator.specs.Shown.{RowShown, Parts, row_of, open_in_row, view_of, AgreesWith}
+use Rattle.csi_orchestrator.specs.Shown.{RowShown, Parts, row_of, open_in_row, view_of, Shows}
 use Rattle.csi_orchestrator.specs.RowChanges.{wanted, new_row, wanted_anew, with_entry}
 use Rattle.csi_orchestrator.specs.RowRefusals.{first_fault, again_fault, use_refusal, room_refusal, stop_refusal, delete_refusal, busy_refusal}
-use Rattle.csi_orchestrator.specs.RowSteps.{RowTold, row_sends_due, row_rests, row_unless, due_for_use, row_takes}
+use Rattle.csi_orchestrator.specs.RowSteps.{MovedRow, row_sends_due, row_rests, row_unless, due_for_use, row_takes}
 use Rattle.csi_orchestrator.specs.RowMoves.{placed, steps_at, creates}
-use Rattle.csi_orchestrator.specs.Kept.{IsKept, AreKept}
+use Rattle.csi_orchestrator.specs.Sound.{IsSoundRow, IsSound}
 use Rattle.csi_orchestrator.proofs.ViewsFollow.{noted-follows}
 use Rattle.csi_orchestrator.proofs.SendingAgrees.{Tells, sends-due-tells}
-use Rattle.csi_orchestrator.proofs.StepsKept.{MaySendDue, first-held, use-free, changed-may, new-may}
+use Rattle.csi_orchestrator.proofs.StepsSound.{MaySendDue, first-held, use-free, changed-may, new-may}
 use Rattle.csi_orchestrator.proofs.RulesStay.{found-kept}
 use Rattle.csi_orchestrator.proofs.RowsAfterNotes.{no-call, reads-wanted, reads-anew, reads-new, reads-with-entry}
 use Rattle.csi_orchestrator.proofs.RefusalsRead.{create-first, create-again, use-unknown, use-refused, room-refused, use-due, stop-unknown, stop-refused, delete-unknown, delete-refused, busy-refused}
@@ -35,22 +35,22 @@ use Rattle.csi_orchestrator.proofs.RowViews.{Reads, same-self, same-noted, put-a
 -- rows that are kept and agree with a history
 pub record AreRight (parts : Parts) (history : History) : Type 0 where
   pub form : IsWellFormed history
-  pub kept : AreKept parts.rows
-  pub agrees : AgreesWith parts history
+  pub kept : IsSound parts.rows
+  pub agrees : Shows parts history
 
 -- the row of a name among them
 pub record IsFound (parts : Parts) (history : History) (name : List ℕ) (row : RowShown) : Type 0 where
   pub right : AreRight parts history
   pub found : row_of parts.rows name ≡ Some row
 
-pub own-kept : (parts : Parts) (history : History) (name : List ℕ) (row : RowShown) → IsFound parts history name row → IsKept row
+pub own-kept : (parts : Parts) (history : History) (name : List ℕ) (row : RowShown) → IsFound parts history name row → IsSoundRow row
 own-kept parts history name row at = found-kept (λ (r : RowShown). same_text r.name name) parts.rows row (at.right).kept at.found
 
 pub own-reads : (parts : Parts) (history : History) (name : List ℕ) (row : RowShown) → IsFound parts history name row → Reads row (view_of parts) name
 own-reads parts history name row at = row-reads parts name row (own-name parts name row at.found) at.found
 
 -- two answers by one test
-pub either-tells : (parts : Parts) (history : History) (answer : Option Frame → Answer) (b : Bool) (x y : Result RowTold OrchFault) (m n : Result Moved OrchFault) → (b ≡ true → Tells history (placed parts answer x) m)
+pub either-tells : (parts : Parts) (history : History) (answer : Option Frame → Answer) (b : Bool) (x y : Result MovedRow OrchFault) (m n : Result Moved OrchFault) → (b ≡ true → Tells history (placed parts answer x) m)
     → (b ≡ false → Tells history (placed parts answer y) n) → Tells history (placed parts answer (cond b x y)) (cond b m n)
 either-tells parts history answer true x y m n f g = f refl
 either-tells parts history answer false x y m n f g = g refl
@@ -62,7 +62,7 @@ met-tells parts history name row at =
     ((refl, put-agrees parts parts.last name row (view_of parts) history (own-reads parts history name row at) (λ other differs. same-self (view_of parts) other) refl agrees), tt)
 
 -- unless it is refused, something is noted, and the due call is sent
-command-tells : (parts : Parts) (history : History) (name : List ℕ) (goal : Goal) (fault : Option OrchFault) (result : Result RowTold OrchFault)
+command-tells : (parts : Parts) (history : History) (name : List ℕ) (goal : Goal) (fault : Option OrchFault) (result : Result MovedRow OrchFault)
     → (fault ≡ None → Tells history (placed parts Sends result) (send_due history name Sends (Noted name (Some goal) ∷ []))) → Tells history (placed parts Sends (row_unless fault result)) (command history name goal fault)
 command-tells parts history name goal None result f = f refl
 command-tells parts history name goal (Some fault) result f = (refl, tt)

@@ -8,7 +8,7 @@ use Rattle.csi_orchestrator.specs.declared.row.Goal.{Goal}
 use Rattle.csi_orchestrator.specs.Due.{Due}
 use Rattle.csi_orchestrator.specs.Found.{kind_due}
 use Rattle.csi_orchestrator.specs.Hearing.{due_heard}
-use Rattle.csi_orchestrator.specs.Kept.{IsKept}
+use Rattle.csi_orchestrator.specs.Sound.{IsSoundRow}
 use Rattle.csi_orchestrator.specs.RowChanges.{marked, told_of, id_told, succeeded}
 use Rattle.csi_orchestrator.specs.Shown.{RowShown, due_with, due_by, due_in}
 use Rattle.csi_orchestrator.proofs.DueCases.{due-cases}
@@ -17,7 +17,7 @@ use Rattle.csi_orchestrator.proofs.RowMarks.{marks-then}
 use Rattle.csi_orchestrator.proofs.RowsAfterSending.{marks-same}
 
 -- the call that is due once the due call succeeded, by what was known before; and the same by that call's kind
-due-heard : (row : RowShown) (id : Option ℕ) (goal : Goal) (due : Due) → IsKept row → due_in row ≡ Some due → row.goal ≡ Some goal
+due-heard : (row : RowShown) (id : Option ℕ) (goal : Goal) (due : Due) → IsSoundRow row → due_in row ≡ Some due → row.goal ≡ Some goal
     → due_in (succeeded (kind_of due.call) id row) ≡ due_heard (kind_of due.call) id row (Some goal)
 due-heard row id goal due kept e wanted =
     let kind = kind_of due.call in
@@ -25,7 +25,7 @@ due-heard row id goal due kept e wanted =
     ∙ ap (λ marks. due_with row.name row.arguments (option_or (id_told kind id) row.id) marks goal)
     (marks-same goal (succeeded kind id row) (marked (told_of kind) kind row) refl refl ∙ marks-then row due goal (told_of kind) (has-entry row row.goal kept.goal) (due-cases row due e) wanted)
 
-pub due-after : (row : RowShown) (kind : Kind) (id : Option ℕ) (goal : Goal) → IsKept row → kind_due (due_in row) ≡ Some kind → row.goal ≡ Some goal
+pub due-after : (row : RowShown) (kind : Kind) (id : Option ℕ) (goal : Goal) → IsSoundRow row → kind_due (due_in row) ≡ Some kind → row.goal ≡ Some goal
     → due_in (succeeded kind id row) ≡ due_heard kind id row (Some goal)
 due-after row kind id goal kept is wanted = by (due_in row) refl is
   where

@@ -23,7 +23,7 @@ use Rattle.csi_orchestrator.specs.Commands.{is_for_one_node, is_second_writer}
 use Rattle.csi_orchestrator.specs.Guards.{CanBeHeldToo, holding_by, IsGuarded, MayIssue}
 use Rattle.csi_orchestrator.specs.Shown.{NodeEntryShown, RowShown, node_entry_of, mark_in, published_in, mark_of, held_at, others_in, due_in, AreTargetsApart}
 use Rattle.csi_orchestrator.specs.RowRefusals.{is_so_elsewhere, has_elsewhere}
-use Rattle.csi_orchestrator.specs.Kept.{IsUsable, MayBeWanted}
+use Rattle.csi_orchestrator.specs.Sound.{IsUsable, MayBeWanted}
 use Rattle.csi_orchestrator.proofs.DueCases.{IsDueFor, due-cases, ToMake, ToRemove, ToAttach, ToStage, ToPublish, ToUnpublish, ToUnstage, ToDetach}
 use Rattle.csi_orchestrator.proofs.InUse.{in-use-alike, target-in-use}
 use Rattle.csi_orchestrator.proofs.KnownTests.{yes_is_yes, no_is_no, not_yes, not_no, yes_not_no, is_not_no}

@@ -25,7 +25,7 @@ use Rattle.csi_orchestrator.specs.Readings.{known, known_by, held, issued_in, is
 use Rattle.csi_orchestrator.specs.Due.{attached_node, nodes_in_use, published_target, targets_in_use}
 use Rattle.csi_orchestrator.specs.Commands.{held_elsewhere, is_otherwise, is_held_otherwise}
 use Rattle.csi_orchestrator.specs.Shown.{NodeEntryShown, RowShown, node_entry_of, target_entry_of, mark_in, published_in, held_at, others_in, AreTargetsApart}
-use Rattle.csi_orchestrator.specs.Kept.{AreNodesApart}
+use Rattle.csi_orchestrator.specs.Sound.{AreNodesApart}
 use Rattle.csi_orchestrator.specs.RowRefusals.{is_so_elsewhere, has_elsewhere, is_entry_otherwise, others_count, is_attached_somewhere}
 use Rattle.csi_orchestrator.proofs.ViewsFollow.{touches-name}
 use Rattle.csi_orchestrator.proofs.JoinedLists.{own-entry}

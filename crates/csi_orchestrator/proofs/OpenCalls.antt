@@ -14,7 +14,7 @@ use Rattle.csi_orchestrator.specs.declared.catalog.Catalog.{Catalog}
 use Rattle.csi_orchestrator.specs.Catalog.{rows_of, IsIndexed, IsReady, IsNextFor, AreUpTo, call_in, IsAfter}
 use Rattle.csi_orchestrator.specs.Commands.{next_number}
 use Rattle.csi_orchestrator.specs.RowRefusals.{step_refusal, late_refusal}
-use Rattle.csi_orchestrator.specs.RowSteps.{RowTold, outgoing_by, sent_or_dropped, row_after, row_sends_due, row_rests, row_unless, is_met, waits, is_given_up, timed_out, failed, changed, row_takes, row_step}
+use Rattle.csi_orchestrator.specs.RowSteps.{MovedRow, outgoing_by, sent_or_dropped, row_after, row_sends_due, row_rests, row_unless, is_met, waits, is_given_up, timed_out, failed, changed, row_takes, row_step}
 use Rattle.csi_orchestrator.specs.Due.{Due}
 use Rattle.csi_orchestrator.specs.History.{Arguments}
 use Rattle.csi_orchestrator.specs.RowChanges.{new_row, wanted, stopped_goal}
@@ -51,14 +51,14 @@ after-sent last due next is = by due (next_number last) refl is
         λ call named. sym (some-is number.call call (ap call_in (ok-is _ next e) ∙ named)) ∙ numbered last number own
 
 -- the row's name stays, its open call was open or is sent, and what is sent comes right after the last call
-pub record IsOn (last : Number) (row : RowShown) (told : RowTold) : Type 0 where
-  pub name : (told.row).name ≡ row.name
-  pub opened : IsOpened row.open_number told.outgoing (told.row).open_number
-  pub after : IsAfter last.call told.outgoing
+pub record IsOn (last : Number) (row : RowShown) (moved_row : MovedRow) : Type 0 where
+  pub name : (moved_row.row).name ≡ row.name
+  pub opened : IsOpened row.open_number moved_row.outgoing (moved_row.row).open_number
+  pub after : IsAfter last.call moved_row.outgoing
 
 -- so it is, unless it is refused
-abbrev pub GoesOn : Number → RowShown → Result RowTold OrchFault → Type 0
-GoesOn last row (Ok told) = IsOn last row told
+abbrev pub GoesOn : Number → RowShown → Result MovedRow OrchFault → Type 0
+GoesOn last row (Ok moved_row) = IsOn last row moved_row
 GoesOn last row (Err fault) = Unit {0}
 
 -- a row of the same name whose due call is sent or whose goal is dropped, and one that rests
@@ -77,9 +77,9 @@ sends-due-goes last row then same = by (outgoing_by (due_in then) (next_number l
     by (Err fault) e = tt
     by (Ok next) e = record { name = sent_or_dropped-name next then ∙ same; opened = sent_or_dropped-opened row.open_number next then; after = after-sent last (due_in then) next e }
 
-unless-goes : (last : Number) (row : RowShown) (fault : Option OrchFault) (told : Result RowTold OrchFault) → GoesOn last row told → GoesOn last row (row_unless fault told)
-unless-goes last row None told goes = goes
-unless-goes last row (Some fault) told goes = tt
+unless-goes : (last : Number) (row : RowShown) (fault : Option OrchFault) (moved_row : Result MovedRow OrchFault) → GoesOn last row moved_row → GoesOn last row (row_unless fault moved_row)
+unless-goes last row None moved_row goes = goes
+unless-goes last row (Some fault) moved_row goes = tt
 
 -- a step leaves the row's name
 timed-out-name : (row : RowShown) (goal : Option Goal) → (timed_out row goal).name ≡ row.name

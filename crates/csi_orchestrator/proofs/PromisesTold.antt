@@ -5,74 +5,74 @@ use Rattle.csi_orchestrator.specs.declared.fault.OrchFault.{OrchFault}
 use Rattle.csi_orchestrator.specs.History.{History}
 use Rattle.csi_orchestrator.specs.WellFormed.{IsWellFormed}
 use Rattle.csi_orchestrator.specs.Moves.{Input, Answer, Moved, moves}
-use Rattle.csi_orchestrator.specs.Shown.{Parts, AgreesWith}
-use Rattle.csi_orchestrator.specs.RowMoves.{Told, row_moves, IsRefusal, IsTold, IsToldAs}
-use Rattle.csi_orchestrator.specs.Kept.{AreKept}
+use Rattle.csi_orchestrator.specs.Shown.{Parts, Shows}
+use Rattle.csi_orchestrator.specs.RowMoves.{MovedRows, row_moves, IsRefusal, IsMoveOf, RowsAnswer}
+use Rattle.csi_orchestrator.specs.Sound.{IsSound}
 use Rattle.csi_orchestrator.specs.Promises.{IsDone, IsAnsweredAs}
 use Rattle.csi_orchestrator.proofs.SendingAgrees.{Tells}
-use Rattle.csi_orchestrator.proofs.RulesStay.{rows-stay-kept}
+use Rattle.csi_orchestrator.proofs.RulesStay.{rows-stay-sound}
 use Rattle.csi_orchestrator.proofs.RepliesAgree.{all-tell}
 
 -- where the rows tell what the history tells, what is told is done
-done : (history : History) (told : Told) (moved : Result Moved OrchFault) → Tells history (Ok told) moved → IsDone history moved told.answer told.parts
-done history told (Ok moved) tells = record { answered = sym tells.0.0; agrees = tells.0.1; guarded = tells.1 }
-done history told (Err fault) tells = absurd tells.0
+done : (history : History) (moved_rows : MovedRows) (moved : Result Moved OrchFault) → Tells history (Ok moved_rows) moved → IsDone history moved moved_rows.answer moved_rows.parts
+done history moved_rows (Ok moved) tells = record { answered = sym tells.0.0; agrees = tells.0.1; guarded = tells.1 }
+done history moved_rows (Err fault) tells = absurd tells.0
 
 -- what was told is done
-pub is-done : (old : Parts) (history : History) (input : Input) (told : Told) → AreKept old.rows → IsWellFormed history → AgreesWith old history → row_moves old input ≡ Ok told
-    → IsDone history (moves old.nodes history input) told.answer told.parts
-is-done old history input told kept form agrees e =
-    done history told (moves old.nodes history input) (subst (λ r. Tells history r (moves old.nodes history input)) e (all-tell old history input form kept agrees))
+pub is-done : (old : Parts) (history : History) (input : Input) (moved_rows : MovedRows) → IsSound old.rows → IsWellFormed history → Shows old history → row_moves old input ≡ Ok moved_rows
+    → IsDone history (moves old.nodes history input) moved_rows.answer moved_rows.parts
+is-done old history input moved_rows kept form agrees e =
+    done history moved_rows (moves old.nodes history input) (subst (λ r. Tells history r (moves old.nodes history input)) e (all-tell old history input form kept agrees))
 
 -- where they do, what the rows refuse is refused
-refused : (history : History) (told : Result Told OrchFault) (moved : Result Moved OrchFault) (fault : OrchFault) → Tells history told moved → IsRefusal told fault → IsRefusal moved fault
-refused history (Ok told) (Ok moved) fault tells is = is
-refused history (Ok told) (Err other) fault tells is = absurd tells.0
+refused : (history : History) (moved_rows : Result MovedRows OrchFault) (moved : Result Moved OrchFault) (fault : OrchFault) → Tells history moved_rows moved → IsRefusal moved_rows fault → IsRefusal moved fault
+refused history (Ok moved_rows) (Ok moved) fault tells is = is
+refused history (Ok moved_rows) (Err other) fault tells is = absurd tells.0
 refused history (Err other) (Ok moved) fault tells is = absurd tells.0
 refused history (Err one) (Err other) fault tells is = is ∙ tells.0
 
 -- what is refused by the rows is refused
-pub is-refused : (old : Parts) (history : History) (input : Input) (fault : OrchFault) → AreKept old.rows → IsWellFormed history → AgreesWith old history → IsRefusal (row_moves old input) fault
+pub is-refused : (old : Parts) (history : History) (input : Input) (fault : OrchFault) → IsSound old.rows → IsWellFormed history → Shows old history → IsRefusal (row_moves old input) fault
     → IsRefusal (moves old.nodes history input) fault
 is-refused old history input fault kept form agrees is = refused history (row_moves old input) (moves old.nodes history input) fault (all-tell old history input form kept agrees) is
 
 -- the same of a call's result, by the parts that are shown
-pub ok-promised : {R : Type 0} {old now new : Parts} {input : Input} {says : R → Answer} {result : Result R OrchFault} → old ≡ now → AreKept old.rows → IsTold old new input says result
-    → (history : History) → IsWellFormed history → AgreesWith now history
+pub ok-promised : {R : Type 0} {old now new : Parts} {input : Input} {says : R → Answer} {result : Result R OrchFault} → old ≡ now → IsSound old.rows → IsMoveOf old new input says result
+    → (history : History) → IsWellFormed history → Shows now history
     → IfOk result (λ r. IsDone history (moves now.nodes history input) (says r) new)
 ok-promised {old = old} {now = now} {new = new} {input = input} {says = says} {result = Err fault} is kept told history form agrees = tt
 ok-promised {old = old} {now = now} {new = new} {input = input} {says = says} {result = Ok r} is kept told history form agrees =
     subst (λ (p : Parts). IsDone history (moves p.nodes history input) (says r) new) is
-    (is-done old history input (record { answer = says r; parts = new }) kept form (subst (λ (p : Parts). AgreesWith p history) (sym is) agrees) told.ok)
+    (is-done old history input (record { answer = says r; parts = new }) kept form (subst (λ (p : Parts). Shows p history) (sym is) agrees) told.ok)
 
-pub err-promised : {R : Type 0} {old now new : Parts} {input : Input} {says : R → Answer} {result : Result R OrchFault} → old ≡ now → AreKept old.rows → IsTold old new input says result
-    → (history : History) → IsWellFormed history → AgreesWith now history
+pub err-promised : {R : Type 0} {old now new : Parts} {input : Input} {says : R → Answer} {result : Result R OrchFault} → old ≡ now → IsSound old.rows → IsMoveOf old new input says result
+    → (history : History) → IsWellFormed history → Shows now history
     → IfErr result (IsRefusal (moves now.nodes history input))
 err-promised {old = old} {now = now} {new = new} {input = input} {says = says} {result = Ok r} is kept told history form agrees = tt
 err-promised {old = old} {now = now} {new = new} {input = input} {says = says} {result = Err fault} is kept told history form agrees =
-    subst (λ (p : Parts). IsRefusal (moves p.nodes history input) fault) is (is-refused old history input fault kept form (subst (λ (p : Parts). AgreesWith p history) (sym is) agrees) told.err)
+    subst (λ (p : Parts). IsRefusal (moves p.nodes history input) fault) is (is-refused old history input fault kept form (subst (λ (p : Parts). Shows p history) (sym is) agrees) told.err)
 
-pub kept-promised : {R : Type 0} {old new : Parts} {input : Input} {says : R → Answer} {result : Result R OrchFault} → AreKept old.rows → IsTold old new input says result
-    → AreKept new.rows × (new.nodes ≡ old.nodes)
-kept-promised {old = old} {new = new} {input = input} {says = says} {result = Ok r} kept told = rows-stay-kept old input (record { answer = says r; parts = new }) kept told.ok
+pub kept-promised : {R : Type 0} {old new : Parts} {input : Input} {says : R → Answer} {result : Result R OrchFault} → IsSound old.rows → IsMoveOf old new input says result
+    → IsSound new.rows × (new.nodes ≡ old.nodes)
+kept-promised {old = old} {new = new} {input = input} {says = says} {result = Ok r} kept told = rows-stay-sound old input (record { answer = says r; parts = new }) kept told.ok
 kept-promised {old = old} {new = new} {input = input} {says = says} {result = Err fault} kept told =
-    (subst (λ (p : Parts). AreKept p.rows) (sym told.stays) kept, ap (λ (p : Parts). p.nodes) told.stays)
+    (subst (λ (p : Parts). IsSound p.rows) (sym told.stays) kept, ap (λ (p : Parts). p.nodes) told.stays)
 
-pub nodes-promised : {R : Type 0} {old now new : Parts} {input : Input} {says : R → Answer} {result : Result R OrchFault} → old ≡ now → AreKept old.rows → IsTold old new input says result
+pub nodes-promised : {R : Type 0} {old now new : Parts} {input : Input} {says : R → Answer} {result : Result R OrchFault} → old ≡ now → IsSound old.rows → IsMoveOf old new input says result
     → new.nodes ≡ now.nodes
 nodes-promised is kept told = (kept-promised kept told).1 ∙ ap (λ (p : Parts). p.nodes) is
 
 -- where they do, what the history answers the rows answer
-told-so : (history : History) (answer : Answer) (result : Result Told OrchFault) (moved : Result Moved OrchFault) → Tells history result moved → IsAnsweredAs answer moved → IsToldAs answer result
-told-so history answer (Ok told) (Ok moved) tells is = tells.0.0 ∙ is
-told-so history answer (Ok told) (Err fault) tells is = absurd is
+told-so : (history : History) (answer : Answer) (result : Result MovedRows OrchFault) (moved : Result Moved OrchFault) → Tells history result moved → IsAnsweredAs answer moved → RowsAnswer answer result
+told-so history answer (Ok moved_rows) (Ok moved) tells is = tells.0.0 ∙ is
+told-so history answer (Ok moved_rows) (Err fault) tells is = absurd is
 told-so history answer (Err fault) (Ok moved) tells is = absurd tells.0
 told-so history answer (Err fault) (Err other) tells is = absurd is
 
 -- as a history answers, so the rows do
-pub answered-promised : {old now : Parts} (input : Input) (answer : Answer) → old ≡ now → AreKept old.rows → (history : History) → IsWellFormed history → AgreesWith now history
+pub answered-promised : {old now : Parts} (input : Input) (answer : Answer) → old ≡ now → IsSound old.rows → (history : History) → IsWellFormed history → Shows now history
     → IsAnsweredAs answer (moves now.nodes history input)
-    → IsToldAs answer (row_moves old input)
+    → RowsAnswer answer (row_moves old input)
 answered-promised {old = old} {now = now} input answer is kept history form agrees answered =
-    told-so history answer (row_moves old input) (moves old.nodes history input) (all-tell old history input form kept (subst (λ (p : Parts). AgreesWith p history) (sym is) agrees))
+    told-so history answer (row_moves old input) (moves old.nodes history input) (all-tell old history input form kept (subst (λ (p : Parts). Shows p history) (sym is) agrees))
     (subst (λ (p : Parts). IsAnsweredAs answer (moves p.nodes history input)) (sym is) answered)

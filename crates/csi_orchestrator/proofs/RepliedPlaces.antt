@@ -25,13 +25,13 @@ use Rattle.csi_orchestrator.specs.Core.{parts_of}
 use Rattle.csi_orchestrator.specs.Hearing.{Fits}
 use Rattle.csi_orchestrator.specs.Moves.{Input, Comes, Answer, Hears, hears}
 use Rattle.csi_orchestrator.specs.Shown.{RowShown, Parts, row_shown, row_of, open_in_row}
-use Rattle.csi_orchestrator.specs.RowSteps.{RowTold, row_step}
-use Rattle.csi_orchestrator.specs.RowMoves.{told, frame_in, placed, steps_at, is_issued_as, step_heard, hears_reply, receives, row_moves, IsRefusal, IsToldAs, IsTold}
-use Rattle.csi_orchestrator.specs.Kept.{AreKept}
+use Rattle.csi_orchestrator.specs.RowSteps.{MovedRow, row_step}
+use Rattle.csi_orchestrator.specs.RowMoves.{moved_rows, frame_in, placed, steps_at, is_issued_as, step_heard, hears_reply, receives, row_moves, IsRefusal, RowsAnswer, IsMoveOf}
+use Rattle.csi_orchestrator.specs.Sound.{IsSound}
 use Rattle.csi_orchestrator.proofs.RowsByName.{row-at, shown-there}
 use Rattle.csi_orchestrator.proofs.ChangedEntries.{find-place, find-none_placed}
 use Rattle.csi_orchestrator.proofs.RowsUnderNames.{read-at}
-use Rattle.csi_orchestrator.proofs.StepsKept.{heard-fits}
+use Rattle.csi_orchestrator.proofs.StepsSound.{heard-fits}
 use Rattle.csi_orchestrator.proofs.RulesStay.{found-kept}
 use Rattle.csi_orchestrator.proofs.ListPlaces.{get-of_at}
 
@@ -62,7 +62,7 @@ pub record IsDelivered (core : Core) (frame : Frame) (index : ℕ) (step : Step)
 
 -- so it is with a reply to the open call of the row
 pub delivered : (core : Core) (frame : Frame) (number : Number) (party : Party) (kind : Kind) (reply : Reply) (index : ℕ) (step : Step) → number ≡ frame.number → party ≡ frame.party
-    → frame.body ≡ bodies.Reply kind reply → AreKept (map row_shown (rows_of core.catalog))
+    → frame.body ≡ bodies.Reply kind reply → IsSound (map row_shown (rows_of core.catalog))
     → position (λ (row : Row). is_issued_as number party kind (open_in_row (row_shown row))) (rows_of core.catalog) ≡ Some index → step ≡ step_heard kind reply → IsDelivered core frame index step
 delivered core frame number party kind reply index step numbers parties body kept at is =
     let rows = rows_of core.catalog in
@@ -85,25 +85,25 @@ delivered core frame number party kind reply index step numbers parties body kep
 
 -- a reply to no row's open call
 pub undelivered : (core : Core) (frame : Frame) (number : Number) (party : Party) (kind : Kind) (reply : Reply) → number ≡ frame.number → party ≡ frame.party → frame.body ≡ bodies.Reply kind reply
-    → position (λ (row : Row). is_issued_as number party kind (open_in_row (row_shown row))) (rows_of core.catalog) ≡ None → row_moves (parts_of core) (Comes frame) ≡ told (parts_of core) (Hears Ignored)
+    → position (λ (row : Row). is_issued_as number party kind (open_in_row (row_shown row))) (rows_of core.catalog) ≡ None → row_moves (parts_of core) (Comes frame) ≡ moved_rows (parts_of core) (Hears Ignored)
 undelivered core frame number party kind reply numbers parties body none =
     received (parts_of core) frame number party (bodies.Reply kind reply) numbers parties body
     ∙ ap (hears_reply (parts_of core) kind reply) (find-none_placed row_shown (λ (row : RowShown). is_issued_as number party kind (open_in_row row)) (rows_of core.catalog) none)
 
 -- a refusal is told where it is passed on
 pub told-at_err : {R : Type 0} (old new : Parts) (input : Input) (says : R → Answer) (result : Result R OrchFault) (fault : OrchFault) → IsErrAnd result (λ y. y ≡ fault) → IsRefusal (row_moves old input) fault → new ≡ old
-    → IsTold old new input says result
+    → IsMoveOf old new input says result
 told-at_err old new input says (Ok r) fault is refused same = absurd is
 told-at_err old new input says (Err other) fault is refused same = record { ok = tt; err = subst (IsRefusal (row_moves old input)) (sym is) refused; stays = same }
 
 -- what is told by a step isn't ignored
-pub never-ignored : (parts : Parts) (step : Step) (o : Option RowShown) → IsToldAs (Hears Ignored) (steps_at parts hears step o) → ⊥
+pub never-ignored : (parts : Parts) (step : Step) (o : Option RowShown) → RowsAnswer (Hears Ignored) (steps_at parts hears step o) → ⊥
 never-ignored parts step None told = told
 never-ignored parts step (Some row) told = by (row_step parts.nodes parts.last step row) told
   where
     clash : (frame : Option Frame) → hears frame ≡ Hears Ignored → ⊥
     clash frame e = cc
 
-    by : (r : Result RowTold OrchFault) → IsToldAs (Hears Ignored) (placed parts hears r) → ⊥
-    by (Ok row_told) is = clash (frame_in row_told.outgoing) is
+    by : (r : Result MovedRow OrchFault) → RowsAnswer (Hears Ignored) (placed parts hears r) → ⊥
+    by (Ok moved_row) is = clash (frame_in moved_row.outgoing) is
     by (Err fault) is = is

@@ -18,9 +18,9 @@ use Rattle.csi_orchestrator.specs.Readings.{open_call, issued_in}
 use Rattle.csi_orchestrator.specs.Moves.{call_replied, is_number_open}
 use Rattle.csi_orchestrator.specs.WellFormed.{IsWellFormed}
 use Rattle.csi_orchestrator.specs.Due.{Due}
-use Rattle.csi_orchestrator.specs.Shown.{RowShown, Parts, row_of, due_in, issued_as, open_in_row, AgreesWith}
+use Rattle.csi_orchestrator.specs.Shown.{RowShown, Parts, row_of, due_in, issued_as, open_in_row, Shows}
 use Rattle.csi_orchestrator.specs.RowMoves.{is_issued_as, row_replied}
-use Rattle.csi_orchestrator.specs.Kept.{AreKept}
+use Rattle.csi_orchestrator.specs.Sound.{IsSound}
 use Rattle.csi_orchestrator.proofs.Numbers.{one-call, open-sent}
 use Rattle.csi_orchestrator.proofs.JoinedLists.{own-entry}
 
@@ -80,12 +80,12 @@ own-open history number party kind issued form among e = (by (open_call history 
         ((same_number-tells other.number number).0 f ∙ sym (such-call number party kind issued parted.0).has_number))
 
 -- it is also the row that is found for its name
-pub found-own : (parts : Parts) (number : Number) (party : Party) (kind : Kind) (row : RowShown) → AreKept parts.rows → row_replied parts.rows number party kind ≡ Some row → row_of parts.rows row.name ≡ Some row
+pub found-own : (parts : Parts) (number : Number) (party : Party) (kind : Kind) (row : RowShown) → IsSound parts.rows → row_replied parts.rows number party kind ≡ Some row → row_of parts.rows row.name ≡ Some row
 found-own parts number party kind row kept e =
     own-entry (λ (r : RowShown). r.name) parts.rows row kept.names (among-find (λ (r : RowShown). is_issued_as number party kind (open_in_row r)) parts.rows row e)
 
 -- the open call that a reply is to is that of the row found by it
-pub replied : (parts : Parts) (history : History) (number : Number) (party : Party) (kind : Kind) → IsWellFormed history → AreKept parts.rows → AgreesWith parts history
+pub replied : (parts : Parts) (history : History) (number : Number) (party : Party) (kind : Kind) → IsWellFormed history → IsSound parts.rows → Shows parts history
     → call_replied history number party kind ≡ option_and_then open_in_row (row_replied parts.rows number party kind)
 replied parts history number party kind form kept agrees = by (row_replied parts.rows number party kind) refl
   where

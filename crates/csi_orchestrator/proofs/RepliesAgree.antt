@@ -31,19 +31,19 @@ use Rattle.csi_orchestrator.specs.Due.{Due}
 use Rattle.csi_orchestrator.specs.Moves.{Input, ToCreate, ToUse, ToStop, ToDelete, TimesOut, Comes, Restarts, Answer, Sends, Hears, Restarted, Moved, send_due, is_forward, is_forward_due, stopped, closing, timeout, hears, call_replied, heard, heard_refusal, deliver, restart, moves}
 use Rattle.csi_orchestrator.specs.Agrees.{View, Agrees}
 use Rattle.csi_orchestrator.specs.Following.{after_accepted, after_closed, after_noted}
-use Rattle.csi_orchestrator.specs.Shown.{RowShown, Parts, row_of, goal_shown, held_in, due_in, open_in_row, issued_as, closed, in_session, view_of, AgreesWith}
+use Rattle.csi_orchestrator.specs.Shown.{RowShown, Parts, row_of, goal_shown, held_in, due_in, open_in_row, issued_as, closed, in_session, view_of, Shows}
 use Rattle.csi_orchestrator.specs.Found.{kind_due}
 use Rattle.csi_orchestrator.specs.RowChanges.{succeeded, wanted, stopped_goal}
 use Rattle.csi_orchestrator.specs.RowRefusals.{idle_refusal}
-use Rattle.csi_orchestrator.specs.RowSteps.{RowTold, row_sends_due, row_rests, row_unless, waits_for, is_given_up, timed_out, failed}
-use Rattle.csi_orchestrator.specs.RowMoves.{Told, told, placed, steps_at, row_replied, is_issued_as, hears_reply, receives, starts_again, row_moves}
-use Rattle.csi_orchestrator.specs.Kept.{IsKept, AreKept, AreGuarded, RowsTell, MovesAreGuarded}
+use Rattle.csi_orchestrator.specs.RowSteps.{MovedRow, row_sends_due, row_rests, row_unless, waits_for, is_given_up, timed_out, failed}
+use Rattle.csi_orchestrator.specs.RowMoves.{MovedRows, moved_rows, placed, steps_at, row_replied, is_issued_as, hears_reply, receives, starts_again, row_moves}
+use Rattle.csi_orchestrator.specs.Sound.{IsSoundRow, IsSound, AreGuarded, RowsTell, MovesAreGuarded}
 use Rattle.csi_orchestrator.proofs.TextLists.{text-same}
 use Rattle.csi_orchestrator.proofs.DueCalls.{due-of-row}
 use Rattle.csi_orchestrator.proofs.DueCases.{IsDueFor, due-cases, ToMake, ToRemove, ToAttach, ToStage, ToPublish, ToUnpublish, ToUnstage, ToDetach}
 use Rattle.csi_orchestrator.proofs.ViewsFollow.{accepted-follows, closed-follows, noted-follows, started-follows}
 use Rattle.csi_orchestrator.proofs.SendingAgrees.{Guards, Tells, IsReady, has-entry, then-dropped, sends-due-tells}
-use Rattle.csi_orchestrator.proofs.StepsKept.{closed-may, stopped-may, changed-may}
+use Rattle.csi_orchestrator.proofs.StepsSound.{closed-may, stopped-may, changed-may}
 use Rattle.csi_orchestrator.proofs.RowsAfterNotes.{reads-wanted, reads-closed, reads-quiet, reads-refused}
 use Rattle.csi_orchestrator.proofs.RefusalsRead.{timeout-unknown, timeout-refused}
 use Rattle.csi_orchestrator.proofs.RepliedRows.{replied, found-own, hears-it}
@@ -165,7 +165,7 @@ timeout-tells parts history name row at (Some goal) g =
     given : IsClosed parts history name row items
     given = given-up parts history name row at (open_call history name) refl
 
-    on : Result RowTold OrchFault
+    on : Result MovedRow OrchFault
     on = row_sends_due parts.last (timed_out row (Some goal))
 
     stop : Result Moved OrchFault
@@ -247,11 +247,11 @@ success-tells parts history row number due reply by fine =
       guarded = tt;
     }) hears
   where
-    own : IsKept row
+    own : IsSoundRow row
     own = own-kept parts history row.name row by.at
 
 -- what is told by a failure of the call that is due for this goal
-Fails : Parts → RowShown → Option Goal → Result Told OrchFault
+Fails : Parts → RowShown → Option Goal → Result MovedRows OrchFault
 Fails parts row goal = placed parts hears (cond (waits_for goal) (row_rests (closed row)) (row_sends_due parts.last (failed row goal)))
 
 -- a refusal after which nothing is sent
@@ -307,7 +307,7 @@ heard-tells parts history row number due reply by = tells (is_ok_status reply.st
 replies-tell : (parts : Parts) (history : History) (number : Number) (party : Party) (kind : Kind) (reply : Reply) → AreRight parts history
     → (o : Option RowShown) → row_replied parts.rows number party kind ≡ o → Tells history (hears_reply parts kind reply o) (heard history reply (call_replied history number party kind))
 replies-tell parts history number party kind reply right None e =
-    subst (λ c. Tells history (told parts (Hears Ignored)) (heard history reply c)) (sym (replied parts history number party kind right.form right.kept right.agrees ∙ ap (option_and_then open_in_row) e))
+    subst (λ c. Tells history (moved_rows parts (Hears Ignored)) (heard history reply c)) (sym (replied parts history number party kind right.form right.kept right.agrees ∙ ap (option_and_then open_in_row) e))
     ((refl, right.agrees), tt)
 replies-tell parts history number party kind reply right (Some row) e =
     let there = found-own parts number party kind row right.kept e in
@@ -329,14 +329,14 @@ deliveries-tell parts history number party (bodies.Call call) right = ((refl, ri
 deliveries-tell parts history number party (bodies.Reply kind reply) right = replies-tell parts history number party kind reply right (row_replied parts.rows number party kind) refl
 
 -- a restart
-restarts-tell : (parts : Parts) (history : History) → AgreesWith parts history → Tells history (starts_again parts) (restart (last_number history))
+restarts-tell : (parts : Parts) (history : History) → Shows parts history → Tells history (starts_again parts) (restart (last_number history))
 restarts-tell parts history agrees =
     subst (λ l. Tells history (starts_again parts) (restart l)) agrees.same_last (by (nat_lt (parts.last.session + 1) (2 ^ 64)))
   where
     next : ℕ
     next = parts.last.session + 1
 
-    by : (b : Bool) → Tells history (cond b (told (in_session next parts) Restarted) (Err faults.NumbersSpent)) (cond b (Ok (let m : Moved = record { answer = Restarted; items = Started next ∷ [] } in m)) (Err faults.NumbersSpent))
+    by : (b : Bool) → Tells history (cond b (moved_rows (in_session next parts) Restarted) (Err faults.NumbersSpent)) (cond b (Ok (let m : Moved = record { answer = Restarted; items = Started next ∷ [] } in m)) (Err faults.NumbersSpent))
     by true = ((refl, session-agrees parts (with_items history (Started next ∷ [])) next (started-follows (view_of parts) history next agrees)), tt)
     by false = (refl, tt)
 
@@ -350,7 +350,7 @@ by-input parts history (TimesOut name) right = timeouts-tell parts history name 
 by-input parts history (Comes frame) right = deliveries-tell parts history frame.number frame.party frame.body right
 by-input parts history Restarts right = restarts-tell parts history right.agrees
 
-pub all-tell : (parts : Parts) (history : History) (input : Input) → IsWellFormed history → AreKept parts.rows → AgreesWith parts history → Tells history (row_moves parts input) (moves parts.nodes history input)
+pub all-tell : (parts : Parts) (history : History) (input : Input) → IsWellFormed history → IsSound parts.rows → Shows parts history → Tells history (row_moves parts input) (moves parts.nodes history input)
 all-tell parts history input form kept agrees = by-input parts history input (record { form = form; kept = kept; agrees = agrees })
 
 -- whatever comes, the rows tell what the history tells

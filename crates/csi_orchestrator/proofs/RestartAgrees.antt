@@ -11,11 +11,11 @@ use Rattle.csi_orchestrator.specs.History.{History}
 use Rattle.csi_orchestrator.specs.Moves.{Restarts, Restarted}
 use Rattle.csi_orchestrator.specs.Agrees.{Agrees}
 use Rattle.csi_orchestrator.specs.Following.{after_started}
-use Rattle.csi_orchestrator.specs.Shown.{RowShown, Parts, row_of, mark_in, mark_of, goal_in, held_in, open_in_row, tries_in, closed, without_call, row_shown, view_of, AgreesWith, in_session}
+use Rattle.csi_orchestrator.specs.Shown.{RowShown, Parts, row_of, mark_in, mark_of, goal_in, held_in, open_in_row, tries_in, closed, without_call, row_shown, view_of, Shows, in_session}
 use Rattle.csi_orchestrator.specs.declared.state.Core.{Core}
 use Rattle.csi_orchestrator.specs.Catalog.{rows_of}
 use Rattle.csi_orchestrator.specs.Core.{parts_of}
-use Rattle.csi_orchestrator.specs.RowMoves.{Told, told, row_moves, IsRefusal, IsTold}
+use Rattle.csi_orchestrator.specs.RowMoves.{MovedRows, moved_rows, row_moves, IsRefusal, IsMoveOf}
 use Rattle.csi_orchestrator.proofs.ClosedRows.{shown-closed}
 use Rattle.csi_orchestrator.proofs.RowsAfterSending.{goals-same, mark-same}
 
@@ -29,7 +29,7 @@ closed-row read told rows none some name = ap read (find-map (λ (row : RowShown
     by (Some row) = some row
 
 -- every call is given up
-pub session-agrees : (parts : Parts) (history : History) (session : ℕ) → Agrees (after_started session (view_of parts)) history → AgreesWith (in_session session parts) history
+pub session-agrees : (parts : Parts) (history : History) (session : ℕ) → Agrees (after_started session (view_of parts)) history → Shows (in_session session parts) history
 session-agrees parts history session agrees =
     record {
       same_last = agrees.same_last;
@@ -56,22 +56,22 @@ IsRestarted old new =
     IsTrue (nat_lt (old.last.session + 1) (2 ^ 64)) × (new.last ≡ record { session = old.last.session + 1; call = 0 }) × (rows_of new.catalog ≡ map without_call (rows_of old.catalog)) × (new.nodes.items ≡ old.nodes.items)
 
 -- such a change is the restart that the rows tell
-restarted : (old new : Core) → IsRestarted old new → row_moves (parts_of old) Restarts ≡ Ok (let t : Told = record { answer = Restarted; parts = parts_of new } in t)
+restarted : (old new : Core) → IsRestarted old new → row_moves (parts_of old) Restarts ≡ Ok (let t : MovedRows = record { answer = Restarted; parts = parts_of new } in t)
 restarted old new facts =
     let is : parts_of new ≡ in_session (old.last.session + 1) (parts_of old) = same-parts (parts_of new) (in_session (old.last.session + 1) (parts_of old)) facts.3 facts.1 (ap (map row_shown) facts.2 ∙ shown-closed (rows_of old.catalog)) in
-    ap (λ b. cond b (told (in_session (old.last.session + 1) (parts_of old)) Restarted) (Err faults.NumbersSpent)) facts.0 ∙ ap (λ (p : Parts). told p Restarted) (sym is)
+    ap (λ b. cond b (moved_rows (in_session (old.last.session + 1) (parts_of old)) Restarted) (Err faults.NumbersSpent)) facts.0 ∙ ap (λ (p : Parts). moved_rows p Restarted) (sym is)
 
 -- where no session is left the rows refuse it
 spent : (old : Core) (fault : OrchFault) → fault ≡ faults.NumbersSpent → IsTrue (not (nat_lt (old.last.session + 1) (2 ^ 64))) → IsRefusal (row_moves (parts_of old) Restarts) fault
-spent old fault is none = subst (λ (r : Result Told OrchFault). IsRefusal r fault) (sym (by (nat_lt (old.last.session + 1) (2 ^ 64)) none)) is
+spent old fault is none = subst (λ (r : Result MovedRows OrchFault). IsRefusal r fault) (sym (by (nat_lt (old.last.session + 1) (2 ^ 64)) none)) is
   where
-    by : (b : Bool) → not b ≡ true → cond b (told (in_session (old.last.session + 1) (parts_of old)) Restarted) (Err faults.NumbersSpent) ≡ Err faults.NumbersSpent
+    by : (b : Bool) → not b ≡ true → cond b (moved_rows (in_session (old.last.session + 1) (parts_of old)) Restarted) (Err faults.NumbersSpent) ≡ Err faults.NumbersSpent
     by true e = absurd (false≢true e)
     by false e = refl
 
 -- so is the call's result
 pub restart-told : {R : Type 0} (result : Result R OrchFault) (old new : Core) → OnOk result (IsRestarted old new) → IfErr result (λ fault. (fault ≡ faults.NumbersSpent) × IsTrue (not (nat_lt (old.last.session + 1) (2 ^ 64))))
-    → OnErr result (parts_of new ≡ parts_of old) → IsTold (parts_of old) (parts_of new) Restarts (λ r. Restarted) result
+    → OnErr result (parts_of new ≡ parts_of old) → IsMoveOf (parts_of old) (parts_of new) Restarts (λ r. Restarted) result
 restart-told (Ok r) old new facts refused stays = record { ok = restarted old new facts; err = tt; stays = tt }
 restart-told (Err fault) old new facts refused stays = record { ok = tt; err = spent old fault refused.0 refused.1; stays = stays }
 

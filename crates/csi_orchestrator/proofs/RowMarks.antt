@@ -16,7 +16,7 @@ use Rattle.csi_orchestrator.specs.declared.thing.Known.{Known}
 use Rattle.csi_orchestrator.specs.Thing.{name_in, same_thing, thing_at, is_thing, is_no}
 use Rattle.csi_orchestrator.specs.Due.{Due}
 use Rattle.csi_orchestrator.specs.Hearing.{marks_marked}
-use Rattle.csi_orchestrator.specs.Kept.{HasEntry}
+use Rattle.csi_orchestrator.specs.Sound.{HasEntry}
 use Rattle.csi_orchestrator.specs.RowChanges.{Aspect, Existence, Attachment, Staging, Publication, aspect_of, node_marked, marked_at, at_goal, exists_marked, nodes_marked, marked}
 use Rattle.csi_orchestrator.specs.Shown.{NodeEntryShown, RowShown, node_entry_of, target_entry_of, mark_in, published_in, mark_of, held_in, held_at, others_in, marks_of_volume, marks_at, marks_for}
 use Rattle.csi_orchestrator.proofs.TextLists.{text-same}

@@ -24,7 +24,7 @@ use Rattle.csi_orchestrator.specs.Shown.{NodeEntryShown, RowShown, node_entry_of
 use Rattle.csi_orchestrator.specs.RowChanges.{Aspect, Existence, Publication, aspect_of, node_marked, marked_at, at_goal, exists_marked, nodes_marked, marked, sent, told_of, succeeded, wanted, is_target_kept, with_kept_targets, is_node_kept, dropped, stopped_goal}
 use Rattle.csi_orchestrator.specs.RowRefusals.{is_so_elsewhere}
 use Rattle.csi_orchestrator.specs.Keyed.{change_by}
-use Rattle.csi_orchestrator.specs.Kept.{AreNodesApart, IsUsable, MayBeWanted, IsKept}
+use Rattle.csi_orchestrator.specs.Sound.{AreNodesApart, IsUsable, MayBeWanted, IsSoundRow}
 use Rattle.csi_orchestrator.proofs.TextLists.{text-same}
 use Rattle.csi_orchestrator.proofs.DueCases.{IsDueFor, due-cases, ToMake, ToRemove, ToAttach, ToStage, ToPublish, ToUnpublish, ToUnstage, ToDetach}
 use Rattle.csi_orchestrator.proofs.KeyedSearches.{find-change}
@@ -36,7 +36,7 @@ pub record AreDistinct (entries : List NodeEntryShown) : Type 0 where
   pub targets : AllByRecursion AreTargetsApart entries
 
 -- so it is in a kept row
-pub kept-distinct : (row : RowShown) → IsKept row → AreDistinct row.node_entries
+pub kept-distinct : (row : RowShown) → IsSoundRow row → AreDistinct row.node_entries
 kept-distinct row kept = record { nodes = kept.nodes; targets = kept.targets }
 
 -- a change of the marks of a node's entry
@@ -192,7 +192,7 @@ wanted-marked mark kind row (Some (Stop node target)) e fits may = tt
 wanted-marked mark kind row (Some Delete) e fits may = subst (λ k. AllByRecursion (λ (entry : NodeEntryShown). entry.attached ≡ No) (marked mark k row).node_entries) (sym fits) may
 
 -- the due call is sent
-pub kept-sent : (number : Number) (row : RowShown) (due : Due) → due_in row ≡ Some due → AreDistinct row.node_entries → MayBeWanted row row.goal → IsKept (sent number (kind_of due.call) row)
+pub kept-sent : (number : Number) (row : RowShown) (due : Due) → due_in row ≡ Some due → AreDistinct row.node_entries → MayBeWanted row row.goal → IsSoundRow (sent number (kind_of due.call) row)
 kept-sent number row due e distinct may =
     let after = marked-distinct Maybe (kind_of due.call) row distinct in
     let still = wanted-marked Maybe (kind_of due.call) row row.goal refl (due-fits-goal row due e) may in
@@ -203,11 +203,11 @@ kept-sent number row due e distinct may =
     }
 
 -- the open call is given up
-pub kept-closed : (row : RowShown) → IsKept row → IsKept (closed row)
+pub kept-closed : (row : RowShown) → IsSoundRow row → IsSoundRow (closed row)
 kept-closed row kept = record { nodes = kept.nodes; targets = kept.targets; goal = wanted-alike row (closed row) row.goal refl refl refl kept.goal }
 
 -- nothing is wanted now
-pub kept-dropped : (row : RowShown) → AreDistinct row.node_entries → IsKept (dropped row)
+pub kept-dropped : (row : RowShown) → AreDistinct row.node_entries → IsSoundRow (dropped row)
 kept-dropped row distinct =
     record {
       nodes = two-filter (λ (a b : NodeEntryShown). same_text a.node b.node ≡ false) is_node_kept (map with_kept_targets row.node_entries) (apart-map (λ (entry : NodeEntryShown). entry.node) with_kept_targets row.node_entries (λ entry. refl) distinct.nodes);

@@ -16,7 +16,7 @@ use Rattle.csi_orchestrator.specs.History.{Arguments, Goal, History}
 use Rattle.csi_orchestrator.specs.Readings.{known, id_of, goal_of, arguments_of, held, open_call, tries, last_number, has_row}
 use Rattle.csi_orchestrator.specs.Agrees.{View, Agrees}
 use Rattle.csi_orchestrator.specs.Following.{after_sent, after_accepted, after_closed, after_noted}
-use Rattle.csi_orchestrator.specs.Shown.{RowShown, Parts, row_of, mark_in, mark_of, goal_in, held_in, open_in_row, tries_in, view_of, AgreesWith}
+use Rattle.csi_orchestrator.specs.Shown.{RowShown, Parts, row_of, mark_in, mark_of, goal_in, held_in, open_in_row, tries_in, view_of, Shows}
 use Rattle.csi_orchestrator.specs.RowMoves.{put}
 use Rattle.csi_orchestrator.proofs.ViewsFollow.{touches-name, and-false}
 use Rattle.csi_orchestrator.proofs.KeyedSearches.{find-put}
@@ -95,7 +95,7 @@ same-noted name goal view other differs = record { rest = rw differs refl; marks
 -- a row that tells what is shown of its name stands in its place: what is shown of the others is as it was
 pub put-agrees : (parts : Parts) (last : Number) (name : List ℕ) (row : RowShown) (view : View) (history : History) → Reads row view name
     → ((other : List ℕ) → same_text name other ≡ false → SameAt view (view_of parts) other) → last ≡ view.last → Agrees view history
-    → AgreesWith (record { nodes = parts.nodes; last = last; rows = put row parts.rows }) history
+    → Shows (record { nodes = parts.nodes; last = last; rows = put row parts.rows }) history
 put-agrees parts last name row view history reads others is_last agrees =
     record {
       same_last = is_last ∙ agrees.same_last;
@@ -193,5 +193,5 @@ reads-history row view history name reads agrees =
 pub own-name : (parts : Parts) (name : List ℕ) (row : RowShown) → row_of parts.rows name ≡ Some row → row.name ≡ name
 own-name parts name row e = (same_text-tells row.name name).0 (find-passes (λ (r : RowShown). same_text r.name name) parts.rows row e)
 
-pub is-row-of : (parts : Parts) (history : History) (name : List ℕ) (row : RowShown) → AgreesWith parts history → row_of parts.rows name ≡ Some row → IsRowOf row history name
+pub is-row-of : (parts : Parts) (history : History) (name : List ℕ) (row : RowShown) → Shows parts history → row_of parts.rows name ≡ Some row → IsRowOf row history name
 is-row-of parts history name row agrees e = reads-history row (view_of parts) history name (row-reads parts name row (own-name parts name row e) e) agrees

@@ -28,7 +28,7 @@ use Rattle.csi_orchestrator.specs.History as history
 use Rattle.csi_orchestrator.specs.Readings.{arguments_in_goal}
 use Rattle.csi_orchestrator.specs.Agrees.{View}
 use Rattle.csi_orchestrator.specs.Following.{after_accepted, after_closed, after_noted}
-use Rattle.csi_orchestrator.specs.Kept.{AreNodesApart}
+use Rattle.csi_orchestrator.specs.Sound.{AreNodesApart}
 use Rattle.csi_orchestrator.specs.RowChanges.{wanted, wanted_anew, new_row, dropped, is_target_kept, is_node_kept, has_targets, with_kept_targets, with_entry, entry_for, with_target, new_target_entry, held_as}
 use Rattle.csi_orchestrator.specs.Shown.{NodeEntryShown, RowShown, Parts, row_of, node_entry_of, target_entry_of, mark_in, published_in, mark_of, held_in, held_at, goal_in, goal_shown, open_in_row, issued_as, due_by, closed, view_of, AreTargetsApart}
 use Rattle.csi_orchestrator.proofs.TextLists.{text-same}

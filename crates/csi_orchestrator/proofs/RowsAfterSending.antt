@@ -27,7 +27,7 @@ use Rattle.csi_orchestrator.specs.Agrees.{View}
 use Rattle.csi_orchestrator.specs.Due.{Due}
 use Rattle.csi_orchestrator.specs.Following.{after_sent, after_accepted, told, id_brought}
 use Rattle.csi_orchestrator.specs.Hearing.{marks_marked}
-use Rattle.csi_orchestrator.specs.Kept.{HasEntry}
+use Rattle.csi_orchestrator.specs.Sound.{HasEntry}
 use Rattle.csi_orchestrator.specs.RowChanges.{aspect_of, marked, sent, told_of, id_told, succeeded}
 use Rattle.csi_orchestrator.specs.Shown.{RowShown, node_entry_of, mark_in, mark_of, held_in, held_at, goal_in, goal_shown, marks_for, due_with, due_by, due_in, issued_as}
 use Rattle.csi_orchestrator.proofs.TextLists.{text-same}

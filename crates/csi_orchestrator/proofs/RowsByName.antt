@@ -21,9 +21,9 @@ use Rattle.csi_orchestrator.specs.History.{Arguments}
 use Rattle.csi_orchestrator.specs.Moves.{Input, Answer, Sends}
 use Rattle.csi_orchestrator.specs.RowChanges.{new_row}
 use Rattle.csi_orchestrator.specs.RowRefusals.{first_fault}
-use Rattle.csi_orchestrator.specs.RowMoves.{told, put, frame_in, last_after, placed, steps_at, creates, row_moves, asked_by, IsRefusal, IsToldAs}
+use Rattle.csi_orchestrator.specs.RowMoves.{moved_rows, put, frame_in, last_after, placed, steps_at, creates, row_moves, asked_by, IsRefusal, RowsAnswer}
 use Rattle.csi_orchestrator.specs.Shown.{RowShown, Parts, row_shown, row_of}
-use Rattle.csi_orchestrator.specs.RowSteps.{RowTold, row_sends_due, row_unless, row_step, SendsNothing}
+use Rattle.csi_orchestrator.specs.RowSteps.{MovedRow, row_sends_due, row_unless, row_step, SendsNothing}
 use Rattle.csi_orchestrator.proofs.ChangedEntries.{find-place, find-none_placed, put-place, put-none_placed}
 use Rattle.csi_orchestrator.proofs.RowsUnderNames.{catalog_with, read-at, parts-set}
 use Rattle.csi_orchestrator.proofs.OpenCalls.{GoesOn, step-goes}
@@ -57,24 +57,24 @@ pub step-refused : (core : Core) (answer : Option Frame → Answer) (step : Step
 step-refused core answer step name i r fault stands refused at =
     subst (λ t. IsRefusal t fault) (sym (stepped-there core answer step name i r at stands)) (by (row_step core.nodes.items core.last step (row_shown r)) refused)
   where
-    by : (t : Result RowTold OrchFault) → IsRefusal t fault → IsRefusal (placed (parts_of core) answer t) fault
-    by (Ok told) is = is
+    by : (t : Result MovedRow OrchFault) → IsRefusal t fault → IsRefusal (placed (parts_of core) answer t) fault
+    by (Ok moved_rows) is = is
     by (Err other) is = is
 
 -- where it is told that nothing is sent, the row sends nothing
 pub step-quiet : (core : Core) (answer : Option Frame → Answer) (step : Step) (name : List ℕ) (i : ℕ) (r : Row) → slice_get (rows_of core.catalog) i ≡ Some r
     → position (λ (row : Row). same_text row.name name) (rows_of core.catalog) ≡ Some i
-    → ((frame : Frame) → answer (Some frame) ≡ answer None → ⊥) → IsToldAs (answer None) (steps_at (parts_of core) answer step (row_of (map row_shown (rows_of core.catalog)) name))
+    → ((frame : Frame) → answer (Some frame) ≡ answer None → ⊥) → RowsAnswer (answer None) (steps_at (parts_of core) answer step (row_of (map row_shown (rows_of core.catalog)) name))
     → SendsNothing (row_step core.nodes.items core.last step (row_shown r))
 step-quiet core answer step name i r stands at apart told =
-    by (row_step core.nodes.items core.last step (row_shown r)) (subst (IsToldAs (answer None)) (stepped-there core answer step name i r at stands) told)
+    by (row_step core.nodes.items core.last step (row_shown r)) (subst (RowsAnswer (answer None)) (stepped-there core answer step name i r at stands) told)
   where
     none : (next : Option Outgoing) → answer (frame_in next) ≡ answer None → next ≡ None
     none None e = refl
     none (Some next) e = absurd (apart next.frame e)
 
-    by : (t : Result RowTold OrchFault) → IsToldAs (answer None) (placed (parts_of core) answer t) → SendsNothing t
-    by (Ok row_told) is = none row_told.outgoing is
+    by : (t : Result MovedRow OrchFault) → RowsAnswer (answer None) (placed (parts_of core) answer t) → SendsNothing t
+    by (Ok moved_row) is = none moved_row.outgoing is
     by (Err fault) is = is
 
 -- where the row takes it, its frame is answered, and the row is shown in its place
@@ -90,8 +90,8 @@ step-told core answer step name i r s next sends after stands is frame then at =
     let own : s.name ≡ name = on.name ∙ own-name (parts_of core) name (row_shown r) (shown-there rows name i r at stands) in
     let put_there : map row_shown (set rows i s) ≡ put (row_shown s) (map row_shown rows) = put-place row_shown (λ (row : RowShown). row.name) (row_shown s) name rows i r s own at refl in
     stepped-there core answer step name i r at stands ∙ ap (placed (parts_of core) answer) is
-    ∙ ap (λ shown. told (record { nodes = core.nodes.items; last = last_after core.last next; rows = shown }) (answer (frame_in next))) (sym put_there)
-    ∙ ap (λ p. told p (answer (frame_in next))) (sym (then ∙ parts-set core.nodes.items (last_after core.last next) core.catalog i s)) ∙ ap (λ f. told after (answer f)) (sym frame)
+    ∙ ap (λ shown. moved_rows (record { nodes = core.nodes.items; last = last_after core.last next; rows = shown }) (answer (frame_in next))) (sym put_there)
+    ∙ ap (λ p. moved_rows p (answer (frame_in next))) (sym (then ∙ parts-set core.nodes.items (last_after core.last next) core.catalog i s)) ∙ ap (λ f. moved_rows after (answer f)) (sym frame)
 
 -- a refusal leaves what is shown
 pub rows-stay : (core : Core) (i : ℕ) (r s : Row) → slice_get (rows_of core.catalog) i ≡ Some r → row_shown s ≡ row_shown r
@@ -131,5 +131,5 @@ first-told nodes last rows name arguments s next sends after none fits is own fr
     let parts : Parts = record { nodes = nodes; last = last; rows = map row_shown rows } in
     let stands : map row_shown (rows ++ s ∷ []) ≡ put (row_shown s) (map row_shown rows) = put-none_placed row_shown (λ (row : RowShown). row.name) (row_shown s) name rows s own none refl in
     ap (λ fault. placed parts Sends (row_unless fault (row_sends_due last (new_row name arguments)))) fits ∙ ap (placed parts Sends) is
-    ∙ ap (λ shown. told (record { nodes = nodes; last = last_after last next; rows = shown }) (Sends (frame_in next))) (sym stands)
-    ∙ ap (λ p. told p (Sends (frame_in next))) (sym then) ∙ ap (λ f. told after (Sends f)) (sym frame)
+    ∙ ap (λ shown. moved_rows (record { nodes = nodes; last = last_after last next; rows = shown }) (Sends (frame_in next))) (sym stands)
+    ∙ ap (λ p. moved_rows p (Sends (frame_in next))) (sym then) ∙ ap (λ f. moved_rows after (Sends f)) (sym frame)

@@ -22,78 +22,78 @@ use Rattle.csi_orchestrator.specs.Moves.{Input, ToCreate, ToUse, ToStop, ToDelet
 use Rattle.csi_orchestrator.specs.Shown.{RowShown, Parts, row_of, open_in_row, closed, in_session}
 use Rattle.csi_orchestrator.specs.RowChanges.{new_row}
 use Rattle.csi_orchestrator.specs.RowRefusals.{first_fault}
-use Rattle.csi_orchestrator.specs.RowSteps.{RowTold, row_step}
-use Rattle.csi_orchestrator.specs.RowMoves.{Told, told, placed, steps_at, creates, is_issued_as, row_replied, step_heard, hears_reply, receives, starts_again, row_moves}
-use Rattle.csi_orchestrator.specs.Kept.{IsKept, AreKept, RowsStayKept}
+use Rattle.csi_orchestrator.specs.RowSteps.{MovedRow, row_step}
+use Rattle.csi_orchestrator.specs.RowMoves.{MovedRows, moved_rows, placed, steps_at, creates, is_issued_as, row_replied, step_heard, hears_reply, receives, starts_again, row_moves}
+use Rattle.csi_orchestrator.specs.Sound.{IsSoundRow, IsSound, RowsStaySound}
 use Rattle.csi_orchestrator.proofs.EntryRules.{by_if, each-put, apart-put, apart-map}
 use Rattle.csi_orchestrator.proofs.RowRules.{kept-closed}
-use Rattle.csi_orchestrator.proofs.StepsKept.{RowKept, sends-due-kept, unless-kept, step-kept, new-may, heard-fits}
+use Rattle.csi_orchestrator.proofs.StepsSound.{SoundRowAfter, sends-due-kept, unless-kept, step-kept, new-may, heard-fits}
 
 -- what is told, if anything, is kept so
-abbrev pub KeptAfter : Parts → Result Told OrchFault → Type 0
-KeptAfter parts (Ok told) = AreKept told.parts.rows × (told.parts.nodes ≡ parts.nodes)
-KeptAfter parts (Err fault) = Unit {0}
+abbrev pub SoundAfter : Parts → Result MovedRows OrchFault → Type 0
+SoundAfter parts (Ok moved_rows) = IsSound moved_rows.parts.rows × (moved_rows.parts.nodes ≡ parts.nodes)
+SoundAfter parts (Err fault) = Unit {0}
 
 -- kept rows stay so where a kept row is put in
-put-kept : (parts : Parts) (answer : Option Frame → Answer) (result : Result RowTold OrchFault) → AreKept parts.rows → RowKept result → KeptAfter parts (placed parts answer result)
+put-kept : (parts : Parts) (answer : Option Frame → Answer) (result : Result MovedRow OrchFault) → IsSound parts.rows → SoundRowAfter result → SoundAfter parts (placed parts answer result)
 put-kept parts answer (Err fault) kept own = tt
-put-kept parts answer (Ok row_told) kept own = (
+put-kept parts answer (Ok moved_row) kept own = (
   record {
-    names = apart-put (λ (r : RowShown). r.name) row_told.row parts.rows kept.names;
-    each = each-put IsKept (λ (r : RowShown). r.name) row_told.row parts.rows own kept.each;
+    names = apart-put (λ (r : RowShown). r.name) moved_row.row parts.rows kept.names;
+    each = each-put IsSoundRow (λ (r : RowShown). r.name) moved_row.row parts.rows own kept.each;
   },
   refl,
 )
 
 -- the row that is found is kept so
-pub found-kept : (p : RowShown → Bool) (rows : List RowShown) (row : RowShown) → AreKept rows → find p rows ≡ Some row → IsKept row
-found-kept p rows row kept e = each_of IsKept rows row kept.each (among-find p rows row e)
+pub found-kept : (p : RowShown → Bool) (rows : List RowShown) (row : RowShown) → IsSound rows → find p rows ≡ Some row → IsSoundRow row
+found-kept p rows row kept e = each_of IsSoundRow rows row kept.each (among-find p rows row e)
 
 -- it takes a step
-found-steps : (parts : Parts) (answer : Option Frame → Answer) (step : Step) (p : RowShown → Bool) (row : RowShown) → AreKept parts.rows → find p parts.rows ≡ Some row → (IsKept row → Fits step row)
-    → KeptAfter parts (steps_at parts answer step (Some row))
+found-steps : (parts : Parts) (answer : Option Frame → Answer) (step : Step) (p : RowShown → Bool) (row : RowShown) → IsSound parts.rows → find p parts.rows ≡ Some row → (IsSoundRow row → Fits step row)
+    → SoundAfter parts (steps_at parts answer step (Some row))
 found-steps parts answer step p row kept e fits =
     let own = found-kept p parts.rows row kept e in
     put-kept parts answer (row_step parts.nodes parts.last step row) kept (step-kept parts.nodes parts.last step row own (fits own))
 
 -- what is asked of a name, whether it has a row or not
-asked-kept : (parts : Parts) (step : Step) (name : List ℕ) → AreKept parts.rows → ((row : RowShown) → Fits step row) → (o : Option RowShown) → row_of parts.rows name ≡ o → KeptAfter parts (steps_at parts Sends step o)
+asked-kept : (parts : Parts) (step : Step) (name : List ℕ) → IsSound parts.rows → ((row : RowShown) → Fits step row) → (o : Option RowShown) → row_of parts.rows name ≡ o → SoundAfter parts (steps_at parts Sends step o)
 asked-kept parts step name kept fits None e = tt
 asked-kept parts step name kept fits (Some row) e = found-steps parts Sends step (λ (r : RowShown). same_text r.name name) row kept e (λ own. fits row)
 
-creates-kept : (parts : Parts) (name : List ℕ) (arguments : Arguments) → AreKept parts.rows → (o : Option RowShown) → row_of parts.rows name ≡ o → KeptAfter parts (creates parts name arguments o)
+creates-kept : (parts : Parts) (name : List ℕ) (arguments : Arguments) → IsSound parts.rows → (o : Option RowShown) → row_of parts.rows name ≡ o → SoundAfter parts (creates parts name arguments o)
 creates-kept parts name arguments kept None e =
     put-kept parts Sends _ kept (unless-kept (first_fault parts.last parts.rows) _ (λ free. sends-due-kept parts.last (new_row name arguments) (new-may name arguments)))
 creates-kept parts name arguments kept (Some row) e = asked-kept parts (steps.Create arguments) name kept (λ row. tt) (Some row) e
 
 -- a reply is heard
-reply-kept : (parts : Parts) (number : Number) (party : Party) (kind : Kind) (reply : Reply) → AreKept parts.rows → (o : Option RowShown) → row_replied parts.rows number party kind ≡ o
-    → KeptAfter parts (hears_reply parts kind reply o)
+reply-kept : (parts : Parts) (number : Number) (party : Party) (kind : Kind) (reply : Reply) → IsSound parts.rows → (o : Option RowShown) → row_replied parts.rows number party kind ≡ o
+    → SoundAfter parts (hears_reply parts kind reply o)
 reply-kept parts number party kind reply kept None e = (kept, refl)
 reply-kept parts number party kind reply kept (Some row) e =
     let heard = λ (r : RowShown). is_issued_as number party kind (open_in_row r) in
     found-steps parts hears (step_heard kind reply) heard row kept e (heard-fits row number party kind reply (find-passes heard parts.rows row e))
 
 -- a frame that comes
-receives-kept : (parts : Parts) (number : Number) (party : Party) (body : Body) → AreKept parts.rows → KeptAfter parts (receives parts number party body)
+receives-kept : (parts : Parts) (number : Number) (party : Party) (body : Body) → IsSound parts.rows → SoundAfter parts (receives parts number party body)
 receives-kept parts number party (bodies.Call call) kept = (kept, refl)
 receives-kept parts number party (bodies.Reply kind reply) kept = reply-kept parts number party kind reply kept (row_replied parts.rows number party kind) refl
 
 -- a restart
-restart-kept : (parts : Parts) → AreKept parts.rows → KeptAfter parts (starts_again parts)
+restart-kept : (parts : Parts) → IsSound parts.rows → SoundAfter parts (starts_again parts)
 restart-kept parts kept =
-    by_if (KeptAfter parts) (nat_lt (parts.last.session + 1) (2 ^ 64)) (told (in_session (parts.last.session + 1) parts) Restarted) (Err faults.NumbersSpent)
+    by_if (SoundAfter parts) (nat_lt (parts.last.session + 1) (2 ^ 64)) (moved_rows (in_session (parts.last.session + 1) parts) Restarted) (Err faults.NumbersSpent)
     (λ free. (
       record {
         names = apart-map (λ (r : RowShown). r.name) closed parts.rows (λ row. refl) kept.names;
-        each = each-map IsKept IsKept closed parts.rows kept-closed kept.each;
+        each = each-map IsSoundRow IsSoundRow closed parts.rows kept-closed kept.each;
       },
       refl,
     ))
     (λ spent. tt)
 
 -- whatever comes
-moves-kept : (parts : Parts) (input : Input) → AreKept parts.rows → KeptAfter parts (row_moves parts input)
+moves-kept : (parts : Parts) (input : Input) → IsSound parts.rows → SoundAfter parts (row_moves parts input)
 moves-kept parts (ToCreate name arguments) kept = creates-kept parts name arguments kept (row_of parts.rows name) refl
 moves-kept parts (ToUse name usage) kept = asked-kept parts (steps.Use usage) name kept (λ row. tt) (row_of parts.rows name) refl
 moves-kept parts (ToStop name node target) kept = asked-kept parts (steps.Stop node target) name kept (λ row. tt) (row_of parts.rows name) refl
@@ -103,5 +103,5 @@ moves-kept parts (Comes frame) kept = receives-kept parts frame.number frame.par
 moves-kept parts Restarts kept = restart-kept parts kept
 
 -- whatever comes, the rows stay kept, and the nodes are as they were
-pub rows-stay-kept : RowsStayKept
-rows-stay-kept parts input told kept e = subst (KeptAfter parts) e (moves-kept parts input kept)
+pub rows-stay-sound : RowsStaySound
+rows-stay-sound parts input moved_rows kept e = subst (SoundAfter parts) e (moves-kept parts input kept)

@@ -21,17 +21,17 @@ use Rattle.csi_orchestrator.specs.Guards.{MayIssue}
 use Rattle.csi_orchestrator.specs.Moves.{Answer, Moved, sent_as, send_due}
 use Rattle.csi_orchestrator.specs.Agrees.{View, Agrees}
 use Rattle.csi_orchestrator.specs.Following.{after_sent, after_noted, DetachesSomething}
-use Rattle.csi_orchestrator.specs.Shown.{RowShown, Parts, node_entry_of, mark_in, due_in, view_of, AgreesWith}
+use Rattle.csi_orchestrator.specs.Shown.{RowShown, Parts, node_entry_of, mark_in, due_in, view_of, Shows}
 use Rattle.csi_orchestrator.specs.RowChanges.{sent, dropped}
 use Rattle.csi_orchestrator.specs.RowSteps.{outgoing_by, row_after, row_sends_due}
-use Rattle.csi_orchestrator.specs.RowMoves.{Told, put, placed}
-use Rattle.csi_orchestrator.specs.Kept.{MayBeWanted, AreGuarded, Fits}
+use Rattle.csi_orchestrator.specs.RowMoves.{MovedRows, put, placed}
+use Rattle.csi_orchestrator.specs.Sound.{MayBeWanted, AreGuarded, Fits}
 use Rattle.csi_orchestrator.proofs.DueCalls.{due-of-row}
 use Rattle.csi_orchestrator.proofs.DueCases.{IsDueFor, due-cases, ToAttach, ToDetach}
 use Rattle.csi_orchestrator.proofs.ViewsFollow.{sent-follows, noted-follows}
 use Rattle.csi_orchestrator.proofs.AddedItems.{IsNextIfSome, is_next}
 use Rattle.csi_orchestrator.proofs.DueCallsGuarded.{due-guarded}
-use Rattle.csi_orchestrator.proofs.StepsKept.{MaySendDue}
+use Rattle.csi_orchestrator.proofs.StepsSound.{MaySendDue}
 use Rattle.csi_orchestrator.proofs.RowMarks.{GoalHasEntry}
 use Rattle.csi_orchestrator.proofs.RowsAfterNotes.{reads-dropped}
 use Rattle.csi_orchestrator.proofs.RowViews.{Reads, SameAt, same-then, same-sent, same-noted, put-agrees, IsRowOf, reads-history}
@@ -44,8 +44,8 @@ Guards history (Ok moved) = AreGuarded history moved.items
 Guards history (Err fault) = Unit {0}
 
 -- the two answers are one, what is shown agrees, and what is sent may be sent
-abbrev pub Tells : History → Result Told OrchFault → Result Moved OrchFault → Type 0
-Tells history told moved = Fits history told moved × Guards history moved
+abbrev pub Tells : History → Result MovedRows OrchFault → Result Moved OrchFault → Type 0
+Tells history moved_rows moved = Fits history moved_rows moved × Guards history moved
 
 -- after these items a row of a name is as it should be, but that its due call isn't sent yet
 pub record IsReady (parts : Parts) (history : History) (name : List ℕ) (row : RowShown) (view : View) (items : List Item) : Type 0 where
@@ -90,7 +90,7 @@ may-issue parts history name row view items due ready e =
 -- it was sent
 then-sent : (parts : Parts) (history : History) (name : List ℕ) (row : RowShown) (view : View) (items : List Item) (due : Due) (number : Number) → IsReady parts history name row view items
     → due_in row ≡ Some due → next_number parts.last ≡ Some number
-    → AgreesWith (record { nodes = parts.nodes; last = number; rows = put (sent number (kind_of due.call) row) parts.rows }) (with_items history (Sent (issued-by name number due) ∷ items))
+    → Shows (record { nodes = parts.nodes; last = number; rows = put (sent number (kind_of due.call) row) parts.rows }) (with_items history (Sent (issued-by name number due) ∷ items))
 then-sent parts history name row view items due number ready e n =
     put-agrees parts number name (sent number (kind_of due.call) row) (after_sent issued view) (with_items history (Sent issued ∷ items))
     (reads-sent row view name due number ready.reads (has-entry row row.goal ((ready.may_send).may due e)) case)
@@ -116,7 +116,7 @@ then-sent parts history name row view items due number ready e n =
 
 -- none was due, and the goal was dropped
 pub then-dropped : (parts : Parts) (history : History) (name : List ℕ) (row : RowShown) (view : View) (items : List Item) → IsReady parts history name row view items
-    → AgreesWith (record { nodes = parts.nodes; last = parts.last; rows = put (dropped row) parts.rows }) (with_items history (Noted name None ∷ items))
+    → Shows (record { nodes = parts.nodes; last = parts.last; rows = put (dropped row) parts.rows }) (with_items history (Noted name None ∷ items))
 then-dropped parts history name row view items ready =
     put-agrees parts parts.last name (dropped row) (after_noted name None view) (with_items history (Noted name None ∷ items))
     (reads-dropped row view name ((ready.may_send).distinct).nodes ((ready.may_send).distinct).targets ready.reads ready.quiet)

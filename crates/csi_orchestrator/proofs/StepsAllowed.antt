@@ -6,13 +6,13 @@ use Rattle.csi_orchestrator.specs.declared.fault.OrchFault.{OrchFault}
 use Rattle.csi_orchestrator.specs.History.{Item, Started, Sent, Accepted, Closed, Noted, History}
 use Rattle.csi_orchestrator.specs.WellFormed.{AreWellFormed, IsWellFormed}
 use Rattle.csi_orchestrator.specs.Moves.{Input, Moved, moves, moved_to}
-use Rattle.csi_orchestrator.specs.Shown.{Parts, AgreesWith}
-use Rattle.csi_orchestrator.specs.Kept.{AreKept, AreGuarded}
-use Rattle.csi_orchestrator.specs.RowMoves.{Told, row_moves}
+use Rattle.csi_orchestrator.specs.Shown.{Parts, Shows}
+use Rattle.csi_orchestrator.specs.Sound.{IsSound, AreGuarded}
+use Rattle.csi_orchestrator.specs.RowMoves.{MovedRows, row_moves}
 use Rattle.csi_orchestrator.specs.Steps.{IsReached, Begins, GoesOn, MayDoAll, AreStepwise, MovesLaw}
 use Rattle.csi_orchestrator.proofs.AddedItems.{TakesReplies, AreAdded, moves-add, stays-formed}
 use Rattle.csi_orchestrator.proofs.SendingAgrees.{Guards, Tells}
-use Rattle.csi_orchestrator.proofs.RulesStay.{rows-stay-kept}
+use Rattle.csi_orchestrator.proofs.RulesStay.{rows-stay-sound}
 use Rattle.csi_orchestrator.proofs.RepliesAgree.{all-tell}
 
 -- form, guards and replies together
@@ -28,8 +28,8 @@ may-do history input (Noted name goal ∷ older) form guarded replies = (tt, may
 record IsShownBy (nodes : List (List ℕ)) (history : History) : Type 0 where
   parts : Parts
   own_nodes : parts.nodes ≡ nodes
-  rows : AreKept parts.rows
-  agrees : AgreesWith parts history
+  rows : IsSound parts.rows
+  agrees : Shows parts history
   form : IsWellFormed history
 
 -- the parts of an orchestrator that did nothing
@@ -37,12 +37,12 @@ new-parts : List (List ℕ) → Number → Parts
 new-parts nodes last = record { nodes = nodes; last = last; rows = [] }
 
 -- where rows agree with a history, there are rows that agree with it after an input
-goes-on : (nodes : List (List ℕ)) (history : History) (input : Input) (shown : IsShownBy nodes history) → (told : Result Told OrchFault) → row_moves shown.parts input ≡ told
-    → (moved : Result Moved OrchFault) → moves shown.parts.nodes history input ≡ moved → Tells history told moved → IsWellFormed (moved_to history moved) → IsShownBy nodes (moved_to history moved)
-goes-on nodes history input shown (Ok told) e (Ok moved) f tells form =
-    let stays = rows-stay-kept shown.parts input told shown.rows e in
-    record { parts = told.parts; own_nodes = stays.1 ∙ shown.own_nodes; rows = stays.0; agrees = tells.0.1; form = form }
-goes-on nodes history input shown (Ok told) e (Err fault) f tells form = absurd tells.0
+goes-on : (nodes : List (List ℕ)) (history : History) (input : Input) (shown : IsShownBy nodes history) → (moved_rows : Result MovedRows OrchFault) → row_moves shown.parts input ≡ moved_rows
+    → (moved : Result Moved OrchFault) → moves shown.parts.nodes history input ≡ moved → Tells history moved_rows moved → IsWellFormed (moved_to history moved) → IsShownBy nodes (moved_to history moved)
+goes-on nodes history input shown (Ok moved_rows) e (Ok moved) f tells form =
+    let stays = rows-stay-sound shown.parts input moved_rows shown.rows e in
+    record { parts = moved_rows.parts; own_nodes = stays.1 ∙ shown.own_nodes; rows = stays.0; agrees = tells.0.1; form = form }
+goes-on nodes history input shown (Ok moved_rows) e (Err fault) f tells form = absurd tells.0
 goes-on nodes history input shown (Err fault) e (Ok moved) f tells form = absurd tells.0
 goes-on nodes history input shown (Err fault) e (Err other) f tells form = shown
 

@@ -16,8 +16,8 @@ use Rattle.csi_orchestrator.specs.declared.thing.Thing.TheVariants.{Exists, Atta
 use Rattle.csi_orchestrator.specs.declared.thing.Known.{Known}
 use Rattle.csi_orchestrator.specs.declared.thing.Known.TheVariants.{Yes, No, Maybe}
 use Rattle.csi_orchestrator.specs.Thing.{name_in}
-use Rattle.csi_orchestrator.specs.Shown.{NodeEntryShown, RowShown, Parts, row_of, node_entry_of, mark_in, mark_of, published_in, AreTargetsApart, AgreesWith}
-use Rattle.csi_orchestrator.specs.Kept.{IsKept, AreKept}
+use Rattle.csi_orchestrator.specs.Shown.{NodeEntryShown, RowShown, Parts, row_of, node_entry_of, mark_in, mark_of, published_in, AreTargetsApart, Shows}
+use Rattle.csi_orchestrator.specs.Sound.{IsSoundRow, IsSound}
 use Rattle.csi_orchestrator.specs.History.{History}
 use Rattle.csi_orchestrator.specs.Readings.{known}
 use Rattle.csi_orchestrator.specs.Listing.{known_by_rows, ListsKnown, node_in, target_in, noted, noted_of_target, noted_of_node, noted_of_row, noted_in}
@@ -154,7 +154,7 @@ node-lists rows row node_entry in_rows in_row apart =
     disjoint t (inl is) target_entry = let same = sym is ∙ target_entry.2 in cc
     disjoint t (inr is) target_entry = let same = sym is ∙ target_entry.2 in cc
 
-row-lists : (rows : List RowShown) (row : RowShown) → row_of rows row.name ≡ Some row → IsKept row → Lists (OfRow row) (known_by_rows rows) (noted_of_row row)
+row-lists : (rows : List RowShown) (row : RowShown) → row_of rows row.name ≡ Some row → IsSoundRow row → Lists (OfRow row) (known_by_rows rows) (noted_of_row row)
 row-lists rows row in_rows kept =
     joined (λ t. t ≡ Exists row.name) _ (known_by_rows rows) (noted (Exists row.name) row.exists) (flat_map (noted_of_node row.name) row.node_entries)
     (one (known_by_rows rows) (Exists row.name) row.exists (ap (mark_in (mark_of (Exists row.name))) in_rows))
@@ -163,10 +163,10 @@ row-lists rows row in_rows kept =
     (λ t is other. let node = sym (ap node_in is) ∙ node-of row other.0 t other.2 in cc)
 
 -- what kept rows note is what they know, each thing once
-pub rows-list : (rows : List RowShown) → AreKept rows → Lists (OfRows rows) (known_by_rows rows) (noted_in rows)
+pub rows-list : (rows : List RowShown) → IsSound rows → Lists (OfRows rows) (known_by_rows rows) (noted_in rows)
 rows-list rows kept =
     each (λ t. Some (name_in t)) (λ (r : RowShown). r.name) OfRow (known_by_rows rows) noted_of_row rows kept.names name-of
-    (λ row among. row-lists rows row (own-entry (λ (r : RowShown). r.name) rows row kept.names among) (each_of IsKept rows row kept.each among))
+    (λ row among. row-lists rows row (own-entry (λ (r : RowShown). r.name) rows row kept.names among) (each_of IsSoundRow rows row kept.each among))
 
 -- ---- a thing that isn't known as No is of some row
 
@@ -196,7 +196,7 @@ known-of rows thing other = let row = entry-of (λ (r : RowShown). r.name) (mark
         inr (node_entry.0, node_entry.1, inr (target_entry.0, target_entry.1, λ i. Published (same i) (node_entry.2 i) (target_entry.2 i)))
 
 -- a list of what rows know, by a history that they agree with
-pub lists-told : (parts : Parts) (history : History) (things : List (Thing × Known)) → AgreesWith parts history → ListsKnown (known_by_rows parts.rows) things → ListsKnown (known history) things
+pub lists-told : (parts : Parts) (history : History) (things : List (Thing × Known)) → Shows parts history → ListsKnown (known_by_rows parts.rows) things → ListsKnown (known history) things
 lists-told parts history things agrees lists thing mark = (
   λ among. let is = (lists thing mark).0 among in (sym (agrees.same_marks thing) ∙ is.0, is.1),
   λ is. (lists thing mark).1 (agrees.same_marks thing ∙ is.0, is.1),

@@ -18,7 +18,7 @@ use Rattle.csi_orchestrator.specs.Shown.{NodeEntryShown, RowShown, node_entry_of
 use Rattle.csi_orchestrator.specs.RowChanges.{wanted, new_target_entry, with_target, held_as, entry_for, with_entry}
 use Rattle.csi_orchestrator.specs.RowRefusals.{is_so_elsewhere, has_elsewhere, is_entry_otherwise}
 use Rattle.csi_orchestrator.specs.Keyed.{put_by}
-use Rattle.csi_orchestrator.specs.Kept.{IsUsable}
+use Rattle.csi_orchestrator.specs.Sound.{IsUsable}
 use Rattle.csi_orchestrator.proofs.TextLists.{text-same}
 use Rattle.csi_orchestrator.proofs.KeyedSearches.{find-put}
 use Rattle.csi_orchestrator.proofs.EntryRules.{each-put, apart-put, any-put}

@@ -9,7 +9,7 @@ use Rattle.csi_orchestrator.specs.declared.step.Step.TheVariants.{Succeed}
 use Rattle.csi_orchestrator.specs.declared.thing.Known.{Known}
 use Rattle.csi_orchestrator.specs.Due.{Due}
 use Rattle.csi_orchestrator.specs.Found.{kind_due}
-use Rattle.csi_orchestrator.specs.Kept.{IsKept}
+use Rattle.csi_orchestrator.specs.Sound.{IsSoundRow}
 use Rattle.csi_orchestrator.specs.Shown.{RowShown, marks_for, due_with, due_in}
 use Rattle.csi_orchestrator.specs.RowChanges.{Aspect, Existence, Attachment, Staging, Publication, aspect_of, told_of, id_told}
 
@@ -31,5 +31,5 @@ due_heard kind id row (Some goal) = due_with row.name row.arguments (option_or (
 
 -- a success is the one of the due call
 abbrev pub Fits : Step → RowShown → Type 0
-Fits (Succeed kind id) row = IsKept row × (kind_due (due_in row) ≡ Some kind)
+Fits (Succeed kind id) row = IsSoundRow row × (kind_due (due_in row) ≡ Some kind)
 Fits step row = Unit {0}

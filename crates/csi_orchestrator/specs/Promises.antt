@@ -4,14 +4,14 @@ use Rattle.csi_orchestrator.specs.declared.fault.Heard.{Heard}
 use Rattle.csi_orchestrator.specs.declared.fault.OrchFault.{OrchFault}
 use Rattle.csi_orchestrator.specs.History.{History, with_items}
 use Rattle.csi_orchestrator.specs.Moves.{Answer, Hears, Moved}
-use Rattle.csi_orchestrator.specs.Shown.{Parts, AgreesWith}
-use Rattle.csi_orchestrator.specs.Kept.{AreGuarded}
+use Rattle.csi_orchestrator.specs.Shown.{Parts, Shows}
+use Rattle.csi_orchestrator.specs.Sound.{AreGuarded}
 
 -- the answer is the one that the history tells, what is shown then agrees with the history that goes on so, and each
 -- call that was sent may be sent
 pub record Follows (history : History) (moved : Moved) (answer : Answer) (parts : Parts) : Type 0 where
   pub answered : moved.answer ≡ answer
-  pub agrees : AgreesWith parts (with_items history moved.items)
+  pub agrees : Shows parts (with_items history moved.items)
   pub guarded : AreGuarded history moved.items
 
 -- the same, where nothing is refused

@@ -24,16 +24,16 @@ use Rattle.csi_orchestrator.specs.Moves.{Input, ToCreate, ToUse, ToStop, ToDelet
 use Rattle.csi_orchestrator.specs.Keyed.{put_by}
 use Rattle.csi_orchestrator.specs.RowChanges.{new_row}
 use Rattle.csi_orchestrator.specs.RowRefusals.{first_fault}
-use Rattle.csi_orchestrator.specs.RowSteps.{RowTold, row_sends_due, row_unless, row_step}
+use Rattle.csi_orchestrator.specs.RowSteps.{MovedRow, row_sends_due, row_unless, row_step}
 use Rattle.csi_orchestrator.specs.Shown.{RowShown, Parts, row_of, open_in_row, in_session}
 
 -- the answer, and what is shown then
-pub record Told : Type 0 where
+pub record MovedRows : Type 0 where
   pub answer : Answer
   pub parts : Parts
 
-abbrev pub told : Parts → Answer → Result Told OrchFault
-told parts answer = Ok (record { answer = answer; parts = parts })
+abbrev pub moved_rows : Parts → Answer → Result MovedRows OrchFault
+moved_rows parts answer = Ok (record { answer = answer; parts = parts })
 
 -- the row in place of its name's, or last
 abbrev pub put : RowShown → List RowShown → List RowShown
@@ -49,20 +49,20 @@ last_after last None = last
 last_after last (Some outgoing) = outgoing.number
 
 -- what is told of all the rows by what becomes of one, unless it is refused
-abbrev pub parts_after : Parts → RowTold → Parts
-parts_after parts told = record { nodes = parts.nodes; last = last_after parts.last told.outgoing; rows = put told.row parts.rows }
+abbrev pub parts_after : Parts → MovedRow → Parts
+parts_after parts moved_row = record { nodes = parts.nodes; last = last_after parts.last moved_row.outgoing; rows = put moved_row.row parts.rows }
 
-abbrev pub placed : Parts → (Option Frame → Answer) → Result RowTold OrchFault → Result Told OrchFault
+abbrev pub placed : Parts → (Option Frame → Answer) → Result MovedRow OrchFault → Result MovedRows OrchFault
 placed parts answer (Err fault) = Err fault
-placed parts answer (Ok row_told) = told (parts_after parts row_told) (answer (frame_in row_told.outgoing))
+placed parts answer (Ok moved_row) = moved_rows (parts_after parts moved_row) (answer (frame_in moved_row.outgoing))
 
 -- what is told by a step of the row that is found
-abbrev pub steps_at : Parts → (Option Frame → Answer) → Step → Option RowShown → Result Told OrchFault
+abbrev pub steps_at : Parts → (Option Frame → Answer) → Step → Option RowShown → Result MovedRows OrchFault
 steps_at parts answer step None = Err faults.NoSuchVolume
 steps_at parts answer step (Some row) = placed parts answer (row_step parts.nodes parts.last step row)
 
 -- a create
-abbrev pub creates : Parts → List ℕ → Arguments → Option RowShown → Result Told OrchFault
+abbrev pub creates : Parts → List ℕ → Arguments → Option RowShown → Result MovedRows OrchFault
 creates parts name arguments None = placed parts Sends (row_unless (first_fault parts.last parts.rows) (row_sends_due parts.last (new_row name arguments)))
 creates parts name arguments (Some row) = steps_at parts Sends (Create arguments) (Some row)
 
@@ -79,23 +79,23 @@ abbrev pub step_heard : Kind → Reply → Step
 step_heard kind reply = if is_ok_status reply.status then Succeed kind reply.id else Fail
 
 -- a reply, and the row that it is to, if there is one
-abbrev pub hears_reply : Parts → Kind → Reply → Option RowShown → Result Told OrchFault
-hears_reply parts kind reply None = told parts (Hears Ignored)
+abbrev pub hears_reply : Parts → Kind → Reply → Option RowShown → Result MovedRows OrchFault
+hears_reply parts kind reply None = moved_rows parts (Hears Ignored)
 hears_reply parts kind reply (Some row) = steps_at parts hears (step_heard kind reply) (Some row)
 
 -- a frame
-abbrev pub receives : Parts → Number → Party → Body → Result Told OrchFault
-receives parts number party (bodies.Call call) = told parts (Hears Ignored)
+abbrev pub receives : Parts → Number → Party → Body → Result MovedRows OrchFault
+receives parts number party (bodies.Call call) = moved_rows parts (Hears Ignored)
 receives parts number party (bodies.Reply kind reply) = hears_reply parts kind reply (row_replied parts.rows number party kind)
 
 -- a restart
-abbrev pub starts_again : Parts → Result Told OrchFault
+abbrev pub starts_again : Parts → Result MovedRows OrchFault
 starts_again parts =
-    if nat_lt (parts.last.session + 1) (2 ^ 64) then told (in_session (parts.last.session + 1) parts) Restarted
+    if nat_lt (parts.last.session + 1) (2 ^ 64) then moved_rows (in_session (parts.last.session + 1) parts) Restarted
     else Err faults.NumbersSpent
 
 -- each input
-abbrev pub row_moves : Parts → Input → Result Told OrchFault
+abbrev pub row_moves : Parts → Input → Result MovedRows OrchFault
 row_moves parts (ToCreate name arguments) = creates parts name arguments (row_of parts.rows name)
 row_moves parts (ToUse name usage) = steps_at parts Sends (Use usage) (row_of parts.rows name)
 row_moves parts (ToStop name node target) = steps_at parts Sends (Stop node target) (row_of parts.rows name)
@@ -114,16 +114,16 @@ asked_by name step = None
 
 -- the code refuses with the fault that is told; where nothing else refuses, it may still refuse for want of memory
 abbrev pub IsRefusal : {X : Type 0} → Result X OrchFault → OrchFault → Type 0
-IsRefusal (Ok told) fault = fault ≡ faults.NoMemory
+IsRefusal (Ok moved_rows) fault = fault ≡ faults.NoMemory
 IsRefusal (Err other) fault = fault ≡ other
 
 -- this is answered, and nothing is refused
-abbrev pub IsToldAs : Answer → Result Told OrchFault → Type 0
-IsToldAs answer (Ok told) = told.answer ≡ answer
-IsToldAs answer (Err fault) = ⊥
+abbrev pub RowsAnswer : Answer → Result MovedRows OrchFault → Type 0
+RowsAnswer answer (Ok moved_rows) = moved_rows.answer ≡ answer
+RowsAnswer answer (Err fault) = ⊥
 
 -- a call's result is what is told of this input
-pub record IsTold {R : Type 0} (old new : Parts) (input : Input) (says : R → Answer) (result : Result R OrchFault) : Type 0 where
-  pub ok : IfOk result (λ r. row_moves old input ≡ told new (says r))
+pub record IsMoveOf {R : Type 0} (old new : Parts) (input : Input) (says : R → Answer) (result : Result R OrchFault) : Type 0 where
+  pub ok : IfOk result (λ r. row_moves old input ≡ moved_rows new (says r))
   pub err : IfErr result (IsRefusal (row_moves old input))
   pub stays : OnErr result (new ≡ old)

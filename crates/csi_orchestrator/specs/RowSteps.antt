@@ -29,7 +29,7 @@ outgoing_by (Some due) None = Err faults.NumbersSpent
 outgoing_by (Some due) (Some number) = Ok (Some (record { frame = call_frame number due.party due.call; number = number; kind = kind_of due.call }))
 
 -- what became of a row, and what is sent for it
-pub record RowTold : Type 0 where
+pub record MovedRow : Type 0 where
   pub outgoing : Option Outgoing
   pub row : RowShown
 
@@ -39,20 +39,20 @@ sent_or_dropped None row = dropped row
 sent_or_dropped (Some outgoing) row = sent outgoing.number outgoing.kind row
 
 -- the row after what is to be sent was found, unless that was refused
-abbrev pub row_after : RowShown → Result (Option Outgoing) OrchFault → Result RowTold OrchFault
+abbrev pub row_after : RowShown → Result (Option Outgoing) OrchFault → Result MovedRow OrchFault
 row_after row (Err fault) = Err fault
 row_after row (Ok outgoing) = Ok (record { outgoing = outgoing; row = sent_or_dropped outgoing row })
 
 -- the call that is due for the row's goal is sent
-abbrev pub row_sends_due : Number → RowShown → Result RowTold OrchFault
+abbrev pub row_sends_due : Number → RowShown → Result MovedRow OrchFault
 row_sends_due last row = row_after row (outgoing_by (due_in row) (next_number last))
 
 -- nothing is sent
-abbrev pub row_rests : RowShown → Result RowTold OrchFault
+abbrev pub row_rests : RowShown → Result MovedRow OrchFault
 row_rests row = Ok (record { outgoing = None; row = row })
 
 -- unless it is refused
-abbrev pub row_unless : Option OrchFault → Result RowTold OrchFault → Result RowTold OrchFault
+abbrev pub row_unless : Option OrchFault → Result MovedRow OrchFault → Result MovedRow OrchFault
 row_unless (Some fault) result = Err fault
 row_unless None result = result
 
@@ -109,16 +109,16 @@ changed steps.Fail row = failed row row.goal
 
 -- what a step makes of a row, for an orchestrator of these nodes and with this last number: where nothing refuses it at once, and
 -- in any case
-abbrev pub row_takes : Number → Step → RowShown → Result RowTold OrchFault
+abbrev pub row_takes : Number → Step → RowShown → Result MovedRow OrchFault
 row_takes last step row =
     if is_met step row then row_rests row
     else if waits step row then row_rests (closed row)
     else row_unless (late_refusal last step row) (row_sends_due last (changed step row))
 
-abbrev pub row_step : List (List ℕ) → Number → Step → RowShown → Result RowTold OrchFault
+abbrev pub row_step : List (List ℕ) → Number → Step → RowShown → Result MovedRow OrchFault
 row_step nodes last step row = row_unless (step_refusal nodes last step row) (row_takes last step row)
 
 -- nothing is sent
-abbrev pub SendsNothing : Result RowTold OrchFault → Type 0
-SendsNothing (Ok told) = told.outgoing ≡ None
+abbrev pub SendsNothing : Result MovedRow OrchFault → Type 0
+SendsNothing (Ok moved_row) = moved_row.outgoing ≡ None
 SendsNothing (Err fault) = ⊥

@@ -209,8 +209,8 @@ view_of parts =
     }
 
 -- the history is one that they agree with
-abbrev pub AgreesWith : Parts → History → Type 0
-AgreesWith parts history = Agrees (view_of parts) history
+abbrev pub Shows : Parts → History → Type 0
+Shows parts history = Agrees (view_of parts) history
 
 -- the parts once every open call was given up
 abbrev pub in_session : ℕ → Parts → Parts
@@ -226,5 +226,5 @@ AreAllTargetsApart rows = AllByRecursion (λ (row : RowShown). AllByRecursion Ar
 -- the call that is due for a name, as the history tells it, is read from the name's row
 abbrev pub DueIsTold : Type 0
 DueIsTold =
-    (parts : Parts) (history : History) (name : List ℕ) → AreAllTargetsApart parts.rows → AgreesWith parts history
+    (parts : Parts) (history : History) (name : List ℕ) → AreAllTargetsApart parts.rows → Shows parts history
     → due_call history name ≡ option_and_then due_in (row_of parts.rows name)

@@ -7,7 +7,7 @@ ghost use Rattle.csi_orchestrator.specs.Catalog.{rows_of, IsReady, AreUpTo, call
 ghost use Rattle.csi_orchestrator.specs.Core.{parts_of, IsFiled};
 ghost use Rattle.csi_orchestrator.specs.Hearing.{Fits};
 ghost use Rattle.csi_orchestrator.specs.Moves.{Input, ToCreate, Answer, Sends};
-ghost use Rattle.csi_orchestrator.specs.RowMoves.{frame_in, last_after, steps_at, creates, row_moves, asked_by, IsRefusal, IsToldAs, IsTold};
+ghost use Rattle.csi_orchestrator.specs.RowMoves.{frame_in, last_after, steps_at, creates, row_moves, asked_by, IsRefusal, RowsAnswer, IsMoveOf};
 ghost use Rattle.csi_orchestrator.specs.Shown.{RowShown, row_shown, row_of};
 
 use crate::changes::new_row;
@@ -54,7 +54,7 @@ impl Core {
         ensures stays { OnErr result (parts_of self.new ≡ parts_of self.old) }
         ensures filed { IsFiled self.new }
         ensures quiet { (name : List ℕ) (answer : Option FrameShown → Answer) → ((frame : FrameShown) → answer (Some frame) ≡ answer None → ⊥) → position (λ row. same_text row.name name) (rows_of self.old.catalog) ≡ Some index
-            → IsToldAs (answer None) (steps_at (parts_of self.old) answer step (row_of (map row_shown (rows_of self.old.catalog)) name)) → IsOk result }
+            → RowsAnswer (answer None) (steps_at (parts_of self.old) answer step (row_of (map row_shown (rows_of self.old.catalog)) name)) → IsOk result }
         ensures delete { step ≡ Step.Delete → IfErr result (λ fault. fault ≡ OrchFault.NoMemory → ⊥) }
     {
         let row = &mut self.catalog.rows[index];
@@ -66,10 +66,10 @@ impl Core {
     pub fn ask(&mut self, name: &Name, step: Step) -> Result<Option<Frame>, OrchFault>
         requires filed { IsFiled self.old }
         requires fits { (row : RowShown) → Fits step row }
-        ensures told { (input : Input) → asked_by name.now step ≡ Some input → IsTold (parts_of self.old) (parts_of self.new) input Sends result }
+        ensures told { (input : Input) → asked_by name.now step ≡ Some input → IsMoveOf (parts_of self.old) (parts_of self.new) input Sends result }
         ensures stays { OnErr result (parts_of self.new ≡ parts_of self.old) }
         ensures filed { IsFiled self.new }
-        ensures quiet { (input : Input) → asked_by name.now step ≡ Some input → IsToldAs (Sends None) (row_moves (parts_of self.old) input) → IsOk result }
+        ensures quiet { (input : Input) → asked_by name.now step ≡ Some input → RowsAnswer (Sends None) (row_moves (parts_of self.old) input) → IsOk result }
         ensures delete { step ≡ Step.Delete → IfErr result (λ fault. fault ≡ OrchFault.NoMemory → ⊥) }
     {
         match self.catalog.index_of(name) {
@@ -101,7 +101,7 @@ impl Core {
     /// Requests creation of a volume of this name.
     pub fn create(&mut self, name: Name, arguments: Arguments) -> Result<Option<Frame>, OrchFault>
         requires { IsFiled self.old }
-        ensures told { IsTold (parts_of self.old) (parts_of self.new) (ToCreate name arguments) Sends result }
+        ensures told { IsMoveOf (parts_of self.old) (parts_of self.new) (ToCreate name arguments) Sends result }
         ensures stays { OnErr result (parts_of self.new ≡ parts_of self.old) }
         ensures filed { IsFiled self.new }
     {

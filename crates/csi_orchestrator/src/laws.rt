@@ -3,7 +3,7 @@ ghost use Rattle.csi_orchestrator.specs.Laws.{MovesKeepForm};
 ghost use Rattle.csi_orchestrator.specs.Following.{ViewFollows};
 ghost use Rattle.csi_orchestrator.specs.Shown.{DueIsTold};
 ghost use Rattle.csi_orchestrator.specs.Steps.{MovesLaw};
-ghost use Rattle.csi_orchestrator.specs.Kept.{RowsTell, RowsStayKept, MovesAreGuarded};
+ghost use Rattle.csi_orchestrator.specs.Sound.{RowsTell, RowsStaySound, MovesAreGuarded};
 
 /// A law, and nothing that runs: the history of an orchestrator that did nothing is well-formed, and stays so whatever
 /// comes: each number is after the ones before it, each call that is answered or given up was open, and each session
@@ -19,7 +19,7 @@ fn rows_follow()
     ensures view_follows { ViewFollows }
     ensures due_is_told { DueIsTold }
     ensures rows_tell { RowsTell }
-    ensures rows_stay_kept { RowsStayKept }
+    ensures rows_stay_sound { RowsStaySound }
     ensures moves_are_guarded { MovesAreGuarded }
 {}
 

@@ -3,7 +3,7 @@ ghost use Rattle.std.specs.Prelude.{◌≡◌, ◌++◌, [], map, IfOk, IsOk, On
 ghost use Rattle.std.specs.List.{flat_map};
 ghost use Rattle.csi_orchestrator.specs.declared.fault.OrchFault.{OrchFault as Fault};
 ghost use Rattle.csi_orchestrator.specs.Shown.{node_entry_shown, row_shown};
-ghost use Rattle.csi_orchestrator.specs.Kept.{AreKept};
+ghost use Rattle.csi_orchestrator.specs.Sound.{IsSound};
 ghost use Rattle.csi_orchestrator.specs.Listing.{known_by_rows, ListsKnown, IsInOrder, noted, noted_of_target, noted_of_node, noted_of_row, noted_in};
 
 use crate::fault::OrchFault;
@@ -160,8 +160,8 @@ fn things_by_rows(alloc: Global, rows: &[Row]) -> Result<Vec<(Thing, Known)>, Or
 /// node by node `Attached`, `Staged` and `Published` by target; texts by their bytes. An `Err` is an allocation that
 /// was refused; where there is nothing to list none is asked for.
 pub(crate) fn things_in(alloc: Global, rows: &[Row]) -> Result<Vec<(Thing, Known)>, OrchFault>
-    ensures known { AreKept (map row_shown rows.now) → IfOk result (λ things. ListsKnown (known_by_rows (map row_shown rows.now)) things.items) }
-    ensures order { AreKept (map row_shown rows.now) → IfOk result (λ things. IsInOrder things.items) }
+    ensures known { IsSound (map row_shown rows.now) → IfOk result (λ things. ListsKnown (known_by_rows (map row_shown rows.now)) things.items) }
+    ensures order { IsSound (map row_shown rows.now) → IfOk result (λ things. IsInOrder things.items) }
     ensures err { IfErr result (λ fault. fault ≡ Fault.NoMemory) }
     ensures empty { noted_in (map row_shown rows.now) ≡ [] → IsOk result }
 {

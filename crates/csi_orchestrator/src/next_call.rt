@@ -5,7 +5,7 @@ ghost use Rattle.csi_orchestrator.specs.RowChanges.{succeeded};
 ghost use Rattle.csi_orchestrator.specs.RowSteps.{due_for_use, is_given_up as gives_up, timed_out, failed, changed};
 ghost use Rattle.csi_orchestrator.specs.Found.{due_shown, kind_due};
 ghost use Rattle.csi_orchestrator.specs.Hearing.{marks_heard, Fits};
-ghost use Rattle.csi_orchestrator.specs.Kept.{IsKept};
+ghost use Rattle.csi_orchestrator.specs.Sound.{IsSoundRow};
 
 use crate::changes::{id_told, told};
 use crate::due::{Due, create_due, delete_due, due_for, stop_due, use_due};
@@ -96,7 +96,7 @@ fn marks_after(marks: Marks, kind: Kind) -> Marks
 
 // The call that is due once the row's due call of this kind succeeded, and brought this id.
 fn due_after(row: &Row, kind: Kind, id: Option<VolumeId>) -> Option<Due<'_>>
-    requires kept { IsKept (row_shown row.now) }
+    requires sound { IsSoundRow (row_shown row.now) }
     requires due { kind_due (due_in (row_shown row.now)) ≡ Some kind }
     ensures { option_map due_shown result ≡ due_in (succeeded kind id (row_shown row.now)) }
 {

@@ -27,13 +27,13 @@ pub struct Orchestrator {
 impl Model for Orchestrator {
     ghost use Rattle.csi_orchestrator.specs.Shown.{Parts};
     ghost use Rattle.csi_orchestrator.specs.Core.{parts_of, IsFiled};
-    ghost use Rattle.csi_orchestrator.specs.Kept.{AreKept};
+    ghost use Rattle.csi_orchestrator.specs.Sound.{IsSound};
 
     ghost Value = { Parts };
 
     ghost view = { λ orchestrator. parts_of orchestrator.core };
 
-    ghost invariant = { λ orchestrator. AreKept (parts_of orchestrator.core).rows × IsFiled orchestrator.core };
+    ghost invariant = { λ orchestrator. IsSound (parts_of orchestrator.core).rows × IsFiled orchestrator.core };
 }
 
 impl Orchestrator {
@@ -41,7 +41,7 @@ impl Orchestrator {
     ghost use Rattle.csi_orchestrator.specs.WellFormed.{IsWellFormed};
     ghost use Rattle.csi_orchestrator.specs.Moves.{ToCreate, ToUse, ToStop, ToDelete, TimesOut, Comes, Restarts, Sends, Hears, Restarted, moves};
     ghost use Rattle.csi_orchestrator.specs.Readings.{known, last_number};
-    ghost use Rattle.csi_orchestrator.specs.Shown.{AgreesWith, view_of};
+    ghost use Rattle.csi_orchestrator.specs.Shown.{Shows, view_of};
     ghost use Rattle.csi_orchestrator.specs.RowMoves.{IsRefusal};
     ghost use Rattle.csi_orchestrator.specs.Promises.{IsDone, IsAnsweredAs, IsHeardAs};
     ghost use Rattle.csi_orchestrator.specs.Listing.{ListsKnown, IsInOrder};
@@ -49,7 +49,7 @@ impl Orchestrator {
     /// An orchestrator of these nodes that did nothing, in session 1. It takes no memory.
     pub fn new(alloc: Global, nodes: Vec<NodeId>) -> Orchestrator
         ensures nodes { result.nodes ≡ nodes.items }
-        ensures agrees { AgreesWith result new_history }
+        ensures agrees { Shows result new_history }
     {
         Orchestrator::numbered(
             alloc,
@@ -64,7 +64,7 @@ impl Orchestrator {
     /// The same, with its calls numbered after this number. It takes no memory.
     pub fn numbered(alloc: Global, nodes: Vec<NodeId>, last: Number) -> Orchestrator
         ensures nodes { result.nodes ≡ nodes.items }
-        ensures agrees { AgreesWith result (history_after last) }
+        ensures agrees { Shows result (history_after last) }
     {
         Orchestrator {
             core: Core {
@@ -79,14 +79,14 @@ impl Orchestrator {
     /// The session in which its next call is numbered.
     pub fn session(&self) -> u64
         ensures value { result ≡ self.now.last.session }
-        ensures agrees { (history : History) → AgreesWith self.now history → result ≡ (last_number history).session }
+        ensures agrees { (history : History) → Shows self.now history → result ≡ (last_number history).session }
     {
         self.core.last.session
     }
 
     /// What it knows of a thing. It takes no memory.
     pub fn known(&self, thing: &Thing) -> Known
-        ensures agrees { (history : History) → AgreesWith self.now history → result ≡ known history thing.now }
+        ensures agrees { (history : History) → Shows self.now history → result ≡ known history thing.now }
         ensures marks { result ≡ (view_of self.now).marks thing.now }
     {
         known_in(&self.core.catalog, thing)
@@ -103,8 +103,8 @@ impl Orchestrator {
         limit: u64,
         capabilities: CapabilityList,
     ) -> Result<Option<Frame>, OrchFault>
-        ensures ok { (history : History) → IsWellFormed history → AgreesWith self.old history → IfOk result (λ sent. IsDone history (moves self.old.nodes history (ToCreate name (record { required = required; limit = limit; capabilities = capabilities }))) (Sends sent) self.new) }
-        ensures err { (history : History) → IsWellFormed history → AgreesWith self.old history → IfErr result (IsRefusal (moves self.old.nodes history (ToCreate name (record { required = required; limit = limit; capabilities = capabilities })))) }
+        ensures ok { (history : History) → IsWellFormed history → Shows self.old history → IfOk result (λ sent. IsDone history (moves self.old.nodes history (ToCreate name (record { required = required; limit = limit; capabilities = capabilities }))) (Sends sent) self.new) }
+        ensures err { (history : History) → IsWellFormed history → Shows self.old history → IfErr result (IsRefusal (moves self.old.nodes history (ToCreate name (record { required = required; limit = limit; capabilities = capabilities })))) }
         ensures stays { OnErr result (self.new ≡ self.old) }
         ensures nodes { self.new.nodes ≡ self.old.nodes }
     {
@@ -129,9 +129,9 @@ impl Orchestrator {
         capability: Capability,
         readonly: bool,
     ) -> Result<Option<Frame>, OrchFault>
-        ensures ok { (history : History) → IsWellFormed history → AgreesWith self.old history → IfOk result (λ sent. IsDone history (moves self.old.nodes history (ToUse name.now (record { node = node; target = target; capability = capability; readonly = readonly }))) (Sends sent) self.new) }
-        ensures err { (history : History) → IsWellFormed history → AgreesWith self.old history → IfErr result (IsRefusal (moves self.old.nodes history (ToUse name.now (record { node = node; target = target; capability = capability; readonly = readonly })))) }
-        ensures met { (history : History) → IsWellFormed history → AgreesWith self.old history → IsAnsweredAs (Sends None) (moves self.old.nodes history (ToUse name.now (record { node = node; target = target; capability = capability; readonly = readonly }))) → IsOk result }
+        ensures ok { (history : History) → IsWellFormed history → Shows self.old history → IfOk result (λ sent. IsDone history (moves self.old.nodes history (ToUse name.now (record { node = node; target = target; capability = capability; readonly = readonly }))) (Sends sent) self.new) }
+        ensures err { (history : History) → IsWellFormed history → Shows self.old history → IfErr result (IsRefusal (moves self.old.nodes history (ToUse name.now (record { node = node; target = target; capability = capability; readonly = readonly })))) }
+        ensures met { (history : History) → IsWellFormed history → Shows self.old history → IsAnsweredAs (Sends None) (moves self.old.nodes history (ToUse name.now (record { node = node; target = target; capability = capability; readonly = readonly }))) → IsOk result }
         ensures stays { OnErr result (self.new ≡ self.old) }
         ensures nodes { self.new.nodes ≡ self.old.nodes }
     {
@@ -154,8 +154,8 @@ impl Orchestrator {
         node: NodeId,
         target: Target,
     ) -> Result<Option<Frame>, OrchFault>
-        ensures ok { (history : History) → IsWellFormed history → AgreesWith self.old history → IfOk result (λ sent. IsDone history (moves self.old.nodes history (ToStop name.now node target)) (Sends sent) self.new) }
-        ensures err { (history : History) → IsWellFormed history → AgreesWith self.old history → IfErr result (IsRefusal (moves self.old.nodes history (ToStop name.now node target))) }
+        ensures ok { (history : History) → IsWellFormed history → Shows self.old history → IfOk result (λ sent. IsDone history (moves self.old.nodes history (ToStop name.now node target)) (Sends sent) self.new) }
+        ensures err { (history : History) → IsWellFormed history → Shows self.old history → IfErr result (IsRefusal (moves self.old.nodes history (ToStop name.now node target))) }
         ensures stays { OnErr result (self.new ≡ self.old) }
         ensures nodes { self.new.nodes ≡ self.old.nodes }
     {
@@ -166,8 +166,8 @@ impl Orchestrator {
     /// Refused with the first that holds of `NoSuchVolume`, `NotCreated` (no id was heard) and `InUse`, and, where it may be
     /// there, of `Busy` and `NumbersSpent`. A refusal changes nothing. It takes no memory.
     pub fn delete(&mut self, name: &Name) -> Result<Option<Frame>, OrchFault>
-        ensures ok { (history : History) → IsWellFormed history → AgreesWith self.old history → IfOk result (λ sent. IsDone history (moves self.old.nodes history (ToDelete name.now)) (Sends sent) self.new) }
-        ensures err { (history : History) → IsWellFormed history → AgreesWith self.old history → IfErr result (IsRefusal (moves self.old.nodes history (ToDelete name.now))) }
+        ensures ok { (history : History) → IsWellFormed history → Shows self.old history → IfOk result (λ sent. IsDone history (moves self.old.nodes history (ToDelete name.now)) (Sends sent) self.new) }
+        ensures err { (history : History) → IsWellFormed history → Shows self.old history → IfErr result (IsRefusal (moves self.old.nodes history (ToDelete name.now))) }
         ensures memory { IfErr result (λ fault. fault ≡ Fault.NoMemory → ⊥) }
         ensures stays { OnErr result (self.new ≡ self.old) }
         ensures nodes { self.new.nodes ≡ self.old.nodes }
@@ -180,8 +180,8 @@ impl Orchestrator {
     /// what it was for is undone. Refused with the first that holds of `NoSuchVolume`, `Idle`, `NumbersSpent` and
     /// `NoMemory`. A refusal changes nothing, the open call included.
     pub fn timeout(&mut self, name: &Name) -> Result<Option<Frame>, OrchFault>
-        ensures ok { (history : History) → IsWellFormed history → AgreesWith self.old history → IfOk result (λ sent. IsDone history (moves self.old.nodes history (TimesOut name.now)) (Sends sent) self.new) }
-        ensures err { (history : History) → IsWellFormed history → AgreesWith self.old history → IfErr result (IsRefusal (moves self.old.nodes history (TimesOut name.now))) }
+        ensures ok { (history : History) → IsWellFormed history → Shows self.old history → IfOk result (λ sent. IsDone history (moves self.old.nodes history (TimesOut name.now)) (Sends sent) self.new) }
+        ensures err { (history : History) → IsWellFormed history → Shows self.old history → IfErr result (IsRefusal (moves self.old.nodes history (TimesOut name.now))) }
         ensures stays { OnErr result (self.new ≡ self.old) }
         ensures nodes { self.new.nodes ≡ self.old.nodes }
     {
@@ -194,10 +194,10 @@ impl Orchestrator {
     /// changes nothing and takes no memory; nor does a reply after which nothing is sent. Refused with `NumbersSpent`, where there
     /// is a next call and no number for it, and then `NoMemory`. A refusal changes nothing.
     pub fn deliver(&mut self, frame: &Frame) -> Result<Heard, OrchFault>
-        ensures ok { (history : History) → IsWellFormed history → AgreesWith self.old history → IfOk result (λ heard. IsDone history (moves self.old.nodes history (Comes frame.now)) (Hears heard) self.new) }
-        ensures err { (history : History) → IsWellFormed history → AgreesWith self.old history → IfErr result (IsRefusal (moves self.old.nodes history (Comes frame.now))) }
-        ensures ignored { (history : History) → IsWellFormed history → AgreesWith self.old history → IsHeardAs HeardShown.Ignored (moves self.old.nodes history (Comes frame.now)) → IsOk result }
-        ensures quiet { (history : History) → IsWellFormed history → AgreesWith self.old history → IsHeardAs (HeardShown.Taken None) (moves self.old.nodes history (Comes frame.now)) → IsOk result }
+        ensures ok { (history : History) → IsWellFormed history → Shows self.old history → IfOk result (λ heard. IsDone history (moves self.old.nodes history (Comes frame.now)) (Hears heard) self.new) }
+        ensures err { (history : History) → IsWellFormed history → Shows self.old history → IfErr result (IsRefusal (moves self.old.nodes history (Comes frame.now))) }
+        ensures ignored { (history : History) → IsWellFormed history → Shows self.old history → IsHeardAs HeardShown.Ignored (moves self.old.nodes history (Comes frame.now)) → IsOk result }
+        ensures quiet { (history : History) → IsWellFormed history → Shows self.old history → IsHeardAs (HeardShown.Taken None) (moves self.old.nodes history (Comes frame.now)) → IsOk result }
         ensures stays { OnErr result (self.new ≡ self.old) }
         ensures nodes { self.new.nodes ≡ self.old.nodes }
     {
@@ -208,7 +208,7 @@ impl Orchestrator {
     /// `Exists`, and then node by node `Attached`, `Staged` and `Published` by target; texts by their bytes. An `Err` is
     /// an allocation that was refused; where each thing is known as `No` none is asked for.
     pub fn things(&self) -> Result<Vec<(Thing, Known)>, OrchFault>
-        ensures agrees { (history : History) → AgreesWith self.now history → IfOk result (λ things. ListsKnown (known history) things.items) }
+        ensures agrees { (history : History) → Shows self.now history → IfOk result (λ things. ListsKnown (known history) things.items) }
         ensures marks { IfOk result (λ things. ListsKnown (view_of self.now).marks things.items) }
         ensures order { IfOk result (λ things. IsInOrder things.items) }
         ensures err { IfErr result (λ fault. fault ≡ Fault.NoMemory) }
@@ -220,8 +220,8 @@ impl Orchestrator {
     /// Starts the next session: every open call is given up, and nothing is sent. Refused with `NumbersSpent` in the
     /// last session, which changes nothing. It takes no memory.
     pub fn restart(&mut self) -> Result<(), OrchFault>
-        ensures ok { (history : History) → IsWellFormed history → AgreesWith self.old history → IfOk result (λ done. IsDone history (moves self.old.nodes history Restarts) Restarted self.new) }
-        ensures err { (history : History) → IsWellFormed history → AgreesWith self.old history → IfErr result (IsRefusal (moves self.old.nodes history Restarts)) }
+        ensures ok { (history : History) → IsWellFormed history → Shows self.old history → IfOk result (λ done. IsDone history (moves self.old.nodes history Restarts) Restarted self.new) }
+        ensures err { (history : History) → IsWellFormed history → Shows self.old history → IfErr result (IsRefusal (moves self.old.nodes history Restarts)) }
         ensures spent { IfErr result (λ fault. fault ≡ Fault.NumbersSpent) }
         ensures stays { OnErr result (self.new ≡ self.old) }
         ensures nodes { self.new.nodes ≡ self.old.nodes }

@@ -5,8 +5,8 @@ ghost use Rattle.csi_types.specs.Same.{same_number as is_same_number, same_kind 
 ghost use Rattle.csi_orchestrator.specs.declared.fault.Heard.TheVariants.{Ignored as IsIgnored};
 ghost use Rattle.csi_orchestrator.specs.Moves.{Comes, Hears, hears};
 ghost use Rattle.csi_orchestrator.specs.Shown.{row_shown, open_in_row};
-ghost use Rattle.csi_orchestrator.specs.RowMoves.{is_issued_as, row_moves, step_heard, IsToldAs, IsTold};
-ghost use Rattle.csi_orchestrator.specs.Kept.{AreKept};
+ghost use Rattle.csi_orchestrator.specs.RowMoves.{is_issued_as, row_moves, step_heard, RowsAnswer, IsMoveOf};
+ghost use Rattle.csi_orchestrator.specs.Sound.{IsSound};
 ghost use Rattle.csi_orchestrator.specs.Catalog.{rows_of, IsIndexed};
 ghost use Rattle.csi_orchestrator.specs.Core.{parts_of, IsFiled};
 
@@ -80,13 +80,13 @@ impl Core {
     /// sent; where none is sent it takes no memory. Whatever else comes is ignored, which takes none. An
     /// `Err` changes nothing, so that the frame can be delivered again.
     pub fn deliver(&mut self, frame: &Frame) -> Result<Heard, OrchFault>
-        requires kept { AreKept (map row_shown (rows_of self.old.catalog)) }
+        requires sound { IsSound (map row_shown (rows_of self.old.catalog)) }
         requires filed { IsFiled self.old }
-        ensures told { IsTold (parts_of self.old) (parts_of self.new) (Comes frame.now) Hears result }
+        ensures told { IsMoveOf (parts_of self.old) (parts_of self.new) (Comes frame.now) Hears result }
         ensures stays { OnErr result (parts_of self.new ≡ parts_of self.old) }
         ensures filed { IsFiled self.new }
-        ensures ignored { IsToldAs (Hears IsIgnored) (row_moves (parts_of self.old) (Comes frame.now)) → IsOk result }
-        ensures quiet { IsToldAs (hears None) (row_moves (parts_of self.old) (Comes frame.now)) → IsOk result }
+        ensures ignored { RowsAnswer (Hears IsIgnored) (row_moves (parts_of self.old) (Comes frame.now)) → IsOk result }
+        ensures quiet { RowsAnswer (hears None) (row_moves (parts_of self.old) (Comes frame.now)) → IsOk result }
     {
         let Body::Reply(kind, reply) = frame.body() else {
             return Ok(Heard::Ignored);

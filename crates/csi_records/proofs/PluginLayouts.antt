@@ -11,8 +11,8 @@ use Rattle.csi_controller.proofs.Copies.{sound-copies}
 use Rattle.csi_controller.proofs.FirstRefused.{sound-take}
 use Rattle.csi_types.specs.Text.{IsNodeId}
 use Rattle.csi_node.specs.declared.row.NodeRow.{NodeRow}
-use Rattle.csi_node.specs.OneRow.{RowShown, shown, IsRow}
-use Rattle.csi_node.specs.Record.{IsRecord, ids, id_at}
+use Rattle.csi_node.specs.OneRow.{RowShown, shown, IsSoundRow}
+use Rattle.csi_node.specs.Record.{IsSound as IsNodeSound, ids, id_at}
 use Rattle.csi_records.specs.declared.part.Part.{Part}
 use Rattle.csi_records.specs.Part.{StoredPart, stored_in, all_stored_in}
 use Rattle.csi_records.specs.Writing.{ArePublishedFew}
@@ -56,7 +56,7 @@ stored-split (p ∷ ps) head some is =
 -- ---- a node's
 
 -- a front of a node's record keeps a record's rules
-record-take : (rows : List RowShown) (k : ℕ) → IsRecord rows → IsRecord (take k rows)
+record-take : (rows : List RowShown) (k : ℕ) → IsNodeSound rows → IsNodeSound (take k rows)
 record-take rows k is = record {
   rising = λ i j below inside.
       let j_below : j < k = omega (arith, inside, length-take k rows) in
@@ -64,7 +64,7 @@ record-take rows k is = record {
       let i_below : i < k = omega (arith, below, j_below) in
       subst (λ (n : ℕ). n < id_at (take k rows) j) (sym (at i i_below)) (subst (λ (n : ℕ). id_at rows i < n) (sym (at j j_below)) (is.rising i j below j_there));
   limit = omega (arith, is.limit, length-take k rows);
-  each = All-take IsRow k rows is.each;
+  each = All-take IsSoundRow k rows is.each;
 }
   where
     at : (i : ℕ) → i < k → id_at (take k rows) i ≡ id_at rows i
@@ -85,13 +85,13 @@ node-unasked wanted node parts fits other =
     (λ first head same. let is : first ≡ node = same_part node_head_read first node head.0 fits same in other (subst (λ (n : List ℕ). IfSome wanted (λ id. n ≡ id)) is head.1))
 
 -- what keeps the rules can be written
-few-each : (rows : List NodeRow) → AllByRecursion IsRow (map shown rows) → AllByRecursion ArePublishedFew rows
+few-each : (rows : List NodeRow) → AllByRecursion IsSoundRow (map shown rows) → AllByRecursion ArePublishedFew rows
 few-each [] each = tt
 few-each (r ∷ rs) each = ((each.0).targets.limit, few-each rs each.1)
 
 -- the rows of a node's record have at most 16 targets each
-pub few-targets : (rows : List NodeRow) → IsRecord (map shown rows) → AllByRecursion ArePublishedFew rows
-few-targets rows is = few-each rows (recursion_from_All IsRow (map shown rows) is.each)
+pub few-targets : (rows : List NodeRow) → IsNodeSound (map shown rows) → AllByRecursion ArePublishedFew rows
+few-targets rows is = few-each rows (recursion_from_All IsSoundRow (map shown rows) is.each)
 
 -- ---- what their parts are
 

@@ -11,7 +11,7 @@ use Rattle.csi_controller.specs.declared.row.NodeHolding.{NodeHolding}
 use Rattle.csi_controller.specs.Core.{IsSound}
 use Rattle.csi_node.specs.declared.row.NodeTarget.{NodeTarget}
 use Rattle.csi_node.specs.OneRow.{RowShown}
-use Rattle.csi_node.specs.Record.{IsRecord}
+use Rattle.csi_node.specs.Record.{IsSound as IsNodeSound}
 use Rattle.csi_records.specs.Part.{StoredPart}
 use Rattle.csi_records.specs.Spelling.{VolumeRow, volume_row, controller_head, volume_part, node_head, answered_part}
 
@@ -83,7 +83,7 @@ abbrev pub IsNodeHead : Option (List ℕ) → List ℕ → Type 0
 IsNodeHead wanted node = IsNodeId node × IfSome wanted (λ id. node ≡ id)
 
 abbrev pub node_layout : Option (List ℕ) → Layout (List ℕ) RowShown
-node_layout wanted = record { head = node_head; row = answered_part; is_head = IsNodeHead wanted; is_row = IsAnsweredRow; are_rows = λ node rows. IsRecord rows }
+node_layout wanted = record { head = node_head; row = answered_part; is_head = IsNodeHead wanted; is_row = IsAnsweredRow; are_rows = λ node rows. IsNodeSound rows }
 
 -- nothing yet, or a record
 abbrev pub Begins : (List StoredPart → Type 0) → List StoredPart → Type 0

@@ -6,7 +6,7 @@ use Rattle.serde_json.specs.Written.{has_float, items_have_float}
 use Rattle.csi_orchestrator.specs.declared.thing.Thing.{Thing}
 use Rattle.csi_orchestrator.specs.declared.thing.Thing.TheVariants.{Exists, Attached, Staged, Published}
 use Rattle.csi_orchestrator.specs.declared.thing.Known.{Known}
-use Rattle.csi_world.specs.Simulated.{WorldShown}
+use Rattle.csi_world.specs.Simulated.{WorldParts}
 use Rattle.csi_reports.specs.Entries.{attached_entry, staged_entry, published_entry, volume_entry, known_entry}
 use Rattle.csi_reports.specs.Outcomes.{outcome_entry}
 use Rattle.csi_reports.specs.Gathered.{Gathered}
@@ -25,7 +25,7 @@ known-plain (Staged name node, known) = refl
 known-plain (Published name node target, known) = refl
 
 -- the report of a world has no float
-pub report-plain : (world : WorldShown) (gathered : Gathered) → has_float (report_of world gathered) ≡ false
+pub report-plain : (world : WorldParts) (gathered : Gathered) → has_float (report_of world gathered) ≡ false
 report-plain world gathered =
     rw (
       each-plain attached_entry (λ x. refl) gathered.attached,

@@ -8,7 +8,7 @@ use Rattle.std.specs.List.{AllByRecursion, flat_map}
 use Rattle.std.proofs.lemmas.Cmp.{tied_itself}
 use Rattle.serde_json.specs.Written.{compact_text}
 use Rattle.csi_types.specs.declared.holding.Holding.{Holding}
-use Rattle.csi_controller.specs.Core.{IsShown}
+use Rattle.csi_controller.specs.Core.{Shows}
 use Rattle.csi_controller.specs.State.{ControllerState}
 use Rattle.csi_controller.specs.Views.{attached}
 use Rattle.csi_node.specs.Record.{NodeParts}
@@ -21,7 +21,7 @@ use Rattle.csi_orchestrator.proofs.ThingOrder.{order-total as things-total}
 use Rattle.csi_world.specs.declared.violation.Violation.{Violation}
 use Rattle.csi_world.specs.declared.violation.Violation.TheVariants as violations
 use Rattle.csi_world.specs.World.{NodeAt, World}
-use Rattle.csi_world.specs.Simulated.{WorldShown, AreNodesShown}
+use Rattle.csi_world.specs.Simulated.{WorldParts, AreNodesShown}
 use Rattle.csi_world.specs.Audited.{ArePlugins, Finds}
 use Rattle.csi_reports.specs.declared.entries.StagedAt.{StagedAt}
 use Rattle.csi_reports.specs.declared.entries.PublishedAt.{PublishedAt}
@@ -127,7 +127,7 @@ states-of (node ∷ nodes) all =
 -- ---- the whole
 
 -- a world whose plugins show a state each has one report
-pub one-report : (world : WorldShown) → (state : ControllerState) × IsShown world.controller state → AllByRecursion ShowsAState world.nodes → HasOneReport world
+pub one-report : (world : WorldParts) → (state : ControllerState) × Shows world.controller state → AllByRecursion ShowsAState world.nodes → HasOneReport world
 one-report world controller nodes a b first second =
     let states = states-of world.nodes nodes in
     let shown : World = record { frames = []; controller = controller.0; nodes = states.0; history = new_history } in

@@ -12,7 +12,7 @@ use Rattle.csi_orchestrator.specs.Listing.{ListsKnown, IsInOrder}
 use Rattle.csi_orchestrator.specs.Shown.{view_of}
 use Rattle.csi_world.specs.declared.violation.Violation.{Violation}
 use Rattle.csi_world.specs.World.{World}
-use Rattle.csi_world.specs.Simulated.{WorldShown}
+use Rattle.csi_world.specs.Simulated.{WorldParts}
 use Rattle.csi_world.specs.Audited.{ArePlugins, Finds}
 use Rattle.csi_reports.specs.declared.entries.StagedAt.{StagedAt}
 use Rattle.csi_reports.specs.declared.entries.PublishedAt.{PublishedAt}
@@ -43,7 +43,7 @@ pub record Gathered : Type 0 where
   pub found : Option Violation
 
 -- they are this world's: each list has all that there is, in order
-pub record IsGathered (world : WorldShown) (gathered : Gathered) : Type 0 where
+pub record IsGathered (world : WorldParts) (gathered : Gathered) : Type 0 where
   pub attached : IsInPlace attached_place (attached (world.controller).rows) gathered.attached
   pub known : ListsKnown (view_of world.orchestrator).marks gathered.known
   pub known_order : IsInOrder gathered.known

@@ -4,7 +4,7 @@ use Rattle.serde_json.specs.Data.{Data, boolean, array, object, no_members, memb
 use Rattle.serde_json.specs.View.{items_of}
 use Rattle.serde_json.specs.Written.{compact_text}
 use Rattle.csi_controller.specs.declared.row.ControllerRow.{ControllerRow}
-use Rattle.csi_world.specs.Simulated.{WorldShown}
+use Rattle.csi_world.specs.Simulated.{WorldParts}
 use Rattle.csi_reports.specs.Entries.{whole, attached_entry, staged_entry, published_entry, volume_entry, known_entry}
 use Rattle.csi_reports.specs.Outcomes.{outcome_entry}
 use Rattle.csi_reports.specs.Gathered.{Gathered, IsGathered}
@@ -18,10 +18,10 @@ entries entry items = array (items_of (map entry items))
 abbrev pub attached_value : Gathered → Data
 attached_value gathered = entries attached_entry gathered.attached
 
-abbrev pub events_value : WorldShown → Data
+abbrev pub events_value : WorldParts → Data
 events_value world = entries outcome_entry world.outcomes
 
-abbrev pub frames_value : WorldShown → Data
+abbrev pub frames_value : WorldParts → Data
 frames_value world = whole (length world.frames)
 
 abbrev pub known_value : Gathered → Data
@@ -34,7 +34,7 @@ published_value gathered = entries published_entry gathered.published
 abbrev pub safe_value : Gathered → Data
 safe_value gathered = boolean (not (is_some gathered.found))
 
-abbrev pub session_value : WorldShown → Data
+abbrev pub session_value : WorldParts → Data
 session_value world = whole ((world.orchestrator).last).session
 
 abbrev pub staged_value : Gathered → Data
@@ -44,21 +44,21 @@ staged_value gathered = entries staged_entry gathered.staged
 abbrev pub live_rows : List ControllerRow → List ControllerRow
 live_rows rows = filter (λ row. row.live) rows
 
-abbrev pub volumes_value : WorldShown → Data
+abbrev pub volumes_value : WorldParts → Data
 volumes_value world = entries volume_entry (live_rows (world.controller).rows)
 
 -- ---- the whole
 
-abbrev pub report_of : WorldShown → Gathered → Data
+abbrev pub report_of : WorldParts → Gathered → Data
 report_of world gathered =
     object (member (codes "attached") (attached_value gathered) (member (codes "events") (events_value world) (member (codes "frames") (frames_value world) (member (codes "known") (known_value gathered) (member (codes "published") (published_value gathered) (member (codes "safe") (safe_value gathered) (member (codes "session") (session_value world) (member (codes "staged") (staged_value gathered) (member (codes "volumes") (volumes_value world) no_members)))))))))
 
 -- the text is the report of this world
-pub record IsReport (world : WorldShown) (text : List ℕ) : Type 0 where
+pub record IsReport (world : WorldParts) (text : List ℕ) : Type 0 where
   pub gathered : Gathered
   pub of : IsGathered world gathered
   pub written : text ≡ compact_text (report_of world gathered)
 
 -- two texts that are the report of this world are the same
-abbrev pub HasOneReport : WorldShown → Type 0
+abbrev pub HasOneReport : WorldParts → Type 0
 HasOneReport world = (a b : List ℕ) → IsReport world a → IsReport world b → a ≡ b

@@ -4,7 +4,7 @@ use Rattle.csi_types.specs.Frame.{Frame}
 use Rattle.csi_types.specs.declared.number.Number.{Number}
 use Rattle.csi_node.specs.State.{NodeState}
 use Rattle.csi_node.specs.Fenced.{fenced}
-use Rattle.csi_node.specs.Shown.{Shows}
+use Rattle.csi_node.specs.Shown.{RowsShow}
 use Rattle.csi_node.specs.OneRow.{RowShown, shown}
 use Rattle.csi_node.specs.OneVolume.{row_by_id, last_of}
 use Rattle.csi_records.specs.Part.{Change, put_all}
@@ -23,8 +23,8 @@ node_service_changes service = put_all (map answered_part (option_to_list (touch
 -- for every state that the old node shows, the reply and the state that the new one shows are the fence's over the table, and the
 -- node keeps its id
 pub record NodeServiceAnswers (old : NodeService) (frame : Frame) (reply : Option Frame) (new : NodeService) : Type 0 where
-  pub replied : (state : NodeState) → Shows old.node.rows state → reply ≡ (fenced old.node.id state frame).reply
-  pub shows : (state : NodeState) → Shows old.node.rows state → Shows new.node.rows (fenced old.node.id state frame).state
+  pub replied : (state : NodeState) → RowsShow old.node.rows state → reply ≡ (fenced old.node.id state frame).reply
+  pub shows : (state : NodeState) → RowsShow old.node.rows state → RowsShow new.node.rows (fenced old.node.id state frame).state
   pub id : new.node.id ≡ old.node.id
 
 -- the last number that was answered for a volume, if one is given

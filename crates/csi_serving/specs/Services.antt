@@ -7,7 +7,7 @@ use Rattle.csi_types.specs.Frame.{Frame}
 use Rattle.csi_controller.specs.declared.row.ControllerRow.{ControllerRow}
 use Rattle.csi_controller.specs.State.{ControllerState, row_for}
 use Rattle.csi_controller.specs.Fenced.{fenced}
-use Rattle.csi_controller.specs.Core.{Parts, IsShown}
+use Rattle.csi_controller.specs.Core.{Parts, Shows}
 use Rattle.csi_controller.specs.RowsLaw.{last_call}
 use Rattle.csi_node.specs.OneRow.{shown}
 use Rattle.csi_records.specs.Spelling.{controller_head, controller_parts, volume_part, volume_row, node_parts}
@@ -50,8 +50,8 @@ controller_service_changes service = changes_of service.changed service.controll
 -- stays.
 pub record ControllerAnswers (old : ControllerService) (frame : Frame) (reply : Option Frame) (new : ControllerService) : Type 0 where
   pub config : new.controller.config ≡ old.controller.config
-  pub gets : (state : ControllerState) → IsShown old.controller state → reply ≡ (fenced old.controller.config state frame).reply
-  pub leads : (state : ControllerState) → IsShown old.controller state → IsShown new.controller (fenced old.controller.config state frame).state
+  pub gets : (state : ControllerState) → Shows old.controller state → reply ≡ (fenced old.controller.config state frame).reply
+  pub leads : (state : ControllerState) → Shows old.controller state → Shows new.controller (fenced old.controller.config state frame).state
 
 -- id and last number of the volume of what a frame has, if that is a call and the volume was made
 abbrev pub last_in : Body → ControllerState → Option (ℕ × Number)

@@ -2,7 +2,7 @@
 ghost use Rattle.std.specs.Prelude.{◌≡◌, ◌⊎◌, ◌++◌, ◌==◌, ◌∷◌, None, Some, [], find, map, IfOk, IfSome, OnErr, OnOk};
 ghost use Rattle.csi_types.specs.declared.number.Number.{Number as OneNumber};
 ghost use Rattle.csi_types.specs.VolumeId.{IsVolumeId};
-ghost use Rattle.csi_controller.specs.Core.{IsShown};
+ghost use Rattle.csi_controller.specs.Core.{Shows};
 ghost use Rattle.csi_controller.specs.Fenced.{fenced};
 ghost use Rattle.csi_controller.specs.State.{ControllerState};
 ghost use Rattle.csi_records.specs.Part.{change_of};
@@ -33,7 +33,7 @@ pub(crate) const NOTHING: Changed = Changed {
 
 // Id and last number of the volume of a frame's call.
 fn last_for(controller: &Controller, frame: &Frame) -> Option<(VolumeId, Number)>
-    ensures { (state : ControllerState) → IsShown controller.now state → result ≡ last_in frame.now.body state }
+    ensures { (state : ControllerState) → Shows controller.now state → result ≡ last_in frame.now.body state }
 {
     match frame.body() {
         Body::Call(call) => controller.last_for(call),
@@ -84,10 +84,10 @@ pub(crate) fn answer(
     frame: &Frame,
 ) -> Result<(Option<Frame>, Changed), NoMemory>
     ensures config { controller.new.config ≡ controller.old.config }
-    ensures reply { (state : ControllerState) → IsShown controller.old state → IfOk result (λ answer. answer.0 ≡ (fenced controller.old.config state frame.now).reply) }
-    ensures state { (state : ControllerState) → IsShown controller.old state → OnOk result (IsShown controller.new (fenced controller.old.config state frame.now).state) }
+    ensures reply { (state : ControllerState) → Shows controller.old state → IfOk result (λ answer. answer.0 ≡ (fenced controller.old.config state frame.now).reply) }
+    ensures state { (state : ControllerState) → Shows controller.old state → OnOk result (Shows controller.new (fenced controller.old.config state frame.now).state) }
     ensures parts { IfOk result (λ answer. parts_of_controller controller.new ≡ all_changed (changes_of answer.1 controller.new) (parts_of_controller controller.old)) }
-    ensures nothing { (state : ControllerState) → IsShown controller.old state → (fenced controller.old.config state frame.now).state ≡ state → IfOk result (λ answer. changes_of answer.1 controller.new ≡ []) }
+    ensures nothing { (state : ControllerState) → Shows controller.old state → (fenced controller.old.config state frame.now).state ≡ state → IfOk result (λ answer. changes_of answer.1 controller.new ≡ []) }
     ensures err { OnErr result (parts_of_controller controller.new ≡ parts_of_controller controller.old) }
     ensures err_changes { (changed : WhatChanged) → OnErr result (changes_of changed controller.new ≡ changes_of changed controller.old) }
 {

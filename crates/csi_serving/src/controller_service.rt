@@ -1,6 +1,6 @@
 //! The controller plugin over a store.
 ghost use Rattle.std.specs.Prelude.{◌≡◌, ◌∷◌, Some, [], map, IfOk, IfErr, OnErr, OnOk, Option};
-ghost use Rattle.csi_controller.specs.Core.{IsShown};
+ghost use Rattle.csi_controller.specs.Core.{Shows};
 ghost use Rattle.csi_controller.specs.Fenced.{fenced};
 ghost use Rattle.csi_controller.specs.State.{ControllerState};
 ghost use Rattle.csi_records.specs.Part.{change_of};
@@ -106,7 +106,7 @@ impl Core for ControllerService {
     fn step(&mut self, frame: &Frame) -> Result<Option<Frame>, NoMemory>
         ensures answered { IfOk result (λ reply. ControllerAnswers self.old frame.now reply self.new) }
         ensures parts { OnOk result (controller_service_parts self.new ≡ all_changed (controller_service_changes self.new) (controller_service_parts self.old)) }
-        ensures nothing { (state : ControllerState) → IsShown self.old.controller state → (fenced self.old.controller.config state frame.now).state ≡ state → OnOk result (controller_service_changes self.new ≡ []) }
+        ensures nothing { (state : ControllerState) → Shows self.old.controller state → (fenced self.old.controller.config state frame.now).state ≡ state → OnOk result (controller_service_changes self.new ≡ []) }
         ensures err { OnErr result (controller_service_parts self.new ≡ controller_service_parts self.old) }
         ensures err_changes { OnErr result (controller_service_changes self.new ≡ controller_service_changes self.old) }
     {

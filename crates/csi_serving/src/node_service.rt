@@ -2,7 +2,7 @@
 ghost use Rattle.std.specs.Prelude.{◌≡◌, ◌∷◌, ◌↔◌, [], Some, map, option_map, IfOk, IfErr, IfSome, OnOk, OnErr, IsTrue, None, if◌then◌else◌};
 ghost use Rattle.std.specs.Option.{option_copied};
 ghost use Rattle.csi_types.specs.VolumeId.{IsVolumeId};
-ghost use Rattle.csi_node.specs.OneRow.{shown, IsRow};
+ghost use Rattle.csi_node.specs.OneRow.{shown, IsSoundRow};
 ghost use Rattle.csi_node.specs.OneVolume.{called_volume};
 ghost use Rattle.csi_records.specs.Part.{change_of};
 ghost use Rattle.csi_records.specs.Records.{node_layout, IsRecordOf, IsRefusedAt};
@@ -110,7 +110,7 @@ fn volume_in(frame: &Frame) -> Option<VolumeId>
 // The row of the volume that was touched, if one was.
 fn row_touched(node: &Node, touched: Option<VolumeId>) -> Option<&NodeRow>
     ensures row { option_map shown (option_copied result) ≡ touched_row touched (map shown node.now.rows) }
-    ensures rules { IfSome (option_copied result) (λ row. IsRow (shown row)) }
+    ensures rules { IfSome (option_copied result) (λ row. IsSoundRow (shown row)) }
 {
     match touched {
         Some(id) => node.row_with_id(id),

@@ -15,7 +15,7 @@ use Rattle.csi_frames.specs.Lent.{call_in, call_of}
 use Rattle.csi_frames.specs.Spelling.{spelling}
 use Rattle.csi_controller.specs.State.{ControllerState, empty_controller}
 use Rattle.csi_controller.specs.Fenced.{Fenced, fenced, fenced_parts, after_frames}
-use Rattle.csi_controller.specs.Core.{Parts, IsShown}
+use Rattle.csi_controller.specs.Core.{Parts, Shows}
 use Rattle.csi_streams.specs.Answering.{HasAnswered}
 use Rattle.csi_streams.specs.Streaming.{AreReplies}
 use Rattle.csi_streams.specs.Handling.{Handles}
@@ -45,13 +45,13 @@ answered-push frames frame = ap (flat_map spelling) (replies_from-push empty_con
 
 -- one frame more was answered
 pub answered_more : (frames : List Frame) (frame : Frame) (old new : Parts) (reply : Option Frame) (before after : List ℕ) → HasAnswered old frames
-    → reply ≡ (fenced old.config (after_frames replay_config empty_controller frames) frame).reply → IsShown new (fenced old.config (after_frames replay_config empty_controller frames) frame).state → new.config ≡ old.config
+    → reply ≡ (fenced old.config (after_frames replay_config empty_controller frames) frame).reply → Shows new (fenced old.config (after_frames replay_config empty_controller frames) frame).state → new.config ≡ old.config
     → after ≡ before ++ flat_map spelling (option_to_list reply) → Handles HasAnswered AreReplies frames frame new before after
 answered_more frames frame old new reply before after has replied shown same appended =
     let state : ControllerState = after_frames replay_config empty_controller frames in
     record {
       handled = record {
-        shown = subst (IsShown new) (sym (after_frames-push empty_controller frames frame)) (subst (λ (config : Config). IsShown new (fenced config state frame).state) has.config shown);
+        shown = subst (Shows new) (sym (after_frames-push empty_controller frames frame)) (subst (λ (config : Config). Shows new (fenced config state frame).state) has.config shown);
         config = same ∙ has.config;
       };
       more = flat_map spelling (option_to_list reply);
@@ -73,4 +73,4 @@ pub answered_none : (frames : List Frame) (frame : Frame) (parts : Parts) (bytes
 answered_none frames frame parts bytes has is =
     let state : ControllerState = after_frames replay_config empty_controller frames in
     let same = sym (silent parts.config state frame.number frame.party frame.body is) in
-    answered_more frames frame parts parts None bytes bytes has (ap (λ (f : Fenced). f.reply) same) (subst (λ (f : Fenced). IsShown parts f.state) same has.shown) refl (sym (append-nil bytes))
+    answered_more frames frame parts parts None bytes bytes has (ap (λ (f : Fenced). f.reply) same) (subst (λ (f : Fenced). Shows parts f.state) same has.shown) refl (sym (append-nil bytes))

@@ -9,7 +9,7 @@ ghost use Rattle.csi_types.specs.Lent.{lent_call, HasFitTexts};
 ghost use Rattle.csi_types.specs.Replies.{call_frame};
 ghost use Rattle.csi_frames.specs.Stream.{FramesOf};
 ghost use Rattle.csi_controller.specs.State.{ControllerState, empty_controller};
-ghost use Rattle.csi_controller.specs.Core.{IsShown};
+ghost use Rattle.csi_controller.specs.Core.{Shows};
 ghost use Rattle.csi_controller.specs.Step.{answer_frame};
 ghost use Rattle.csi_streams.specs.Replay.{replay_config, AnswersAll, Fails};
 ghost use Rattle.csi_streams.specs.Answering.{HasAnswered};
@@ -125,7 +125,7 @@ impl Handler for Controller {
 // A controller that made no volume, with the configuration of a replay.
 fn new_controller(alloc: Global) -> Controller
     ensures config { result.config ≡ replay_config }
-    ensures empty { IsShown result empty_controller }
+    ensures empty { Shows result empty_controller }
 {
     let config = Config::try_new(alloc, MAX_CAPACITY, Vec::new(alloc)).unwrap();
     Controller::new(alloc, config)

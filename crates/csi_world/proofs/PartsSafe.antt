@@ -15,7 +15,7 @@ use Rattle.csi_types.specs.Same.{same_text, same_capability}
 use Rattle.csi_types.proofs.Equality.{same_text-tells, same_capability-tells}
 use Rattle.csi_controller.specs.declared.row.ControllerRow.{ControllerRow}
 use Rattle.csi_controller.specs.declared.row.NodeHolding.{NodeHolding}
-use Rattle.csi_controller.specs.Core.{IsShown}
+use Rattle.csi_controller.specs.Core.{Shows as ControllerShows}
 use Rattle.csi_controller.specs.Core.{Parts as ControllerParts}
 use Rattle.csi_controller.specs.Exclusive.{IsRowExclusive}
 use Rattle.csi_controller.specs.Shown.{volume_of_row, holdings_in}
@@ -45,7 +45,7 @@ row_apart rows id all = by (find (λ (row : ControllerRow). row.id == id) rows) 
     by (Some row) e = (each_of IsRowExclusive rows row all (among-find (λ (r : ControllerRow). r.id == id) rows row e)).apart
 
 -- where each row's holdings are apart, any two holdings of one volume in the world are
-exclusive : (parts : ControllerParts) (world : World) → AllByRecursion IsRowExclusive parts.rows → IsShown parts world.controller → IsExclusive world
+exclusive : (parts : ControllerParts) (world : World) → AllByRecursion IsRowExclusive parts.rows → ControllerShows parts world.controller → IsExclusive world
 exclusive parts world all is =
     two-by_key AreApart (λ (h : Holding). h.volume) world.controller.holdings
     (λ id. subst (EachTwo AreApart) (is.shows.holdings id) (row_apart parts.rows id all))
@@ -55,7 +55,7 @@ abbrev pub held_of : ControllerRow → NodeHolding → Holding
 held_of row held = record { volume = row.id; node = held.node; capability = held.capability; readonly = held.readonly }
 
 -- and then what is attached in the world wasn't deleted
-attached_live : (parts : ControllerParts) (world : World) → AllByRecursion IsRowExclusive parts.rows → IsShown parts world.controller → IsAttachedWhileLive world
+attached_live : (parts : ControllerParts) (world : World) → AllByRecursion IsRowExclusive parts.rows → ControllerShows parts world.controller → IsAttachedWhileLive world
 attached_live parts world all is holding among =
     by (find p parts.rows) refl
     (subst (IsAmong holding) (sym (is.shows.holdings holding.volume))

@@ -1,14 +1,14 @@
 -- Runs, event by event.
 use Rattle.std.proofs.Common.{◌≡◌, List, [], ◌∷◌, ◌++◌, map, None, refl, sym, ◌∙◌, ap, subst}
 use Rattle.csi_types.specs.Config.{Config, config_fault}
-use Rattle.csi_controller.specs.Core.{IsShown}
+use Rattle.csi_controller.specs.Core.{Shows as ControllerShows}
 use Rattle.csi_controller.specs.State.{empty_controller}
 use Rattle.csi_orchestrator.specs.History.{new_history}
-use Rattle.csi_orchestrator.specs.Shown.{AgreesWith}
+use Rattle.csi_orchestrator.specs.Shown.{Shows as OrchestratorShows}
 use Rattle.csi_world.specs.declared.event.Event.{Event}
 use Rattle.csi_world.specs.World.{World, empty_world}
 use Rattle.csi_world.specs.After.{Occurred, Run, node_id, occurs, after_from, after}
-use Rattle.csi_world.specs.Simulated.{WorldShown, ShowsWorld, ShowsRun, AreNodesShown}
+use Rattle.csi_world.specs.Simulated.{WorldParts, ShowsWorld, ShowsRun, AreNodesShown}
 use Rattle.csi_world.specs.Simulating.{IsLogged, IsRun, new_node_parts}
 use Rattle.csi_world.proofs.SystemNodes.{new-shown, new-ids}
 
@@ -21,7 +21,7 @@ after-more config world (x ∷ xs) event =
     ap (λ (rest : Run). let run : Run = record { world = rest.world; outcomes = first.outcome ∷ rest.outcomes } in run) (after-more config first.world xs event)
 
 -- a run with one more event that is logged is a run
-pub run-more : (config : Config) (events : List Event) (event : Event) (old new : WorldShown) → IsRun config events old → IsLogged old new (occurs old.config (after config events).world event) → IsRun config (events ++ event ∷ []) new
+pub run-more : (config : Config) (events : List Event) (event : Event) (old new : WorldParts) → IsRun config events old → IsLogged old new (occurs old.config (after config events).world event) → IsRun config (events ++ event ∷ []) new
 run-more config events event old new was logged =
     let now : IsLogged old new (occurs config (after config events).world event) = subst (λ c. IsLogged old new (occurs c (after config events).world event)) was.configured logged in
     let before : Run = after config events in
@@ -31,9 +31,9 @@ run-more config events event old new was logged =
     record { configured = now.config ∙ was.configured; own = now.own; shows = subst (ShowsRun new) (sym (after-more config (empty_world config) events event)) shows }
 
 -- nothing happened
-pub run-first : (config : Config) (shown : WorldShown) → config_fault config.greatest config.nodes ≡ None → shown.config ≡ config → shown.frames ≡ [] → shown.outcomes ≡ []
-    → IsShown shown.controller empty_controller → (shown.controller).config ≡ config → shown.nodes ≡ map new_node_parts config.nodes
-    → AgreesWith shown.orchestrator new_history → (shown.orchestrator).nodes ≡ map node_id config.nodes → IsRun config [] shown
+pub run-first : (config : Config) (shown : WorldParts) → config_fault config.greatest config.nodes ≡ None → shown.config ≡ config → shown.frames ≡ [] → shown.outcomes ≡ []
+    → ControllerShows shown.controller empty_controller → (shown.controller).config ≡ config → shown.nodes ≡ map new_node_parts config.nodes
+    → OrchestratorShows shown.orchestrator new_history → (shown.orchestrator).nodes ≡ map node_id config.nodes → IsRun config [] shown
 run-first config shown fit configured frames outcomes controller own_config nodes agrees own_nodes =
     let world : ShowsWorld shown (empty_world config)
     = record {

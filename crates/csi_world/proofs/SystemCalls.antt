@@ -11,15 +11,15 @@ use Rattle.csi_types.specs.Config.{has_node}
 use Rattle.csi_types.specs.Frame.{Frame}
 use Rattle.csi_types.proofs.Equality.{same_text-tells}
 use Rattle.csi_node.specs.Record.{NodeParts}
-use Rattle.csi_node.specs.Shown.{Shows}
+use Rattle.csi_node.specs.Shown.{RowsShow as NodeShows}
 use Rattle.csi_node.specs.Fenced as node
 use Rattle.csi_world.specs.declared.event.Outcome.{Outcome}
 use Rattle.csi_world.specs.declared.event.Outcome.TheVariants as outcomes
 use Rattle.csi_world.specs.World.{World, with_frame, with_node}
 use Rattle.csi_world.specs.Step.{answered, answered_by, answered_by_node}
 use Rattle.csi_world.specs.After.{Occurred, node_id, next_frame, called}
-use Rattle.csi_world.specs.Simulated.{WorldShown, ShowsWorld}
-use Rattle.csi_world.specs.Simulating.{IsAnswered, NodeDoes, IsSameNode, HasOwnNodes, Becomes}
+use Rattle.csi_world.specs.Simulated.{WorldParts, ShowsWorld}
+use Rattle.csi_world.specs.Simulating.{IsAnswered, NodeDoes, IsSameNode, IsSound, Becomes}
 use Rattle.csi_world.specs.Listed.{AreDistinct}
 use Rattle.csi_world.proofs.SystemNodes.{is_shown_node, state-shown, same-put, ids-put, fit-apart, state-put, node-there}
 
@@ -29,22 +29,22 @@ with_frame-is None world = let none : world.frames ++ [] ≡ world.frames = appe
 with_frame-is (Some frame) world = refl
 
 -- the same world, by what it shows
-pub at-world : (old new : WorldShown) (outcome : Outcome) (occurred : Occurred) (world : World) → new.config ≡ old.config → new.outcomes ≡ old.outcomes → HasOwnNodes new → ShowsWorld new world → occurred ≡ record { world = world; outcome = outcome }
+pub at-world : (old new : WorldParts) (outcome : Outcome) (occurred : Occurred) (world : World) → new.config ≡ old.config → new.outcomes ≡ old.outcomes → IsSound new → ShowsWorld new world → occurred ≡ record { world = world; outcome = outcome }
     → Becomes old new outcome occurred
 at-world old new outcome occurred world config outcomes own shows is =
     record { config = config; outcomes = outcomes; own = own; world = subst (λ (o : Occurred). ShowsWorld new o.world) (sym is) shows; came = ap (λ (o : Occurred). o.outcome) (sym is) }
 
 -- a node that isn't shown isn't configured
-isnt-there : (shown : WorldShown) (id : List ℕ) → HasOwnNodes shown → position (is_shown_node id) shown.nodes ≡ None → has_node id (shown.config).nodes ≡ false
+isnt-there : (shown : WorldParts) (id : List ℕ) → IsSound shown → position (is_shown_node id) shown.nodes ≡ None → has_node id (shown.config).nodes ≡ false
 isnt-there shown id own none = node-there id shown.nodes (shown.config).nodes own.ids ∙ ap is_some (find-no_place (is_shown_node id) shown.nodes none)
 
 -- one that is shown is
-is-there : (shown : WorldShown) (id : List ℕ) (place : ℕ) (old : NodeParts) → HasOwnNodes shown → FirstAt (is_shown_node id) shown.nodes place old → has_node id (shown.config).nodes ≡ true
+is-there : (shown : WorldParts) (id : List ℕ) (place : ℕ) (old : NodeParts) → IsSound shown → FirstAt (is_shown_node id) shown.nodes place old → has_node id (shown.config).nodes ≡ true
 is-there shown id place old own first = node-there id shown.nodes (shown.config).nodes own.ids ∙ ap is_some (FirstAt-find (is_shown_node id) shown.nodes place old first)
 
 -- a call to a node
-pub node-becomes : (shown : WorldShown) (id : List ℕ) (place : ℕ) (old new : NodeParts) (posted : List Frame) (frame : Frame) (reply : Option Frame) (outcome : Outcome) (world : World)
-    → HasOwnNodes shown → ShowsWorld shown world → frame.party ≡ Node id → position (is_shown_node id) shown.nodes ≡ Some place → old ≡ get_or shown.nodes place old
+pub node-becomes : (shown : WorldParts) (id : List ℕ) (place : ℕ) (old new : NodeParts) (posted : List Frame) (frame : Frame) (reply : Option Frame) (outcome : Outcome) (world : World)
+    → IsSound shown → ShowsWorld shown world → frame.party ≡ Node id → position (is_shown_node id) shown.nodes ≡ Some place → old ≡ get_or shown.nodes place old
     → NodeDoes old new frame reply → IsAnswered shown.frames posted reply outcome
     → Becomes shown (record shown { nodes = set shown.nodes place new; frames = posted }) outcome (called shown.config world frame frame.party)
 node-becomes shown id place old new posted frame reply outcome world own shows party at is does sent =
@@ -56,7 +56,7 @@ node-becomes shown id place old new posted frame reply outcome world own shows p
     let changed : World = with_node id fenced.state world in
     let after : World = record changed { frames = world.frames ++ option_to_list fenced.reply } in
     let replied : reply ≡ fenced.reply = subst (λ n. reply ≡ (node.fenced n state frame).reply) own_id (does.replies state found.2) in
-    let now : Shows new.rows fenced.state = subst (λ n. Shows new.rows (node.fenced n state frame).state) own_id (does.state state found.2) in
+    let now : NodeShows new.rows fenced.state = subst (λ n. NodeShows new.rows (node.fenced n state frame).state) own_id (does.state state found.2) in
     let frames : posted ≡ world.frames ++ option_to_list fenced.reply = sent.frames ∙ (λ i. shows.frames i ++ option_to_list (replied i)) in
     let ids : map (λ (m : NodeParts). m.id) shown.nodes ≡ map node_id (shown.config).nodes = own.ids in
     let there : has_node id (shown.config).nodes ≡ true = is-there shown id place old own first in
@@ -80,7 +80,7 @@ node-becomes shown id place old new posted frame reply outcome world own shows p
     (ap (called shown.config world frame) party ∙ ap (λ b. cond b answers nowhere) there ∙ (λ i. let o : Occurred = record { world = world_is i; outcome = outcome_is i } in o))
 
 -- a call to a node that isn't there
-pub nowhere-becomes : (shown : WorldShown) (id : List ℕ) (frame : Frame) (world : World) → HasOwnNodes shown → ShowsWorld shown world → frame.party ≡ Node id → position (is_shown_node id) shown.nodes ≡ None
+pub nowhere-becomes : (shown : WorldParts) (id : List ℕ) (frame : Frame) (world : World) → IsSound shown → ShowsWorld shown world → frame.party ≡ Node id → position (is_shown_node id) shown.nodes ≡ None
     → Becomes shown shown outcomes.NoSuchNode (called shown.config world frame frame.party)
 nowhere-becomes shown id frame world own shows party none =
     let answers : Occurred = record { world = answered shown.config world frame; outcome = outcomes.Answered (next_frame world) } in
@@ -88,7 +88,7 @@ nowhere-becomes shown id frame world own shows party none =
     at-world shown shown outcomes.NoSuchNode (called shown.config world frame frame.party) world refl refl own shows (ap (called shown.config world frame) party ∙ ap (λ b. cond b answers nowhere) (isnt-there shown id own none))
 
 -- a node restarts
-pub node-restarts : (shown : WorldShown) (id : List ℕ) (place : ℕ) (old new : NodeParts) (world : World) → HasOwnNodes shown → ShowsWorld shown world
+pub node-restarts : (shown : WorldParts) (id : List ℕ) (place : ℕ) (old new : NodeParts) (world : World) → IsSound shown → ShowsWorld shown world
     → position (is_shown_node id) shown.nodes ≡ Some place → old ≡ get_or shown.nodes place old → IsSameNode old new
     → Becomes shown (record shown { nodes = set shown.nodes place new }) outcomes.Restarted (record { world = world; outcome = cond (has_node id (shown.config).nodes) outcomes.Restarted outcomes.NoSuchNode })
 node-restarts shown id place old new world own shows at is same =
@@ -113,7 +113,7 @@ node-restarts shown id place old new world own shows at is same =
     }
 
 -- the same, where it isn't there
-pub nowhere-restarts : (shown : WorldShown) (id : List ℕ) (world : World) → HasOwnNodes shown → ShowsWorld shown world → position (is_shown_node id) shown.nodes ≡ None
+pub nowhere-restarts : (shown : WorldParts) (id : List ℕ) (world : World) → IsSound shown → ShowsWorld shown world → position (is_shown_node id) shown.nodes ≡ None
     → Becomes shown shown outcomes.NoSuchNode (record { world = world; outcome = cond (has_node id (shown.config).nodes) outcomes.Restarted outcomes.NoSuchNode })
 nowhere-restarts shown id world own shows none =
     record { config = refl; outcomes = refl; own = own; world = shows; came = ap (λ b. cond b outcomes.Restarted outcomes.NoSuchNode) (sym (isnt-there shown id own none)) }

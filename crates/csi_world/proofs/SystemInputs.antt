@@ -9,12 +9,12 @@ use Rattle.csi_orchestrator.specs.Moves.{Input, Answer, Moved, moves, moved_to}
 use Rattle.csi_orchestrator.specs.Laws.{MovesKeepForm}
 use Rattle.csi_orchestrator.specs.Promises.{IsDone}
 use Rattle.csi_orchestrator.specs.RowMoves.{IsRefusal}
-use Rattle.csi_orchestrator.specs.Shown.{AgreesWith, Parts}
+use Rattle.csi_orchestrator.specs.Shown.{Shows as OrchestratorShows, Parts}
 use Rattle.csi_world.specs.declared.event.Outcome.{Outcome}
 use Rattle.csi_world.specs.declared.event.Outcome.TheVariants as outcomes
 use Rattle.csi_world.specs.World.{World, with_history}
 use Rattle.csi_world.specs.After.{Occurred, by_answer, by_result, node_id, orchestrated}
-use Rattle.csi_world.specs.Simulated.{WorldShown}
+use Rattle.csi_world.specs.Simulated.{WorldParts}
 use Rattle.csi_world.specs.Simulating.{IsPosted, IsRefused, IsSettled, Does}
 use Rattle.csi_world.proofs.SystemCalls.{at-world}
 
@@ -24,7 +24,7 @@ after_move world posted result = record world { frames = posted; history = moved
 
 -- by what the orchestrator's move is, the frames and what came of it are these, and the orchestrator agrees
 record ComesTo (world : World) (new : Parts) (posted : List Frame) (outcome : Outcome) (result : Result Moved OrchFault) : Type 0 where
-  agrees : AgreesWith new (moved_to world.history result)
+  agrees : OrchestratorShows new (moved_to world.history result)
   occurs : by_result world result ≡ record { world = after_move world posted result; outcome = outcome }
 
 -- what was done, and its frame sent
@@ -37,27 +37,27 @@ done-comes world new posted outcome answer (Ok moved) done sent =
 
 -- what was refused
 refused-comes : (world : World) (old new : Parts) (posted : List Frame) (outcome : Outcome) (fault : OrchFault) (result : Result Moved OrchFault)
-    → AgreesWith old world.history → new ≡ old → IsRefusal result fault → IsRefused world.frames posted fault outcome → ComesTo world new posted outcome result
+    → OrchestratorShows old world.history → new ≡ old → IsRefusal result fault → IsRefused world.frames posted fault outcome → ComesTo world new posted outcome result
 unfolding after_move
 refused-comes world old new posted outcome fault (Ok moved) agrees same refusal refused = absurd (refused.other refusal)
 refused-comes world old new posted outcome fault (Err other) agrees same refusal refused =
     record {
-      agrees = subst (λ (p : Parts). AgreesWith p world.history) (sym same) agrees;
+      agrees = subst (λ (p : Parts). OrchestratorShows p world.history) (sym same) agrees;
       occurs = λ i. let o : Occurred = record { world = record world { frames = sym refused.frames i }; outcome = (ap outcomes.Refused (sym refusal) ∙ sym refused.came) i } in o;
     }
 
 -- a command, a timeout, a reply or a restart
-settled-comes : {X : Type 0} (answer : X → Answer) (world : World) (old new : Parts) (posted : List Frame) (outcome : Outcome) (answered : Result X OrchFault) (result : Result Moved OrchFault) → AgreesWith old world.history
+settled-comes : {X : Type 0} (answer : X → Answer) (world : World) (old new : Parts) (posted : List Frame) (outcome : Outcome) (answered : Result X OrchFault) (result : Result Moved OrchFault) → OrchestratorShows old world.history
     → IfOk answered (λ x. IsDone world.history result (answer x) new) → IfErr answered (λ fault. IsRefusal result fault) → OnErr answered (new ≡ old)
     → IsSettled answer world.frames posted answered outcome → ComesTo world new posted outcome result
 settled-comes answer world old new posted outcome (Ok x) result agrees ok err stays settled = done-comes world new posted outcome (answer x) result ok settled
 settled-comes answer world old new posted outcome (Err fault) result agrees ok err stays settled = refused-comes world old new posted outcome fault result agrees stays err settled
 
 -- what comes of an event or of a delivery that is this input
-pub input-becomes : MovesKeepForm → {X E : Type 0} (answer : X → Answer) (shown : WorldShown) (new : Parts) (posted : List Frame) (input : Input) (occurs : World → Occurred) (answered : Result X OrchFault) (result : Result Outcome E)
+pub input-becomes : MovesKeepForm → {X E : Type 0} (answer : X → Answer) (shown : WorldParts) (new : Parts) (posted : List Frame) (input : Input) (occurs : World → Occurred) (answered : Result X OrchFault) (result : Result Outcome E)
     → ((world : World) → occurs world ≡ orchestrated shown.config world input)
-    → ((history : History) → IsWellFormed history → AgreesWith shown.orchestrator history → IfOk answered (λ x. IsDone history (moves (shown.orchestrator).nodes history input) (answer x) new))
-    → ((history : History) → IsWellFormed history → AgreesWith shown.orchestrator history → IfErr answered (λ fault. IsRefusal (moves (shown.orchestrator).nodes history input) fault))
+    → ((history : History) → IsWellFormed history → OrchestratorShows shown.orchestrator history → IfOk answered (λ x. IsDone history (moves (shown.orchestrator).nodes history input) (answer x) new))
+    → ((history : History) → IsWellFormed history → OrchestratorShows shown.orchestrator history → IfErr answered (λ fault. IsRefusal (moves (shown.orchestrator).nodes history input) fault))
     → OnErr answered (new ≡ shown.orchestrator) → new.nodes ≡ (shown.orchestrator).nodes → IfOk result (λ outcome. IsSettled answer shown.frames posted answered outcome)
     → Does shown (record shown { orchestrator = new; frames = posted }) result occurs
 unfolding after_move

@@ -26,7 +26,7 @@ use Rattle.csi_orchestrator.specs.declared.thing.Thing.TheVariants.{Exists, Atta
 use Rattle.csi_world.specs.declared.auditing.lists.NodeLists.{NodeLists}
 use Rattle.csi_world.specs.World.{NodeAt, World, node_state}
 use Rattle.csi_world.specs.Safe.{holds, holds_attached, holds_staged, holds_published}
-use Rattle.csi_world.specs.Listed.{AreKept, Lists, node_listed, IsNodeAlike, IsListed, row_with_id, exists_thing, attached_thing, things_of, staged_by, staged_thing, published_by, published_thing, things_at, things_listed}
+use Rattle.csi_world.specs.Listed.{AreRowsApart, Lists, node_listed, IsNodeAlike, IsListed, row_with_id, exists_thing, attached_thing, things_of, staged_by, staged_thing, published_by, published_thing, things_at, things_listed}
 use Rattle.csi_world.proofs.PartsSafe.{held_of}
 use Rattle.csi_world.proofs.ListedNodes.{listed-of, node-of, node-found-by-id}
 
@@ -43,7 +43,7 @@ only-found p (y ∷ ys) x one (inr there) passes = by (p y) refl (only-found p y
     by false e found = found
 
 -- the lists of a world's plugins
-module _ (lists : Lists) (world : World) (is : IsListed lists world) (kept : AreKept lists.rows) where
+module _ (lists : Lists) (world : World) (is : IsListed lists world) (kept : AreRowsApart lists.rows) where
   abbrev rows : List ControllerRow
   rows = lists.rows
 

@@ -6,14 +6,14 @@ use Rattle.csi_controller.specs.Views.{RecordParts}
 use Rattle.csi_node.specs.Record.{NodeParts}
 use Rattle.csi_orchestrator.specs.Shown.{Parts as OrchestratorParts}
 use Rattle.csi_world.specs.After.{node_id}
-use Rattle.csi_world.specs.Simulated.{WorldShown}
+use Rattle.csi_world.specs.Simulated.{WorldParts}
 
 -- the records are those of these nodes, in their order
 abbrev pub AreOfNodes : List NodeParts → List NodeSlots → Type 0
 AreOfNodes kept nodes = map (λ (one : NodeParts). one.id) kept ≡ map node_id nodes
 
 -- no frame was sent and no event came; the plugins are as their records have them
-abbrev pub assembled : Config → RecordParts → List NodeParts → OrchestratorParts → WorldShown
+abbrev pub assembled : Config → RecordParts → List NodeParts → OrchestratorParts → WorldParts
 assembled config controller nodes orchestrator =
     record {
       config = config;

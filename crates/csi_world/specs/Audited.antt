@@ -1,10 +1,10 @@
 -- What an audit of a system's parts tells: whether they are safe, where what is recorded is what the orchestrator shows. This
 -- profile's own; the clauses are those of `Safe`.
 use Rattle.std.specs.Prelude.{◌≡◌, ◌↔◌, List, true, false, Option, Some, None}
-use Rattle.csi_controller.specs.Core.{IsShown}
+use Rattle.csi_controller.specs.Core.{Shows as ControllerShows}
 use Rattle.csi_controller.specs.Core.{Parts as ControllerParts}
 use Rattle.csi_node.specs.Record.{NodeParts}
-use Rattle.csi_orchestrator.specs.Shown.{AgreesWith, view_of}
+use Rattle.csi_orchestrator.specs.Shown.{Shows as OrchestratorShows, view_of}
 use Rattle.csi_orchestrator.specs.Shown.{Parts as OrchestratorParts}
 use Rattle.csi_orchestrator.specs.declared.thing.Thing.{Thing}
 use Rattle.csi_orchestrator.specs.declared.thing.Known.{Known}
@@ -17,7 +17,7 @@ use Rattle.csi_world.specs.Simulated.{AreNodesShown}
 
 -- the plugins are those of this world
 pub record ArePlugins (plugin : ControllerParts) (parts : List NodeParts) (world : World) : Type 0 where
-  pub controller : IsShown plugin world.controller
+  pub controller : ControllerShows plugin world.controller
   pub nodes : AreNodesShown parts world.nodes
 
 -- what is known to be so is so, and what is known not to be so isn't
@@ -42,5 +42,5 @@ Finds marks world (Some violations.RecordedWrong) =
 -- where the orchestrator agrees with the world's history, nothing is found exactly where the world is safe
 abbrev pub AuditsTellSafety : Type 0
 AuditsTellSafety =
-    (parts : OrchestratorParts) (world : World) (found : Option Violation) → AgreesWith parts world.history → Finds (view_of parts).marks world found
+    (parts : OrchestratorParts) (world : World) (found : Option Violation) → OrchestratorShows parts world.history → Finds (view_of parts).marks world found
     → (found ≡ None) ↔ Safe world

@@ -15,7 +15,7 @@ use Rattle.csi_node.specs.declared.entries.Staged.{Staged}
 use Rattle.csi_node.specs.declared.entries.Published.{Published}
 use Rattle.csi_node.specs.Record.{NodeParts}
 use Rattle.csi_node.specs.Safe.{IsPublishedRight}
-use Rattle.csi_node.specs.Shown.{Shows as NodeShows}
+use Rattle.csi_node.specs.Shown.{RowsShow as NodeShows}
 use Rattle.csi_node.specs.State.{NodeState, published_of}
 use Rattle.csi_node.specs.Views.{staged_shown, published_shown}
 use Rattle.csi_orchestrator.specs.Listing.{thing_order}
@@ -54,7 +54,7 @@ AreDistinct [] = Unit {0}
 AreDistinct (x ∷ xs) = (list_any (same_text x) xs ≡ false) × AreDistinct xs
 
 -- rows by rising id, of which at most one has a name
-pub record AreKept (rows : List ControllerRow) : Type 0 where
+pub record AreRowsApart (rows : List ControllerRow) : Type 0 where
   pub rising : IsRising rows
   pub names : (name : List ℕ) → AtMostOne (λ (row : ControllerRow). same_text row.name name) rows
 

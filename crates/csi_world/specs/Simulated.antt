@@ -2,19 +2,19 @@
 use Rattle.std.specs.Prelude.{◌≡◌, List, [], ◌∷◌, map}
 use Rattle.csi_types.specs.Config.{Config}
 use Rattle.csi_types.specs.Frame.{Frame}
-use Rattle.csi_controller.specs.Core.{IsShown}
+use Rattle.csi_controller.specs.Core.{Shows as ControllerShows}
 use Rattle.csi_controller.specs.Core.{Parts as ControllerParts}
 use Rattle.csi_node.specs.Record.{NodeParts}
-use Rattle.csi_node.specs.Shown.{Shows as NodeShows}
+use Rattle.csi_node.specs.Shown.{RowsShow as NodeShows}
 use Rattle.csi_orchestrator.specs.WellFormed.{IsWellFormed}
-use Rattle.csi_orchestrator.specs.Shown.{AgreesWith}
+use Rattle.csi_orchestrator.specs.Shown.{Shows as OrchestratorShows}
 use Rattle.csi_orchestrator.specs.Shown.{Parts as OrchestratorParts}
 use Rattle.csi_world.specs.declared.event.Outcome.{Outcome}
 use Rattle.csi_world.specs.World.{NodeAt, World}
 use Rattle.csi_world.specs.After.{Run, node_id}
 
 -- a simulated world to its callers: every frame that was sent, what came of each event, and the parts of the system
-pub record WorldShown : Type 0 where
+pub record WorldParts : Type 0 where
   pub config : Config
   pub frames : List Frame
   pub outcomes : List Outcome
@@ -31,16 +31,16 @@ AreNodesShown (shown ∷ others) (node ∷ nodes) = (shown.id ≡ node.id) × No
 
 -- it is this world: the same frames in the same order, the same states of the plugins, and an orchestrator that agrees
 -- with the history
-pub record ShowsWorld (shown : WorldShown) (world : World) : Type 0 where
+pub record ShowsWorld (shown : WorldParts) (world : World) : Type 0 where
   pub frames : shown.frames ≡ world.frames
-  pub controller : IsShown shown.controller world.controller
+  pub controller : ControllerShows shown.controller world.controller
   pub nodes : AreNodesShown shown.nodes world.nodes
-  pub orchestrator : AgreesWith shown.orchestrator world.history
+  pub orchestrator : OrchestratorShows shown.orchestrator world.history
   pub form : IsWellFormed world.history
   pub own_config : (shown.controller).config ≡ shown.config
   pub own_nodes : (shown.orchestrator).nodes ≡ map node_id (shown.config).nodes
 
 -- it is the last world of this run, and has its outcomes
-pub record ShowsRun (shown : WorldShown) (run : Run) : Type 0 where
+pub record ShowsRun (shown : WorldParts) (run : Run) : Type 0 where
   pub world : ShowsWorld shown run.world
   pub outcomes : shown.outcomes ≡ run.outcomes

@@ -5,10 +5,10 @@ use Rattle.csi_types.specs.declared.config.NodeSlots.{NodeSlots}
 use Rattle.csi_types.specs.Config.{Config, config_fault}
 use Rattle.csi_types.specs.Frame.{Frame}
 use Rattle.csi_node.specs.Record.{NodeParts}
-use Rattle.csi_node.specs.Shown.{Shows as NodeShows}
+use Rattle.csi_node.specs.Shown.{RowsShow as NodeShows}
 use Rattle.csi_node.specs.State.{NodeState}
 use Rattle.csi_node.specs.Fenced as node
-use Rattle.csi_controller.specs.Core.{IsShown}
+use Rattle.csi_controller.specs.Core.{Shows as ControllerShows}
 use Rattle.csi_controller.specs.Core.{Parts as ControllerParts}
 use Rattle.csi_controller.specs.State.{ControllerState}
 use Rattle.csi_controller.specs.Fenced as controller
@@ -20,7 +20,7 @@ use Rattle.csi_world.specs.declared.event.Outcome.{Outcome}
 use Rattle.csi_world.specs.declared.event.Outcome.TheVariants as outcomes
 use Rattle.csi_world.specs.World.{World}
 use Rattle.csi_world.specs.After.{Occurred, by_answer, node_id, after}
-use Rattle.csi_world.specs.Simulated.{WorldShown, ShowsWorld, ShowsRun}
+use Rattle.csi_world.specs.Simulated.{WorldParts, ShowsWorld, ShowsRun}
 
 -- a frame is sent under the next number
 pub record IsSent (old new : List Frame) (frame : Frame) (number : ℕ) : Type 0 where
@@ -55,8 +55,8 @@ pub record IsAnswered (old new : List Frame) (reply : Option Frame) (outcome : O
 -- what a plugin does with a frame
 pub record ControllerDoes (old new : ControllerParts) (frame : Frame) (reply : Option Frame) : Type 0 where
   pub config : new.config ≡ old.config
-  pub replies : (state : ControllerState) → IsShown old state → reply ≡ (controller.fenced old.config state frame).reply
-  pub state : (state : ControllerState) → IsShown old state → IsShown new (controller.fenced old.config state frame).state
+  pub replies : (state : ControllerState) → ControllerShows old state → reply ≡ (controller.fenced old.config state frame).reply
+  pub state : (state : ControllerState) → ControllerShows old state → ControllerShows new (controller.fenced old.config state frame).state
 
 pub record NodeDoes (old new : NodeParts) (frame : Frame) (reply : Option Frame) : Type 0 where
   pub id : new.id ≡ old.id
@@ -66,7 +66,7 @@ pub record NodeDoes (old new : NodeParts) (frame : Frame) (reply : Option Frame)
 -- a plugin is as it was to its callers
 pub record IsSameController (old new : ControllerParts) : Type 0 where
   pub config : new.config ≡ old.config
-  pub shown : (state : ControllerState) → IsShown old state → IsShown new state
+  pub shown : (state : ControllerState) → ControllerShows old state → ControllerShows new state
 
 pub record IsSameNode (old new : NodeParts) : Type 0 where
   pub id : new.id ≡ old.id
@@ -77,33 +77,33 @@ abbrev pub new_node_parts : NodeSlots → NodeParts
 new_node_parts slots = record { id = slots.id; rows = [] }
 
 -- its nodes are the configuration's, which has no fault
-pub record HasOwnNodes (shown : WorldShown) : Type 0 where
+pub record IsSound (shown : WorldParts) : Type 0 where
   pub ids : map (λ node. node.id) shown.nodes ≡ map node_id (shown.config).nodes
   pub fit : config_fault (shown.config).greatest (shown.config).nodes ≡ None
 
 -- it is the world after an event of which this came
-pub record Becomes (old new : WorldShown) (outcome : Outcome) (occurred : Occurred) : Type 0 where
+pub record Becomes (old new : WorldParts) (outcome : Outcome) (occurred : Occurred) : Type 0 where
   pub config : new.config ≡ old.config
   pub outcomes : new.outcomes ≡ old.outcomes
-  pub own : HasOwnNodes new
+  pub own : IsSound new
   pub world : ShowsWorld new occurred.world
   pub came : outcome ≡ occurred.outcome
 
 -- so it is of every world that was shown before, unless memory was refused
-abbrev pub Does : {E : Type 0} → WorldShown → WorldShown → Result Outcome E → (World → Occurred) → Type 0
-Does old new result occurs = (world : World) → HasOwnNodes old → ShowsWorld old world → IfOk result (λ outcome. Becomes old new outcome (occurs world))
+abbrev pub Does : {E : Type 0} → WorldParts → WorldParts → Result Outcome E → (World → Occurred) → Type 0
+Does old new result occurs = (world : World) → IsSound old → ShowsWorld old world → IfOk result (λ outcome. Becomes old new outcome (occurs world))
 
 -- it is the world after an event, which is logged
-pub record IsLogged (old new : WorldShown) (occurred : Occurred) : Type 0 where
+pub record IsLogged (old new : WorldParts) (occurred : Occurred) : Type 0 where
   pub config : new.config ≡ old.config
   pub outcomes : new.outcomes ≡ old.outcomes ++ occurred.outcome ∷ []
-  pub own : HasOwnNodes new
+  pub own : IsSound new
   pub world : ShowsWorld new occurred.world
 
 -- it is the last world of the run of these events
-pub record IsRun (config : Config) (events : List Event) (shown : WorldShown) : Type 0 where
+pub record IsRun (config : Config) (events : List Event) (shown : WorldParts) : Type 0 where
   pub configured : shown.config ≡ config
-  pub own : HasOwnNodes shown
+  pub own : IsSound shown
   pub shows : ShowsRun shown (after config events)
 
 -- what is shown of a node is this state, if there is one

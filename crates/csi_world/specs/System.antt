@@ -1,9 +1,9 @@
 -- What a system shows.
 use Rattle.csi_world.specs.declared.system.System.{System}
-use Rattle.csi_world.specs.Simulated.{WorldShown}
+use Rattle.csi_world.specs.Simulated.{WorldParts}
 
-abbrev pub shown_of : System → WorldShown
-shown_of system =
+abbrev pub parts_of : System → WorldParts
+parts_of system =
     record {
       config = system.config;
       frames = system.frames.items;

@@ -1,7 +1,7 @@
 //! Worlds that are made of their parts.
 ghost use Rattle.std.specs.Prelude.{◌≡◌, ◌↔◌, IfOk, IsTrue, Err};
 ghost use Rattle.csi_world.specs.Assembled.{AreOfNodes, assembled};
-ghost use Rattle.csi_world.specs.System.{shown_of};
+ghost use Rattle.csi_world.specs.System.{parts_of};
 
 use crate::plugins::copied_config;
 use crate::system::System;
@@ -72,7 +72,7 @@ fn assembled_system(
     nodes: Vec<NodeRecord>,
     orchestrator: Orchestrator,
 ) -> Result<System, NoMemory>
-    ensures { IfOk result (λ system. shown_of system ≡ assembled config controller nodes.items orchestrator) }
+    ensures { IfOk result (λ system. parts_of system ≡ assembled config controller nodes.items orchestrator) }
 {
     let own = copied_config(&config)?;
     let controller = Controller::from_record(alloc, own, controller).map_err(|_| NoMemory)?;

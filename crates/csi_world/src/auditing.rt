@@ -3,7 +3,7 @@ ghost use Rattle.std.specs.Prelude.{map, IfOk};
 ghost use Rattle.csi_orchestrator.specs.Shown.{view_of};
 ghost use Rattle.csi_world.specs.World.{World as Shown};
 ghost use Rattle.csi_world.specs.Audited.{ArePlugins, Finds};
-ghost use Rattle.csi_world.specs.Listed.{AreDistinct, AreKept, IsListed, ArePluginsSafe};
+ghost use Rattle.csi_world.specs.Listed.{AreDistinct, AreRowsApart, IsListed, ArePluginsSafe};
 
 mod gathering;
 mod halving;
@@ -33,7 +33,7 @@ fn audit_lists(
     nodes: &[NodeLists],
     orchestrator: &Orchestrator,
 ) -> Result<Option<Violation>, NoMemory>
-    requires { AreKept rows.now }
+    requires { AreRowsApart rows.now }
     ensures { (world : Shown) → IsListed (record { rows = rows.now; nodes = nodes.now }) world → ArePluginsSafe world → IfOk result (Finds (view_of orchestrator.now).marks world) }
 {
     if !is_staged_where_attached(rows, nodes) {

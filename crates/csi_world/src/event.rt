@@ -28,7 +28,7 @@ pub enum Event {
     },
     /// It is asked to delete a volume.
     Delete(Name),
-    /// It waited long enough for a reply about a volume.
+    /// The open call of a volume timed out.
     Timeout(Name),
     /// The frame of this number is delivered. Frames are numbered from 1, in the order in which they were
     /// sent, and can be delivered again and again.

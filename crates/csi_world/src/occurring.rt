@@ -4,8 +4,8 @@ ghost use Rattle.csi_types.specs.Config.{has_node};
 ghost use Rattle.csi_world.specs.World.{World};
 ghost use Rattle.csi_world.specs.After.{called, delivered, delivered_body, frame_at, occurs};
 ghost use Rattle.csi_world.specs.Simulated.{ShowsWorld};
-ghost use Rattle.csi_world.specs.Simulating.{HasOwnNodes, Does, IsLogged};
-ghost use Rattle.csi_world.specs.System.{shown_of};
+ghost use Rattle.csi_world.specs.Simulating.{IsSound, Does, IsLogged};
+ghost use Rattle.csi_world.specs.System.{parts_of};
 ghost use Rattle.csi_world.specs.declared.event.Outcome.TheVariants as outcomes;
 
 use crate::carrying::carried_option;
@@ -25,7 +25,7 @@ fn copied(event: &Event) -> Result<Event, NoMemory>
 impl System {
     // A call comes to its plugin.
     fn call(&mut self, frame: &Frame) -> Result<Outcome, NoMemory>
-        ensures { Does (shown_of self.old) (shown_of self.new) result (λ world. called self.old.config world frame.now frame.now.party) }
+        ensures { Does (parts_of self.old) (parts_of self.new) result (λ world. called self.old.config world frame.now frame.now.party) }
     {
         match frame.party() {
             Party::Controller => {
@@ -44,7 +44,7 @@ impl System {
 
     // A frame comes to its plugin or to the orchestrator.
     fn take(&mut self, frame: &Frame) -> Result<Outcome, NoMemory>
-        ensures { Does (shown_of self.old) (shown_of self.new) result (λ world. delivered_body self.old.config world frame.now frame.now.body) }
+        ensures { Does (parts_of self.old) (parts_of self.new) result (λ world. delivered_body self.old.config world frame.now frame.now.body) }
     {
         csi_orchestrator::form_law();
         match frame.body() {
@@ -55,14 +55,14 @@ impl System {
 
     // A copy of the frame of this number, once it was carried.
     fn carried_frame(&self, number: u64) -> Result<Option<Frame>, NoMemory>
-        ensures { (world : World) → ShowsWorld (shown_of self.now) world → IfOk result (λ frame. frame ≡ frame_at world number) }
+        ensures { (world : World) → ShowsWorld (parts_of self.now) world → IfOk result (λ frame. frame ≡ frame_at world number) }
     {
         carried_option(self.alloc, frame_of(&self.frames, number))
     }
 
     // The frame of this number is delivered, if it is there.
     fn deliver(&mut self, number: u64) -> Result<Outcome, NoMemory>
-        ensures { Does (shown_of self.old) (shown_of self.new) result (λ world. delivered self.old.config world (frame_at world number)) }
+        ensures { Does (parts_of self.old) (parts_of self.new) result (λ world. delivered self.old.config world (frame_at world number)) }
     {
         match self.carried_frame(number)? {
             Some(frame) => self.take(&frame),
@@ -72,7 +72,7 @@ impl System {
 
     // The controller restarts, from its record.
     fn restart_controller(&mut self) -> Result<Outcome, NoMemory>
-        ensures { Does (shown_of self.old) (shown_of self.new) result (λ world. record { world = world; outcome = outcomes.Restarted }) }
+        ensures { Does (parts_of self.old) (parts_of self.new) result (λ world. record { world = world; outcome = outcomes.Restarted }) }
     {
         let controller = restarted_controller(self.alloc, &self.controller, &self.config)?;
         self.controller = controller;
@@ -81,7 +81,7 @@ impl System {
 
     // The node of this id restarts, from its record.
     fn restart_node(&mut self, id: &NodeId) -> Result<Outcome, NoMemory>
-        ensures { Does (shown_of self.old) (shown_of self.new) result (λ world.
+        ensures { Does (parts_of self.old) (parts_of self.new) result (λ world.
             record { world = world; outcome = if has_node id.now self.old.config.nodes then outcomes.Restarted else outcomes.NoSuchNode }) }
     {
         match place_of(&self.nodes, id) {
@@ -96,7 +96,7 @@ impl System {
 
     // What comes of an event, which isn't logged yet.
     fn outcome_of(&mut self, event: &Event) -> Result<Outcome, NoMemory>
-        ensures { Does (shown_of self.old) (shown_of self.new) result (λ world. occurs self.old.config world event.now) }
+        ensures { Does (parts_of self.old) (parts_of self.new) result (λ world. occurs self.old.config world event.now) }
     {
         csi_orchestrator::form_law();
         let orchestrator = &mut self.orchestrator;
@@ -135,8 +135,8 @@ impl System {
 
     /// What comes of an event, which is logged. An `Err` is an allocation that was refused; the system is of no use then.
     pub(crate) fn occur(&mut self, event: &Event) -> Result<(), NoMemory>
-        ensures { (world : World) → HasOwnNodes (shown_of self.old) → ShowsWorld (shown_of self.old) world →
-            OnOk result (IsLogged (shown_of self.old) (shown_of self.new) (occurs self.old.config world event.now)) }
+        ensures { (world : World) → IsSound (parts_of self.old) → ShowsWorld (parts_of self.old) world →
+            OnOk result (IsLogged (parts_of self.old) (parts_of self.new) (occurs self.old.config world event.now)) }
     {
         let outcome = self.outcome_of(event)?;
         self.outcomes.push(outcome)?;

@@ -4,7 +4,7 @@ ghost use Rattle.csi_world.specs.Safe.{Safe};
 ghost use Rattle.csi_world.specs.After.{after};
 ghost use Rattle.csi_world.specs.Simulated.{ShowsRun};
 ghost use Rattle.csi_world.specs.Simulating.{IsRun};
-ghost use Rattle.csi_world.specs.System.{shown_of};
+ghost use Rattle.csi_world.specs.System.{parts_of};
 
 use crate::event::Event;
 use crate::laws::runs_law;
@@ -18,7 +18,7 @@ use std::alloc::Global;
 
 // A system in which nothing happened.
 fn new_system(alloc: Global, config: &Config) -> Result<System, NoMemory>
-    ensures { IfOk result (λ system. IsRun config.now [] (shown_of system)) }
+    ensures { IfOk result (λ system. IsRun config.now [] (parts_of system)) }
 {
     config.fit_law();
     let own = copied_config(config)?;
@@ -40,7 +40,7 @@ fn new_system(alloc: Global, config: &Config) -> Result<System, NoMemory>
 
 // The system after these events.
 fn run(alloc: Global, config: &Config, events: &[Event]) -> Result<System, NoMemory>
-    ensures { IfOk result (λ system. IsRun config.now events.now (shown_of system)) }
+    ensures { IfOk result (λ system. IsRun config.now events.now (parts_of system)) }
 {
     let mut system = new_system(alloc, config)?;
     for event in events {

@@ -4,8 +4,8 @@ ghost use Rattle.std.specs.Option.{option_copied};
 ghost use Rattle.csi_types.specs.Same.{same_text};
 ghost use Rattle.csi_world.specs.After.{frame_at};
 ghost use Rattle.csi_world.specs.Simulated.{ShowsWorld};
-ghost use Rattle.csi_world.specs.Simulating.{numbered, HasOwnNodes, ShowsNode};
-ghost use Rattle.csi_world.specs.System.{shown_of};
+ghost use Rattle.csi_world.specs.Simulating.{numbered, IsSound, ShowsNode};
+ghost use Rattle.csi_world.specs.System.{parts_of};
 
 use crate::event::Outcome;
 use crate::plugins::node_of;
@@ -25,15 +25,15 @@ pub struct World {
 }
 
 impl Model for World {
-    ghost use Rattle.csi_world.specs.Simulated.{WorldShown};
-    ghost use Rattle.csi_world.specs.Simulating.{HasOwnNodes};
-    ghost use Rattle.csi_world.specs.System.{shown_of};
+    ghost use Rattle.csi_world.specs.Simulated.{WorldParts};
+    ghost use Rattle.csi_world.specs.Simulating.{IsSound};
+    ghost use Rattle.csi_world.specs.System.{parts_of};
 
-    ghost Value = { WorldShown };
+    ghost Value = { WorldParts };
 
-    ghost view = { λ world. shown_of world.system };
+    ghost view = { λ world. parts_of world.system };
 
-    ghost invariant = { λ world. HasOwnNodes (shown_of world.system) };
+    ghost invariant = { λ world. IsSound (parts_of world.system) };
 }
 
 impl World {
@@ -41,8 +41,8 @@ impl World {
 
     // The world of a system.
     pub(crate) fn of(system: System) -> World
-        requires { HasOwnNodes (shown_of system) }
-        ensures { result ≡ shown_of system }
+        requires { IsSound (parts_of system) }
+        ensures { result ≡ parts_of system }
     {
         World { system }
     }
@@ -87,7 +87,7 @@ impl World {
     /// A law, and nothing that runs: the nodes are those of the configuration, in its order, and the configuration has no
     /// fault, so that no id comes twice.
     pub fn nodes_law(&self)
-        ensures { HasOwnNodes self.now }
+        ensures { IsSound self.now }
     {
         let _system = &self.system;
     }

@@ -6,7 +6,7 @@ ghost use Rattle.csi_types.specs.Lent.{lent_call};
 ghost use Rattle.csi_types.specs.declared.call.Party.TheVariants.{Controller};
 ghost use Rattle.indexmap.specs.IndexMap.{index_map_len};
 ghost use Rattle.csi_controller.specs.Catalog.{rows_of};
-ghost use Rattle.csi_controller.specs.CoreParts.{parts_of, IsKept};
+ghost use Rattle.csi_controller.specs.CoreParts.{parts_of, IsSoundCore};
 ghost use Rattle.csi_controller.specs.Shown.{volume_of_row};
 ghost use Rattle.csi_controller.specs.State.{is_row_for};
 
@@ -29,7 +29,7 @@ pub fn is_own(call: &CallRef<'_>) -> bool
 impl Core {
     /// Where the row of this call is: that of the name for CreateVolume, and else that of the id.
     pub fn place_for(&self, call: &CallRef<'_>) -> Option<usize>
-        requires { IsKept self.now }
+        requires { IsSoundCore self.now }
         ensures place { result ≡ position (λ row. is_row_for (lent_call call.now) (volume_of_row row)) (rows_of self.now.catalog) }
         ensures within { IfSome result (λ place. place < index_map_len self.now.catalog.rows) }
     {
@@ -47,7 +47,7 @@ impl Core {
 
     /// The id of this call's row, and the number of the last call that was answered for it.
     pub fn last_for(&self, call: &CallRef<'_>) -> Option<(VolumeId, Number)>
-        requires { IsKept self.now }
+        requires { IsSoundCore self.now }
         ensures { result ≡ option_map (λ row. (row.id, row.last)) (find (λ row. is_row_for (lent_call call.now) (volume_of_row row)) (parts_of self.now).rows) }
     {
         match self.place_for(call) {

@@ -24,11 +24,11 @@ impl Core {
     ghost use Rattle.csi_controller.specs.State.{ControllerState};
     ghost use Rattle.csi_controller.specs.Table.{Makes, Stays};
     ghost use Rattle.csi_controller.specs.Fenced.{fenced_call, kept_for};
-    ghost use Rattle.csi_controller.specs.Core.{IsShown, next_shown};
+    ghost use Rattle.csi_controller.specs.Core.{Shows, next_shown};
     ghost use Rattle.csi_controller.specs.Step.{Answers};
     ghost use Rattle.csi_controller.specs.Making.{new_line, IsMade};
     ghost use Rattle.csi_controller.specs.Catalog.{IsIndexed};
-    ghost use Rattle.csi_controller.specs.CoreParts.{parts_of, IsKept};
+    ghost use Rattle.csi_controller.specs.CoreParts.{parts_of, IsSoundCore};
 
     // The id and the capacity of the volume that is made for a new name, or the table's refusal.
     fn room_for(&self, required: u64, limit: u64) -> Result<(VolumeId, u64), Line<'static>>
@@ -63,7 +63,7 @@ impl Core {
         name: &str,
         capabilities: &CapabilityList,
     ) -> Result<Reply, CoreFault>
-        requires kept { IsKept self.old }
+        requires kept { IsSoundCore self.old }
         requires new_id { find (λ row. row.id == id) (parts_of self.old).rows ≡ None }
         requires new_name { find (λ row. same_text row.name name.now) (parts_of self.old).rows ≡ None }
         ensures reply { IfOk result (λ reply. reply ≡ ok_reply_with id) }
@@ -89,13 +89,13 @@ impl Core {
         limit: u64,
         capabilities: &CapabilityList,
     ) -> Result<Reply, CoreFault>
-        requires kept { IsKept self.old }
+        requires kept { IsSoundCore self.old }
         requires new { find (λ row. same_text row.name name.now) (parts_of self.old).rows ≡ None }
-        ensures ok { (state : ControllerState) → IsShown (parts_of self.old) state → IfOk result (λ reply. Answers (parts_of self.new) (reply_frame number Controller CreateKind reply)
+        ensures ok { (state : ControllerState) → Shows (parts_of self.old) state → IfOk result (λ reply. Answers (parts_of self.new) (reply_frame number Controller CreateKind reply)
             (fenced_call self.old.config state number (Call.CreateVolume name.now required limit capabilities.now) (kept_for (Call.CreateVolume name.now required limit capabilities.now) state))) }
         ensures id { IfOk result (λ reply. IsTrue (has_id_by_rule CreateKind reply)) }
-        ensures err { (state : ControllerState) → IsShown (parts_of self.old) state → OnErr result (IsShown (parts_of self.new) state) }
-        ensures kept { IsKept self.new }
+        ensures err { (state : ControllerState) → Shows (parts_of self.old) state → OnErr result (Shows (parts_of self.new) state) }
+        ensures kept { IsSoundCore self.new }
         ensures config { self.new.config ≡ self.old.config }
     {
         let alloc = self.alloc;

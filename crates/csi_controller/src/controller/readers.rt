@@ -10,11 +10,11 @@ use crate::row::ControllerRow;
 use csi_types::VolumeId;
 
 impl Core {
-    ghost use Rattle.csi_controller.specs.CoreParts.{parts_of, IsKept};
+    ghost use Rattle.csi_controller.specs.CoreParts.{parts_of, IsSoundCore};
 
     /// Id and capacity of the volume of this name, unless it was deleted.
     pub fn volume(&self, name: &str) -> Option<(VolumeId, u64)>
-        requires { IsKept self.now }
+        requires { IsSoundCore self.now }
         ensures { result ≡ row_if_live (find (λ row. same_text row.name name.now) (parts_of self.now).rows) }
     {
         match self.catalog.named(name) {
@@ -31,7 +31,7 @@ impl Core {
 
     /// The id of the volume of this name, deleted or not.
     pub fn id_of(&self, name: &str) -> Option<VolumeId>
-        requires { IsKept self.now }
+        requires { IsSoundCore self.now }
         ensures { result ≡ option_map (λ row. row.id) (find (λ row. same_text row.name name.now) (parts_of self.now).rows) }
     {
         self.catalog.id_of(name)
@@ -39,7 +39,7 @@ impl Core {
 
     /// A copy of the row of this id. Without one it takes no memory.
     pub fn row(&self, id: VolumeId) -> Result<Option<ControllerRow>, CoreFault>
-        requires { IsKept self.now }
+        requires { IsSoundCore self.now }
         ensures copy { IfOk result (λ copy. IsCopyOf (find (λ row. row.id == id) (parts_of self.now).rows) copy) }
         ensures succeeds { find (λ row. row.id == id) (parts_of self.now).rows ≡ None → IsOk result }
     {

@@ -33,9 +33,9 @@ impl Core {
     ghost use Rattle.csi_controller.specs.Fenced.{fenced, fenced_call, kept_for};
     ghost use Rattle.csi_controller.specs.Shown.{volume_of_row};
     ghost use Rattle.csi_controller.specs.Catalog.{rows_of};
-    ghost use Rattle.csi_controller.specs.Core.{IsShown, IsAnsweredOk, IsUndoing};
+    ghost use Rattle.csi_controller.specs.Core.{Shows, IsAnsweredOk, IsUndoing};
     ghost use Rattle.csi_controller.specs.Step.{Answers, answer_frame};
-    ghost use Rattle.csi_controller.specs.CoreParts.{parts_of, IsKept};
+    ghost use Rattle.csi_controller.specs.CoreParts.{parts_of, IsSoundCore};
     ghost use Rattle.csi_controller.specs.Repeats.{IsPlainRepeat};
 
     // Answers a call whose row is at this place. An `Err` changes nothing.
@@ -46,17 +46,17 @@ impl Core {
         call: &CallRef<'_>,
     ) -> Result<(Kind, Reply), CoreFault>
         requires party { IsTrue (is_party_of (kind_of (lent_call call.now)) Controller) }
-        requires kept { IsKept self.old }
+        requires kept { IsSoundCore self.old }
         requires place { Some place ≡ position (λ row. is_row_for (lent_call call.now) (volume_of_row row)) (rows_of self.old.catalog) }
         requires within { place < index_map_len self.old.catalog.rows }
-        ensures ok { (state : ControllerState) → IsShown (parts_of self.old) state → IfOk result (λ answer. Answers (parts_of self.new) (answer_frame number answer)
+        ensures ok { (state : ControllerState) → Shows (parts_of self.old) state → IfOk result (λ answer. Answers (parts_of self.new) (answer_frame number answer)
             (fenced_call self.old.config state number (lent_call call.now) (kept_for (lent_call call.now) state))) }
         ensures allowed { IfOk result (λ answer. IsAllowed Controller (Body.Reply answer.0 answer.1)) }
-        ensures err { (state : ControllerState) → IsShown (parts_of self.old) state → OnErr result (IsShown (parts_of self.new) state) }
-        ensures kept { IsKept self.new }
+        ensures err { (state : ControllerState) → Shows (parts_of self.old) state → OnErr result (Shows (parts_of self.new) state) }
+        ensures kept { IsSoundCore self.new }
         ensures config { self.new.config ≡ self.old.config }
-        ensures repeated { (state : ControllerState) → IsShown (parts_of self.old) state → IsPlainRepeat (kept_for (lent_call call.now) state) number → IsOk result }
-        ensures undone { (state : ControllerState) → IsShown (parts_of self.old) state → IsUndoing (lent_call call.now) → IsAnsweredOk self.old.config state number (lent_call call.now) → IsOk result }
+        ensures repeated { (state : ControllerState) → Shows (parts_of self.old) state → IsPlainRepeat (kept_for (lent_call call.now) state) number → IsOk result }
+        ensures undone { (state : ControllerState) → Shows (parts_of self.old) state → IsUndoing (lent_call call.now) → IsAnsweredOk self.old.config state number (lent_call call.now) → IsOk result }
     {
         let alloc = self.alloc;
         let nodes = self.config.nodes();
@@ -67,16 +67,16 @@ impl Core {
     // Answers a call that has no row. An `Err` changes nothing.
     fn answer_without_row(&mut self, number: Number, call: &CallRef<'_>) -> Result<Reply, CoreFault>
         requires party { IsTrue (is_party_of (kind_of (lent_call call.now)) Controller) }
-        requires kept { IsKept self.old }
+        requires kept { IsSoundCore self.old }
         requires none { None ≡ position (λ row. is_row_for (lent_call call.now) (volume_of_row row)) (rows_of self.old.catalog) }
-        ensures ok { (state : ControllerState) → IsShown (parts_of self.old) state → IfOk result (λ reply. Answers (parts_of self.new) (reply_frame number Controller (kind_of (lent_call call.now)) reply)
+        ensures ok { (state : ControllerState) → Shows (parts_of self.old) state → IfOk result (λ reply. Answers (parts_of self.new) (reply_frame number Controller (kind_of (lent_call call.now)) reply)
             (fenced_call self.old.config state number (lent_call call.now) (kept_for (lent_call call.now) state))) }
         ensures id { IfOk result (λ reply. IsTrue (has_id_by_rule (kind_of (lent_call call.now)) reply)) }
-        ensures err { (state : ControllerState) → IsShown (parts_of self.old) state → OnErr result (IsShown (parts_of self.new) state) }
-        ensures kept { IsKept self.new }
+        ensures err { (state : ControllerState) → Shows (parts_of self.old) state → OnErr result (Shows (parts_of self.new) state) }
+        ensures kept { IsSoundCore self.new }
         ensures config { self.new.config ≡ self.old.config }
-        ensures repeated { (state : ControllerState) → IsShown (parts_of self.old) state → IsPlainRepeat (kept_for (lent_call call.now) state) number → IsOk result }
-        ensures undone { (state : ControllerState) → IsShown (parts_of self.old) state → IsUndoing (lent_call call.now) → IsAnsweredOk self.old.config state number (lent_call call.now) → IsOk result }
+        ensures repeated { (state : ControllerState) → Shows (parts_of self.old) state → IsPlainRepeat (kept_for (lent_call call.now) state) number → IsOk result }
+        ensures undone { (state : ControllerState) → Shows (parts_of self.old) state → IsUndoing (lent_call call.now) → IsAnsweredOk self.old.config state number (lent_call call.now) → IsOk result }
     {
         let alloc = self.alloc;
         match call {
@@ -99,15 +99,15 @@ impl Core {
     // Answers a call of the controller. An `Err` changes nothing.
     fn answer_own(&mut self, number: Number, call: &CallRef<'_>) -> Result<(Kind, Reply), CoreFault>
         requires party { IsTrue (is_party_of (kind_of (lent_call call.now)) Controller) }
-        requires kept { IsKept self.old }
-        ensures ok { (state : ControllerState) → IsShown (parts_of self.old) state → IfOk result (λ answer. Answers (parts_of self.new) (answer_frame number answer)
+        requires kept { IsSoundCore self.old }
+        ensures ok { (state : ControllerState) → Shows (parts_of self.old) state → IfOk result (λ answer. Answers (parts_of self.new) (answer_frame number answer)
             (fenced_call self.old.config state number (lent_call call.now) (kept_for (lent_call call.now) state))) }
         ensures allowed { IfOk result (λ answer. IsAllowed Controller (Body.Reply answer.0 answer.1)) }
-        ensures err { (state : ControllerState) → IsShown (parts_of self.old) state → OnErr result (IsShown (parts_of self.new) state) }
-        ensures kept { IsKept self.new }
+        ensures err { (state : ControllerState) → Shows (parts_of self.old) state → OnErr result (Shows (parts_of self.new) state) }
+        ensures kept { IsSoundCore self.new }
         ensures config { self.new.config ≡ self.old.config }
-        ensures repeated { (state : ControllerState) → IsShown (parts_of self.old) state → IsPlainRepeat (kept_for (lent_call call.now) state) number → IsOk result }
-        ensures undone { (state : ControllerState) → IsShown (parts_of self.old) state → IsUndoing (lent_call call.now) → IsAnsweredOk self.old.config state number (lent_call call.now) → IsOk result }
+        ensures repeated { (state : ControllerState) → Shows (parts_of self.old) state → IsPlainRepeat (kept_for (lent_call call.now) state) number → IsOk result }
+        ensures undone { (state : ControllerState) → Shows (parts_of self.old) state → IsUndoing (lent_call call.now) → IsAnsweredOk self.old.config state number (lent_call call.now) → IsOk result }
     {
         match self.place_for(call) {
             Some(place) => self.answer_with_row(place, number, call),
@@ -124,18 +124,18 @@ impl Core {
         number: Number,
         call: &CallRef<'_>,
     ) -> Result<Option<(Kind, Reply)>, CoreFault>
-        requires kept { IsKept self.old }
-        ensures reply { (state : ControllerState) (party : OneParty) → IsShown (parts_of self.old) state → IsAllowed party (Body.Call (lent_call call.now))
+        requires kept { IsSoundCore self.old }
+        ensures reply { (state : ControllerState) (party : OneParty) → Shows (parts_of self.old) state → IsAllowed party (Body.Call (lent_call call.now))
             → IfOk result (λ answer. option_map (answer_frame number) answer ≡ (fenced self.old.config state (call_frame number party (lent_call call.now))).reply) }
-        ensures state { (state : ControllerState) (party : OneParty) → IsShown (parts_of self.old) state → IsAllowed party (Body.Call (lent_call call.now))
-            → OnOk result (IsShown (parts_of self.new) (fenced self.old.config state (call_frame number party (lent_call call.now))).state) }
+        ensures state { (state : ControllerState) (party : OneParty) → Shows (parts_of self.old) state → IsAllowed party (Body.Call (lent_call call.now))
+            → OnOk result (Shows (parts_of self.new) (fenced self.old.config state (call_frame number party (lent_call call.now))).state) }
         ensures allowed { IfOk result (λ answer. IfSome answer (λ own. IsAllowed Controller (Body.Reply own.0 own.1))) }
         ensures others { IsTrue (not (is_party_of (kind_of (lent_call call.now)) Controller)) → result ≡ Ok None }
-        ensures err { (state : ControllerState) → IsShown (parts_of self.old) state → OnErr result (IsShown (parts_of self.new) state) }
-        ensures kept { IsKept self.new }
+        ensures err { (state : ControllerState) → Shows (parts_of self.old) state → OnErr result (Shows (parts_of self.new) state) }
+        ensures kept { IsSoundCore self.new }
         ensures config { self.new.config ≡ self.old.config }
-        ensures repeated { (state : ControllerState) → IsShown (parts_of self.old) state → IsPlainRepeat (kept_for (lent_call call.now) state) number → IsOk result }
-        ensures undone { (state : ControllerState) → IsShown (parts_of self.old) state → IsUndoing (lent_call call.now) → IsAnsweredOk self.old.config state number (lent_call call.now) → IsOk result }
+        ensures repeated { (state : ControllerState) → Shows (parts_of self.old) state → IsPlainRepeat (kept_for (lent_call call.now) state) number → IsOk result }
+        ensures undone { (state : ControllerState) → Shows (parts_of self.old) state → IsUndoing (lent_call call.now) → IsAnsweredOk self.old.config state number (lent_call call.now) → IsOk result }
     {
         if !is_own(call) {
             return Ok(None);
@@ -148,16 +148,16 @@ impl Core {
 
     /// Answers a frame, as `Controller::step` says.
     pub fn step(&mut self, frame: &Frame) -> Result<Option<Frame>, CoreFault>
-        requires kept { IsKept self.old }
-        ensures reply { (state : ControllerState) → IsShown (parts_of self.old) state → IfOk result (λ reply. reply ≡ (fenced self.old.config state frame.now).reply) }
-        ensures state { (state : ControllerState) → IsShown (parts_of self.old) state → OnOk result (IsShown (parts_of self.new) (fenced self.old.config state frame.now).state) }
-        ensures err { (state : ControllerState) → IsShown (parts_of self.old) state → OnErr result (IsShown (parts_of self.new) state) }
-        ensures kept { IsKept self.new }
+        requires kept { IsSoundCore self.old }
+        ensures reply { (state : ControllerState) → Shows (parts_of self.old) state → IfOk result (λ reply. reply ≡ (fenced self.old.config state frame.now).reply) }
+        ensures state { (state : ControllerState) → Shows (parts_of self.old) state → OnOk result (Shows (parts_of self.new) (fenced self.old.config state frame.now).state) }
+        ensures err { (state : ControllerState) → Shows (parts_of self.old) state → OnErr result (Shows (parts_of self.new) state) }
+        ensures kept { IsSoundCore self.new }
         ensures config { self.new.config ≡ self.old.config }
         ensures silent { (state : ControllerState) → (fenced self.old.config state frame.now).reply ≡ None → IsOk result }
-        ensures undone { (state : ControllerState) (call : OneCall) → IsShown (parts_of self.old) state → frame.now.body ≡ Body.Call call → IsUndoing call
+        ensures undone { (state : ControllerState) (call : OneCall) → Shows (parts_of self.old) state → frame.now.body ≡ Body.Call call → IsUndoing call
             → IsAnsweredOk self.old.config state frame.now.number call → IsOk result }
-        ensures repeated { (state : ControllerState) (call : OneCall) → IsShown (parts_of self.old) state → frame.now.body ≡ Body.Call call
+        ensures repeated { (state : ControllerState) (call : OneCall) → Shows (parts_of self.old) state → frame.now.body ≡ Body.Call call
             → IsPlainRepeat (kept_for call state) frame.now.number → IsOk result }
     {
         let Body::Call(call) = frame.body() else {

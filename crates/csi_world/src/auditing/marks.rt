@@ -5,7 +5,7 @@ ghost use Rattle.csi_orchestrator.specs.Listing.{ListsKnown, IsInOrder};
 ghost use Rattle.csi_orchestrator.specs.Shown.{view_of};
 ghost use Rattle.csi_world.specs.World.{World};
 ghost use Rattle.csi_world.specs.Audited.{AreMarkedRight};
-ghost use Rattle.csi_world.specs.Listed.{AreKept, AreSorted, IsListed, is_affirmed as is_affirmed_so, is_noted as is_noted_so};
+ghost use Rattle.csi_world.specs.Listed.{AreRowsApart, AreSorted, IsListed, is_affirmed as is_affirmed_so, is_noted as is_noted_so};
 
 use super::halving::{has_thing, is_noted};
 use super::lists::NodeLists;
@@ -66,7 +66,7 @@ pub(crate) fn is_marked_right(
     rows: &[ControllerRow],
     nodes: &[NodeLists],
 ) -> Result<bool, NoMemory>
-    requires { AreKept rows.now }
+    requires { AreRowsApart rows.now }
     ensures { (world : World) → IsListed (record { rows = rows.now; nodes = nodes.now }) world → IfOk result (λ right. IsTrue right ↔ AreMarkedRight (view_of orchestrator.now).marks world) }
 {
     let noted = known_by(orchestrator)?;

@@ -7,7 +7,7 @@ ghost use Rattle.csi_controller.specs.Core.{IsRising};
 ghost use Rattle.csi_orchestrator.specs.declared.thing.Thing.{Thing as ThingParts};
 ghost use Rattle.csi_world.specs.World.{World};
 ghost use Rattle.csi_world.specs.Safe.{holds};
-ghost use Rattle.csi_world.specs.Listed.{AreKept, AreSorted, IsListed, attached_thing, things_of, staged_thing, published_thing, things_at, things_listed};
+ghost use Rattle.csi_world.specs.Listed.{AreRowsApart, AreSorted, IsListed, attached_thing, things_of, staged_thing, published_thing, things_at, things_listed};
 
 use super::halving::find_row;
 use super::lists::NodeLists;
@@ -180,7 +180,7 @@ pub(crate) fn list_things(
     rows: &[ControllerRow],
     nodes: &[NodeLists],
 ) -> Result<Vec<Thing>, NoMemory>
-    requires { AreKept rows.now }
+    requires { AreRowsApart rows.now }
     ensures all { (world : World) → IsListed (record { rows = rows.now; nodes = nodes.now }) world → IfOk result (λ things. (thing : ThingParts) → IsAmong thing things.items ↔ (holds world thing ≡ true)) }
     ensures order { IfOk result (λ things. AreSorted things.items) }
 {

@@ -2,7 +2,7 @@ use Rattle.std.proofs.Common.{sym, subst, arith, List}
 use Rattle.std.proofs.lemmas.Result.{IfOk-weaker}
 use Rattle.csi_types.specs.Lent.{lent_call}
 use Rattle.csi_node.specs.declared.row.NodeRow.{NodeRow}
-use Rattle.csi_node.specs.Record.{parts, IsRecord, Gives}
+use Rattle.csi_node.specs.Record.{parts, IsSound, Gives}
 use Rattle.csi_node.specs.Fenced.{answer_frame, fenced_call, kept_for}
 use Rattle.csi_node.proofs.AtRow.{gives-first, rules-first, gives-none}
 use Rattle.csi_node.specs.OneVolume.{IsOneRowPut}
@@ -23,7 +23,7 @@ returns-clause-ok c = λ node state shows.
 
 pub returns-clause-rules : goal.returns-clause-rules
 returns-clause-rules c =
-    subst (λ (rows : List NodeRow). IsRecord (parts rows)) (sym c.in_ok-insert.ensures.items)
+    subst (λ (rows : List NodeRow). IsSound (parts rows)) (sym c.in_ok-insert.ensures.items)
     (rules-first c.args.id c.args.rows.now.items c.args.place c.in_ok-row.row c.requires.rules c.requires.place (omega arith) c.in_ok-row.ensures.rules c.in_ok-row.ensures.row.id)
 
 pub returns-then-len-ge-MAX_ROWS-clause-one : goal.returns-then-len-ge-MAX_ROWS-clause-one

@@ -1,7 +1,7 @@
 -- Item by item, goal by goal and input by input.
 use Rattle.csi_orchestrator.proofs.DueCalls.{due-told}
 use Rattle.csi_orchestrator.proofs.ViewsFollow.{started-follows, sent-follows, accepted-follows, closed-follows, noted-follows}
-use Rattle.csi_orchestrator.proofs.RulesStay.{rows-stay-kept}
+use Rattle.csi_orchestrator.proofs.RulesStay.{rows-stay-sound}
 use Rattle.csi_orchestrator.proofs.RepliesAgree.{rows-tell, moves-are-guarded}
 use Rattle.csi_orchestrator.proofs.laws.rows_follow.Goals as goal
 
@@ -21,8 +21,8 @@ returns-clause-due_is_told c = due-told
 pub returns-clause-rows_tell : goal.returns-clause-rows_tell
 returns-clause-rows_tell c = rows-tell
 
-pub returns-clause-rows_stay_kept : goal.returns-clause-rows_stay_kept
-returns-clause-rows_stay_kept c = rows-stay-kept
+pub returns-clause-rows_stay_sound : goal.returns-clause-rows_stay_sound
+returns-clause-rows_stay_sound c = rows-stay-sound
 
 pub returns-clause-moves_are_guarded : goal.returns-clause-moves_are_guarded
 returns-clause-moves_are_guarded c = moves-are-guarded

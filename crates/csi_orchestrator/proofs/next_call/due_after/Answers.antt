@@ -16,4 +16,4 @@ returns-in-Some c =
     ∙ ap (λ (id : Option ℕ). due_with row.name row.arguments id c.marks_after-marks.result c.in-Some.goal) (c.or-id.ensures ∙ ap (λ (id : Option ℕ). option_or id row.id) c.id_told.ensures)
     ∙ ap (λ (marks : Marks). due_with row.name row.arguments (option_or (id_told c.args.kind c.args.id) row.id) marks c.in-Some.goal)
     (c.marks_after-marks.ensures ∙ ap (marks_heard c.args.kind) c.known_for.ensures)
-    ∙ sym (due-after (row_shown row) c.args.kind c.args.id c.in-Some.goal c.requires.kept c.requires.due c.in-Some.is)
+    ∙ sym (due-after (row_shown row) c.args.kind c.args.id c.in-Some.goal c.requires.sound c.requires.due c.in-Some.is)

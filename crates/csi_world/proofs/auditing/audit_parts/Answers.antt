@@ -1,7 +1,7 @@
 -- The controller's rows keep a record's rules.
 use Rattle.std.proofs.Common.{sym, subst}
-use Rattle.csi_world.specs.Listed.{AreKept}
+use Rattle.csi_world.specs.Listed.{AreRowsApart}
 use Rattle.csi_world.proofs.auditing.audit_parts.Goals as goal
 
 pub audit_lists-requires : goal.audit_lists-requires
-audit_lists-requires c = subst AreKept (sym c.rows.ensures.value) (record { rising = c.rows.ensures.sound.rising; names = c.rows.ensures.sound.names })
+audit_lists-requires c = subst AreRowsApart (sym c.rows.ensures.value) (record { rising = c.rows.ensures.sound.rising; names = c.rows.ensures.sound.names })

@@ -4,7 +4,7 @@ use Rattle.std.proofs.lemmas.List.{take_more}
 use Rattle.csi_world.specs.declared.event.Event.{Event}
 use Rattle.csi_world.specs.After.{after}
 use Rattle.csi_world.specs.Simulating.{IsRun}
-use Rattle.csi_world.specs.System.{shown_of}
+use Rattle.csi_world.specs.System.{parts_of}
 use Rattle.csi_world.proofs.SimulatedRuns.{run-more}
 use Rattle.csi_world.proofs.simulation.run.Goals as goal
 
@@ -16,5 +16,5 @@ loop-event-preserved c =
     let before = c.loop-event.invariant in
     let more : take (index + 1) events ≡ take index events ++ event ∷ []
     = take_more events index event c.loop-event-test.true ∙ ap (λ (e : Event). take index events ++ e ∷ []) (sym c.event-item.is) in
-    subst (λ (es : List Event). IsRun c.args.config.now es (shown_of c.occur.new.self)) (sym more)
-    (run-more c.args.config.now (take index events) event (shown_of c.loop-event.system) (shown_of c.occur.new.self) before (c.in_ok-occur.ensures (after c.args.config.now (take index events)).world before.own before.shows.world))
+    subst (λ (es : List Event). IsRun c.args.config.now es (parts_of c.occur.new.self)) (sym more)
+    (run-more c.args.config.now (take index events) event (parts_of c.loop-event.system) (parts_of c.occur.new.self) before (c.in_ok-occur.ensures (after c.args.config.now (take index events)).world before.own before.shows.world))

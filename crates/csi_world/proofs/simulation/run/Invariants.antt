@@ -1,8 +1,8 @@
 -- The first events happened.
 use Rattle.std.proofs.Common.{take}
 use Rattle.csi_world.specs.Simulating.{IsRun}
-use Rattle.csi_world.specs.System.{shown_of}
+use Rattle.csi_world.specs.System.{parts_of}
 use Rattle.csi_world.proofs.simulation.run.Given as goal
 
 abbrev pub invariant-loop-event : goal.invariant-loop-event
-invariant-loop-event l = IsRun l.fn.config (take l.event-index l.fn.events) (shown_of l.system)
+invariant-loop-event l = IsRun l.fn.config (take l.event-index l.fn.events) (parts_of l.system)

@@ -3,12 +3,12 @@ use Rattle.std.proofs.Common.{subst}
 use Rattle.std.specs.Prelude.{OnOk}
 use Rattle.csi_types.specs.Lent.{lent_call}
 use Rattle.csi_types.specs.Replies.{call_frame}
-use Rattle.csi_controller.specs.Core.{Parts, IsShown}
+use Rattle.csi_controller.specs.Core.{Parts, Shows}
 use Rattle.csi_controller.specs.CoreParts.{parts_of}
 use Rattle.csi_controller.specs.Fenced.{fenced}
 use Rattle.csi_controller.proofs.controller.Controller.answer.Goals as goal
 
 pub returns-clause-state : goal.returns-clause-state
 returns-clause-state c = λ state party shown allowed fit.
-    subst (λ (parts : Parts). IsShown parts state → OnOk c.answer.result (IsShown (parts_of c.answer.new.self) (fenced parts.config state (call_frame c.args.number party (lent_call c.args.call.now))).state)) c.self.view_is
+    subst (λ (parts : Parts). Shows parts state → OnOk c.answer.result (Shows (parts_of c.answer.new.self) (fenced parts.config state (call_frame c.args.number party (lent_call c.args.call.now))).state)) c.self.view_is
     (λ own. c.answer.ensures.state state party own allowed) shown

@@ -1,7 +1,7 @@
 -- The copies show what the rows show.
 use Rattle.std.proofs.Common.{sym, subst}
 use Rattle.csi_controller.specs.Catalog.{rows_of}
-use Rattle.csi_controller.specs.Core.{Parts, IsShown}
+use Rattle.csi_controller.specs.Core.{Parts, Shows}
 use Rattle.csi_controller.specs.Views.{RecordParts}
 use Rattle.csi_controller.proofs.Copies.{shown-copies, sound-copies}
 use Rattle.csi_controller.proofs.controller.Controller.record.Goals as goal
@@ -15,6 +15,6 @@ pub returns : goal.returns
 returns c = λ state shown.
     let core = c.self.inside.core in
     let copies = rows_of c.in_ok-catalog.catalog in
-    subst (λ (k : RecordParts). IsShown (record { config = c.args.self.now.config; next_id = k.next_id; rows = k.rows }) state) (sym c.new.ensures)
-    (subst (λ (k : Parts). IsShown (record { config = k.config; next_id = core.next_id; rows = copies }) state) c.self.view_is
-    (shown-copies core.config core.next_id (rows_of core.catalog) copies state c.in_ok-catalog.ensures.rows (subst (λ (k : Parts). IsShown k state) (sym c.self.view_is) shown)))
+    subst (λ (k : RecordParts). Shows (record { config = c.args.self.now.config; next_id = k.next_id; rows = k.rows }) state) (sym c.new.ensures)
+    (subst (λ (k : Parts). Shows (record { config = k.config; next_id = core.next_id; rows = copies }) state) c.self.view_is
+    (shown-copies core.config core.next_id (rows_of core.catalog) copies state c.in_ok-catalog.ensures.rows (subst (λ (k : Parts). Shows k state) (sym c.self.view_is) shown)))

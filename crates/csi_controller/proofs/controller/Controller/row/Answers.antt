@@ -3,7 +3,7 @@ use Rattle.std.proofs.Common.{sym, ◌∙◌, ap, subst}
 use Rattle.std.specs.Prelude.{find, ◌==◌}
 use Rattle.std.proofs.lemmas.Result.{IfOk-weaker}
 use Rattle.csi_controller.specs.declared.row.ControllerRow.{ControllerRow}
-use Rattle.csi_controller.specs.Core.{Parts, IsShown}
+use Rattle.csi_controller.specs.Core.{Parts, Shows}
 use Rattle.csi_controller.specs.CoreParts.{parts_of}
 use Rattle.csi_controller.proofs.Readers.{row-shown}
 use Rattle.csi_controller.proofs.controller.Controller.row.Goals as goal
@@ -11,7 +11,7 @@ use Rattle.csi_controller.proofs.controller.Controller.row.Goals as goal
 pub returns-clause-state : goal.returns-clause-state
 returns-clause-state c = λ state shown.
     IfOk-weaker c.row.result _ _
-    (λ copy same. row-shown (parts_of c.self.inside.core) state c.args.id copy (subst (λ (k : Parts). IsShown k state) (sym c.self.view_is) shown) same)
+    (λ copy same. row-shown (parts_of c.self.inside.core) state c.args.id copy (subst (λ (k : Parts). Shows k state) (sym c.self.view_is) shown) same)
     c.row.ensures.copy
 
 pub returns-clause-succeeds : goal.returns-clause-succeeds

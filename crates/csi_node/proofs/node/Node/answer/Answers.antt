@@ -1,7 +1,7 @@
 use Rattle.std.proofs.Common.{◌∙◌, sym, subst, ap}
 use Rattle.csi_types.specs.Lent.{lent_call}
 use Rattle.csi_node.specs.Fenced.{Fenced}
-use Rattle.csi_node.specs.Shown.{Shows}
+use Rattle.csi_node.specs.Shown.{RowsShow}
 use Rattle.csi_node.proofs.CopiedRows.{shows-same, err_holds}
 use Rattle.csi_node.proofs.OwnFrames.{for_own}
 use Rattle.csi_node.proofs.node.Node.answer.Goals as goal
@@ -14,7 +14,7 @@ returns-clause-reply c = λ state shows allowed fit.
 pub returns-clause-state : goal.returns-clause-state
 returns-clause-state c = λ state shows allowed fit.
     let node = c.args.self.now.id in
-    subst (λ (f : Fenced). Shows c.answer.new.self.rows f.state) (sym (for_own node state c.args.number (lent_call c.args.call.now)))
+    subst (λ (f : Fenced). RowsShow c.answer.new.self.rows f.state) (sym (for_own node state c.args.number (lent_call c.args.call.now)))
     (c.in_ok-answer.ensures.ok node state (rw (← c.self.view_is) at shows)).shows
 
 pub returns-in_err-answer-clause-err : goal.returns-in_err-answer-clause-err

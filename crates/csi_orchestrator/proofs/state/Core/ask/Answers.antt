@@ -7,7 +7,7 @@ use Rattle.csi_orchestrator.specs.declared.fault.OrchFault.TheVariants.{NoSuchVo
 use Rattle.csi_orchestrator.specs.Catalog.{rows_of}
 use Rattle.csi_orchestrator.specs.Core.{parts_of}
 use Rattle.csi_orchestrator.specs.Moves.{Sends}
-use Rattle.csi_orchestrator.specs.RowMoves.{Told, told, steps_at, IsRefusal, IsToldAs}
+use Rattle.csi_orchestrator.specs.RowMoves.{MovedRows, moved_rows, steps_at, IsRefusal, RowsAnswer}
 use Rattle.csi_orchestrator.proofs.RowsByName.{shown-nowhere, asked}
 use Rattle.csi_orchestrator.proofs.state.Core.ask.Goals as goal
 
@@ -16,14 +16,14 @@ returns-in-Some-clause-told c = λ input is.
     let same = asked (parts_of c.args.self.now) c.args.name.now c.args.step input is in
     let at = sym c.in-Some.ensures.index in
     record {
-      ok = subst (λ (t : Result Told OrchFault). IfOk c.step.result (λ sent. t ≡ told (parts_of c.step.new.self) (Sends sent))) same (c.step.ensures.ok c.args.name.now Sends at);
-      err = subst (λ (t : Result Told OrchFault). IfErr c.step.result (IsRefusal t)) same (c.step.ensures.err c.args.name.now Sends at);
+      ok = subst (λ (t : Result MovedRows OrchFault). IfOk c.step.result (λ sent. t ≡ moved_rows (parts_of c.step.new.self) (Sends sent))) same (c.step.ensures.ok c.args.name.now Sends at);
+      err = subst (λ (t : Result MovedRows OrchFault). IfErr c.step.result (IsRefusal t)) same (c.step.ensures.err c.args.name.now Sends at);
       stays = c.step.ensures.stays;
     }
 
 pub returns-in-Some-clause-quiet : goal.returns-in-Some-clause-quiet
 returns-in-Some-clause-quiet c = λ input is told.
-    c.step.ensures.quiet c.args.name.now Sends clash (sym c.in-Some.ensures.index) (subst (IsToldAs (Sends None)) (sym (asked (parts_of c.args.self.now) c.args.name.now c.args.step input is)) told)
+    c.step.ensures.quiet c.args.name.now Sends clash (sym c.in-Some.ensures.index) (subst (RowsAnswer (Sends None)) (sym (asked (parts_of c.args.self.now) c.args.name.now c.args.step input is)) told)
   where
     clash : (frame : Frame) → Sends (Some frame) ≡ Sends None → ⊥
     clash frame e = cc
@@ -42,5 +42,5 @@ pub returns-in-None-clause-quiet : goal.returns-in-None-clause-quiet
 returns-in-None-clause-quiet c = λ input is told.
     let core = c.args.self.now in
     absurd
-    (subst (λ o. IsToldAs (Sends None) (steps_at (parts_of core) Sends c.args.step o)) (shown-nowhere (rows_of core.catalog) c.args.name.now (sym c.in-None.ensures.index))
-    (subst (IsToldAs (Sends None)) (sym (asked (parts_of core) c.args.name.now c.args.step input is)) told))
+    (subst (λ o. RowsAnswer (Sends None) (steps_at (parts_of core) Sends c.args.step o)) (shown-nowhere (rows_of core.catalog) c.args.name.now (sym c.in-None.ensures.index))
+    (subst (RowsAnswer (Sends None)) (sym (asked (parts_of core) c.args.name.now c.args.step input is)) told))

@@ -8,7 +8,7 @@ use Rattle.csi_orchestrator.specs.declared.sending.Outgoing.{Outgoing}
 use Rattle.csi_orchestrator.specs.Catalog.{rows_of, IsReady, call_in}
 use Rattle.csi_orchestrator.specs.Commands.{next_number}
 use Rattle.csi_orchestrator.specs.Core.{parts_of}
-use Rattle.csi_orchestrator.specs.RowSteps.{RowTold, outgoing_by, sent_or_dropped, row_after, row_sends_due}
+use Rattle.csi_orchestrator.specs.RowSteps.{MovedRow, outgoing_by, sent_or_dropped, row_after, row_sends_due}
 use Rattle.csi_orchestrator.specs.Due.{Due}
 use Rattle.csi_orchestrator.specs.Found.{due_shown}
 use Rattle.csi_orchestrator.specs.RowChanges.{new_row}
@@ -25,7 +25,7 @@ sends-due : (last : Number) (row made sent : RowShown) (due : Option Due) (next 
     → row_sends_due last row ≡ Ok (record { outgoing = next; row = sent })
 sends-due last row made sent due next same is found then =
     ap (row_after row) (ap (λ d. outgoing_by d (next_number last)) (ap due_in (sym same) ∙ sym is) ∙ found)
-    ∙ ap (λ r. let told : RowTold = record { outgoing = next; row = r } in Ok told) (ap (sent_or_dropped next) (sym same) ∙ sym then)
+    ∙ ap (λ r. let moved_row : MovedRow = record { outgoing = next; row = r } in Ok moved_row) (ap (sent_or_dropped next) (sym same) ∙ sym then)
 
 pub issue-requires-clause-ready : goal.issue-requires-clause-ready
 issue-requires-clause-ready c =

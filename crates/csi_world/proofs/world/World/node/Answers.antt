@@ -3,7 +3,7 @@ use Rattle.std.proofs.Common.{◌≡◌, find, Option, sym, ◌∙◌, ap, subst
 use Rattle.std.specs.Option.{option_copied}
 use Rattle.csi_node.specs.Record.{NodeParts}
 use Rattle.csi_world.specs.World.{node_state}
-use Rattle.csi_world.specs.Simulated.{WorldShown}
+use Rattle.csi_world.specs.Simulated.{WorldParts}
 use Rattle.csi_world.specs.Simulating.{ShowsNode}
 use Rattle.csi_world.proofs.SystemNodes.{is_shown_node, node-shown}
 use Rattle.csi_world.proofs.world.World.node.Goals as goal
@@ -11,6 +11,6 @@ use Rattle.csi_world.proofs.world.World.node.Goals as goal
 pub returns-clause-world : goal.returns-clause-world
 returns-clause-world c = λ world shows.
     let id = c.args.id.now in
-    let nodes : c.deref.result.now ≡ c.args.self.now.nodes = c.deref.ensures.value ∙ ap (λ (shown : WorldShown). shown.nodes) c.self.view_is in
+    let nodes : c.deref.result.now ≡ c.args.self.now.nodes = c.deref.ensures.value ∙ ap (λ (shown : WorldParts). shown.nodes) c.self.view_is in
     let is : option_copied c.node_of.result ≡ find (is_shown_node id) c.args.self.now.nodes = c.node_of.ensures ∙ ap (find (is_shown_node id)) nodes in
     subst (λ (node : Option NodeParts). ShowsNode node (node_state id world)) (sym is) (node-shown id c.args.self.now.nodes world.nodes shows.nodes)

@@ -1,4 +1,4 @@
--- What an orchestrator's type keeps of its rows, and what follows from it. This profile's own.
+-- The rules of an orchestrator's rows, which its type keeps, and what follows from them. This profile's own.
 use Rattle.std.specs.Prelude.{◌≡◌, List, [], ◌∷◌, false, Option, Some, None, Result, Ok, Err}
 use Rattle.std.specs.List.{AllByRecursion}
 use Rattle.csi_lists.specs.Members.{EachTwo}
@@ -13,9 +13,9 @@ use Rattle.csi_orchestrator.specs.Commands.{is_for_one_node, is_second_writer}
 use Rattle.csi_orchestrator.specs.History.{History, with_items, Item, Started, Sent, Accepted, Closed, Noted}
 use Rattle.csi_orchestrator.specs.Guards.{MayIssue}
 use Rattle.csi_orchestrator.specs.Moves.{Input, Moved, moves}
-use Rattle.csi_orchestrator.specs.Shown.{NodeEntryShown, RowShown, Parts, node_entry_of, target_entry_of, AreTargetsApart, AgreesWith}
+use Rattle.csi_orchestrator.specs.Shown.{NodeEntryShown, RowShown, Parts, node_entry_of, target_entry_of, AreTargetsApart, Shows}
 use Rattle.csi_orchestrator.specs.RowRefusals.{has_elsewhere}
-use Rattle.csi_orchestrator.specs.RowMoves.{Told, row_moves}
+use Rattle.csi_orchestrator.specs.RowMoves.{MovedRows, row_moves}
 use Rattle.csi_orchestrator.specs.WellFormed.{IsWellFormed}
 
 -- a node has one entry
@@ -46,32 +46,32 @@ MayBeWanted row (Some (Use usage)) = IsUsable row usage
 MayBeWanted row (Some (Stop node target)) = Unit {0}
 MayBeWanted row (Some Delete) = AllByRecursion (λ (entry : NodeEntryShown). entry.attached ≡ No) row.node_entries
 
--- what is kept of a row
-pub record IsKept (row : RowShown) : Type 0 where
+-- the rules of one row
+pub record IsSoundRow (row : RowShown) : Type 0 where
   pub nodes : AreNodesApart row.node_entries
   pub targets : AllByRecursion AreTargetsApart row.node_entries
   pub goal : MayBeWanted row row.goal
 
--- a name has one row, and each row is kept so
-pub record AreKept (rows : List RowShown) : Type 0 where
+-- the rules of all rows: a name has one, and each keeps its own
+pub record IsSound (rows : List RowShown) : Type 0 where
   pub names : EachTwo (λ (a b : RowShown). same_text a.name b.name ≡ false) rows
-  pub each : AllByRecursion IsKept rows
+  pub each : AllByRecursion IsSoundRow rows
 
 -- the two answers are one, and what is shown agrees with the history that goes on so
-abbrev pub Fits : History → Result Told OrchFault → Result Moved OrchFault → Type 0
-Fits history (Ok told) (Ok moved) = (told.answer ≡ moved.answer) × AgreesWith told.parts (with_items history moved.items)
-Fits history (Ok told) (Err fault) = ⊥
+abbrev pub Fits : History → Result MovedRows OrchFault → Result Moved OrchFault → Type 0
+Fits history (Ok moved_rows) (Ok moved) = (moved_rows.answer ≡ moved.answer) × Shows moved_rows.parts (with_items history moved.items)
+Fits history (Ok moved_rows) (Err fault) = ⊥
 Fits history (Err fault) (Ok moved) = ⊥
 Fits history (Err fault) (Err other) = fault ≡ other
 
 -- whatever comes, the rows tell what the history tells
 abbrev pub RowsTell : Type 0
-RowsTell = (parts : Parts) (history : History) (input : Input) → IsWellFormed history → AreKept parts.rows → AgreesWith parts history
+RowsTell = (parts : Parts) (history : History) (input : Input) → IsWellFormed history → IsSound parts.rows → Shows parts history
     → Fits history (row_moves parts input) (moves parts.nodes history input)
 
--- whatever comes, the rows stay so, and the nodes too
-abbrev pub RowsStayKept : Type 0
-RowsStayKept = (parts : Parts) (input : Input) (told : Told) → AreKept parts.rows → row_moves parts input ≡ Ok told → AreKept told.parts.rows × (told.parts.nodes ≡ parts.nodes)
+-- whatever comes, the rows keep these rules, and the nodes stay
+abbrev pub RowsStaySound : Type 0
+RowsStaySound = (parts : Parts) (input : Input) (moved_rows : MovedRows) → IsSound parts.rows → row_moves parts input ≡ Ok moved_rows → IsSound moved_rows.parts.rows × (moved_rows.parts.nodes ≡ parts.nodes)
 
 -- each call among these items may be sent after what stands before it
 abbrev pub AreGuarded : History → List Item → Type 0
@@ -84,5 +84,5 @@ AreGuarded history (Noted name goal ∷ older) = AreGuarded history older
 
 -- whatever comes, each call that is sent may be sent
 abbrev pub MovesAreGuarded : Type 0
-MovesAreGuarded = (parts : Parts) (history : History) (input : Input) (moved : Moved) → IsWellFormed history → AreKept parts.rows → AgreesWith parts history
+MovesAreGuarded = (parts : Parts) (history : History) (input : Input) (moved : Moved) → IsWellFormed history → IsSound parts.rows → Shows parts history
     → moves parts.nodes history input ≡ Ok moved → AreGuarded history moved.items

@@ -28,9 +28,9 @@ use Rattle.csi_orchestrator.specs.Hearing.{Fits}
 use Rattle.csi_orchestrator.specs.Shown.{NodeEntryShown, RowShown, node_entry_of, due_in, open_in_row, closed}
 use Rattle.csi_orchestrator.specs.RowChanges.{told_of, wanted, stopped_goal, new_row}
 use Rattle.csi_orchestrator.specs.RowRefusals.{has_elsewhere, is_entry_otherwise, use_refusal, is_attached_somewhere, step_refusal, late_refusal}
-use Rattle.csi_orchestrator.specs.RowSteps.{RowTold, outgoing_by, row_after, row_sends_due, row_rests, row_unless, is_met, waits, is_given_up, timed_out, failed, changed, row_step}
+use Rattle.csi_orchestrator.specs.RowSteps.{MovedRow, outgoing_by, row_after, row_sends_due, row_rests, row_unless, is_met, waits, is_given_up, timed_out, failed, changed, row_step}
 use Rattle.csi_orchestrator.specs.RowMoves.{is_issued_as, step_heard}
-use Rattle.csi_orchestrator.specs.Kept.{MayBeWanted, IsKept}
+use Rattle.csi_orchestrator.specs.Sound.{MayBeWanted, IsSoundRow}
 use Rattle.csi_orchestrator.proofs.EntryRules.{by_if}
 use Rattle.csi_orchestrator.proofs.RowRules.{AreDistinct, kept-distinct, FitsGoal, due-fits-goal, marked-distinct, kept-sent, kept-closed, kept-dropped, wanted-stopped, wanted-succeeded}
 use Rattle.csi_orchestrator.proofs.UseRules.{distinct-entry, usable-entry}
@@ -84,17 +84,17 @@ all-detached (entry ∷ entries) e = let both = or_parts (not (is_no entry.attac
     detached Maybe f = absurd (false≢true (sym f))
 
 -- a row whose open call is given up, and with the use that it was for
-pub closed-may : (row : RowShown) → IsKept row → MaySendDue (closed row)
+pub closed-may : (row : RowShown) → IsSoundRow row → MaySendDue (closed row)
 closed-may row own = record { distinct = kept-distinct row own; may = λ due f. (kept-closed row own).goal }
 
-pub stopped-may : (row : RowShown) (goal : Goal) → row.goal ≡ Some goal → IsKept row → MaySendDue (wanted (stopped_goal goal) row)
+pub stopped-may : (row : RowShown) (goal : Goal) → row.goal ≡ Some goal → IsSoundRow row → MaySendDue (wanted (stopped_goal goal) row)
 stopped-may row goal e own = record { distinct = kept-distinct row own; may = λ due f. wanted-stopped row goal (subst (MayBeWanted row) e own.goal) }
 
-timed-out-may : (row : RowShown) (goal : Option Goal) → row.goal ≡ goal → IsKept row → MaySendDue (timed_out row goal)
+timed-out-may : (row : RowShown) (goal : Option Goal) → row.goal ≡ goal → IsSoundRow row → MaySendDue (timed_out row goal)
 timed-out-may row None e own = closed-may row own
 timed-out-may row (Some goal) e own = by_if MaySendDue (is_given_up row) _ _ (λ spent. stopped-may row goal e own) (λ more. closed-may row own)
 
-failed-may : (row : RowShown) (goal : Option Goal) → row.goal ≡ goal → IsKept row → MaySendDue (failed row goal)
+failed-may : (row : RowShown) (goal : Option Goal) → row.goal ≡ goal → IsSoundRow row → MaySendDue (failed row goal)
 failed-may row (Some Create) e own = record { distinct = kept-distinct row own; may = λ due f. tt }
 failed-may row (Some (Use usage)) e own = stopped-may row (Use usage) e own
 failed-may row goal e own = closed-may row own
@@ -110,7 +110,7 @@ kind-fits row kind is = by (due_in row) refl is
         subst (FitsGoal row.goal) own (due-fits-goal row due e)
 
 -- so it is of each row that took a step which isn't refused at once
-pub changed-may : (nodes : List (List ℕ)) (last : Number) (step : Step) (row : RowShown) → IsKept row → Fits step row → step_refusal nodes last step row ≡ None → MaySendDue (changed step row)
+pub changed-may : (nodes : List (List ℕ)) (last : Number) (step : Step) (row : RowShown) → IsSoundRow row → Fits step row → step_refusal nodes last step row ≡ None → MaySendDue (changed step row)
 changed-may nodes last (steps.Create arguments) row own fits free =
     let unused = or_parts (is_some row.id) (is_some row.goal) (first-held _ _ _ free).0 in
     record { distinct = kept-distinct row own; may = λ due f. none-from_is_some row.id unused.0 }
@@ -131,34 +131,34 @@ pub new-may : (name : List ℕ) (arguments : Arguments) → MaySendDue (new_row 
 new-may name arguments = record { distinct = record { nodes = tt; targets = tt }; may = λ due f. refl }
 
 -- what is told of a row, if anything, is kept so
-abbrev pub RowKept : Result RowTold OrchFault → Type 0
-RowKept (Ok row_told) = IsKept row_told.row
-RowKept (Err fault) = Unit {0}
+abbrev pub SoundRowAfter : Result MovedRow OrchFault → Type 0
+SoundRowAfter (Ok moved_row) = IsSoundRow moved_row.row
+SoundRowAfter (Err fault) = Unit {0}
 
 -- the due call is sent, or what was wanted is dropped
-pub sends-due-kept : (last : Number) (row : RowShown) → MaySendDue row → RowKept (row_sends_due last row)
+pub sends-due-kept : (last : Number) (row : RowShown) → MaySendDue row → SoundRowAfter (row_sends_due last row)
 sends-due-kept last row may_send = by (due_in row) refl (next_number last)
   where
-    by : (o : Option Due) → due_in row ≡ o → (n : Option Number) → RowKept (row_after row (outgoing_by o n))
+    by : (o : Option Due) → due_in row ≡ o → (n : Option Number) → SoundRowAfter (row_after row (outgoing_by o n))
     by None e number = kept-dropped row may_send.distinct
     by (Some due) e None = tt
     by (Some due) e (Some number) = kept-sent number row due e may_send.distinct (may_send.may due e)
 
 -- what is kept where nothing refuses is kept unless it is refused
-pub unless-kept : (o : Option OrchFault) (result : Result RowTold OrchFault) → (o ≡ None → RowKept result) → RowKept (row_unless o result)
+pub unless-kept : (o : Option OrchFault) (result : Result MovedRow OrchFault) → (o ≡ None → SoundRowAfter result) → SoundRowAfter (row_unless o result)
 unless-kept None result f = f refl
 unless-kept (Some fault) result f = tt
 
 -- whatever the step
-pub step-kept : (nodes : List (List ℕ)) (last : Number) (step : Step) (row : RowShown) → IsKept row → Fits step row → RowKept (row_step nodes last step row)
+pub step-kept : (nodes : List (List ℕ)) (last : Number) (step : Step) (row : RowShown) → IsSoundRow row → Fits step row → SoundRowAfter (row_step nodes last step row)
 step-kept nodes last step row own fits =
     unless-kept (step_refusal nodes last step row) _
-    (λ free. by_if RowKept (is_met step row) (row_rests row) _ (λ met. own)
-    (λ unmet. by_if RowKept (waits step row) (row_rests (closed row)) _ (λ left. kept-closed row own)
+    (λ free. by_if SoundRowAfter (is_met step row) (row_rests row) _ (λ met. own)
+    (λ unmet. by_if SoundRowAfter (waits step row) (row_rests (closed row)) _ (λ left. kept-closed row own)
     (λ on. unless-kept (late_refusal last step row) _ (λ room. sends-due-kept last (changed step row) (changed-may nodes last step row own fits free)))))
 
 -- what a reply brings fits the row that it is to
-pub heard-fits : (row : RowShown) (number : Number) (party : Party) (kind : Kind) (reply : Reply) → is_issued_as number party kind (open_in_row row) ≡ true → IsKept row → Fits (step_heard kind reply) row
+pub heard-fits : (row : RowShown) (number : Number) (party : Party) (kind : Kind) (reply : Reply) → is_issued_as number party kind (open_in_row row) ≡ true → IsSoundRow row → Fits (step_heard kind reply) row
 heard-fits row number party kind reply e own = by (is_ok_status reply.status)
   where
     by : (b : Bool) → Fits (cond b (steps.Succeed kind reply.id) steps.Fail) row
