@@ -149,7 +149,7 @@ pub fn answer(alloc: Global, input: &[u8], out: &mut Vec<u8>) -> Result<u64, Ans
     handle_slice(alloc, &mut controller, input, out)
 }
 
-/// The same of the frames that `reader` has: reads at most 4,096 bytes at a time, and writes and flushes the replies to the frames
+/// The same of the frames that `reader` has: reads at most 65,536 bytes at a time, and writes and flushes the replies to the frames
 /// that are there before it reads on, so that it takes no more memory however long the stream. What was given before an `Err`
 /// is written: at `Frame` and `Input` all replies to the frames that were read, at `NoMemory` those to some of the first, at
 /// `Output` a front of them. Of a reader or a writer that doesn't tell its bytes nothing is said.

@@ -9,7 +9,7 @@ use crate::handler::Handler;
 use csi_frames::{FrameFault, Splitter};
 use std::alloc::Global;
 
-/// The most bytes that are taken at once.
+/// The most bytes of a slice that are taken at once.
 pub(crate) const PIECE: usize = 4096;
 
 /// How far a stream was read: its splitter, and how many frames it gave, up to 2^64 - 1.

@@ -80,7 +80,7 @@ pub fn show(alloc: Global, input: &[u8], out: &mut Vec<u8>) -> Result<(), Answer
     }
 }
 
-/// The same of the frames that `reader` has, and gives the count of the frames: reads at most 4,096 bytes at a time, and writes
+/// The same of the frames that `reader` has, and gives the count of the frames: reads at most 65,536 bytes at a time, and writes
 /// and flushes the lines of the frames that are there before it reads on, so that it takes no more memory however long the
 /// stream. The lines of the frames before an `Err` are written, at `Output` a front of them. Of a reader or a writer that
 /// doesn't tell its bytes nothing is said.

@@ -6,13 +6,16 @@ ghost use Rattle.csi_streams.specs.Progress.{Progress};
 ghost use Rattle.csi_streams.specs.Streaming.{Streams};
 
 use crate::answers::AnswerFault;
-use crate::frames::{FrameStream, PIECE};
+use crate::frames::FrameStream;
 use crate::handler::Handler;
 use crate::output::{WriteFailed, write_out};
 use csi_frames::FaultKind;
 use std::alloc::Global;
 use std::io::{Read, Write};
 use thiserror::Error;
+
+/// The most bytes that are read at once: as many as a pipe of Linux holds.
+const READ: usize = 65_536;
 
 /// This many bytes or more are no stream.
 const ENDLESS: u64 = 1 << 63;
@@ -110,7 +113,7 @@ pub(crate) fn handle_stream<H: Handler, R: Read, W: Write>(
 {
     let mut stream = FrameStream::new(alloc);
     let mut out = Vec::new(alloc);
-    let mut piece = [0; PIECE];
+    let mut piece = [0; READ];
     let mut read = 0;
     while read < ENDLESS {
         match reader.read(&mut piece) {
