@@ -46,20 +46,13 @@ fn are_of_nodes(kept: &[NodeRecord], nodes: &[NodeSlots]) -> bool
     true
 }
 
-// The node of a record.
-fn node_of_record(alloc: Global, kept: NodeRecord) -> Result<Node, NoMemory>
-    ensures { IfOk result (λ node. node ≡ kept) }
-{
-    Node::from_record(alloc, kept).map_err(|_| NoMemory)
-}
-
 // The nodes of these records, in order.
 fn nodes_of_records(alloc: Global, kept: Vec<NodeRecord>) -> Result<Vec<Node>, NoMemory>
     ensures { IfOk result (λ nodes. nodes.items ≡ kept.items) }
 {
     let mut nodes = Vec::new(alloc);
     for one in kept {
-        nodes.push(node_of_record(alloc, one)?)?;
+        nodes.push(Node::from_record(alloc, one).unwrap())?;
     }
     Ok(nodes)
 }
@@ -75,8 +68,8 @@ fn assembled_system(
     ensures { IfOk result (λ system. parts_of system ≡ assembled config controller nodes.items orchestrator) }
 {
     let own = copied_config(&config)?;
-    let controller = Controller::from_record(alloc, own, controller).map_err(|_| NoMemory)?;
     let nodes = nodes_of_records(alloc, nodes)?;
+    let controller = Controller::from_record(alloc, own, controller).unwrap();
     Ok(System {
         alloc,
         config,

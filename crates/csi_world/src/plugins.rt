@@ -101,14 +101,18 @@ pub(crate) fn restarted_controller(
     ensures { config.now ≡ controller.now.config → IfOk result (IsSameController controller.now) }
 {
     let config = copied_config(config)?;
-    let kept = controller.record().map_err(|_| NoMemory)?;
-    Controller::from_record(alloc, config, kept).map_err(|_| NoMemory)
+    match controller.record() {
+        Ok(kept) => Ok(Controller::from_record(alloc, config, kept).unwrap()),
+        Err(_) => Err(NoMemory),
+    }
 }
 
 /// The node that has the record of this one.
 pub(crate) fn restarted_node(alloc: Global, node: &Node) -> Result<Node, NoMemory>
     ensures { IfOk result (IsSameNode node.now) }
 {
-    let kept = node.record().map_err(|_| NoMemory)?;
-    Node::from_record(alloc, kept).map_err(|_| NoMemory)
+    match node.record() {
+        Ok(kept) => Ok(Node::from_record(alloc, kept).unwrap()),
+        Err(_) => Err(NoMemory),
+    }
 }
