@@ -96,28 +96,6 @@ impl Core {
         }
     }
 
-    // Answers a call of the controller. An `Err` changes nothing.
-    fn answer_own(&mut self, number: Number, call: &CallRef<'_>) -> Result<(Kind, Reply), CoreFault>
-        requires party { IsTrue (is_party_of (kind_of (lent_call call.now)) Controller) }
-        requires kept { IsSoundCore self.old }
-        ensures ok { (state : ControllerState) → Shows (parts_of self.old) state → IfOk result (λ answer. Answers (parts_of self.new) (answer_frame number answer)
-            (fenced_call self.old.config state number (lent_call call.now) (kept_for (lent_call call.now) state))) }
-        ensures allowed { IfOk result (λ answer. IsAllowed Controller (Body.Reply answer.0 answer.1)) }
-        ensures err { (state : ControllerState) → Shows (parts_of self.old) state → OnErr result (Shows (parts_of self.new) state) }
-        ensures kept { IsSoundCore self.new }
-        ensures config { self.new.config ≡ self.old.config }
-        ensures repeated { (state : ControllerState) → Shows (parts_of self.old) state → IsPlainRepeat (kept_for (lent_call call.now) state) number → IsOk result }
-        ensures undone { (state : ControllerState) → Shows (parts_of self.old) state → IsUndoing (lent_call call.now) → IsAnsweredOk self.old.config state number (lent_call call.now) → IsOk result }
-    {
-        match self.place_for(call) {
-            Some(place) => self.answer_with_row(place, number, call),
-            None => match self.answer_without_row(number, call) {
-                Ok(reply) => Ok((call.kind(), reply)),
-                Err(fault) => Err(fault),
-            },
-        }
-    }
-
     /// Answers a call, as `Controller::answer` says, whatever its texts are.
     pub fn answer(
         &mut self,
@@ -140,10 +118,13 @@ impl Core {
         if !is_own(call) {
             return Ok(None);
         }
-        match self.answer_own(number, call) {
-            Ok(answer) => Ok(Some(answer)),
-            Err(fault) => Err(fault),
+        // A pair is made where it is returned: what is handed on by value is copied at each step, with the gap between its parts.
+        if let Some(place) = self.place_for(call) {
+            let (kind, reply) = self.answer_with_row(place, number, call)?;
+            return Ok(Some((kind, reply)));
         }
+        let reply = self.answer_without_row(number, call)?;
+        Ok(Some((call.kind(), reply)))
     }
 
     /// Answers a frame, as `Controller::step` says.
