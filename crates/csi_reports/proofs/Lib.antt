@@ -1,4 +1,5 @@
 pub mod Places
+pub mod Laid
 pub mod NoFloats
 pub mod OneOrder
 pub mod OneReport

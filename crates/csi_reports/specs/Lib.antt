@@ -4,5 +4,4 @@ pub mod Outcomes
 pub mod Gathered
 pub mod Report
 pub mod Found
-pub mod Laid
 pub mod Laws

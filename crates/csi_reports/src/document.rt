@@ -1,83 +1,49 @@
 //! The report of a world.
-ghost use Rattle.std.specs.Prelude.{◌≡◌, IfOk, string_bytes};
-ghost use Rattle.serde_json.specs.View.{view};
+ghost use Rattle.std.specs.Prelude.{◌≡◌, IfOk, OnOk, string_bytes};
+ghost use Rattle.serde_json.specs.Data.{put as with_member};
+ghost use Rattle.serde_json.specs.View.{view, members_view};
 ghost use Rattle.csi_reports.specs.Found.{gathered_of};
-ghost use Rattle.serde_json.specs.Data.{boolean};
-ghost use Rattle.csi_reports.specs.Entries.{whole};
-ghost use Rattle.csi_reports.specs.Report.{report_of, IsReport};
-ghost use Rattle.csi_reports.specs.Laid.{with_lists, AreLists};
+ghost use Rattle.csi_reports.specs.Report.{entries, report_of, IsReport};
 
-use crate::entries::array;
+use crate::entries::{Entry, array};
 use crate::gathering::{Findings, gathered};
 use crate::volumes::volumes;
 use csi_types::NoMemory;
 use csi_world::World;
-use serde_json::{Value, json};
+use serde_json::{Map, Value, put};
 use std::alloc::{AllocError, Global};
 
-/// The lists of a report, as values.
-#[derive(Drop)]
-pub struct Lists {
-    pub attached: Value,
-    pub events: Value,
-    pub known: Value,
-    pub published: Value,
-    pub staged: Value,
-    pub volumes: Value,
-}
-
-// An object of these values; the greatest key is put in first, so that each comes before those that are there.
-fn object_of(
+// Puts these, in order, into an object as an array.
+fn put_array<T: Entry>(
+    map: &mut Map<String, Value>,
     alloc: Global,
-    lists: Lists,
-    frames: u64,
-    safe: bool,
-    session: u64,
-) -> Result<Value, AllocError>
-    ensures { IfOk result (λ value. view value ≡ with_lists lists (whole frames) (boolean safe) (whole session)) }
+    key: &str,
+    items: &[T],
+) -> Result<(), AllocError>
+    ensures { OnOk result (members_view map.new.entries ≡ with_member key.now (entries T.entry items.now) (members_view map.old.entries)) }
 {
-    json!(in alloc; {
-        "volumes": lists.volumes,
-        "staged": lists.staged,
-        "session": session,
-        "safe": safe,
-        "published": lists.published,
-        "known": lists.known,
-        "frames": frames,
-        "events": lists.events,
-        "attached": lists.attached
-    })
+    let list = array(alloc, items)?;
+    put(map, alloc, key, list)
 }
 
-// The report's lists as values.
-fn lists_of(alloc: Global, world: &World, findings: &Findings) -> Result<Lists, AllocError>
-    ensures { IfOk result (λ lists. AreLists world.now (gathered_of findings.now) lists) }
-{
-    let attached = array(alloc, &findings.attached)?;
-    let events = array(alloc, world.outcomes())?;
-    let known = array(alloc, &findings.known)?;
-    let published = array(alloc, &findings.published)?;
-    let staged = array(alloc, &findings.staged)?;
-    let volumes = volumes(alloc, world.controller().rows())?;
-    Ok(Lists {
-        attached,
-        events,
-        known,
-        published,
-        staged,
-        volumes,
-    })
-}
-
-// The report as a value.
+// The report as a value. Each list is made where it is put in, so that a refused growth drops nothing but the object.
 fn document(alloc: Global, world: &World, findings: &Findings) -> Result<Value, AllocError>
     ensures { IfOk result (λ value. view value ≡ report_of world.now (gathered_of findings.now)) }
 {
-    let lists = lists_of(alloc, world, findings)?;
-    let frames = world.frames();
+    let mut map = Map::new(alloc);
+    put_array(&mut map, alloc, "attached", &findings.attached)?;
+    put_array(&mut map, alloc, "events", world.outcomes())?;
+    put(&mut map, alloc, "frames", Value::from(world.frames()))?;
+    put_array(&mut map, alloc, "known", &findings.known)?;
+    put_array(&mut map, alloc, "published", &findings.published)?;
     let safe = findings.found.is_none();
+    put(&mut map, alloc, "safe", Value::from(safe))?;
     let session = world.orchestrator().session();
-    object_of(alloc, lists, frames, safe, session)
+    put(&mut map, alloc, "session", Value::from(session))?;
+    put_array(&mut map, alloc, "staged", &findings.staged)?;
+    let volumes = volumes(alloc, world.controller().rows())?;
+    put(&mut map, alloc, "volumes", volumes)?;
+    Ok(Value::Object(map))
 }
 
 /// The report of this world, one object of JSON in compact form: what came of each event (`events`), how many frames were
