@@ -1,11 +1,11 @@
-//! Makers of values, for the tests of every crate.
+//! Makers of values, for the tests of orchestrator and worlds.
 //!
 //! What a maker is given is within the limits, so it fails for want of memory alone, and then tries once more: a run
 //! refuses one allocation at most (`rt try --test --fail-alloc N`). So what a test is made of is there in every run,
 //! and the call under test is the one that sees the refusal, or none does.
 use csi_types::{
-    Access, Call, Capability, CapabilityList, Config, Detail, Frame, FsType, Mode, Name, NodeId,
-    NodeSlots, Number, Party, Target, VolumeId,
+    Access, Call, Capability, CapabilityList, Config, Detail, Frame, Mode, Name, NodeId, NodeSlots,
+    Number, Party, Target, VolumeId,
 };
 use std::alloc::Global;
 use std::process::Abort;
@@ -31,13 +31,6 @@ pub(crate) fn target(rt: &(impl Abort + AllocGlobal), text: &str) -> Target {
     }
 }
 
-pub(crate) fn fs_type(rt: &(impl Abort + AllocGlobal), text: &str) -> FsType {
-    match FsType::try_new(rt.alloc(), text) {
-        Ok(fs_type) => fs_type,
-        Err(_) => FsType::try_new(rt.alloc(), text).expect(rt, "an fs type"),
-    }
-}
-
 pub(crate) fn detail(rt: &(impl Abort + AllocGlobal), text: &str) -> Detail {
     match Detail::try_new(rt.alloc(), text) {
         Ok(detail) => detail,
@@ -59,14 +52,6 @@ pub(crate) fn number(call: u64) -> Number {
 pub(crate) fn block(mode: Mode) -> Capability {
     Capability {
         access: Access::Block,
-        mode,
-    }
-}
-
-/// A file system of this type, mounted in this mode.
-pub(crate) fn mount(rt: &(impl Abort + AllocGlobal), text: &str, mode: Mode) -> Capability {
-    Capability {
-        access: Access::Mount(fs_type(rt, text)),
         mode,
     }
 }
