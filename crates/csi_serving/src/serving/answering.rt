@@ -1,6 +1,5 @@
 //! A frame, answered: stepped, committed, and then its reply written.
 ghost use Rattle.std.specs.Prelude.{◌≡◌, ◌≤◌, Option, IfOk, IfErr, OnOk, Err};
-ghost use Rattle.std.specs.Option.{option_copied};
 ghost use Rattle.csi_serving.specs.Keeping.{HasRisen};
 ghost use Rattle.csi_serving.specs.Stores.{store, Rests, Follows};
 ghost use Rattle.csi_serving.specs.Answering.{IsSpelledAs, Steps, StopsUnwritten, AnswersOne};
@@ -34,13 +33,15 @@ impl From<NoMemory> for FrameStop {
 }
 
 // The bytes of a reply, if there is one.
-fn spelled(alloc: Global, reply: Option<&Frame>) -> Result<Option<Vec<u8>>, NoMemory>
-    ensures { IfOk result (IsSpelledAs (option_copied reply.entry)) }
+fn spelled(alloc: Global, reply: Option<Frame>) -> Result<Option<Vec<u8>>, NoMemory>
+    ensures { IfOk result (IsSpelledAs reply) }
 {
     match reply {
         Some(reply) => {
             let mut bytes = Vec::new(alloc);
-            encode(reply, &mut bytes)?;
+            let written = encode(&reply, &mut bytes);
+            drop(reply);
+            written?;
             Ok(Some(bytes))
         }
         None => Ok(None),
@@ -61,7 +62,7 @@ fn carry_out<C: Core, K: Keep>(
     ensures follows { Follows (store K.is_honest K.holds K.leaves K.fits K.fault_count keep.old) (store K.is_honest K.holds K.leaves K.fits K.fault_count keep.new) }
 {
     let reply = core.step(frame)?;
-    let bytes = spelled(alloc, reply.as_ref())?;
+    let bytes = spelled(alloc, reply)?;
     let parts = core.parts()?;
     match keep.commit(&parts) {
         Ok(()) => Ok(bytes),

@@ -41,7 +41,9 @@ pub(crate) fn answer_next<C: Core, K: Keep, W: Write>(
     let Some(frame) = next_frame(alloc, splitter)? else {
         return Ok(None);
     };
-    match answer_frame(alloc, core, keep, writer, &frame) {
+    let answered = answer_frame(alloc, core, keep, writer, &frame);
+    drop(frame);
+    match answered {
         Ok(replied) => Ok(Some(replied)),
         Err(stop) => Err(kind_of(stop)),
     }

@@ -6,8 +6,8 @@ use Rattle.csi_serving.specs.Stores.{store}
 use Rattle.csi_serving.proofs.StoreCalls.{refused-left, refused-cause}
 use Rattle.csi_serving.proofs.serving.answering.carry_out.Goals as goal
 
-pub returns-clause-err : goal.returns-clause-err
-returns-clause-err g c =
+pub returns-in-Err-clause-err : goal.returns-in-Err-clause-err
+returns-in-Err-clause-err g c =
     let first = g.C.Core.parts_of c.args.core.now in
     let next = g.C.Core.parts_of c.step.new.self in
     let change : List StoredPart → List StoredPart = all_changed (map change_of c.deref.result.now) in
