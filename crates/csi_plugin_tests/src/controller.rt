@@ -107,22 +107,28 @@ fn new_controller(rt: &(impl Abort + AllocGlobal), nodes: &[(&str, u64)]) -> Con
 fn answers_frame(
     rt: &impl Abort,
     controller: &mut Controller,
-    frame: &Frame,
+    frame: Frame,
     call: u64,
     kind: Kind,
     told: Told,
 ) {
-    let answer = controller.step(frame).expect(rt, "memory");
+    let answer = controller.step(&frame).expect(rt, "memory");
+    drop(frame);
     let reply = answer.expect(rt, "a reply");
-    assert!(rt; is_reply(&reply, None, call, kind, told), "call {call}");
+    assert!(rt; is_reply(reply, None, call, kind, told), "call {call}");
 }
 
 // The controller answers these calls so, one after another, with memory to spare.
 fn answers(rt: &(impl Abort + AllocGlobal), controller: &mut Controller, steps: &[Step]) {
     for (call, ask, told) in steps {
         let frame = frame_of(rt, *call, call_of(rt, *ask));
-        answers_frame(rt, controller, &frame, *call, kind_of(*ask), *told);
+        answers_frame(rt, controller, frame, *call, kind_of(*ask), *told);
     }
+}
+
+// A new controller with these nodes answers these calls so, one after another; and then it is dropped.
+fn plays(rt: &(impl Abort + AllocGlobal), nodes: &[(&str, u64)], steps: &[Step]) {
+    drop(new_answers(rt, nodes, steps));
 }
 
 // A new controller with these nodes answers these calls so, one after another.

@@ -85,6 +85,7 @@ fn frame_for(rt: &(impl Abort + AllocGlobal), id: &str, call: u64, ask: Ask) -> 
 fn reply_to(rt: &(impl Abort + AllocGlobal), node: &mut Node, call: u64, ask: Ask) -> Frame {
     let frame = frame_for(rt, "n1", call, ask);
     let answer = node.step(&frame).expect(rt, "memory");
+    drop(frame);
     answer.expect(rt, "a reply")
 }
 
@@ -94,7 +95,7 @@ fn answers(rt: &(impl Abort + AllocGlobal), node: &mut Node, step: Step) {
     let reply = reply_to(rt, node, call, ask);
     let told = (status, None, detail);
     assert!(rt;
-        is_reply(&reply, Some("n1"), call, kind_of(ask), told),
+        is_reply(reply, Some("n1"), call, kind_of(ask), told),
         "call {call}"
     );
 }
@@ -104,6 +105,11 @@ fn answers_all(rt: &(impl Abort + AllocGlobal), node: &mut Node, steps: &[Step])
     for step in steps {
         answers(rt, node, *step);
     }
+}
+
+// A new node `n1` answers these calls so, one after another; and then it is dropped.
+fn plays(rt: &(impl Abort + AllocGlobal), steps: &[Step]) {
+    drop(new_answers(rt, steps));
 }
 
 // A new node `n1` answers these calls so, one after another.

@@ -46,11 +46,20 @@ pub(crate) fn is_reply_to(
 
 /// Whether it is the reply to the call of session 1 with this number, of this kind, and says this.
 pub(crate) fn is_reply(
-    frame: &Frame,
+    frame: Frame,
     node: Option<&str>,
     call: u64,
     kind: Kind,
     told: Told,
 ) -> bool {
-    is_reply_to(frame, node, number(call), kind, told)
+    let is_reply = is_reply_to(&frame, node, number(call), kind, told);
+    drop(frame);
+    is_reply
+}
+
+/// Whether nothing is answered.
+pub(crate) fn is_none(answer: Option<Frame>) -> bool {
+    let is_none = answer.is_none();
+    drop(answer);
+    is_none
 }

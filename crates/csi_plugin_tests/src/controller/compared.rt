@@ -77,7 +77,9 @@ fn are_rows(found: &[ControllerRow], rows: &[PlainRow]) -> bool {
 // Whether the controller's record has these rows, in this order, and the next id.
 fn has_record(rt: &(impl Abort + AllocGlobal), controller: &Controller, rows: &[PlainRow]) -> bool {
     let record = controller.record().expect(rt, "memory");
-    record.next_id() == next_id(rows) && are_rows(record.rows(), rows)
+    let is_same = record.next_id() == next_id(rows) && are_rows(record.rows(), rows);
+    drop(record);
+    is_same
 }
 
 // Whether the row of the call's volume is the same, or there is none of this id, and the next id is the same.
@@ -102,10 +104,11 @@ fn answers_lent(
     kind: Kind,
     told: Told,
 ) -> bool {
-    match controller.answer(number, &call.lend()).expect(rt, "memory") {
-        Some((of, reply)) => of == kind && tells(&reply, told),
-        None => false,
-    }
+    let answer = controller.answer(number, &call.lend());
+    let (of, reply) = answer.expect(rt, "memory").expect(rt, "a reply");
+    let is_told = of == kind && tells(&reply, told);
+    drop(reply);
+    is_told
 }
 
 // Whether the controller answers the call so, which comes in a frame.
@@ -118,10 +121,12 @@ fn answers_framed(
     told: Told,
 ) -> bool {
     let frame = Frame::call(number, Party::Controller, call).expect(rt, "a call");
-    match controller.step(&frame).expect(rt, "memory") {
-        Some(reply) => is_reply_to(&reply, None, number, kind, told),
-        None => false,
-    }
+    let answer = controller.step(&frame).expect(rt, "memory");
+    drop(frame);
+    let reply = answer.expect(rt, "a reply");
+    let is_told = is_reply_to(&reply, None, number, kind, told);
+    drop(reply);
+    is_told
 }
 
 // Whether both answer the call alike: lent where its number is even, and else in a frame.
@@ -135,7 +140,9 @@ fn answers_alike(
     let call = call_of(rt, ask);
     let (kind, told) = answer(rt, rows, number, ask);
     if number.call % 2 == 0 {
-        answers_lent(rt, controller, number, &call, kind, told)
+        let is_told = answers_lent(rt, controller, number, &call, kind, told);
+        drop(call);
+        is_told
     } else {
         answers_framed(rt, controller, number, call, kind, told)
     }
@@ -165,4 +172,6 @@ fn a_plain_controller_answers_the_same(rt: HostRuntime) {
         }
     }
     assert!(rt; rows.len() == 50);
+    drop(rows);
+    drop(controller);
 }

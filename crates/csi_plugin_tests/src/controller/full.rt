@@ -11,7 +11,7 @@ fn makes(
     told: Told,
 ) {
     let frame = frame_of(rt, call, make(rt, text));
-    answers_frame(rt, controller, &frame, call, Kind::CreateVolume, told);
+    answers_frame(rt, controller, frame, call, Kind::CreateVolume, told);
 }
 
 // Volumes 1 to 4,096, `v1` to `v4096`, made by calls 1 to 4,096.
@@ -21,6 +21,7 @@ fn full(rt: &(impl Abort + AllocGlobal)) -> Controller {
         let text = format!(in rt.alloc(); "v{volume}").expect(rt, "memory");
         let told = (Status::Ok, Some(volume), "");
         makes(rt, &mut controller, volume, text.as_str(), told);
+        drop(text);
     }
     controller
 }
@@ -57,9 +58,13 @@ fn a_full_table_takes_no_other_name(rt: HostRuntime) {
     makes(&rt, &mut controller, 4097, "other", no_room);
     let after = record_of(&rt, &controller);
     assert!(rt; after.next_id() == 4097 && after.rows() == before.rows());
-    assert!(rt; controller.id_of(&name(&rt, "other")).is_none());
+    let other = name(&rt, "other");
+    assert!(rt; controller.id_of(&other).is_none());
+    drop(other);
     makes(&rt, &mut controller, 4098, "v7", (Status::Ok, Some(7), ""));
     let last = record_of(&rt, &controller);
     assert!(rt; last.next_id() == 4097);
     assert!(rt; differ_in_volume_7(before.rows(), last.rows()));
+    drop((before, after, last));
+    drop(controller);
 }

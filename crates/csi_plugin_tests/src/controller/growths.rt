@@ -28,13 +28,16 @@ fn answer_in_the_end(
     frame: &Frame,
 ) -> Option<Frame> {
     let before = record_of(rt, controller);
-    match controller.step(frame) {
+    let first = controller.step(frame);
+    if first.is_err() {
+        let after = record_of(rt, controller);
+        assert!(rt; is_same_record(&after, &before));
+        drop(after);
+    }
+    drop(before);
+    match first {
         Ok(answer) => answer,
-        Err(CoreFault::NoMemory) => {
-            let after = record_of(rt, controller);
-            assert!(rt; is_same_record(&after, &before));
-            controller.step(frame).expect(rt, "memory")
-        }
+        Err(CoreFault::NoMemory) => controller.step(frame).expect(rt, "memory"),
     }
 }
 
@@ -42,9 +45,10 @@ fn answers_in_the_end(rt: &(impl Abort + AllocGlobal), controller: &mut Controll
     let (call, ask, told) = step;
     let frame = frame_of(rt, call, call_of(rt, ask));
     let answer = answer_in_the_end(rt, controller, &frame);
+    drop(frame);
     let reply = answer.expect(rt, "a reply");
     assert!(rt;
-        is_reply(&reply, None, call, kind_of(ask), told),
+        is_reply(reply, None, call, kind_of(ask), told),
         "call {call}"
     );
 }
@@ -78,7 +82,7 @@ const CALLS: &[Step] = &[
 
 #[test]
 fn calls_in_want_of_memory(rt: HostRuntime) {
-    controller_after(&rt, CALLS);
+    drop(controller_after(&rt, CALLS));
 }
 
 // Whether the row is that of volume 1, held at `n1`.
@@ -103,7 +107,9 @@ fn is_held_record(record: &ControllerRecord) -> bool {
 fn record_in_want_of_memory(rt: HostRuntime) {
     let controller = controller_after(&rt, HELD);
     let record = record_of(&rt, &controller);
+    drop(controller);
     assert!(rt; is_held_record(&record));
+    drop(record);
 }
 
 // The rows of a controller that made `v` by call 1.
@@ -138,8 +144,11 @@ fn a_controller_record_is_made_in_want_of_memory(rt: HostRuntime) {
         first => first,
     };
     let record = made.expect(&rt, "a record");
-    let kept = record_of(&rt, &controller_after(&rt, MADE));
+    let controller = controller_after(&rt, MADE);
+    let kept = record_of(&rt, &controller);
+    drop(controller);
     assert!(rt; is_same_record(&record, &kept));
+    drop((record, kept));
 }
 
 // A record's copy takes memory, and its controller none.
@@ -147,9 +156,13 @@ fn a_controller_record_is_made_in_want_of_memory(rt: HostRuntime) {
 fn from_record_in_want_of_memory(rt: HostRuntime) {
     let controller = controller_after(&rt, HELD);
     let record = record_of(&rt, &controller);
-    let again = Controller::from_record(rt.alloc(), config(&rt, NODES), record);
-    let kept = record_of(&rt, &again.expect(&rt, "it takes no memory"));
+    drop(controller);
+    let opened = Controller::from_record(rt.alloc(), config(&rt, NODES), record);
+    let again = opened.expect(&rt, "it takes no memory");
+    let kept = record_of(&rt, &again);
+    drop(again);
     assert!(rt; is_held_record(&kept));
+    drop(kept);
 }
 
 // Whether it is volume 1 at `n1`, and nothing else.
@@ -172,7 +185,9 @@ fn attachments_in_want_of_memory(rt: HostRuntime) {
         Ok(all) => all,
         Err(CoreFault::NoMemory) => controller.attachments().expect(&rt, "memory"),
     };
+    drop(controller);
     assert!(rt; is_held_list(all.as_slice()));
+    drop(all);
 }
 
 #[test]
@@ -183,6 +198,8 @@ fn row_in_want_of_memory(rt: HostRuntime) {
         Ok(row) => row,
         Err(CoreFault::NoMemory) => controller.row(id).expect(&rt, "memory"),
     };
+    drop(controller);
     let row = row.expect(&rt, "a row");
     assert!(rt; is_held_row(&row));
+    drop(row);
 }

@@ -14,10 +14,10 @@ fn is_unanswered(
     call: u64,
     lent: &CallRef<'_>,
 ) -> bool {
-    controller
-        .answer(number(call), lent)
-        .expect(rt, "memory")
-        .is_none()
+    let answer = controller.answer(number(call), lent).expect(rt, "memory");
+    let is_none = answer.is_none();
+    drop(answer);
+    is_none
 }
 
 #[test]
@@ -41,4 +41,7 @@ fn a_lent_call_outside_its_limits_gets_no_answer(rt: HostRuntime) {
     let after = controller.record().expect(&rt, "memory");
     assert!(rt; after.next_id() == 2 && after.rows() == before.rows());
     answers(&rt, &mut controller, &[(2, Ask::Delete(1), DONE)]);
+    drop((before, after));
+    drop(capabilities);
+    drop(controller);
 }

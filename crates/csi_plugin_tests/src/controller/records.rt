@@ -31,7 +31,9 @@ fn has_volume_1(controller: &Controller, name: &Name) -> bool {
 // Volume 1 is held nowhere.
 fn is_held_nowhere(rt: &(impl Abort + AllocGlobal), controller: &Controller) {
     let row = controller.row(volume_id(rt, 1)).expect(rt, "memory");
-    assert!(rt; row.expect(rt, "a row").holdings.is_empty());
+    let row = row.expect(rt, "a row");
+    assert!(rt; row.holdings.is_empty());
+    drop(row);
 }
 
 const UNKNOWN: Told = (Status::NotFound, None, "node");
@@ -47,11 +49,15 @@ fn a_record_may_hold_more_than_its_configuration(rt: HostRuntime) {
     let first = new_answers(&rt, &[("n1", 4)], HELD);
     let attached = first.attachments().expect(&rt, "memory");
     assert!(rt; is_held_list(attached.as_slice()));
+    drop(attached);
     let record = first.record().expect(&rt, "memory");
+    drop(first);
     assert!(rt; record.next_id() == 2 && record.rows().len() == 1);
     let mut second = opened(&rt, record);
     answers(&rt, &mut second, AFTER);
     is_held_nowhere(&rt, &second);
     let name = name(&rt, "v");
     assert!(rt; has_volume_1(&second, &name));
+    drop(name);
+    drop(second);
 }

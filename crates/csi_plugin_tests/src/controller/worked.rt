@@ -18,7 +18,7 @@ const ONE_NODE: &[Step] = &[
 
 #[test]
 fn one_node_at_a_time(rt: HostRuntime) {
-    new_answers(&rt, &[("n1", 4), ("n2", 4)], ONE_NODE);
+    plays(&rt, &[("n1", 4), ("n2", 4)], ONE_NODE);
 }
 
 const ONE_WRITER: &[Step] = &[
@@ -33,7 +33,7 @@ const FOUR_NODES: &[(&str, u64)] = &[("n1", 4), ("n2", 4), ("n3", 4), ("n4", 4)]
 
 #[test]
 fn one_writer_at_a_time(rt: HostRuntime) {
-    new_answers(&rt, FOUR_NODES, ONE_WRITER);
+    plays(&rt, FOUR_NODES, ONE_WRITER);
 }
 
 const SLOTS: &[Step] = &[
@@ -50,7 +50,7 @@ const SLOTS: &[Step] = &[
 
 #[test]
 fn a_node_has_its_slots(rt: HostRuntime) {
-    new_answers(&rt, &[("n1", 1)], SLOTS);
+    plays(&rt, &[("n1", 1)], SLOTS);
 }
 
 const NAMES: &[Step] = &[
@@ -63,7 +63,7 @@ const NAMES: &[Step] = &[
 
 #[test]
 fn a_name_is_used_once(rt: HostRuntime) {
-    new_answers(&rt, &[], NAMES);
+    plays(&rt, &[], NAMES);
 }
 
 const NO_NODE: &[Step] = &[
@@ -73,5 +73,5 @@ const NO_NODE: &[Step] = &[
 
 #[test]
 fn no_node_is_configured(rt: HostRuntime) {
-    new_answers(&rt, &[], NO_NODE);
+    plays(&rt, &[], NO_NODE);
 }

@@ -7,7 +7,10 @@ use std::process::Abort;
 // Whether the bytes have this first fault, by its number and its place.
 fn has_fault(alloc: Global, bytes: &[u8], number: u8, place: usize) -> bool {
     match decode(alloc, bytes) {
-        Ok(_) => false,
+        Ok((frame, _)) => {
+            drop(frame);
+            false
+        }
         Err(fault) => fault.kind.number() == number && fault.place == place,
     }
 }
@@ -59,6 +62,7 @@ fn a_byte_that_is_not_allowed(rt: HostRuntime) {
     for (frame, at, byte, fault, place) in CHANGES {
         let bytes = changed(&rt, frame, *at, *byte);
         let is_found = has_fault(rt.alloc(), bytes.as_slice(), *fault, *place);
+        drop(bytes);
         assert!(rt; is_found, "{byte} at {at}");
     }
 }
@@ -77,4 +81,5 @@ fn a_length_that_differs(rt: HostRuntime) {
         has_fault(alloc, longest.as_slice(), 13, 44),
         "a length of 1280"
     );
+    drop((longer, long, longest));
 }

@@ -22,30 +22,31 @@ fn read_in_the_end(rt: &(impl Abort + AllocGlobal), bytes: &[u8]) -> Frame {
 }
 
 // The frame's one spelling, in the end.
-fn written_in_the_end(rt: &(impl Abort + AllocGlobal), frame: &Frame) -> Vec<u8> {
+fn written_in_the_end(rt: &(impl Abort + AllocGlobal), frame: Frame) -> Vec<u8> {
     let mut out = Vec::new(rt.alloc());
-    if encode(frame, &mut out).is_err() {
+    if encode(&frame, &mut out).is_err() {
         assert!(rt; out.is_empty());
-        encode(frame, &mut out).expect(rt, "memory");
+        encode(&frame, &mut out).expect(rt, "memory");
     }
+    drop(frame);
     out
 }
 
 #[test]
 fn decode_gives_the_frame_or_wants_memory(rt: HostRuntime) {
     for bytes in [CREATE.as_slice(), PUBLISH.as_slice()] {
-        let frame = read_in_the_end(&rt, bytes);
-        let out = written_in_the_end(&rt, &frame);
+        let out = written_in_the_end(&rt, read_in_the_end(&rt, bytes));
         assert!(rt; out.as_slice() == bytes);
+        drop(out);
     }
 }
 
 #[test]
 fn encode_appends_or_leaves_the_bytes(rt: HostRuntime) {
     // Reading this call takes no memory: it has no texts.
-    let frame = read(&rt, DELETE.as_slice());
-    let out = written_in_the_end(&rt, &frame);
+    let out = written_in_the_end(&rt, read(&rt, DELETE.as_slice()));
     assert!(rt; out.as_slice() == DELETE.as_slice());
+    drop(out);
 }
 
 // Feeds a piece, in the end.
@@ -61,10 +62,10 @@ fn feed_in_the_end(rt: &(impl Abort + AllocGlobal), splitter: &mut Splitter, pie
 fn next_in_the_end(rt: &(impl Abort + AllocGlobal), splitter: &mut Splitter) -> Vec<u8> {
     match splitter.next() {
         Ok(Some(lent)) => match lent.to_frame(rt.alloc()) {
-            Ok(frame) => written_in_the_end(rt, &frame),
+            Ok(frame) => written_in_the_end(rt, frame),
             Err(_) => {
                 let frame = lent.to_frame(rt.alloc()).expect(rt, "memory");
-                written_in_the_end(rt, &frame)
+                written_in_the_end(rt, frame)
             }
         },
         _ => Vec::new(rt.alloc()),
@@ -79,7 +80,10 @@ fn feed_keeps_a_piece_or_wants_memory(rt: HostRuntime) {
     }
     let out = next_in_the_end(&rt, &mut splitter);
     assert!(rt; out.as_slice() == CREATE.as_slice());
+    drop(out);
     feed_in_the_end(&rt, &mut splitter, &PUBLISH);
     let out = next_in_the_end(&rt, &mut splitter);
     assert!(rt; out.as_slice() == PUBLISH.as_slice());
+    drop(out);
+    drop(splitter);
 }

@@ -22,7 +22,9 @@ fn gives(rt: &(impl Abort + AllocGlobal), splitter: &mut Splitter, frame: &Frame
     match splitter.next() {
         Ok(Some(lent)) => {
             let copy = lent.to_frame(rt.alloc()).expect(rt, "memory");
-            copy == *frame
+            let is_same = copy == *frame;
+            drop(copy);
+            is_same
         }
         _ => false,
     }
@@ -51,6 +53,16 @@ fn has_ended(splitter: &Splitter, taken: usize) -> bool {
     splitter.end().is_ok() && splitter.kept() == 0 && splitter.taken() == taken as u64
 }
 
+// Whether it gives this frame, and then the stream may end, after so many bytes.
+fn gives_last(
+    rt: &(impl Abort + AllocGlobal),
+    splitter: &mut Splitter,
+    frame: &Frame,
+    taken: usize,
+) -> bool {
+    gives(rt, splitter, frame) && waits(splitter) && has_ended(splitter, taken)
+}
+
 fn fed(rt: &(impl Abort + AllocGlobal), pieces: &[&[u8]]) -> Splitter {
     let mut splitter = Splitter::new(rt.alloc());
     for piece in pieces {
@@ -66,23 +78,24 @@ fn comes_in_two(rt: &(impl Abort + AllocGlobal), bytes: &[u8], cut: usize, frame
     }
     let (first, second) = bytes.split_at(cut);
     let mut splitter = fed(rt, &[first]);
-    if !waits(&mut splitter) || !ends_short(&splitter, cut) && cut > 0 {
-        return false;
-    }
+    let has_waited = waits(&mut splitter) && (cut == 0 || ends_short(&splitter, cut));
     splitter.feed(second).expect(rt, "memory");
-    gives(rt, &mut splitter, frame) && waits(&mut splitter) && has_ended(&splitter, bytes.len())
+    let is_given = gives_last(rt, &mut splitter, frame, bytes.len());
+    drop(splitter);
+    has_waited && is_given
 }
 
 // The same where each byte comes alone.
 fn comes_in_bytes(rt: &(impl Abort + AllocGlobal), bytes: &[u8], frame: &Frame) -> bool {
     let mut splitter = Splitter::new(rt.alloc());
+    let mut has_waited = true;
     for byte in bytes {
-        if !waits(&mut splitter) {
-            return false;
-        }
+        has_waited = has_waited && waits(&mut splitter);
         splitter.feed(&[*byte]).expect(rt, "memory");
     }
-    gives(rt, &mut splitter, frame) && waits(&mut splitter) && has_ended(&splitter, bytes.len())
+    let is_given = gives_last(rt, &mut splitter, frame, bytes.len());
+    drop(splitter);
+    has_waited && is_given
 }
 
 const VECTORS: &[&[u8]] = &[
@@ -103,6 +116,7 @@ fn a_frame_in_any_two_pieces(rt: HostRuntime) {
         for cut in 0..bytes.len() {
             assert!(rt; comes_in_two(&rt, bytes, cut, &frame), "cut at {cut}");
         }
+        drop(frame);
     }
 }
 
@@ -111,6 +125,7 @@ fn a_frame_byte_by_byte(rt: HostRuntime) {
     for bytes in VECTORS {
         let frame = read(&rt, bytes);
         assert!(rt; comes_in_bytes(&rt, bytes, &frame));
+        drop(frame);
     }
 }
 
@@ -121,6 +136,7 @@ fn write_frames(rt: &(impl Abort + AllocGlobal), splitter: &mut Splitter, out: &
             Ok(Some(lent)) => {
                 let frame = lent.to_frame(rt.alloc()).expect(rt, "memory");
                 encode(&frame, out).expect(rt, "memory");
+                drop(frame);
             }
             _ => return,
         }
@@ -135,7 +151,10 @@ fn is_written_again(rt: &(impl Abort + AllocGlobal), stream: &[u8], size: usize)
         splitter.feed(piece).expect(rt, "memory");
         write_frames(rt, &mut splitter, &mut out);
     }
-    has_ended(&splitter, stream.len()) && out.as_slice() == stream
+    let is_written = has_ended(&splitter, stream.len()) && out.as_slice() == stream;
+    drop(out);
+    drop(splitter);
+    is_written
 }
 
 #[test]
@@ -150,6 +169,7 @@ fn a_stream_in_pieces_of_any_size(rt: HostRuntime) {
             "pieces of {size}"
         );
     }
+    drop(stream);
 }
 
 #[test]
@@ -157,11 +177,13 @@ fn a_fault_stays(rt: HostRuntime) {
     let mut splitter = fed(&rt, &[&DELETE, &LONGER_DELETE]);
     let frame = read(&rt, DELETE.as_slice());
     assert!(rt; gives(&rt, &mut splitter, &frame) && splitter.taken() == 31);
+    drop(frame);
     assert!(rt; stops(&mut splitter, FaultKind::LengthDiffers, 31));
     assert!(rt; stops(&mut splitter, FaultKind::LengthDiffers, 31));
     assert!(rt; splitter.feed(&[0]).is_ok() && ends_short(&splitter, 32));
     assert!(rt; splitter.feed(&DELETE).is_ok() && ends_short(&splitter, 32));
     assert!(rt; stops(&mut splitter, FaultKind::LengthDiffers, 31) && splitter.taken() == 31);
+    drop(splitter);
 }
 
 #[test]
@@ -169,18 +191,23 @@ fn what_is_judged_before_it_is_whole(rt: HostRuntime) {
     // a body of the wrong version, which isn't whole
     let mut early = fed(&rt, &[&[0, 0, 0, 0x1b, 2, 9]]);
     assert!(rt; waits(&mut early) && ends_short(&early, 6));
+    drop(early);
     // a length of 1281, as soon as it is there
     let mut long = fed(&rt, &[&[0, 0, 5], &[1]]);
     assert!(rt; stops(&mut long, FaultKind::TooLong, 0) && ends_short(&long, 4));
+    drop(long);
     // a front of a frame, and nothing
     let mut front = fed(&rt, &[&DELETE[..10]]);
     assert!(rt; waits(&mut front) && ends_short(&front, 10));
+    drop(front);
     let mut nothing = fed(&rt, &[]);
     assert!(rt; waits(&mut nothing) && has_ended(&nothing, 0));
+    drop(nothing);
 }
 
 #[test]
 fn feed_succeeds_with_memory(rt: HostRuntime) {
     let mut splitter = Splitter::new(rt.alloc());
     assert!(rt; splitter.feed(&CREATE).is_ok() && splitter.kept() == 44);
+    drop(splitter);
 }

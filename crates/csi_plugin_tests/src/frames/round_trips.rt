@@ -24,7 +24,9 @@ fn each_vector_is_read_and_written_again(rt: HostRuntime) {
     for bytes in VECTORS {
         let frame = read(&rt, bytes);
         let out = written(&rt, &frame);
+        drop(frame);
         assert!(rt; out.as_slice() == *bytes);
+        drop(out);
     }
 }
 
@@ -66,6 +68,7 @@ fn publish(rt: &(impl Abort + AllocGlobal)) -> Frame {
 fn spell(rt: &(impl Abort + AllocGlobal), bytes: &[u8], frame: Frame) {
     let found = read(rt, bytes);
     assert!(rt; found == frame);
+    drop((found, frame));
 }
 
 #[test]
@@ -102,6 +105,7 @@ fn longest(rt: &(impl Abort + AllocGlobal)) -> Frame {
         session: u64::MAX,
         call: u64::MAX,
     };
+    drop(text);
     Frame::call(number, Party::Controller, call).expect(rt, "a call")
 }
 
@@ -111,6 +115,7 @@ fn the_longest_body_has_1213_bytes(rt: HostRuntime) {
     let bytes = written(&rt, &frame);
     assert!(rt; bytes.len() == 4 + 1213);
     spell(&rt, bytes.as_slice(), frame);
+    drop(bytes);
 }
 
 #[test]
@@ -118,6 +123,8 @@ fn encode_appends(rt: HostRuntime) {
     let mut out = vec![in rt.alloc(); 7u8].expect(&rt, "memory");
     let frame = delete(&rt);
     encode(&frame, &mut out).expect(&rt, "memory");
+    drop(frame);
     assert!(rt; !out.is_empty() && out[0] == 7);
     assert!(rt; &out[1..] == DELETE.as_slice());
+    drop(out);
 }

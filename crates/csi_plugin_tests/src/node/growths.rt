@@ -23,23 +23,28 @@ fn is_same_record(a: &NodeRecord, b: &NodeRecord) -> bool {
 // The node's answer. Where it wants memory it is as it was, and then answers.
 fn answer_in_the_end(rt: &impl Abort, node: &mut Node, frame: &Frame) -> Option<Frame> {
     let before = record_of(rt, node);
-    match node.step(frame) {
+    let first = node.step(frame);
+    if first.is_err() {
+        let after = record_of(rt, node);
+        assert!(rt; is_same_record(&before, &after));
+        drop(after);
+    }
+    drop(before);
+    match first {
         Ok(answer) => answer,
-        Err(CoreFault::NoMemory) => {
-            let after = record_of(rt, node);
-            assert!(rt; is_same_record(&before, &after));
-            node.step(frame).expect(rt, "memory")
-        }
+        Err(CoreFault::NoMemory) => node.step(frame).expect(rt, "memory"),
     }
 }
 
 fn answers_in_the_end(rt: &(impl Abort + AllocGlobal), node: &mut Node, step: Step) {
     let (call, ask, status, detail) = step;
     let frame = frame_for(rt, "n1", call, ask);
-    let reply = answer_in_the_end(rt, node, &frame).expect(rt, "a reply");
+    let answer = answer_in_the_end(rt, node, &frame);
+    drop(frame);
+    let reply = answer.expect(rt, "a reply");
     let told = (status, None, detail);
     assert!(rt;
-        is_reply(&reply, Some("n1"), call, kind_of(ask), told),
+        is_reply(reply, Some("n1"), call, kind_of(ask), told),
         "call {call}"
     );
 }
@@ -74,7 +79,7 @@ const CALLS: &[Step] = &[
 
 #[test]
 fn calls_answer_or_stay(rt: HostRuntime) {
-    node_after(&rt, CALLS);
+    drop(node_after(&rt, CALLS));
 }
 
 // The rows of a node that staged volume 1 by call 1 and published it at `/a` by call 2.
@@ -114,15 +119,20 @@ const PUBLISHED: &[Step] = &[
 fn a_node_record_is_made_in_want_of_memory(rt: HostRuntime) {
     let made = NodeRecord::try_new(node_id(&rt, "n1"), rows_of_one(&rt));
     let record = made.expect(&rt, "a record");
-    let kept = record_of(&rt, &node_after(&rt, PUBLISHED));
+    let node = node_after(&rt, PUBLISHED);
+    let kept = record_of(&rt, &node);
+    drop(node);
     assert!(rt; is_same_record(&record, &kept));
+    drop((record, kept));
 }
 
 #[test]
 fn record_answers_in_the_end(rt: HostRuntime) {
     let node = node_after(&rt, STEPS);
     let record = record_of(&rt, &node);
+    drop(node);
     assert!(rt; is_record(&record));
+    drop(record);
 }
 
 #[test]
@@ -132,8 +142,10 @@ fn row_answers_in_the_end(rt: HostRuntime) {
         Ok(row) => row,
         Err(CoreFault::NoMemory) => node.row(volume_id(&rt, 9)).expect(&rt, "memory"),
     };
+    drop(node);
     let row = row.expect(&rt, "a row");
     assert!(rt; is_row_of_nine(&row));
+    drop(row);
 }
 
 #[test]
@@ -143,7 +155,9 @@ fn staged_answers_in_the_end(rt: HostRuntime) {
         Ok(list) => list,
         Err(CoreFault::NoMemory) => node.staged().expect(&rt, "memory"),
     };
+    drop(node);
     assert!(rt; lists_staged(list.as_slice()));
+    drop(list);
 }
 
 #[test]
@@ -153,5 +167,7 @@ fn published_answers_in_the_end(rt: HostRuntime) {
         Ok(list) => list,
         Err(CoreFault::NoMemory) => node.published().expect(&rt, "memory"),
     };
+    drop(node);
     assert!(rt; lists_published(list.as_slice()));
+    drop(list);
 }

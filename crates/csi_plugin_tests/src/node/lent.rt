@@ -27,17 +27,20 @@ const KINDS: &[Kind] = &[
 fn answers_lent(rt: &(impl Abort + AllocGlobal), node: &mut Node, step: Step, kind: Kind) -> bool {
     let (call, ask, status, detail) = step;
     let lent = call_of(rt, ask);
-    match node.answer(number(call), &lent.lend()).expect(rt, "memory") {
-        Some((of, reply)) => of == kind && tells(&reply, (status, None, detail)),
-        None => false,
-    }
+    let answer = node.answer(number(call), &lent.lend());
+    let (of, reply) = answer.expect(rt, "memory").expect(rt, "a reply");
+    drop(lent);
+    let is_told = of == kind && tells(&reply, (status, None, detail));
+    drop(reply);
+    is_told
 }
 
 // Whether the call gets no answer.
 fn is_unanswered(rt: &impl Abort, node: &mut Node, call: u64, lent: &CallRef<'_>) -> bool {
-    node.answer(number(call), lent)
-        .expect(rt, "memory")
-        .is_none()
+    let answer = node.answer(number(call), lent).expect(rt, "memory");
+    let is_none = answer.is_none();
+    drop(answer);
+    is_none
 }
 
 #[test]
@@ -46,6 +49,7 @@ fn lent_calls_are_answered(rt: HostRuntime) {
     for (step, kind) in LENT.iter().zip(KINDS) {
         assert!(rt; answers_lent(&rt, &mut node, *step, *kind));
     }
+    drop(node);
 }
 
 #[test]
@@ -57,4 +61,5 @@ fn a_lent_call_without_a_target_gets_no_answer(rt: HostRuntime) {
     let outside = CallRef::NodeUnpublishVolume { id, target: "" };
     assert!(rt; is_unanswered(&rt, &mut node, 2, &outside));
     answers_all(&rt, &mut node, &[(2, Ask::Unstage(1), Status::Ok, "")]);
+    drop(node);
 }

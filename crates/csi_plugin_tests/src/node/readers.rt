@@ -115,8 +115,11 @@ fn lists_by_rising_id(rt: HostRuntime) {
     let node = new_answers(&rt, STEPS);
     let staged = node.staged().expect(&rt, "memory");
     assert!(rt; lists_staged(staged.as_slice()));
+    drop(staged);
     let published = node.published().expect(&rt, "memory");
     assert!(rt; lists_published(published.as_slice()));
+    drop(published);
+    drop(node);
 }
 
 #[test]
@@ -125,8 +128,12 @@ fn gives_a_row(rt: HostRuntime) {
     let row = node.row(volume_id(&rt, 9)).expect(&rt, "memory");
     let row = row.expect(&rt, "a row");
     assert!(rt; is_row_of_nine(&row));
+    drop(row);
     let none = node.row(volume_id(&rt, 4)).expect(&rt, "memory");
-    assert!(rt; none.is_none());
+    let is_none = none.is_none();
+    drop(none);
+    assert!(rt; is_none);
+    drop(node);
 }
 
 // The record gives the node again, with its last numbers and its kept replies.
@@ -137,10 +144,14 @@ const AFTER: &[Step] = &[
 
 #[test]
 fn record_gives_the_node_again(rt: HostRuntime) {
-    let record = new_answers(&rt, STEPS).record().expect(&rt, "memory");
+    let first = new_answers(&rt, STEPS);
+    let record = first.record().expect(&rt, "memory");
+    drop(first);
     assert!(rt; is_record(&record));
     let mut node = Node::from_record(rt.alloc(), record).expect(&rt, "memory");
     let published = node.published().expect(&rt, "memory");
     assert!(rt; lists_published(published.as_slice()));
+    drop(published);
     answers_all(&rt, &mut node, AFTER);
+    drop(node);
 }

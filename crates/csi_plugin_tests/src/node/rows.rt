@@ -1,16 +1,19 @@
 //! Worked rows: whole runs of calls.
 use super::*;
+use crate::replies::is_none;
 
 // The node gives nothing to this frame.
 fn is_silent_at(rt: &impl Abort, node: &mut Node, frame: &Frame) {
     let answer = node.step(frame).expect(rt, "memory");
-    assert!(rt; answer.is_none());
+    assert!(rt; is_none(answer));
 }
 
 // The node has no row for this volume.
 fn has_no_row(rt: &impl Abort, node: &Node, id: u64) {
     let row = node.row(volume_id(rt, id)).expect(rt, "memory");
-    assert!(rt; row.is_none());
+    let is_none = row.is_none();
+    drop(row);
+    assert!(rt; is_none);
 }
 
 // One target in a mode for one node, two in a mode for several.
@@ -47,7 +50,7 @@ const BY_MODE: &[Step] = &[
 
 #[test]
 fn publishes_by_the_mode(rt: HostRuntime) {
-    new_answers(&rt, BY_MODE);
+    plays(&rt, BY_MODE);
 }
 
 // An undoing call opens a row, and the call that it undid is stale.
@@ -60,7 +63,9 @@ const LATE: &[Step] = &[
 fn late_stage_is_stale(rt: HostRuntime) {
     let node = new_answers(&rt, LATE);
     let staged = node.staged().expect(&rt, "memory");
+    drop(node);
     assert!(rt; staged.is_empty());
+    drop(staged);
 }
 
 const REFUSED: Status = Status::FailedPrecondition;
@@ -76,7 +81,8 @@ fn refusal_is_kept(rt: HostRuntime) {
     let mut node = new_answers(&rt, KEPT);
     let reply = reply_to(&rt, &mut node, 1, Ask::Stage(7, ONE));
     let told = (REFUSED, None, "not staged");
-    assert!(rt; is_reply(&reply, Some("n1"), 1, Kind::NodePublishVolume, told));
+    drop(node);
+    assert!(rt; is_reply(reply, Some("n1"), 1, Kind::NodePublishVolume, told));
 }
 
 // The calls that publish volume 1 at sixteen targets.
@@ -100,7 +106,10 @@ const SIXTEEN: &[(u64, &str)] = &[
 ];
 
 fn published_count(rt: &impl Abort, node: &Node) -> usize {
-    node.published().expect(rt, "memory").len()
+    let published = node.published().expect(rt, "memory");
+    let count = published.len();
+    drop(published);
+    count
 }
 
 // Sixteen targets, and no more.
@@ -115,6 +124,7 @@ fn seventeenth_target_is_refused(rt: HostRuntime) {
     let full = (18, ask, Status::ResourceExhausted, "targets");
     answers(&rt, &mut node, full);
     assert!(rt; published_count(&rt, &node) == 16);
+    drop(node);
 }
 
 // A frame for another node gets nothing, and opens no row.
@@ -123,7 +133,9 @@ fn frame_for_another_node(rt: HostRuntime) {
     let mut node = new_node(&rt);
     let frame = frame_for(&rt, "n2", 1, Ask::Stage(1, ONE));
     is_silent_at(&rt, &mut node, &frame);
+    drop(frame);
     has_no_row(&rt, &node, 1);
+    drop(node);
 }
 
 // So does a reply.
@@ -132,6 +144,8 @@ fn reply_to_the_node(rt: HostRuntime) {
     let mut node = new_node(&rt);
     let reply = reply_to(&rt, &mut node, 1, Ask::Stage(1, ONE));
     is_silent_at(&rt, &mut node, &reply);
+    drop(reply);
+    drop(node);
 }
 
 // 4,096 rows, and no more: the refusal isn't kept, and a volume that has a row is answered.
@@ -149,4 +163,5 @@ fn full_node_refuses(rt: HostRuntime) {
     }
     answers_all(&rt, &mut node, FULL);
     has_no_row(&rt, &node, 5000);
+    drop(node);
 }

@@ -15,7 +15,7 @@ const STAGING: &[Step] = &[
 
 #[test]
 fn stages(rt: HostRuntime) {
-    new_answers(&rt, STAGING);
+    plays(&rt, STAGING);
 }
 
 const UNSTAGING: &[Step] = &[
@@ -39,7 +39,7 @@ const UNSTAGING: &[Step] = &[
 
 #[test]
 fn unstages(rt: HostRuntime) {
-    new_answers(&rt, UNSTAGING);
+    plays(&rt, UNSTAGING);
 }
 
 // A target that isn't a path from the root is judged before all else, and what is published there before the
@@ -88,7 +88,7 @@ const PUBLISHING: &[Step] = &[
 
 #[test]
 fn refuses_to_publish(rt: HostRuntime) {
-    new_answers(&rt, PUBLISHING);
+    plays(&rt, PUBLISHING);
 }
 
 const UNPUBLISHING: &[Step] = &[
@@ -103,5 +103,5 @@ const UNPUBLISHING: &[Step] = &[
 
 #[test]
 fn unpublishes(rt: HostRuntime) {
-    new_answers(&rt, UNPUBLISHING);
+    plays(&rt, UNPUBLISHING);
 }

@@ -17,12 +17,18 @@ fn party(rt: &(impl Abort + AllocGlobal), is_node: bool) -> Party {
     }
 }
 
+fn is_some(made: Option<Frame>) -> bool {
+    let is_some = made.is_some();
+    drop(made);
+    is_some
+}
+
 // Whether a NodeUnstageVolume to this party is a frame.
 fn is_call(rt: &(impl Abort + AllocGlobal), is_node: bool) -> bool {
     let call = Call::NodeUnstageVolume {
         id: volume_id(rt, 7),
     };
-    Frame::call(number(1), party(rt, is_node), call).is_some()
+    is_some(Frame::call(number(1), party(rt, is_node), call))
 }
 
 // Whether a reply of this party to this kind of call is a frame.
@@ -36,7 +42,7 @@ fn is_reply(
     let id = if has_id { Some(volume_id(rt, 7)) } else { None };
     let detail = detail(rt, "");
     let reply = Reply { status, id, detail };
-    Frame::reply(number(1), party(rt, is_node), kind, reply).is_some()
+    is_some(Frame::reply(number(1), party(rt, is_node), kind, reply))
 }
 
 // Whether a reply goes together: whether a node's, of which kind, with which status, and whether with an id.

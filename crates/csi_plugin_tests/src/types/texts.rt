@@ -20,41 +20,61 @@ fn letters(rt: &(impl Abort + AllocGlobal), count: usize) -> String {
 fn is_name(rt: &(impl Abort + AllocGlobal), count: usize, fault: Option<TextFault>) {
     let text = letters(rt, count);
     match Name::try_new(rt.alloc(), text.as_str()) {
-        Ok(made) => assert!(rt; fault.is_none() && made.as_str() == text.as_str()),
+        Ok(made) => {
+            assert!(rt; fault.is_none() && made.as_str() == text.as_str());
+            drop(made);
+        }
         Err(found) => assert!(rt; fault == Some(found)),
     }
+    drop(text);
 }
 
 fn is_fs_type(rt: &(impl Abort + AllocGlobal), count: usize, fault: Option<TextFault>) {
     let text = letters(rt, count);
     match FsType::try_new(rt.alloc(), text.as_str()) {
-        Ok(made) => assert!(rt; fault.is_none() && made.as_str() == text.as_str()),
+        Ok(made) => {
+            assert!(rt; fault.is_none() && made.as_str() == text.as_str());
+            drop(made);
+        }
         Err(found) => assert!(rt; fault == Some(found)),
     }
+    drop(text);
 }
 
 fn is_node_id(rt: &(impl Abort + AllocGlobal), count: usize, fault: Option<TextFault>) {
     let text = letters(rt, count);
     match NodeId::try_new(rt.alloc(), text.as_str()) {
-        Ok(made) => assert!(rt; fault.is_none() && made.as_str() == text.as_str()),
+        Ok(made) => {
+            assert!(rt; fault.is_none() && made.as_str() == text.as_str());
+            drop(made);
+        }
         Err(found) => assert!(rt; fault == Some(found)),
     }
+    drop(text);
 }
 
 fn is_target(rt: &(impl Abort + AllocGlobal), count: usize, fault: Option<TextFault>) {
     let text = letters(rt, count);
     match Target::try_new(rt.alloc(), text.as_str()) {
-        Ok(made) => assert!(rt; fault.is_none() && made.as_str() == text.as_str()),
+        Ok(made) => {
+            assert!(rt; fault.is_none() && made.as_str() == text.as_str());
+            drop(made);
+        }
         Err(found) => assert!(rt; fault == Some(found)),
     }
+    drop(text);
 }
 
 fn is_detail(rt: &(impl Abort + AllocGlobal), count: usize, fault: Option<TextFault>) {
     let text = letters(rt, count);
     match Detail::try_new(rt.alloc(), text.as_str()) {
-        Ok(made) => assert!(rt; fault.is_none() && made.as_str() == text.as_str()),
+        Ok(made) => {
+            assert!(rt; fault.is_none() && made.as_str() == text.as_str());
+            drop(made);
+        }
         Err(found) => assert!(rt; fault == Some(found)),
     }
+    drop(text);
 }
 
 #[test]
