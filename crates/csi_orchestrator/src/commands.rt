@@ -88,14 +88,20 @@ impl Core {
         ensures filed { IsFiled self.new }
     {
         if let Some(fault) = first_fault(self.catalog.rows(), self.last) {
+            drop((name, arguments));
             return Err(fault);
         }
         let mut row = new_row(self.alloc, name, arguments);
         let next = outgoing_for(self.last, &due_now(&row))?;
         note_sent_or_drop(&mut row, &next);
         let index = self.catalog.rows.len();
-        self.catalog.add(row)?;
-        Ok(self.issue(index, next))
+        match self.catalog.add(row) {
+            Ok(()) => Ok(self.issue(index, next)),
+            Err(fault) => {
+                drop(next);
+                Err(fault)
+            }
+        }
     }
 
     /// Requests creation of a volume of this name.

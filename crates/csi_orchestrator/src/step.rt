@@ -120,7 +120,10 @@ fn send_due(
     ensures delete { step ≡ Step.Delete → IfErr result (λ fault. fault ≡ OrchFault.NoMemory → ⊥) }
 {
     let next = outgoing_for(last, &due_then(row, &step))?;
-    change(alloc, row, step)?;
+    if let Err(fault) = change(alloc, row, step) {
+        drop(next);
+        return Err(fault);
+    }
     note_sent_or_drop(row, &next);
     Ok(next)
 }
@@ -142,16 +145,20 @@ pub(crate) fn take(
     ensures delete { step ≡ Step.Delete → IfErr result (λ fault. fault ≡ OrchFault.NoMemory → ⊥) }
 {
     if let Some(fault) = step_fault(nodes, last, row, &step) {
+        drop(step);
         return Err(fault);
     }
     if is_met(row, &step) {
+        drop(step);
         return Ok(None);
     }
     if waits(row, &step) {
+        drop(step);
         row.open_number = None;
         return Ok(None);
     }
     if let Some(fault) = late_fault(last, row, &step) {
+        drop(step);
         return Err(fault);
     }
     send_due(alloc, row, last, step)

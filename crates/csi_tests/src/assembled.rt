@@ -27,23 +27,29 @@ fn audited(rt: &(impl Abort + AllocGlobal), world: &World) -> Option<Violation> 
 }
 
 // What an audit finds in the world of these parts.
-fn finds(rt: &(impl Abort + AllocGlobal), parts: &Parts, found: Option<Violation>) {
+fn finds(rt: &(impl Abort + AllocGlobal), parts: Parts, found: Option<Violation>) {
     let world = parts.world(rt);
-    assert_eq!(rt; audited(rt, &world), found);
+    drop(parts);
+    let audited = audited(rt, &world);
+    drop(world);
+    assert_eq!(rt; audited, found);
 }
 
 #[test]
 fn parts_that_did_nothing_are_safe(rt: HostRuntime) {
-    finds(&rt, &empty_parts(&rt), None);
+    finds(&rt, empty_parts(&rt), None);
 }
 
 // How many volumes a node has staged.
 fn staged(rt: &(impl Abort + AllocGlobal), world: &World, id: &NodeId) -> usize {
     let node = world.node(id).expect(rt, "a node");
-    match node.staged() {
-        Ok(all) => all.len(),
-        Err(_) => node.staged().expect(rt, "memory").len(),
-    }
+    let all = match node.staged() {
+        Ok(all) => all,
+        Err(_) => node.staged().expect(rt, "memory"),
+    };
+    let count = all.len();
+    drop(all);
+    count
 }
 
 #[test]
@@ -52,12 +58,14 @@ fn a_world_shows_its_parts(rt: HostRuntime) {
     works(&rt, &mut parts, create(&rt));
     works(&rt, &mut parts, stage(&rt, SingleNodeWriter));
     let world = parts.world(&rt);
-    assert_eq!(&rt; world.frames(), 0);
-    assert_eq!(&rt; world.outcomes().len(), 0);
-    assert_eq!(&rt; world.controller().next_id(), 2);
-    assert_eq!(&rt; world.nodes().len(), 1);
-    assert_eq!(&rt; world.orchestrator().session(), 1);
-    assert_eq!(&rt; staged(&rt, &world, &node_id(&rt, "n1")), 1);
+    drop(parts);
+    assert!(&rt; world.frames() == 0 && world.outcomes().is_empty());
+    assert!(&rt; world.controller().next_id() == 2 && world.nodes().len() == 1);
+    assert!(&rt; world.orchestrator().session() == 1);
+    let id = node_id(&rt, "n1");
+    assert!(&rt; staged(&rt, &world, &id) == 1);
+    drop(id);
+    drop(world);
 }
 
 // ---- what is staged isn't attached so
@@ -66,14 +74,14 @@ fn a_world_shows_its_parts(rt: HostRuntime) {
 fn what_is_staged_is_not_attached(rt: HostRuntime) {
     let mut parts = empty_parts(&rt);
     works(&rt, &mut parts, stage(&rt, SingleNodeWriter));
-    finds(&rt, &parts, Some(StagedUnattached));
+    finds(&rt, parts, Some(StagedUnattached));
 }
 
 #[test]
 fn what_is_staged_exists_and_is_not_attached(rt: HostRuntime) {
     let mut parts = created(&rt);
     works(&rt, &mut parts, stage(&rt, SingleNodeWriter));
-    finds(&rt, &parts, Some(StagedUnattached));
+    finds(&rt, parts, Some(StagedUnattached));
 }
 
 #[test]
@@ -81,7 +89,7 @@ fn what_is_staged_is_attached_in_another_capability(rt: HostRuntime) {
     let mut parts = created(&rt);
     works(&rt, &mut parts, attach(&rt));
     works(&rt, &mut parts, stage(&rt, MultiNodeReaderOnly));
-    finds(&rt, &parts, Some(StagedUnattached));
+    finds(&rt, parts, Some(StagedUnattached));
 }
 
 // ---- what is known isn't so
@@ -90,33 +98,33 @@ fn what_is_staged_is_attached_in_another_capability(rt: HostRuntime) {
 fn a_forged_reply_is_believed(rt: HostRuntime) {
     let mut parts = empty_parts(&rt);
     parts.heard = true;
-    finds(&rt, &parts, Some(RecordedWrong));
+    finds(&rt, parts, Some(RecordedWrong));
 }
 
 #[test]
 fn a_volume_was_deleted_behind_its_back(rt: HostRuntime) {
     let mut parts = created(&rt);
     works(&rt, &mut parts, delete(&rt));
-    finds(&rt, &parts, Some(RecordedWrong));
+    finds(&rt, parts, Some(RecordedWrong));
 }
 
 #[test]
 fn a_true_reply_is_believed(rt: HostRuntime) {
-    finds(&rt, &created(&rt), None);
+    finds(&rt, created(&rt), None);
 }
 
 #[test]
 fn a_volume_exists_that_it_never_heard_of(rt: HostRuntime) {
     let mut parts = created(&rt);
     parts.heard = false;
-    finds(&rt, &parts, Some(RecordedWrong));
+    finds(&rt, parts, Some(RecordedWrong));
 }
 
 #[test]
 fn a_volume_is_attached_that_it_never_sent(rt: HostRuntime) {
     let mut parts = created(&rt);
     works(&rt, &mut parts, attach(&rt));
-    finds(&rt, &parts, Some(RecordedWrong));
+    finds(&rt, parts, Some(RecordedWrong));
 }
 
 // ---- reports of such worlds
@@ -124,7 +132,11 @@ fn a_volume_is_attached_that_it_never_sent(rt: HostRuntime) {
 // Whether this is the world's report, where there is memory for it.
 fn reports(alloc: Global, world: &World, wanted: &str) -> bool {
     match report(alloc, world) {
-        Ok(text) => text.as_str() == wanted,
+        Ok(text) => {
+            let is_wanted = text.as_str() == wanted;
+            drop(text);
+            is_wanted
+        }
         Err(_) => false,
     }
 }
@@ -133,6 +145,7 @@ fn reports(alloc: Global, world: &World, wanted: &str) -> bool {
 fn is_reported(rt: &(impl Abort + AllocGlobal), parts: &Parts, wanted: &str) {
     let world = parts.world(rt);
     let is_told = reports(rt.alloc(), &world, wanted) || reports(rt.alloc(), &world, wanted);
+    drop(world);
     assert!(rt; is_told);
 }
 
@@ -145,6 +158,7 @@ fn a_world_that_is_not_safe_is_reported_so(rt: HostRuntime) {
     works(&rt, &mut parts, attach(&rt));
     works(&rt, &mut parts, stage(&rt, MultiNodeReaderOnly));
     is_reported(&rt, &parts, UNSAFE);
+    drop(parts);
 }
 
 const SAFE: &str =
@@ -152,7 +166,9 @@ const SAFE: &str =
 
 #[test]
 fn a_safe_world_is_reported_so(rt: HostRuntime) {
-    is_reported(&rt, &created(&rt), SAFE);
+    let parts = created(&rt);
+    is_reported(&rt, &parts, SAFE);
+    drop(parts);
 }
 
 // ---- the nodes of the configuration
@@ -160,13 +176,22 @@ fn a_safe_world_is_reported_so(rt: HostRuntime) {
 // Which refusal comes for the records of these nodes, where the configuration has `n1` and then `n2`.
 fn refusal(rt: &(impl Abort + AllocGlobal), ids: &[&str]) -> Option<AssembleFault> {
     let config = config(rt, &[("n1", 4), ("n2", 4)]);
-    let kept = kept_controller(rt, &new_controller(rt));
+    let controller = new_controller(rt);
+    let kept = kept_controller(rt, &controller);
+    drop(controller);
     let mut nodes = room(rt, ids.len());
     for id in ids {
         let node = Node::new(rt.alloc(), node_id(rt, id));
         nodes.push(kept_node(rt, &node)).expect(rt, "room");
+        drop(node);
     }
-    World::assemble(rt.alloc(), config, kept, nodes, new_orchestrator(rt)).err()
+    match World::assemble(rt.alloc(), config, kept, nodes, new_orchestrator(rt)) {
+        Ok(world) => {
+            drop(world);
+            None
+        }
+        Err(fault) => Some(fault),
+    }
 }
 
 // They are refused so. What is refused for want of memory alone is given a second time.

@@ -65,7 +65,11 @@ impl System {
         ensures { Does (parts_of self.old) (parts_of self.new) result (λ world. delivered self.old.config world (frame_at world number)) }
     {
         match self.carried_frame(number)? {
-            Some(frame) => self.take(&frame),
+            Some(frame) => {
+                let outcome = self.take(&frame);
+                drop(frame);
+                outcome
+            }
             None => Ok(Outcome::NoSuchFrame),
         }
     }

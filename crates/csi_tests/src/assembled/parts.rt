@@ -128,19 +128,23 @@ fn is_controllers(call: &Call) -> bool {
 fn controllers_answer(
     rt: &(impl Abort + AllocGlobal),
     controller: &mut Controller,
-    frame: &Frame,
+    frame: Frame,
 ) -> Option<Frame> {
-    match controller.step(frame) {
+    let answer = match controller.step(&frame) {
         Ok(answer) => answer,
-        Err(_) => controller.step(frame).expect(rt, "memory"),
-    }
+        Err(_) => controller.step(&frame).expect(rt, "memory"),
+    };
+    drop(frame);
+    answer
 }
 
-fn nodes_answer(rt: &impl Abort, node: &mut Node, frame: &Frame) -> Option<Frame> {
-    match node.step(frame) {
+fn nodes_answer(rt: &impl Abort, node: &mut Node, frame: Frame) -> Option<Frame> {
+    let answer = match node.step(&frame) {
         Ok(answer) => answer,
-        Err(_) => node.step(frame).expect(rt, "memory"),
-    }
+        Err(_) => node.step(&frame).expect(rt, "memory"),
+    };
+    drop(frame);
+    answer
 }
 
 /// The plugin carries out this call, and replies.
@@ -148,25 +152,31 @@ pub(super) fn works(rt: &(impl Abort + AllocGlobal), parts: &mut Parts, call: Ca
     parts.calls = parts.calls.saturating_add(1);
     let reply = if is_controllers(&call) {
         let frame = call_frame(rt, Party::Controller, parts.calls, call);
-        controllers_answer(rt, &mut parts.controller, &frame)
+        controllers_answer(rt, &mut parts.controller, frame)
     } else {
         let frame = call_frame(rt, Party::Node(node_id(rt, "n1")), parts.calls, call);
-        nodes_answer(rt, &mut parts.node, &frame)
+        nodes_answer(rt, &mut parts.node, frame)
     };
-    assert!(rt; reply.is_some());
+    let is_answered = reply.is_some();
+    drop(reply);
+    assert!(rt; is_answered);
 }
 
 // Whether it asks for volume `v`, if there is memory for it.
 fn asks(rt: &(impl Abort + AllocGlobal), orchestrator: &mut Orchestrator) -> bool {
     let capabilities = blocks(rt, &[SingleNodeWriter]);
-    orchestrator
-        .create(name(rt, "v"), 10, 0, capabilities)
-        .is_ok()
+    let sent = orchestrator.create(name(rt, "v"), 10, 0, capabilities);
+    let has_asked = sent.is_ok();
+    drop(sent);
+    has_asked
 }
 
 // Whether it hears this, if there is memory for it.
 fn hears(orchestrator: &mut Orchestrator, frame: &Frame) -> bool {
-    orchestrator.deliver(frame).is_ok()
+    let heard = orchestrator.deliver(frame);
+    let has_heard = heard.is_ok();
+    drop(heard);
+    has_heard
 }
 
 // The OK to call 1, a CreateVolume, with id 1.
@@ -186,6 +196,7 @@ fn heard(rt: &(impl Abort + AllocGlobal)) -> Orchestrator {
     assert!(rt; asked);
     let frame = ok_to_create(rt);
     let heard = hears(&mut orchestrator, &frame) || hears(&mut orchestrator, &frame);
+    drop(frame);
     assert!(rt; heard);
     orchestrator
 }

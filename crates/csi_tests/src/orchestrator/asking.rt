@@ -30,24 +30,32 @@ fn use_at(
     let name = name(rt, "v");
     let node = node_id(rt, at);
     let target = target(rt, path);
-    told(o.use_at(&name, node, target, block(mode), readonly))
+    let sent = o.use_at(&name, node, target, block(mode), readonly);
+    drop(name);
+    told(sent)
 }
 
 fn stop(rt: &(impl Abort + AllocGlobal), o: &mut Orchestrator, at: &str, path: &str) -> Answer {
     let name = name(rt, "v");
     let node = node_id(rt, at);
     let target = target(rt, path);
-    told(o.stop(&name, node, target))
+    let sent = o.stop(&name, node, target);
+    drop(name);
+    told(sent)
 }
 
 fn delete(rt: &(impl Abort + AllocGlobal), o: &mut Orchestrator) -> Answer {
     let name = name(rt, "v");
-    told(o.delete(&name))
+    let sent = o.delete(&name);
+    drop(name);
+    told(sent)
 }
 
 fn timeout(rt: &(impl Abort + AllocGlobal), o: &mut Orchestrator) -> Answer {
     let name = name(rt, "v");
-    told(o.timeout(&name))
+    let sent = o.timeout(&name);
+    drop(name);
+    told(sent)
 }
 
 fn restart(o: &mut Orchestrator) -> Answer {
@@ -64,7 +72,9 @@ fn echo(
     sent: Sent,
 ) -> Answer {
     let frame = call_frame(rt, number, sent);
-    o.deliver(&frame)
+    let answer = o.deliver(&frame);
+    drop(frame);
+    answer
 }
 
 fn hear(
@@ -75,7 +85,9 @@ fn hear(
     status: Status,
 ) -> Answer {
     let frame = reply_frame(rt, number, sent, status);
-    o.deliver(&frame)
+    let answer = o.deliver(&frame);
+    drop(frame);
+    answer
 }
 
 // What it answers to this.
@@ -97,7 +109,9 @@ pub(super) fn answer(rt: &(impl Abort + AllocGlobal), o: &mut Orchestrator, ask:
 // Whether the frame is this call.
 fn is_call(rt: &(impl Abort + AllocGlobal), frame: &Frame, number: Number, sent: Sent) -> bool {
     let wanted = call_frame(rt, number, sent);
-    *frame == wanted
+    let is_call = *frame == wanted;
+    drop(wanted);
+    is_call
 }
 
 // Whether the answer is this.

@@ -20,6 +20,7 @@ fn stays_and_gives(
     assert!(rt; lists_again(rt, o, before), "step {index}");
     let answer = answer(rt, o, ask);
     assert!(rt; is_given(rt, &answer, gives), "step {index}: {answer:?}");
+    drop(answer);
 }
 
 // It is asked this, and gives that.
@@ -36,6 +37,8 @@ fn gives(
     } else {
         assert!(rt; is_given(rt, &answer, gives), "step {index}: {answer:?}");
     }
+    drop(answer);
+    drop(before);
 }
 
 // It makes `v` by call 1.
@@ -135,6 +138,7 @@ pub(super) fn new(rt: &(impl Abort + AllocGlobal)) -> Orchestrator {
 pub(super) fn plays(rt: &(impl Abort + AllocGlobal), steps: &[Step]) {
     let mut o = new(rt);
     play_all(rt, &mut o, steps);
+    drop(o);
 }
 
 // These steps are played with one that is numbered after this number.
@@ -146,4 +150,5 @@ pub(super) fn plays_after(
 ) {
     let mut o = numbered(rt, Number { session, call });
     play_all(rt, &mut o, steps);
+    drop(o);
 }

@@ -153,13 +153,23 @@ fn a_node_has_sixteen_targets(rt: HostRuntime) {
 
 // Why a create of a volume of this name is refused, if it is.
 fn refusal(rt: &(impl Abort + AllocGlobal), o: &mut Orchestrator, text: &str) -> Option<OrchFault> {
-    o.create(name(rt, text), 10, 0, blocks(rt, &[ONE])).err()
+    match o.create(name(rt, text), 10, 0, blocks(rt, &[ONE])) {
+        Ok(sent) => {
+            drop(sent);
+            None
+        }
+        Err(fault) => Some(fault),
+    }
 }
 
 // It takes a create of the volume `w` and this number, if there is memory for it.
 fn takes_create(rt: &(impl Abort + AllocGlobal), o: &mut Orchestrator, number: u64) -> bool {
     match format!(in rt.alloc(); "w{number}") {
-        Ok(text) => refusal(rt, o, &text).is_none(),
+        Ok(text) => {
+            let refused = refusal(rt, o, &text);
+            drop(text);
+            refused.is_none()
+        }
         Err(_) => false,
     }
 }
@@ -172,4 +182,5 @@ fn there_are_as_many_names_as_rows(rt: HostRuntime) {
         assert!(&rt; takes, "name {number}");
     }
     assert_eq!(&rt; refusal(&rt, &mut o, "v"), Some(OrchFault::Full));
+    drop(o);
 }

@@ -35,7 +35,9 @@ pub(super) fn knows(
     index: usize,
 ) {
     let thing = thing_of(rt, fact);
-    assert_eq!(rt; o.known(&thing), known, "step {index}");
+    let found = o.known(&thing);
+    drop(thing);
+    assert_eq!(rt; found, known, "step {index}");
 }
 
 // What it knows, as a list. Where memory is refused it lists it the second time.
@@ -53,13 +55,18 @@ pub(super) fn lists_again(rt: &impl Abort, o: &Orchestrator, before: &[(Thing, K
             return false;
         }
     }
-    listed(rt, o).len() == before.len()
+    let things = listed(rt, o);
+    let count = things.len();
+    drop(things);
+    count == before.len()
 }
 
 // Whether the thing is this.
 fn is_fact(rt: &(impl Abort + AllocGlobal), thing: &Thing, fact: Fact) -> bool {
     let wanted = thing_of(rt, fact);
-    *thing == wanted
+    let is_fact = *thing == wanted;
+    drop(wanted);
+    is_fact
 }
 
 // It lists these things, in this order.
@@ -70,4 +77,5 @@ pub(super) fn lists(rt: &(impl Abort + AllocGlobal), o: &Orchestrator, facts: &[
         assert!(rt; is_fact(rt, thing, *fact), "{thing:?}");
         assert_eq!(rt; *found, *known);
     }
+    drop(things);
 }

@@ -26,30 +26,41 @@ pub(super) fn is_reply(frame: Option<&Frame>, status: Status, detail: &str) -> b
 // How many volumes are attached. Where memory is refused they are listed the second time.
 fn attached(rt: &(impl Abort + AllocGlobal), world: &World) -> usize {
     let controller = world.controller();
-    match controller.attachments() {
-        Ok(all) => all.len(),
-        Err(_) => controller.attachments().expect(rt, "memory").len(),
-    }
+    let all = match controller.attachments() {
+        Ok(all) => all,
+        Err(_) => controller.attachments().expect(rt, "memory"),
+    };
+    let count = all.len();
+    drop(all);
+    count
 }
 
 // How many are staged at a node.
 fn staged(rt: &(impl Abort + AllocGlobal), world: &World, at: &str) -> usize {
     let id = node_id(rt, at);
     let node = world.node(&id).expect(rt, "a node");
-    match node.staged() {
-        Ok(all) => all.len(),
-        Err(_) => node.staged().expect(rt, "memory").len(),
-    }
+    drop(id);
+    let all = match node.staged() {
+        Ok(all) => all,
+        Err(_) => node.staged().expect(rt, "memory"),
+    };
+    let count = all.len();
+    drop(all);
+    count
 }
 
 // How many are published there.
 fn published(rt: &(impl Abort + AllocGlobal), world: &World, at: &str) -> usize {
     let id = node_id(rt, at);
     let node = world.node(&id).expect(rt, "a node");
-    match node.published() {
-        Ok(all) => all.len(),
-        Err(_) => node.published().expect(rt, "memory").len(),
-    }
+    drop(id);
+    let all = match node.published() {
+        Ok(all) => all,
+        Err(_) => node.published().expect(rt, "memory"),
+    };
+    let count = all.len();
+    drop(all);
+    count
 }
 
 // So many are attached, and at this node so many staged and so many published.
@@ -60,14 +71,19 @@ pub(super) fn has(
     counts: (usize, usize, usize),
     index: usize,
 ) {
-    assert_eq!(rt; attached(rt, world), counts.0, "step {index}");
-    assert_eq!(rt; staged(rt, world, at), counts.1, "step {index}");
-    assert_eq!(rt; published(rt, world, at), counts.2, "step {index}");
+    let found = (
+        attached(rt, world),
+        staged(rt, world, at),
+        published(rt, world, at),
+    );
+    assert!(rt; found == counts, "step {index}: {found:?}");
 }
 
 pub(super) fn has_node(rt: &(impl Abort + AllocGlobal), world: &World, at: &str) -> bool {
     let id = node_id(rt, at);
-    world.node(&id).is_some()
+    let has_node = world.node(&id).is_some();
+    drop(id);
+    has_node
 }
 
 // The orchestrator knows this of a thing.
@@ -79,5 +95,7 @@ pub(super) fn knows(
     index: usize,
 ) {
     let thing = thing_of(rt, fact);
-    assert_eq!(rt; world.orchestrator().known(&thing), known, "step {index}");
+    let found = world.orchestrator().known(&thing);
+    drop(thing);
+    assert_eq!(rt; found, known, "step {index}");
 }

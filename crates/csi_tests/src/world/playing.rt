@@ -35,9 +35,10 @@ fn came_of_last(
 ) -> bool {
     let world = world_after(rt, config, events);
     let outcomes = world.outcomes();
-    outcomes.len() == events.len()
-        && outcomes.last().copied() == Some(outcome)
-        && is_safe(rt, &world)
+    let came = outcomes.len() == events.len() && outcomes.last().copied() == Some(outcome);
+    let is_safe = is_safe(rt, &world);
+    drop(world);
+    came && is_safe
 }
 
 // Another event happens, and this comes of it.
@@ -161,7 +162,8 @@ fn play(
         }
         _ => {
             let world = world_after(rt, config, events.as_slice());
-            shows(rt, &world, step, index)
+            shows(rt, &world, step, index);
+            drop(world);
         }
     }
 }
@@ -180,7 +182,10 @@ fn play_all(
 // Whether nothing came of no events, and the world is safe.
 fn starts(rt: &(impl Abort + AllocGlobal), config: &Config) -> bool {
     let world = world_after(rt, config, &[]);
-    world.outcomes().is_empty() && is_safe(rt, &world)
+    let is_empty = world.outcomes().is_empty();
+    let is_safe = is_safe(rt, &world);
+    drop(world);
+    is_empty && is_safe
 }
 
 // No test has more events.
@@ -194,4 +199,6 @@ pub(super) fn plays(rt: &(impl Abort + AllocGlobal), nodes: &[(&str, u64)], tabl
     for steps in tables {
         play_all(rt, &config, &mut events, steps);
     }
+    drop(events);
+    drop(config);
 }

@@ -36,10 +36,10 @@ issue-requires-clause-ready c =
     c.new_row-row.ensures c.due_now.ensures c.in_ok-next.ensures.ok c.note_sent_or_drop.ensures in
     let long : length (rows_of core.catalog) ≡ c.len-index.result = length-map core.catalog.rows.entries (λ (e : List ℕ × Row). e.1) ∙ sym c.len-index.ensures.len in
     subst (λ (n : ℕ). IsReady c.add.new.self n (call_in next)) long
-    (c.in_ok-add.ensures.ready (call_in next) (next-created core.catalog core.last c.args.name c.args.arguments sent next c.requires.filed.known on).0)
+    (c.in-Ok.ensures.ready (call_in next) (next-created core.catalog core.last c.args.name c.args.arguments sent next c.requires.filed.known on).0)
 
-pub returns-clause-ok : goal.returns-clause-ok
-returns-clause-ok c =
+pub returns-in-Ok-clause-ok : goal.returns-in-Ok-clause-ok
+returns-in-Ok-clause-ok c =
     let core = c.args.self.now in
     let next = c.in_ok-next.next in
     let sent = c.note_sent_or_drop.new.row in
@@ -51,4 +51,4 @@ returns-clause-ok c =
     c.requires.new_name fits on made.1 c.issue.ensures.frame
     (c.issue.ensures.parts
     ∙ ap (λ (rows : List Row). let parts : Parts = record { nodes = core.nodes.items; last = last_after core.last next; rows = map row_shown rows } in parts)
-    c.in_ok-add.ensures.added)
+    c.in-Ok.ensures.added)
