@@ -72,7 +72,10 @@ fn ends<K: Keep>(
     let mut reader = Counted::new(input);
     let mut writer = Counted::new(Vec::new(rt.alloc()));
     let ending = plugin(rt.alloc(), asked, keep, &mut reader, &mut writer);
-    ending == wanted && writer.into_inner().as_slice() == output
+    let written = writer.into_inner();
+    let is_wanted = written.as_slice() == output;
+    drop(written);
+    ending == wanted && is_wanted
 }
 
 // A controller that is opened again goes on where it was, and its store is no node's.

@@ -75,8 +75,11 @@ fn copied(rt: &(impl Abort + AllocGlobal), bytes: &[u8]) -> Vec<u8> {
 fn recorded(rt: &(impl Abort + AllocGlobal)) -> ControllerRecord {
     let (frame, _) = decode(rt.alloc(), CREATE).expect(rt, "a frame");
     let mut controller = Controller::new(rt.alloc(), config(rt, NO_NODES));
-    let _reply = controller.step(&frame).expect(rt, "memory");
-    controller.record().expect(rt, "memory")
+    let reply = controller.step(&frame).expect(rt, "memory");
+    drop((frame, reply));
+    let record = controller.record().expect(rt, "memory");
+    drop(controller);
+    record
 }
 
 // The bytes of a record.
@@ -102,8 +105,11 @@ fn node_refused_at(alloc: Global, bytes: &[u8]) -> Option<u64> {
 
 #[test]
 fn write_record_succeeds_with_memory(rt: HostRuntime) {
-    let bytes = written(&rt, &recorded(&rt));
+    let record = recorded(&rt);
+    let bytes = written(&rt, &record);
+    drop(record);
     assert!(&rt; bytes.as_slice() == RECORD);
+    drop(bytes);
 }
 
 #[test]
@@ -111,7 +117,9 @@ fn a_record_is_read_as_it_was_written(rt: HostRuntime) {
     let record: ControllerRecord = read_record(rt.alloc(), RECORD).expect(&rt, "a record");
     assert!(&rt; record.next_id() == 2 && record.rows().len() == 1);
     let bytes = written(&rt, &record);
+    drop(record);
     assert!(&rt; bytes.as_slice() == RECORD);
+    drop(bytes);
 }
 
 // A record with one byte in place of another.
@@ -142,7 +150,9 @@ const CHANGES: &[(usize, u8, u64)] = &[
 fn a_record_is_refused_at_its_first_bad_part(rt: HostRuntime) {
     for (at, byte, place) in CHANGES {
         let bytes = changed(&rt, RECORD, *at, *byte);
-        assert!(&rt; refused_at(rt.alloc(), bytes.as_slice()) == Some(*place));
+        let refused = refused_at(rt.alloc(), bytes.as_slice());
+        drop(bytes);
+        assert!(&rt; refused == Some(*place));
     }
 }
 
@@ -172,7 +182,9 @@ fn a_node_record_is_refused_at_its_first_bad_part(rt: HostRuntime) {
     assert!(&rt; node_refused_at(rt.alloc(), NODE_RECORD).is_none());
     for (at, byte, place) in NODE_CHANGES {
         let bytes = changed(&rt, NODE_RECORD, *at, *byte);
-        assert!(&rt; node_refused_at(rt.alloc(), bytes.as_slice()) == Some(*place));
+        let refused = node_refused_at(rt.alloc(), bytes.as_slice());
+        drop(bytes);
+        assert!(&rt; refused == Some(*place));
     }
 }
 
@@ -182,6 +194,7 @@ fn bytes_behind_a_record_have_the_number_of_parts_as_place(rt: HostRuntime) {
     bytes.push(0).expect(&rt, "memory");
     assert!(&rt; refused_at(rt.alloc(), bytes.as_slice()) == Some(2));
     assert!(&rt; refused_at(rt.alloc(), &[]) == Some(0));
+    drop(bytes);
 }
 
 // Whether a part has this key and this value.
@@ -196,7 +209,11 @@ fn is_part(part: &Part, key: u64, value: &[u8]) -> bool {
 // Whether the store has one part, a head of this value.
 fn has_head<K: Keep>(keep: &mut K, head: &[u8]) -> bool {
     match keep.load() {
-        Ok(parts) => parts.len() == 1 && is_part(&parts[0], 0, head),
+        Ok(parts) => {
+            let has_head = parts.len() == 1 && is_part(&parts[0], 0, head);
+            drop(parts);
+            has_head
+        }
         Err(_) => false,
     }
 }
@@ -204,7 +221,11 @@ fn has_head<K: Keep>(keep: &mut K, head: &[u8]) -> bool {
 // Whether the store has no part.
 fn is_empty<K: Keep>(keep: &mut K) -> bool {
     match keep.load() {
-        Ok(parts) => parts.is_empty(),
+        Ok(parts) => {
+            let is_empty = parts.is_empty();
+            drop(parts);
+            is_empty
+        }
         Err(_) => false,
     }
 }
@@ -230,45 +251,70 @@ fn node<K: Keep>(
     NodeService::open(rt.alloc(), id, keep)
 }
 
-#[test]
-fn open_succeeds_with_memory(rt: HostRuntime) {
-    let mut first = MemoryKeep::new(rt.alloc(), 1000);
-    assert!(&rt; controller(&rt, &mut first).is_ok());
-    assert!(&rt; has_head(&mut first, CONTROLLER_HEAD));
-    assert!(&rt; controller(&rt, &mut first).is_ok());
-    let mut second = MemoryKeep::new(rt.alloc(), 1000);
-    assert!(&rt; node(&rt, &mut second, "n1").is_ok());
-    assert!(&rt; has_head(&mut second, NODE_HEAD));
+// Why no controller is opened of this store, if none is.
+fn controller_fault<K: Keep>(rt: &(impl Abort + AllocGlobal), keep: &mut K) -> Option<KeepFault> {
+    match controller(rt, keep) {
+        Ok(service) => {
+            drop(service);
+            None
+        }
+        Err(fault) => Some(fault),
+    }
 }
 
-// Whether the refusal is this one.
-fn is_fault<T>(opened: &Result<T, KeepFault>, wanted: KeepFault) -> bool {
-    match opened {
-        Ok(_) => false,
-        Err(fault) => *fault == wanted,
+// Why no node of this id is, if none is.
+fn node_fault<K: Keep>(
+    rt: &(impl Abort + AllocGlobal),
+    keep: &mut K,
+    text: &str,
+) -> Option<KeepFault> {
+    match node(rt, keep, text) {
+        Ok(service) => {
+            drop(service);
+            None
+        }
+        Err(fault) => Some(fault),
     }
 }
 
 #[test]
+fn open_succeeds_with_memory(rt: HostRuntime) {
+    let mut first = MemoryKeep::new(rt.alloc(), 1000);
+    assert!(&rt; controller_fault(&rt, &mut first).is_none());
+    assert!(&rt; has_head(&mut first, CONTROLLER_HEAD));
+    assert!(&rt; controller_fault(&rt, &mut first).is_none());
+    drop(first);
+    let mut second = MemoryKeep::new(rt.alloc(), 1000);
+    assert!(&rt; node_fault(&rt, &mut second, "n1").is_none());
+    assert!(&rt; has_head(&mut second, NODE_HEAD));
+    drop(second);
+}
+
+const AT_HEAD: Option<KeepFault> = Some(KeepFault::BadRecord(0));
+
+#[test]
 fn a_head_fits_in_18_bytes(rt: HostRuntime) {
     let mut small = MemoryKeep::new(rt.alloc(), 17);
-    assert!(&rt; is_fault(&controller(&rt, &mut small), KeepFault::Full));
+    assert!(&rt; controller_fault(&rt, &mut small) == Some(KeepFault::Full));
     assert!(&rt; is_empty(&mut small));
     let mut enough = MemoryKeep::new(rt.alloc(), 18);
-    assert!(&rt; controller(&rt, &mut enough).is_ok());
+    assert!(&rt; controller_fault(&rt, &mut enough).is_none());
     assert!(&rt; small.faults() == 0 && enough.faults() == 0);
+    drop((small, enough));
 }
 
 #[test]
 fn a_store_of_another_plugin_is_refused_at_its_head(rt: HostRuntime) {
     let mut keep = MemoryKeep::new(rt.alloc(), 1000);
-    assert!(&rt; controller(&rt, &mut keep).is_ok());
-    assert!(&rt; is_fault(&node(&rt, &mut keep, "n1"), KeepFault::BadRecord(0)));
+    assert!(&rt; controller_fault(&rt, &mut keep).is_none());
+    assert!(&rt; node_fault(&rt, &mut keep, "n1") == AT_HEAD);
+    drop(keep);
     let mut other = MemoryKeep::new(rt.alloc(), 1000);
-    assert!(&rt; node(&rt, &mut other, "n1").is_ok());
-    assert!(&rt; is_fault(&node(&rt, &mut other, "n2"), KeepFault::BadRecord(0)));
-    assert!(&rt; is_fault(&controller(&rt, &mut other), KeepFault::BadRecord(0)));
+    assert!(&rt; node_fault(&rt, &mut other, "n1").is_none());
+    assert!(&rt; node_fault(&rt, &mut other, "n2") == AT_HEAD);
+    assert!(&rt; controller_fault(&rt, &mut other) == AT_HEAD);
     assert!(&rt; has_head(&mut other, NODE_HEAD));
+    drop(other);
 }
 
 // A part, put in.
@@ -281,9 +327,12 @@ fn part(rt: &(impl Abort + AllocGlobal), key: u64, value: &[u8]) -> Part {
 
 // Puts a part in, and takes it out again.
 fn puts_and_takes<K: Keep>(rt: &(impl Abort + AllocGlobal), keep: &mut K) {
-    keep.commit(&[part(rt, 5, &[7, 8])]).expect(rt, "a commit");
+    let first = [part(rt, 5, &[7, 8])];
+    keep.commit(&first).expect(rt, "a commit");
+    drop(first);
     let parts = keep.load().expect(rt, "parts");
     assert!(rt; parts.len() == 2 && is_part(&parts[1], 5, &[7, 8]));
+    drop(parts);
     keep.commit(&[Part {
         key: 5,
         value: None,
@@ -298,13 +347,14 @@ fn sqlite_keep_works_with_no_stop(rt: HostRuntime) {
         return assert!(&rt; false);
     };
     assert!(&rt; is_empty(&mut keep));
-    assert!(&rt; controller(&rt, &mut keep).is_ok());
+    assert!(&rt; controller_fault(&rt, &mut keep).is_none());
     puts_and_takes(&rt, &mut keep);
     assert!(&rt; keep.faults() == 0);
     let Ok(mut again) = SqliteKeep::new(rt.alloc(), keep.into_connection()) else {
         return assert!(&rt; false);
     };
     assert!(&rt; has_head(&mut again, CONTROLLER_HEAD));
-    assert!(&rt; controller(&rt, &mut again).is_ok());
-    assert!(&rt; is_fault(&node(&rt, &mut again, "n1"), KeepFault::BadRecord(0)));
+    assert!(&rt; controller_fault(&rt, &mut again).is_none());
+    assert!(&rt; node_fault(&rt, &mut again, "n1") == AT_HEAD);
+    drop(again);
 }

@@ -53,7 +53,9 @@ impl Handler for Lines {
         out: &mut Vec<u8>,
     ) -> Result<(), AnswerFault> {
         let frame = frame.to_frame(alloc)?;
-        append_line(&mut self.line, place, &frame, out)
+        let appended = append_line(&mut self.line, place, &frame, out);
+        drop(frame);
+        appended
     }
 }
 

@@ -34,7 +34,11 @@ fn read(rt: &(impl Abort + AllocGlobal), schedule: &str) -> (Config, Vec<Event>)
 // Whether the world after these events is safe, where there is memory for it.
 fn is_safe_after(alloc: Global, config: &Config, events: &[Event]) -> bool {
     match simulate(alloc, config, events) {
-        Ok(world) => matches!(audit(alloc, &world), Ok(None)),
+        Ok(world) => {
+            let is_safe = matches!(audit(alloc, &world), Ok(None));
+            drop(world);
+            is_safe
+        }
         Err(_) => false,
     }
 }
@@ -42,7 +46,10 @@ fn is_safe_after(alloc: Global, config: &Config, events: &[Event]) -> bool {
 // The schedule's events lead to a safe world. Where memory is refused it is simulated the second time.
 fn leads_to_safety(rt: &(impl Abort + AllocGlobal), schedule: &str) -> bool {
     let (config, events) = read(rt, schedule);
-    is_safe_after(rt.alloc(), &config, &events) || is_safe_after(rt.alloc(), &config, &events)
+    let is_safe = is_safe_after(rt.alloc(), &config, &events)
+        || is_safe_after(rt.alloc(), &config, &events);
+    drop((config, events));
+    is_safe
 }
 
 // The schedule is run to its report, and the world that its events lead to is safe.
@@ -82,16 +89,21 @@ fn turn(script: &mut Script, listed: &mut Listed, volume: u64) -> Result<(), All
 }
 
 // Twenty-four volumes at four nodes, and then every frame once more, the first one first.
-fn try_turns(alloc: Global) -> Result<Texts, AllocError> {
-    let mut script = Script::new(alloc, false);
-    let mut listed = Listed::new(alloc);
+fn take_turns(script: &mut Script, listed: &mut Listed) -> Result<(), AllocError> {
     for volume in 1..=24u64 {
-        turn(&mut script, &mut listed, volume)?;
+        turn(script, listed, volume)?;
     }
     // 8 volumes took 8 frames each, 8 took 14, and 8 took 16.
     for number in 1..=304u64 {
         script.comes_again(number)?;
     }
+    Ok(())
+}
+
+fn try_turns(alloc: Global) -> Result<Texts, AllocError> {
+    let mut script = Script::new(alloc, false);
+    let mut listed = Listed::new(alloc);
+    take_turns(&mut script, &mut listed)?;
     written(alloc, &script, &listed, 1)
 }
 
@@ -157,9 +169,7 @@ fn restarts_of_a_long_run_lose_nothing(rt: HostRuntime) {
 // ---- a full node
 
 // A volume at sixteen targets of a node, the most that there can be. A seventeenth is refused until one is left.
-fn try_targets(alloc: Global) -> Result<Texts, AllocError> {
-    let mut script = Script::new(alloc, false);
-    let mut listed = Listed::new(alloc);
+fn sixteen(script: &mut Script, listed: &mut Listed) -> Result<(), AllocError> {
     let first = Place {
         volume: 1,
         node: 1,
@@ -184,6 +194,13 @@ fn try_targets(alloc: Global) -> Result<Texts, AllocError> {
     for target in 11..=26u64 {
         listed.shows(Place { target, ..first })?;
     }
+    Ok(())
+}
+
+fn try_targets(alloc: Global) -> Result<Texts, AllocError> {
+    let mut script = Script::new(alloc, false);
+    let mut listed = Listed::new(alloc);
+    sixteen(&mut script, &mut listed)?;
     written(alloc, &script, &listed, 1)
 }
 

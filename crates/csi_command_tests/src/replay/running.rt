@@ -83,12 +83,16 @@ fn is_given(
     ending: Ending,
 ) -> bool {
     let (ended, out) = run(rt, command, input, there);
-    if ended == Ending::Memory {
-        assert!(rt; wanted.starts_with(out.as_slice()));
-        let (ended, out) = run(rt, command, input, there);
-        return ended == ending && out.as_slice() == wanted;
+    let is_given = ended == ending && out.as_slice() == wanted;
+    let is_front = ended == Ending::Memory && wanted.starts_with(out.as_slice());
+    drop(out);
+    if !is_front {
+        return is_given;
     }
-    ended == ending && out.as_slice() == wanted
+    let (ended, out) = run(rt, command, input, there);
+    let is_given = ended == ending && out.as_slice() == wanted;
+    drop(out);
+    is_given
 }
 
 // It gives this output, behind what was there.

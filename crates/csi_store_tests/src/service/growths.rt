@@ -28,6 +28,15 @@ fn written<T: Record>(rt: &(impl Abort + AllocGlobal), record: &T) -> Vec<u8> {
     }
 }
 
+// Whether these are the record's bytes.
+fn is_written<T: Record + Drop>(rt: &(impl Abort + AllocGlobal), record: T, wanted: &[u8]) -> bool {
+    let bytes = written(rt, &record);
+    drop(record);
+    let is_written = bytes.as_slice() == wanted;
+    drop(bytes);
+    is_written
+}
+
 // The record of these bytes. Where they aren't read, memory was refused.
 fn record_of<T: Record>(rt: &(impl Abort + AllocGlobal), bytes: &[u8]) -> T {
     match read_record::<T>(rt.alloc(), bytes) {
@@ -39,9 +48,9 @@ fn record_of<T: Record>(rt: &(impl Abort + AllocGlobal), bytes: &[u8]) -> T {
 #[test]
 fn records_in_want_of_memory(rt: HostRuntime) {
     let of_controller: ControllerRecord = record_of(&rt, RECORD);
-    assert!(&rt; written(&rt, &of_controller).as_slice() == RECORD);
+    assert!(&rt; is_written(&rt, of_controller, RECORD));
     let of_node: NodeRecord = record_of(&rt, NODE_RECORD);
-    assert!(&rt; written(&rt, &of_node).as_slice() == NODE_RECORD);
+    assert!(&rt; is_written(&rt, of_node, NODE_RECORD));
 }
 
 // The frame that these bytes begin with.
@@ -75,13 +84,21 @@ fn opened_node(rt: &(impl Abort + AllocGlobal), keep: &mut MemoryKeep) -> NodeSe
     }
 }
 
-// What the service tells that it changed after it answered the frame.
-fn changes<C: Core>(rt: &(impl Abort + AllocGlobal), service: &mut C, frame: &Frame) -> Vec<Part> {
-    let reply = match service.step(frame) {
+// Whether the service answers the frame.
+fn replies<C: Core>(rt: &(impl Abort + AllocGlobal), service: &mut C, frame: Frame) -> bool {
+    let reply = match service.step(&frame) {
         Ok(reply) => reply,
-        Err(NoMemory) => service.step(frame).expect(rt, "memory"),
+        Err(NoMemory) => service.step(&frame).expect(rt, "memory"),
     };
-    assert!(rt; reply.is_some());
+    drop(frame);
+    let is_reply = reply.is_some();
+    drop(reply);
+    is_reply
+}
+
+// What the service tells that it changed after it answered the frame.
+fn changes<C: Core>(rt: &(impl Abort + AllocGlobal), service: &mut C, frame: Frame) -> Vec<Part> {
+    assert!(rt; replies(rt, service, frame));
     match service.parts() {
         Ok(parts) => parts,
         Err(NoMemory) => service.parts().expect(rt, "memory"),
@@ -108,9 +125,12 @@ const NEW: Content = (CONTROLLER_HEAD, &[], &[]);
 fn a_controller_steps_and_commits_in_want_of_memory(rt: HostRuntime) {
     let mut keep = MemoryKeep::new(rt.alloc(), 1000);
     let mut service = opened(&rt, &mut keep);
-    let parts = changes(&rt, &mut service, &frame_of(&rt, CREATE));
+    let parts = changes(&rt, &mut service, frame_of(&rt, CREATE));
+    drop(service);
     assert!(&rt; are_parts(&parts, CREATED));
     commits(&rt, &mut keep, &parts, (NEW, CREATED));
+    drop(parts);
+    drop(keep);
 }
 
 // Stages volume 1 at `n1`.
@@ -140,30 +160,29 @@ fn is_one(parts: &[Part], value: &[u8]) -> bool {
 fn a_node_steps_and_commits_in_want_of_memory(rt: HostRuntime) {
     let mut keep = MemoryKeep::new(rt.alloc(), 1000);
     let mut service = opened_node(&rt, &mut keep);
-    let parts = changes(&rt, &mut service, &frame_of(&rt, STAGE));
+    let parts = changes(&rt, &mut service, frame_of(&rt, STAGE));
+    drop(service);
     assert!(&rt; is_one(&parts, STAGED));
     commits(&rt, &mut keep, &parts, NODE_CONTENTS);
+    drop(parts);
+    drop(keep);
 }
 
 // A service opened of a store that has parts.
 #[test]
 fn services_are_opened_again_in_want_of_memory(rt: HostRuntime) {
     let mut keep = MemoryKeep::new(rt.alloc(), 1000);
-    commits(
-        &rt,
-        &mut keep,
-        &[part(&rt, 0, CONTROLLER_HEAD)],
-        (NOTHING, NEW),
-    );
-    let _service = opened(&rt, &mut keep);
+    let head = [part(&rt, 0, CONTROLLER_HEAD)];
+    commits(&rt, &mut keep, &head, (NOTHING, NEW));
+    drop(head);
+    drop(opened(&rt, &mut keep));
+    drop(keep);
     let mut other = MemoryKeep::new(rt.alloc(), 1000);
-    commits(
-        &rt,
-        &mut other,
-        &[part(&rt, 0, NODE_HEAD), part(&rt, 1, STAGED)],
-        (NOTHING, NODE_CONTENTS.1),
-    );
-    let _node = opened_node(&rt, &mut other);
+    let parts = [part(&rt, 0, NODE_HEAD), part(&rt, 1, STAGED)];
+    commits(&rt, &mut other, &parts, (NOTHING, NODE_CONTENTS.1));
+    drop(parts);
+    drop(opened_node(&rt, &mut other));
+    drop(other);
 }
 
 // How many frames were served in a run of the script that ended so, by a store that doesn't fail.
@@ -180,7 +199,9 @@ fn goes_on(rt: &(impl Abort + AllocGlobal), keep: &mut MemoryKeep, served: usize
     let from = *FRAMES.get(served).expect(rt, "a frame");
     let replied = *ENDS.get(served).expect(rt, "a reply");
     let (_end, written) = played(rt, keep, SCRIPT.get(from..).expect(rt, "frames"));
-    is_slice(REPLIES.get(replied..), written.as_slice()) && is_after(keep, 6)
+    let is_replied = is_slice(REPLIES.get(replied..), written.as_slice());
+    drop(written);
+    is_replied && is_after(keep, 6)
 }
 
 // The script where it wants memory, and then, after opening again, from the first frame on that wasn't served.
@@ -189,8 +210,10 @@ fn serving_in_want_of_memory(rt: HostRuntime) {
     let mut keep = MemoryKeep::new(rt.alloc(), 1000);
     let (end, written) = played(&rt, &mut keep, SCRIPT);
     assert!(&rt; is_replied(end, written.as_slice()) && may_have(&mut keep, end));
+    drop(written);
     let served = count_of(end).expect(&rt, "a run");
     assert!(&rt; goes_on(&rt, &mut keep, served));
+    drop(keep);
 }
 
 const CONFIG: &str = "{\"greatest\":1000,\"nodes\":[{\"id\":\"n1\",\"slots\":4}]}";
@@ -211,4 +234,5 @@ fn a_configuration_is_read_in_want_of_memory(rt: HostRuntime) {
     };
     let config = read.expect(&rt, "a configuration");
     assert!(&rt; is_config(&config));
+    drop(config);
 }

@@ -83,7 +83,9 @@ fn cut<'a>(rt: &impl Abort, bytes: &'a [u8], ends: (usize, usize)) -> &'a [u8] {
 // Whether these frames of the controller's script are replied so.
 fn plays(rt: &(impl Abort + AllocGlobal), keep: &mut Store, piece: Piece) -> bool {
     let (end, written) = played(rt, keep, cut(rt, SCRIPT, piece.1));
-    is_end(end, piece.0) && written.as_slice() == cut(rt, REPLIES, piece.2)
+    let is_replied = written.as_slice() == cut(rt, REPLIES, piece.2);
+    drop(written);
+    is_end(end, piece.0) && is_replied
 }
 
 // Whether these of the node's calls are.
@@ -92,7 +94,9 @@ fn answers(rt: &(impl Abort + AllocGlobal), keep: &mut Store, piece: Piece) -> b
         return false;
     };
     let (end, written) = served(rt, service, keep, cut(rt, CALLS, piece.1));
-    is_end(end, piece.0) && written.as_slice() == cut(rt, ANSWERS, piece.2)
+    let is_answered = written.as_slice() == cut(rt, ANSWERS, piece.2);
+    drop(written);
+    is_end(end, piece.0) && is_answered
 }
 
 // The last frame comes again, and is replied as before.
@@ -106,6 +110,7 @@ fn a_controller_goes_on_where_it_was(rt: HostRuntime) {
     let mut third = again(&rt, second);
     assert!(&rt; plays(&rt, &mut third, (1, (183, 227), (167, 200))));
     assert!(&rt; is_after(&mut third, 6));
+    drop(third);
 }
 
 #[test]
@@ -118,4 +123,5 @@ fn a_node_goes_on_where_it_was(rt: HostRuntime) {
     let mut third = again(&rt, second);
     assert!(&rt; answers(&rt, &mut third, (1, (147, 181), (146, 182))));
     assert!(&rt; has_parts(&mut third, UNSTAGED));
+    drop(third);
 }

@@ -13,7 +13,11 @@ fn leaves(rt: &(impl Abort + AllocGlobal), frames: usize) -> bool {
     let ends = FRAMES.get(frames).expect(rt, "a frame");
     let mut keep = MemoryKeep::new(rt.alloc(), 1000);
     let (end, written) = played(rt, &mut keep, SCRIPT.get(..*ends).expect(rt, "frames"));
-    is_end(end, frames) && is_replied(end, written.as_slice()) && is_after(&mut keep, frames)
+    let is_replied = is_replied(end, written.as_slice());
+    drop(written);
+    let is_after = is_after(&mut keep, frames);
+    drop(keep);
+    is_end(end, frames) && is_replied && is_after
 }
 
 #[test]
@@ -110,6 +114,8 @@ fn stopped(rt: &(impl Abort + AllocGlobal), stop: Stop) -> (End, Image) {
     };
     let (end, written) = played(rt, &mut keep, SCRIPT);
     assert!(rt; is_replied(end, written.as_slice()));
+    drop(written);
+    drop(new);
     assert!(rt; (keep.faults() == 0) == is_end(end, 6));
     (end, left_by(rt, keep.into_connection(), stop.2))
 }
@@ -120,20 +126,26 @@ fn goes_on(rt: &(impl Abort + AllocGlobal), end: End, image: &Image) -> bool {
         return false;
     };
     let is_left = may_have(&mut keep, end);
-    let (again, _written) = played(rt, &mut keep, SCRIPT);
-    is_left && is_end(again, 6) && is_after(&mut keep, 6) && keep.faults() == 0
+    let (again, written) = played(rt, &mut keep, SCRIPT);
+    drop(written);
+    let is_whole = is_end(again, 6) && is_after(&mut keep, 6) && keep.faults() == 0;
+    drop(keep);
+    is_left && is_whole
 }
 
 // Whether the script, stopped so, goes on.
 fn goes_on_after(rt: &(impl Abort + AllocGlobal), stop: Stop) -> bool {
     let (end, image) = stopped(rt, stop);
-    goes_on(rt, end, &image)
+    let goes_on = goes_on(rt, end, &image);
+    drop(image);
+    goes_on
 }
 
 #[test]
 fn with_no_stop_the_script_is_served_to_its_end(rt: HostRuntime) {
     let (end, image) = stopped(&rt, NO_STOP);
     assert!(&rt; is_end(end, 6) && goes_on(&rt, end, &image));
+    drop(image);
 }
 
 // How many calls of a file are answered before it stops: few are in the opening, most in commits or between.

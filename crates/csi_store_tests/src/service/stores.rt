@@ -1,5 +1,5 @@
 //! Stores in SQLite that something else wrote, and stores in memory at their limits.
-use super::{controller, has_head, is_fault, part};
+use super::{controller_fault, has_head, part};
 use csi_service::{Keep, KeepFault, MemoryKeep, Part, SqliteKeep};
 use sqlite::{Connection, MemStore};
 use std::process::Abort;
@@ -44,6 +44,7 @@ fn a_row_that_is_no_part_is_refused_at_its_place(rt: HostRuntime) {
         let mut keep = store(&rt, WITH_HEAD, row);
         assert!(&rt; refused_at(&mut keep) == Some(*place));
         assert!(&rt; keep.faults() == 0);
+        drop(keep);
     }
 }
 
@@ -51,13 +52,15 @@ fn a_row_that_is_no_part_is_refused_at_its_place(rt: HostRuntime) {
 fn another_table_of_that_name_is_refused_at_0(rt: HostRuntime) {
     let mut keep = store(&rt, "CREATE TABLE parts (name TEXT, size INTEGER)", "");
     assert!(&rt; refused_at(&mut keep) == Some(0));
+    drop(keep);
 }
 
 #[test]
 fn what_another_program_wrote_is_opened(rt: HostRuntime) {
     let mut keep = store(&rt, WITH_HEAD, "");
     assert!(&rt; has_head(&mut keep, super::CONTROLLER_HEAD));
-    assert!(&rt; controller(&rt, &mut keep).is_ok());
+    assert!(&rt; controller_fault(&rt, &mut keep).is_none());
+    drop(keep);
 }
 
 #[test]
@@ -87,13 +90,20 @@ const ROOMS: &[(u64, &[u8], &[u8], bool)] = &[
 // Whether a store with so much room takes these values.
 fn takes(rt: &(impl Abort + AllocGlobal), limit: u64, first: &[u8], second: &[u8]) -> bool {
     let mut keep = MemoryKeep::new(rt.alloc(), limit);
-    keep.commit(&[part(rt, 1, &[1, 2])]).expect(rt, "room");
-    let committed = keep.commit(&[part(rt, 1, first), part(rt, 2, second)]);
+    let old = [part(rt, 1, &[1, 2])];
+    keep.commit(&old).expect(rt, "room");
+    drop(old);
+    let new = [part(rt, 1, first), part(rt, 2, second)];
+    let committed = keep.commit(&new);
+    drop(new);
     let parts = keep.load().expect(rt, "parts");
+    drop(keep);
+    let count = parts.len();
+    drop(parts);
     match committed {
-        Ok(()) => parts.len() == 2,
+        Ok(()) => count == 2,
         Err(fault) => {
-            assert!(rt; fault == KeepFault::Full && parts.len() == 1);
+            assert!(rt; fault == KeepFault::Full && count == 1);
             false
         }
     }
@@ -109,11 +119,18 @@ fn a_content_fits_exactly_within_the_limit(rt: HostRuntime) {
 #[test]
 fn a_part_that_is_taken_out_makes_room(rt: HostRuntime) {
     let mut keep = MemoryKeep::new(rt.alloc(), 10);
-    keep.commit(&[part(&rt, 1, &[1, 2])]).expect(&rt, "room");
+    let first = [part(&rt, 1, &[1, 2])];
+    keep.commit(&first).expect(&rt, "room");
+    drop(first);
+    let more = [part(&rt, 2, &[3, 4])];
+    assert!(&rt; keep.commit(&more) == Err(KeepFault::Full));
+    drop(more);
     let gone = Part {
         key: 1,
         value: None,
     };
-    assert!(&rt; is_fault(&keep.commit(&[part(&rt, 2, &[3, 4])]), KeepFault::Full));
-    assert!(&rt; keep.commit(&[gone, part(&rt, 2, &[3, 4])]).is_ok());
+    let other = [gone, part(&rt, 2, &[3, 4])];
+    assert!(&rt; keep.commit(&other).is_ok());
+    drop(other);
+    drop(keep);
 }
