@@ -39,9 +39,7 @@ fn report_of(alloc: Global, config: &Config, events: &[Event]) -> Result<String,
     ensures { IfOk result (λ text. IsReportOf (record { config = config.now; events = events.now }) (string_bytes text)) }
 {
     let world = simulate(alloc, config, events)?;
-    let text = report(alloc, &world);
-    drop(world);
-    text
+    report(alloc, &world)
 }
 
 // Appends a text and a newline. An `Err` appends nothing.

@@ -53,9 +53,7 @@ impl Handler for Lines {
         out: &mut Vec<u8>,
     ) -> Result<(), AnswerFault> {
         let frame = frame.to_frame(alloc)?;
-        let appended = append_line(&mut self.line, place, &frame, out);
-        drop(frame);
-        appended
+        append_line(&mut self.line, place, &frame, out)
     }
 }
 

@@ -34,11 +34,7 @@ fn read(rt: &(impl Abort + AllocGlobal), schedule: &str) -> (Config, Vec<Event>)
 // Whether the world after these events is safe, where there is memory for it.
 fn is_safe_after(alloc: Global, config: &Config, events: &[Event]) -> bool {
     match simulate(alloc, config, events) {
-        Ok(world) => {
-            let is_safe = matches!(audit(alloc, &world), Ok(None));
-            drop(world);
-            is_safe
-        }
+        Ok(world) => matches!(audit(alloc, &world), Ok(None)),
         Err(_) => false,
     }
 }
@@ -46,10 +42,7 @@ fn is_safe_after(alloc: Global, config: &Config, events: &[Event]) -> bool {
 // The schedule's events lead to a safe world. Where memory is refused it is simulated the second time.
 fn leads_to_safety(rt: &(impl Abort + AllocGlobal), schedule: &str) -> bool {
     let (config, events) = read(rt, schedule);
-    let is_safe = is_safe_after(rt.alloc(), &config, &events)
-        || is_safe_after(rt.alloc(), &config, &events);
-    drop((config, events));
-    is_safe
+    is_safe_after(rt.alloc(), &config, &events) || is_safe_after(rt.alloc(), &config, &events)
 }
 
 // The schedule is run to its report, and the world that its events lead to is safe.
