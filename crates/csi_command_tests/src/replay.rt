@@ -14,7 +14,7 @@ mod schedules;
 mod scripts;
 mod shown;
 
-use csi_commands::Ending;
+use csi_endings::Ending;
 
 // What a command is to give for the frames of a file, which are written in hexadecimal: for `answer` the replies, for `show`
 // the lines; and how it ends. For `run` the file is a schedule and its report is given, or bytes that get nothing.

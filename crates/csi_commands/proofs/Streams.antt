@@ -10,9 +10,9 @@ use Rattle.csi_streams.specs.declared.streaming.StreamFault.TheVariants as stops
 use Rattle.csi_streams.specs.Replay.{Grows}
 use Rattle.csi_streams.specs.Streaming.{AreReplies, AreLines, GivesFront, StreamEnds, Streams, WritesFront}
 use Rattle.csi_streams.proofs.Streams.{one_stream}
-use Rattle.csi_commands.specs.declared.commands.FileCommand.TheVariants.{Answer, Show, Run}
-use Rattle.csi_commands.specs.declared.ending.Ending.{Ending}
-use Rattle.csi_commands.specs.declared.ending.Ending.TheVariants as endings
+use Rattle.csi_endings.specs.declared.command.FileCommand.TheVariants.{Answer, Show, Run}
+use Rattle.csi_endings.specs.declared.ending.Ending.{Ending}
+use Rattle.csi_endings.specs.declared.ending.Ending.TheVariants as endings
 use Rattle.csi_commands.specs.Ending.{EndsAs}
 use Rattle.csi_commands.specs.Running.{Runs, IsRefused}
 use Rattle.csi_commands.specs.Streaming.{StreamsAs, StreamEndsAs, WasCut, ending_of_stream, ending_of_written}

@@ -1,35 +1,14 @@
--- How the program ends. This profile's own.
+-- How a command on the bytes of a file ends. This profile's own.
 use Rattle.std.specs.Prelude.{◌≡◌, ℕ, List, [], ◌++◌}
-use Rattle.std.specs.declared.io.ErrorKind.{ErrorKind}
-use Rattle.std.specs.declared.io.ErrorKind.TheVariants.{OutOfMemory}
 use Rattle.csi_types.specs.Frame.{Frame}
-use Rattle.csi_commands.specs.declared.ending.Ending.{Ending}
-use Rattle.csi_commands.specs.declared.ending.Ending.TheVariants.{Done, FrameFault, ScheduleFault, NotUtf8, ConfigRefused, RecordFault, Usage, Device, StoreNotOpened, Endless, Memory}
+use Rattle.csi_endings.specs.declared.ending.Ending.{Ending}
+use Rattle.csi_endings.specs.declared.ending.Ending.TheVariants.{Done, FrameFault, Memory}
 use Rattle.csi_streams.specs.declared.answers.AnswerFault.{AnswerFault}
 use Rattle.csi_streams.specs.declared.answers.AnswerFault.TheVariants as faults
-use Rattle.csi_commands.specs.declared.commands.FileCommand.{FileCommand}
-use Rattle.csi_commands.specs.declared.commands.FileCommand.TheVariants.{Answer, Show, Run}
+use Rattle.csi_endings.specs.declared.command.FileCommand.{FileCommand}
+use Rattle.csi_endings.specs.declared.command.FileCommand.TheVariants.{Answer, Show, Run}
 use Rattle.csi_streams.specs.Replay.{answered, Fails, IsFaultOf, Grows}
 use Rattle.csi_commands.specs.Running.{Runs, IsRefused}
-
--- 1 for input that is refused, 2 for the command line, 3 for a device or memory
-abbrev pub exit_status : Ending → ℕ
-exit_status Done = 0
-exit_status (FrameFault kind place) = 1
-exit_status (ScheduleFault fault) = 1
-exit_status NotUtf8 = 1
-exit_status ConfigRefused = 1
-exit_status (RecordFault place) = 1
-exit_status Usage = 2
-exit_status Device = 3
-exit_status StoreNotOpened = 3
-exit_status Endless = 3
-exit_status Memory = 3
-
--- where a call of the system fails so
-abbrev pub ending_unless_memory : ErrorKind → Ending → Ending
-ending_unless_memory OutOfMemory other = Memory
-ending_unless_memory _ other = other
 
 abbrev pub ending_of : AnswerFault → Ending
 ending_of (faults.Frame kind place) = FrameFault kind place

@@ -5,8 +5,8 @@ use Rattle.csi_schedules.specs.Schedule.{Schedule, text_schedule}
 use Rattle.csi_world.specs.After.{after}
 use Rattle.csi_world.specs.Simulated.{WorldParts, ShowsRun}
 use Rattle.csi_reports.specs.Report.{IsReport}
-use Rattle.csi_commands.specs.declared.ending.Ending.{Ending}
-use Rattle.csi_commands.specs.declared.ending.Ending.TheVariants as endings
+use Rattle.csi_endings.specs.declared.ending.Ending.{Ending}
+use Rattle.csi_endings.specs.declared.ending.Ending.TheVariants as endings
 use Rattle.csi_schedules.specs.declared.schedule.ScheduleFault.{ScheduleFault}
 use Rattle.csi_schedules.specs.declared.schedule.ScheduleFault.TheVariants.{NotJson, BadSchedule, TooMany, NoMemory}
 

@@ -9,10 +9,10 @@ use Rattle.csi_streams.specs.declared.streaming.StreamFault.{StreamFault}
 use Rattle.csi_streams.specs.declared.streaming.StreamFault.TheVariants as stops
 use Rattle.csi_streams.specs.Replay.{Grows}
 use Rattle.csi_streams.specs.Streaming.{AreReplies, GivesFront}
-use Rattle.csi_commands.specs.declared.commands.FileCommand.{FileCommand}
-use Rattle.csi_commands.specs.declared.commands.FileCommand.TheVariants.{Answer, Show, Run}
-use Rattle.csi_commands.specs.declared.ending.Ending.{Ending}
-use Rattle.csi_commands.specs.declared.ending.Ending.TheVariants as endings
+use Rattle.csi_endings.specs.declared.command.FileCommand.{FileCommand}
+use Rattle.csi_endings.specs.declared.command.FileCommand.TheVariants.{Answer, Show, Run}
+use Rattle.csi_endings.specs.declared.ending.Ending.{Ending}
+use Rattle.csi_endings.specs.declared.ending.Ending.TheVariants as endings
 use Rattle.csi_commands.specs.Ending.{EndsAs, RunsAs}
 use Rattle.csi_commands.specs.Running.{Runs}
 

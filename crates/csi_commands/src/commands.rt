@@ -1,23 +1,22 @@
 //! The commands that read a file.
-ghost use Rattle.std.specs.Prelude.{List, ℕ};
+ghost use Rattle.std.specs.Prelude.{List, ℕ, ◌≡◌};
 ghost use Rattle.csi_types.specs.Frame.{Frame};
 ghost use Rattle.csi_frames.specs.Stream.{FramesOf};
-ghost use Rattle.csi_commands.specs.Ending.{EndsAs, RunsAs};
+ghost use Rattle.csi_commands.specs.Ending.{EndsAs, RunsAs, ending_of as ending};
 
-use crate::ending::Ending;
 use crate::running::run;
+use csi_endings::{Ending, FileCommand};
 use csi_streams::{AnswerFault, answer, show};
 use std::alloc::Global;
 
-/// What is done with the bytes of a file.
-#[derive(Clone, Copy, Debug, PartialEq, Eq)]
-pub enum FileCommand {
-    /// The frames are answered by a new controller.
-    Answer,
-    /// A line is shown for each frame.
-    Show,
-    /// The schedule is run, and the report of its world is shown.
-    Run,
+// The ending where not all frames were answered or shown.
+fn ending_of(fault: AnswerFault) -> Ending
+    ensures { result ≡ ending fault }
+{
+    match fault {
+        AnswerFault::Frame(kind, place) => Ending::FrameFault(kind, place),
+        AnswerFault::NoMemory => Ending::Memory,
+    }
 }
 
 /// Carries the command out on the bytes of a file, and appends to `out` what goes to standard output. What was appended
@@ -31,29 +30,15 @@ pub fn file(alloc: Global, command: FileCommand, input: &[u8], out: &mut Vec<u8>
     match command {
         FileCommand::Answer => match answer(alloc, input, out) {
             Ok(_) => Ending::Done,
-            Err(fault) => Ending::from(fault),
+            Err(fault) => ending_of(fault),
         },
         FileCommand::Show => match show(alloc, input, out) {
             Ok(()) => Ending::Done,
-            Err(fault) => Ending::from(fault),
+            Err(fault) => ending_of(fault),
         },
         FileCommand::Run => match run(alloc, input, out) {
             Ok(()) => Ending::Done,
             Err(ending) => ending,
         },
-    }
-}
-
-impl From<AnswerFault> for Ending {
-    ghost use Rattle.std.specs.Prelude.{◌≡◌};
-    ghost use Rattle.csi_commands.specs.Ending.{ending_of};
-
-    ghost from_gives = { λ fault ending. ending ≡ ending_of fault };
-
-    fn from(fault: AnswerFault) -> Ending {
-        match fault {
-            AnswerFault::Frame(kind, place) => Ending::FrameFault(kind, place),
-            AnswerFault::NoMemory => Ending::Memory,
-        }
     }
 }

@@ -3,12 +3,10 @@
 #![tactic(auto)]
 
 mod commands;
-mod ending;
 mod running;
 mod streaming;
 
-pub use commands::{FileCommand, file};
+pub use commands::file;
 pub use csi_streams::{AnswerFault, StreamFault, answer, answer_from, show, show_from};
-pub use ending::Ending;
 pub use running::run;
 pub use streaming::stream;

@@ -3,7 +3,7 @@ ghost use Rattle.std.specs.Prelude.{◌≡◌, ◌++◌, ◌∷◌, [], IfOk, If
 ghost use Rattle.csi_schedules.specs.Schedule.{text_schedule};
 ghost use Rattle.csi_commands.specs.Running.{IsReportOf, Runs, IsRefused, refusal_of as refusal};
 
-use crate::ending::Ending;
+use csi_endings::Ending;
 use csi_reports::report;
 use csi_schedules::{ScheduleFault, read_schedule};
 use csi_types::{Config, NoMemory};

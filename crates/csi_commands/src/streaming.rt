@@ -1,11 +1,10 @@
 //! The commands on a reader and a writer.
 ghost use Rattle.std.specs.Prelude.{◌≡◌};
 ghost use Rattle.csi_commands.specs.Streaming.{StreamsAs, ending_of_stream, ending_of_written};
-ghost use Rattle.csi_commands.specs.declared.commands.FileCommand.TheVariants as commands;
+ghost use Rattle.csi_endings.specs.declared.command.FileCommand.TheVariants as commands;
 
-use crate::commands::FileCommand;
-use crate::ending::Ending;
 use crate::running::run;
+use csi_endings::{Ending, FileCommand};
 use csi_streams::{StreamFault, WriteFailed, answer_from, show_from, write_out};
 use std::alloc::Global;
 use std::io::{Read, Write};

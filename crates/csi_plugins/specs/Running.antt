@@ -12,7 +12,7 @@ use Rattle.csi_serving.specs.Stores.{Store}
 use Rattle.csi_serving.specs.Opening.{HasRecord, IsOpenFault, LeavesHead}
 use Rattle.csi_serving.specs.Services.{controller_service_parts, ControllerAnswers, node_service_parts}
 use Rattle.csi_serving.specs.NodeServices.{NodeServiceAnswers}
-use Rattle.csi_commands.specs.declared.ending.Ending.{Ending}
+use Rattle.csi_endings.specs.declared.ending.Ending.{Ending}
 use Rattle.csi_plugins.specs.declared.kind.Plugin.{Plugin}
 use Rattle.csi_plugins.specs.declared.kind.Plugin.TheVariants.{Controller, Node}
 use Rattle.csi_plugins.specs.Ending.{ending_of_store}

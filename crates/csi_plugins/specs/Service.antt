@@ -9,7 +9,7 @@ use Rattle.csi_serving.specs.declared.serving.fault.ServeFault.{ServeFault}
 use Rattle.csi_serving.specs.Keeping.{HasRisen}
 use Rattle.csi_serving.specs.Stores.{Store}
 use Rattle.csi_serving.specs.Serving.{Setting, Serves}
-use Rattle.csi_commands.specs.declared.ending.Ending.{Ending}
+use Rattle.csi_endings.specs.declared.ending.Ending.{Ending}
 use Rattle.csi_plugins.specs.Ending.{ending_of_serving}
 
 -- a reader and a writer, before and after: what is unread, what is written, and whether they failed meanwhile

@@ -6,7 +6,7 @@ ghost use Rattle.csi_plugins.specs.Running.{ControllerRuns, NodeRuns, PluginRuns
 use crate::ending::ending_of_store;
 use crate::kind::Plugin;
 use crate::service::served;
-use csi_commands::Ending;
+use csi_endings::Ending;
 use csi_serving::{ControllerService, Counted, Keep, NodeService};
 use csi_types::{Config, NodeId};
 use std::alloc::Global;

@@ -3,7 +3,7 @@ ghost use Rattle.csi_serving.specs.Stores.{store};
 ghost use Rattle.csi_plugins.specs.Service.{IsServed, streams};
 
 use crate::ending::ending_of_serving;
-use csi_commands::Ending;
+use csi_endings::Ending;
 use csi_serving::{Core, Counted, Keep, serve};
 use std::alloc::Global;
 use std::io::{Read, Write};

@@ -1,5 +1,6 @@
 //! What a process does that was started with some words.
-use csi_commands::{Ending, FileCommand, stream};
+use csi_commands::stream;
+use csi_endings::{Ending, FileCommand};
 use csi_plugins::{Plugin, ending_unopened, plugin};
 use csi_service::{Counted, SqliteKeep};
 use csi_words::{CommandLine, parse};
@@ -33,7 +34,9 @@ fn from_store<S: Start>(rt: &HostRuntime, path: &str, start: S, asked: Plugin) -
     };
     let mut reader = Counted::new(rt.stdin());
     let mut writer = Counted::new(rt.stdout());
-    plugin(rt.alloc(), asked, &mut keep, &mut reader, &mut writer)
+    let ending = plugin(rt.alloc(), asked, &mut keep, &mut reader, &mut writer);
+    keep.close();
+    ending
 }
 
 // Does what the words name. A store's file is read after a crash as SQLite reads it: a write that was cut short left each byte

@@ -1,6 +1,6 @@
 //! Plugins, opened from their stores and served, as a process does.
 use Asked::{Controller, Node};
-use csi_commands::Ending;
+use csi_endings::Ending;
 use csi_frames::FaultKind;
 use csi_plugins::{Plugin, plugin};
 use csi_service::{Counted, Keep, MemoryKeep, SqliteKeep};

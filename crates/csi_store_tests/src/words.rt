@@ -1,5 +1,5 @@
 //! The words of the command line, and the status of a process that was started with others.
-use csi_commands::{Ending, FileCommand};
+use csi_endings::{Ending, FileCommand};
 use csi_words::{CommandLine, parse};
 use std::alloc::{AllocError, Global};
 use std::process::{Abort, ExitCode};

@@ -3,10 +3,10 @@ use Rattle.std.specs.Prelude.{ℕ, List, Option, None, option_map, option_and_th
 use Rattle.clap.specs.Words.{App, Row, first_of, new_app, new_rule, subcommand_of, with_rule, with_subcommand}
 use Rattle.clap.specs.declared.error.kind.ErrorKind.{ErrorKind}
 use Rattle.clap.specs.declared.error.kind.ErrorKind.TheVariants.{OutOfMemory}
-use Rattle.csi_commands.specs.declared.commands.FileCommand.{FileCommand}
-use Rattle.csi_commands.specs.declared.commands.FileCommand.TheVariants.{Answer, Show, Run}
-use Rattle.csi_commands.specs.declared.ending.Ending.{Ending}
-use Rattle.csi_commands.specs.declared.ending.Ending.TheVariants.{Usage, Memory}
+use Rattle.csi_endings.specs.declared.command.FileCommand.{FileCommand}
+use Rattle.csi_endings.specs.declared.command.FileCommand.TheVariants.{Answer, Show, Run}
+use Rattle.csi_endings.specs.declared.ending.Ending.{Ending}
+use Rattle.csi_endings.specs.declared.ending.Ending.TheVariants.{Usage, Memory}
 use Rattle.csi_words.specs.declared.command_line.CommandLine.{CommandLine}
 use Rattle.csi_words.specs.declared.command_line.CommandLine.TheVariants as lines
 

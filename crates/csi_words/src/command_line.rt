@@ -6,7 +6,7 @@ ghost use Rattle.csi_words.specs.Words.{command_entered, command_in as named_in,
 
 use clap::error::ErrorKind;
 use clap::{Arg, ArgMatches, Command, Error};
-use csi_commands::{Ending, FileCommand};
+use csi_endings::{Ending, FileCommand};
 use std::alloc::{AllocError, Global};
 
 /// What the words name: a command, with the texts behind it.

@@ -1,5 +1,5 @@
 //! How a run of the program ends.
-use csi_commands::Ending;
+use csi_endings::Ending;
 use csi_frames::FaultKind;
 use csi_schedules::ScheduleFault;
 use std::alloc::{AllocError, Global};

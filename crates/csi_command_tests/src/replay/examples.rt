@@ -1,7 +1,7 @@
 //! The schedules of the folder `examples`, each with its report. The texts here are those of the files there.
 use super::Case;
 use super::running::run_all;
-use csi_commands::Ending;
+use csi_endings::Ending;
 
 const LATE_PUBLISH: &str =
     "{\"config\":{\"greatest\":1000,\"nodes\":[{\"id\":\"n1\",\"slots\":4},{\"id\":\"n2\",\"slots\":4}]},

@@ -3,7 +3,7 @@ use super::running::run_all;
 use super::{
     CONTROLLER_PUBLISH, CREATE, CREATED, Case, DAMAGED, DELETE, DELETED, NO_NODE, NODE_PUBLISH,
 };
-use csi_commands::Ending;
+use csi_endings::Ending;
 use csi_frames::FaultKind;
 
 const DONE: Ending = Ending::Done;

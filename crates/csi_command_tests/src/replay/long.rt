@@ -2,7 +2,7 @@
 use super::listed::Listed;
 use super::running::gives;
 use super::scripts::{Place, Script};
-use csi_commands::{Ending, FileCommand};
+use csi_endings::{Ending, FileCommand};
 use csi_schedules::read_schedule;
 use csi_types::Config;
 use csi_world::{Event, audit, simulate};

@@ -1,7 +1,8 @@
 //! Commands on readers that give little at once or fail, and on writers that take little or nothing.
 use super::running::bytes;
 use super::{CONTROLLER_PUBLISH, CREATE, CREATED, Case, DAMAGED, DELETE, DELETED, NO_NODE};
-use csi_commands::{Ending, FileCommand, StreamFault, answer_from, show_from, stream};
+use csi_commands::{StreamFault, answer_from, show_from, stream};
+use csi_endings::{Ending, FileCommand};
 use csi_frames::FaultKind;
 use std::alloc::Global;
 use std::io;

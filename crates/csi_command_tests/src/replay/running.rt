@@ -1,7 +1,8 @@
 //! How a table of commands is run. A run may see a growth refused (by `rt try --test --fail-alloc N`): it then ends in want of
 //! memory, after a beginning of what it is to give, and gives all of it the second time.
 use super::Case;
-use csi_commands::{Ending, FileCommand, file};
+use csi_commands::file;
+use csi_endings::{Ending, FileCommand};
 use std::alloc::{AllocError, Global};
 use std::process::Abort;
 

@@ -2,7 +2,7 @@
 use super::Case;
 use super::running::{gives, run_all};
 use super::schedules::with_zeros;
-use csi_commands::{Ending, FileCommand};
+use csi_endings::{Ending, FileCommand};
 use csi_schedules::{MAX_EVENTS, ScheduleFault};
 
 const DONE: Ending = Ending::Done;

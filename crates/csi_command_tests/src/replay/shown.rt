@@ -1,7 +1,7 @@
 //! Files of frames, shown in lines.
 use super::running::run_all;
 use super::{CONTROLLER_PUBLISH, CREATE, Case, DAMAGED, DELETE, DELETED, NODE_PUBLISH};
-use csi_commands::Ending;
+use csi_endings::Ending;
 use csi_frames::FaultKind;
 
 const DONE: Ending = Ending::Done;

@@ -34,4 +34,17 @@ impl<S: Start> SqliteKeep<FileStore<FileFrom<S>>> {
             Err((fault, _connection)) => Err(fault),
         }
     }
+
+    /// Closes the file; every commit is in it or in its log already. The answer is how often its device had failed. It takes no
+    /// memory.
+    pub fn close(self) -> u64
+        ensures { result ≡ self.faults }
+    {
+        let SqliteKeep {
+            alloc: _,
+            connection: _,
+            faults: count,
+        } = self;
+        count
+    }
 }
