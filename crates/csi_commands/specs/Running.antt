@@ -7,8 +7,8 @@ use Rattle.csi_world.specs.Simulated.{WorldParts, ShowsRun}
 use Rattle.csi_reports.specs.Report.{IsReport}
 use Rattle.csi_endings.specs.declared.ending.Ending.{Ending}
 use Rattle.csi_endings.specs.declared.ending.Ending.TheVariants as endings
-use Rattle.csi_schedules.specs.declared.schedule.ScheduleFault.{ScheduleFault}
-use Rattle.csi_schedules.specs.declared.schedule.ScheduleFault.TheVariants.{NotJson, BadSchedule, TooMany, NoMemory}
+use Rattle.csi_json.specs.declared.fault.ScheduleFault.{ScheduleFault}
+use Rattle.csi_json.specs.declared.fault.ScheduleFault.TheVariants.{NotJson, BadSchedule, TooMany, NoMemory}
 
 -- the text is the report of the world to which the schedule's events lead from an empty one
 pub record IsReportOf (schedule : Schedule) (text : List ℕ) : Type 0 where

@@ -3,7 +3,7 @@ ghost use Rattle.std.specs.Prelude.{◌≡◌};
 ghost use Rattle.csi_endings.specs.Ending.{exit_status, ending_unless_memory};
 
 use csi_frames::FaultKind;
-use csi_schedules::ScheduleFault;
+use csi_json::ScheduleFault;
 use csi_types::NoMemory;
 use std::alloc::AllocError;
 use std::fmt;

@@ -3,7 +3,7 @@ use Rattle.std.specs.Prelude.{◌≡◌, ℕ, List, Ok}
 use Rattle.std.specs.Str.{IsUtf8}
 use Rattle.csi_types.specs.Config.{Config}
 use Rattle.csi_types.specs.Text.{IsNodeId}
-use Rattle.csi_schedules.specs.Schedule.{text_config}
+use Rattle.csi_json.specs.Configs.{text_config}
 use Rattle.csi_endings.specs.declared.ending.Ending.{Ending}
 use Rattle.csi_endings.specs.declared.ending.Ending.TheVariants.{NotUtf8, ConfigRefused, Memory}
 use Rattle.csi_plugins.specs.declared.kind.Plugin.{Plugin}

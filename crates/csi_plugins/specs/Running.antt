@@ -2,16 +2,16 @@
 use Rattle.std.specs.Prelude.{◌≡◌, ◌⊎◌, ⊤, ℕ, List, Option, Some}
 use Rattle.csi_types.specs.Frame.{Frame}
 use Rattle.csi_types.specs.Config.{Config}
-use Rattle.csi_records.specs.Part.{StoredPart}
+use Rattle.csi_stores.specs.Part.{StoredPart}
 use Rattle.csi_records.specs.Records.{controller_layout, node_layout, IsRecordOf, IsRefusedAt}
 use Rattle.csi_records.specs.Spelling.{controller_head, node_head}
-use Rattle.csi_serving.specs.declared.keep.KeepFault.{KeepFault}
-use Rattle.csi_serving.specs.declared.controller_service.ControllerService.{ControllerService}
-use Rattle.csi_serving.specs.declared.node_service.NodeService.{NodeService}
-use Rattle.csi_serving.specs.Stores.{Store}
-use Rattle.csi_serving.specs.Opening.{HasRecord, IsOpenFault, LeavesHead}
-use Rattle.csi_serving.specs.Services.{controller_service_parts, ControllerAnswers, node_service_parts}
-use Rattle.csi_serving.specs.NodeServices.{NodeServiceAnswers}
+use Rattle.csi_stores.specs.declared.keep.KeepFault.{KeepFault}
+use Rattle.csi_service.specs.declared.controller_service.ControllerService.{ControllerService}
+use Rattle.csi_service.specs.declared.node_service.NodeService.{NodeService}
+use Rattle.csi_stores.specs.Stores.{Store}
+use Rattle.csi_service.specs.Opening.{HasRecord, IsOpenFault, LeavesHead}
+use Rattle.csi_service.specs.Services.{controller_service_parts, ControllerAnswers, node_service_parts}
+use Rattle.csi_service.specs.NodeServices.{NodeServiceAnswers}
 use Rattle.csi_endings.specs.declared.ending.Ending.{Ending}
 use Rattle.csi_plugins.specs.declared.kind.Plugin.{Plugin}
 use Rattle.csi_plugins.specs.declared.kind.Plugin.TheVariants.{Controller, Node}

@@ -2,12 +2,12 @@
 use Rattle.std.specs.Prelude.{◌≡◌, ◌≤◌, ◌^◌, ℕ, List, length, Option, Result}
 use Rattle.std.specs.Io.KnownBytes.{Consumes, IsAtEnd}
 use Rattle.csi_types.specs.Frame.{Frame}
-use Rattle.csi_records.specs.Part.{StoredPart}
+use Rattle.csi_stores.specs.Part.{StoredPart}
 use Rattle.csi_serving.specs.declared.counted.Counted.{Counted}
 use Rattle.csi_serving.specs.declared.serving.fault.Served.{Served}
 use Rattle.csi_serving.specs.declared.serving.fault.ServeFault.{ServeFault}
-use Rattle.csi_serving.specs.Keeping.{HasRisen}
-use Rattle.csi_serving.specs.Stores.{Store}
+use Rattle.csi_stores.specs.Keeping.{HasRisen}
+use Rattle.csi_stores.specs.Stores.{Store}
 use Rattle.csi_serving.specs.Serving.{Setting, Serves}
 use Rattle.csi_endings.specs.declared.ending.Ending.{Ending}
 use Rattle.csi_plugins.specs.Ending.{ending_of_serving}

@@ -3,7 +3,7 @@ ghost use Rattle.std.specs.Prelude.{◌≡◌};
 ghost use Rattle.csi_plugins.specs.Ending.{ending_of_store as by_store, ending_unopened as by_opening, ending_of_kind as by_kind, ending_of_serving as by_serving};
 
 use csi_endings::Ending;
-use csi_serving::{KeepFault, ServeFault, ServeFaultKind, Served};
+use csi_service::{KeepFault, ServeFault, ServeFaultKind, Served};
 
 /// The ending where the store of a plugin refuses so: a device that fails, or is full; want of memory; or the first part that
 /// is none of the plugin's record.

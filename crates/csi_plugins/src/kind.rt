@@ -3,7 +3,7 @@ ghost use Rattle.std.specs.Prelude.{IfOk, IfErr};
 ghost use Rattle.csi_plugins.specs.Asked.{IsOfConfig, IsNoConfig, IsOfId, IsNoId};
 
 use csi_endings::Ending;
-use csi_schedules::{ScheduleFault, read_config};
+use csi_json::{ScheduleFault, read_config};
 use csi_types::{Config, NodeId, TextFault};
 use std::alloc::Global;
 

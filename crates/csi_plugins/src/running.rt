@@ -1,5 +1,5 @@
 //! A plugin's process, but for what it asks of the system.
-ghost use Rattle.csi_serving.specs.Stores.{store};
+ghost use Rattle.csi_stores.specs.Stores.{store};
 ghost use Rattle.csi_plugins.specs.Service.{streams};
 ghost use Rattle.csi_plugins.specs.Running.{ControllerRuns, NodeRuns, PluginRuns};
 
@@ -7,7 +7,7 @@ use crate::ending::ending_of_store;
 use crate::kind::Plugin;
 use crate::service::served;
 use csi_endings::Ending;
-use csi_serving::{ControllerService, Counted, Keep, NodeService};
+use csi_service::{ControllerService, Counted, Keep, NodeService};
 use csi_types::{Config, NodeId};
 use std::alloc::Global;
 use std::io::{Read, Write};

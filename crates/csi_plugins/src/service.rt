@@ -1,10 +1,10 @@
 //! A plugin, served.
-ghost use Rattle.csi_serving.specs.Stores.{store};
+ghost use Rattle.csi_stores.specs.Stores.{store};
 ghost use Rattle.csi_plugins.specs.Service.{IsServed, streams};
 
 use crate::ending::ending_of_serving;
 use csi_endings::Ending;
-use csi_serving::{Core, Counted, Keep, serve};
+use csi_service::{Core, Counted, Keep, serve};
 use std::alloc::Global;
 use std::io::{Read, Write};
 

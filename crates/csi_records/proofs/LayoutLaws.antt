@@ -5,7 +5,7 @@ use Rattle.std.specs.List.{flat_map, AllByRecursion}
 use Rattle.std.proofs.lemmas.Bool.{cases_order}
 use Rattle.std.proofs.lemmas.List.{append-nil, append_cancel_left, length-append, length-map, take-map, take_at}
 use Rattle.csi_lists.proofs.Each.{each-map}
-use Rattle.csi_records.specs.Part.{StoredPart, IsPart}
+use Rattle.csi_stores.specs.Part.{StoredPart, IsPart}
 use Rattle.csi_records.specs.Spelling.{part_bytes, record_head, record_bytes}
 use Rattle.csi_records.specs.Records.{Layout, IsRecordOf, Begins, IsRefusedAt}
 use Rattle.csi_records.specs.Places.{IsBadAt, no_head, bad_part, more_bytes}

@@ -13,8 +13,8 @@ use Rattle.csi_types.specs.Text.{IsNodeId}
 use Rattle.csi_node.specs.declared.row.NodeRow.{NodeRow}
 use Rattle.csi_node.specs.OneRow.{RowShown, shown, IsSoundRow}
 use Rattle.csi_node.specs.Record.{IsSound as IsNodeSound, ids, id_at}
-use Rattle.csi_records.specs.declared.part.Part.{Part}
-use Rattle.csi_records.specs.Part.{StoredPart, stored_in, all_stored_in}
+use Rattle.csi_stores.specs.declared.part.Part.{Part}
+use Rattle.csi_stores.specs.Part.{StoredPart, stored_in, all_stored_in}
 use Rattle.csi_records.specs.Writing.{ArePublishedFew}
 use Rattle.csi_records.specs.Spelling.{VolumeRow, volume_row, node_head}
 use Rattle.csi_records.specs.Records.{controller_layout, node_layout, AreVolumeRows, IsRecordOf, IsRefusedAt}

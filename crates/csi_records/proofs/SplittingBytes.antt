@@ -12,7 +12,7 @@ use Rattle.csi_frames.specs.Bytes.{AreBytes}
 use Rattle.csi_frames.specs.Spelling as spelling
 use Rattle.csi_frames.proofs.Bytes.{AreBytes-take, AreBytes-back, four-back, four-again, four-front}
 use Rattle.csi_lists.proofs.Each.{each-append_one}
-use Rattle.csi_records.specs.Part.{StoredPart, IsPart}
+use Rattle.csi_stores.specs.Part.{StoredPart, IsPart}
 use Rattle.csi_records.specs.Spelling.{part_bytes, record_head, record_bytes}
 use Rattle.csi_records.specs.Records.{Begins, IsRefusedAt}
 use Rattle.csi_records.specs.declared.fault.RecordStop.{RecordStop}

@@ -4,7 +4,7 @@ use Rattle.std.specs.List.{flat_map, AllByRecursion}
 use Rattle.std.proofs.lemmas.List.{append-nil, map-append, take_more}
 use Rattle.std.proofs.lemmas.List.Concat.{flat_map-append}
 use Rattle.csi_lists.proofs.Each.{each-append_one}
-use Rattle.csi_records.specs.Part.{StoredPart}
+use Rattle.csi_stores.specs.Part.{StoredPart}
 use Rattle.csi_records.specs.Spelling.{part_bytes}
 
 -- what was written in two, three or four pieces is what was there before, and then the pieces

@@ -1,6 +1,6 @@
 -- Laws of records: parts tell the record, and bytes are read in one way. This profile's own.
 use Rattle.std.specs.Prelude.{◌≡◌, ℕ, List, Option}
-use Rattle.csi_records.specs.Part.{StoredPart}
+use Rattle.csi_stores.specs.Part.{StoredPart}
 use Rattle.csi_records.specs.Spelling.{record_bytes}
 use Rattle.csi_records.specs.Records.{Layout, AreParts, IsRecordOf, IsRefusedAt, controller_layout, node_layout}
 use Rattle.csi_records.specs.Places.{IsBadAt}

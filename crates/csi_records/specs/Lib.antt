@@ -1,4 +1,3 @@
-pub mod Part
 pub mod Spelling
 pub mod Records
 pub mod Reading
@@ -7,3 +6,4 @@ pub mod Writing
 pub mod Places
 pub mod Laws
 pub mod Worked
+pub mod Refusing

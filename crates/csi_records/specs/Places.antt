@@ -3,7 +3,7 @@ use Rattle.std.specs.Prelude.{◌≡◌, ◌≢◌, ◌⊎◌, ℕ, ◌<◌, ◌
 use Rattle.std.specs.List.{flat_map}
 use Rattle.csi_records.specs.declared.fault.RecordStop.{RecordStop}
 use Rattle.csi_records.specs.declared.fault.RecordStop.TheVariants.{BadRecord, NoMemory}
-use Rattle.csi_records.specs.Part.{StoredPart, IsPart}
+use Rattle.csi_stores.specs.Part.{StoredPart, IsPart}
 use Rattle.csi_records.specs.Spelling.{part_bytes, record_head, record_bytes}
 use Rattle.csi_records.specs.Records.{Layout, AreParts, Begins, IsRefusedAt}
 

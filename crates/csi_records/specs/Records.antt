@@ -12,7 +12,7 @@ use Rattle.csi_controller.specs.Core.{IsSound}
 use Rattle.csi_node.specs.declared.row.NodeTarget.{NodeTarget}
 use Rattle.csi_node.specs.OneRow.{RowShown}
 use Rattle.csi_node.specs.Record.{IsSound as IsNodeSound}
-use Rattle.csi_records.specs.Part.{StoredPart}
+use Rattle.csi_stores.specs.Part.{StoredPart}
 use Rattle.csi_records.specs.Spelling.{VolumeRow, volume_row, controller_head, volume_part, node_head, answered_part}
 
 -- ---- the limits of what stands in a part, each by itself

@@ -14,7 +14,7 @@ use Rattle.csi_controller.specs.Shown.{volume_of_row}
 use Rattle.csi_controller.specs.State.{Volume, ControllerState, holdings_of}
 use Rattle.csi_node.specs.declared.row.NodeTarget.{NodeTarget}
 use Rattle.csi_node.specs.OneRow.{RowShown}
-use Rattle.csi_records.specs.Part.{StoredPart}
+use Rattle.csi_stores.specs.Part.{StoredPart}
 
 -- every value begins with its version
 abbrev pub version : ℕ

@@ -1,7 +1,7 @@
 -- How far the rows of a record were read, one part after another: what the private functions that read answer.
 use Rattle.std.specs.Prelude.{◌≡◌, ◌≢◌, ◌⊎◌, ◌<◌, ◌≤◌, ◌^◌, ℕ, Bool, true, false, List, [], ◌∷◌, ◌++◌, length, map}
 use Rattle.std.specs.List.{flat_map, AllByRecursion}
-use Rattle.csi_records.specs.Part.{StoredPart, IsPart}
+use Rattle.csi_stores.specs.Part.{StoredPart, IsPart}
 use Rattle.csi_records.specs.Spelling.{part_bytes, record_head}
 
 -- all parts are rows; or the first that is none stands behind those that are

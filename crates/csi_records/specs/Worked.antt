@@ -9,7 +9,7 @@ use Rattle.csi_types.specs.Frame.{Frame}
 use Rattle.csi_types.specs.Replies.{call_frame}
 use Rattle.csi_controller.specs.State.{ControllerState, empty_controller}
 use Rattle.csi_controller.specs.Fenced.{after_frames}
-use Rattle.csi_records.specs.Part.{StoredPart}
+use Rattle.csi_stores.specs.Part.{StoredPart}
 use Rattle.csi_records.specs.Spelling.{controller_parts, rows_of, node_parts, record_bytes}
 
 -- no nodes, and volumes of at most 1,000 bytes

@@ -2,20 +2,20 @@
 ghost use Rattle.std.specs.Prelude.{◌≡◌, ℕ, List, Some, None, IfOk, IsErrOf};
 ghost use Rattle.csi_types.specs.Text.{IsNodeId};
 ghost use Rattle.csi_frames.specs.Bytes.{AreBytes};
-ghost use Rattle.csi_records.specs.Part.{stored_in};
+ghost use Rattle.csi_stores.specs.Part.{stored_in};
 ghost use Rattle.csi_records.specs.Spelling.{node_head};
 ghost use Rattle.csi_records.specs.Reading.{node_head_in, whole};
 
 use crate::fault::Stop;
 use crate::fields::Fields;
 use crate::items::list;
-use crate::part::Part;
 use crate::plugin_rows::Row;
 use crate::row_values::answered_value;
 use crate::texts::node_id;
 use crate::values::{reply, staged};
 use crate::writing::put_part;
 use csi_node::NodeRow;
+use csi_stores::Part;
 use csi_types::{NoMemory, NodeId, VolumeId};
 use std::alloc::Global;
 

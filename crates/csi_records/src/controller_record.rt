@@ -1,16 +1,16 @@
 //! A controller's record and its parts.
 ghost use Rattle.std.specs.Prelude.{map, IfOk};
-ghost use Rattle.csi_records.specs.Part.{all_stored_in};
+ghost use Rattle.csi_stores.specs.Part.{all_stored_in};
 ghost use Rattle.csi_records.specs.Spelling.{controller_parts, volume_row};
 ghost use Rattle.csi_records.specs.Records.{controller_layout, IsRecordOf};
 ghost use Rattle.csi_records.specs.Places.{RecordSpells, ReadsParts};
 
 use crate::fault::RecordStop;
-use crate::part::Part;
 use crate::plugin_rows::{ReadRows, bytes_of, rows_of};
 use crate::row_values::controller_head_value;
 use crate::volumes::next_id_of;
 use csi_controller::{ControllerRecord, RecordFault};
+use csi_stores::Part;
 use csi_types::NoMemory;
 use std::alloc::Global;
 

@@ -1,4 +1,5 @@
 //! Why parts or bytes are no record.
+use csi_stores::KeepFault;
 use csi_types::NoMemory;
 use std::alloc::{AllocError, AllocFailed};
 use thiserror::Error;
@@ -22,6 +23,20 @@ impl From<NoMemory> for RecordStop {
 
     fn from(_refused: NoMemory) -> RecordStop {
         RecordStop::NoMemory
+    }
+}
+
+impl From<RecordStop> for KeepFault {
+    ghost use Rattle.std.specs.Prelude.{◌≡◌};
+    ghost use Rattle.csi_records.specs.Refusing.{fault_of_stop};
+
+    ghost from_gives = { λ stop fault. fault ≡ fault_of_stop stop };
+
+    fn from(stop: RecordStop) -> KeepFault {
+        match stop {
+            RecordStop::BadRecord(place) => KeepFault::BadRecord(place),
+            RecordStop::NoMemory => KeepFault::NoMemory,
+        }
     }
 }
 

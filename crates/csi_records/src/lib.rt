@@ -8,7 +8,6 @@ mod fields;
 mod items;
 mod laws;
 mod node_record;
-mod part;
 mod plugin_rows;
 mod record;
 mod row_values;
@@ -21,6 +20,5 @@ mod writing;
 
 pub use fault::RecordStop;
 pub use laws::record_laws;
-pub use part::Part;
 pub use record::{Record, read_record, record_of_node, write_record};
 pub use row_values::{answered_value, controller_head_value, node_head_value, volume_value};

@@ -2,17 +2,17 @@
 ghost use Rattle.std.specs.Prelude.{◌≡◌, ◌↔◌, None, map, IfOk, IfSome, IsTrue};
 ghost use Rattle.std.specs.Option.{option_copied};
 ghost use Rattle.csi_node.specs.OneRow.{shown};
-ghost use Rattle.csi_records.specs.Part.{all_stored_in};
+ghost use Rattle.csi_stores.specs.Part.{all_stored_in};
 ghost use Rattle.csi_records.specs.Spelling.{node_parts};
 ghost use Rattle.csi_records.specs.Records.{node_layout, IsRecordOf};
 ghost use Rattle.csi_records.specs.Places.{RecordSpells, ReadsParts};
 
 use crate::answered::node_of;
 use crate::fault::{RecordStop, Stop};
-use crate::part::Part;
 use crate::plugin_rows::{ReadRows, bytes_of, rows_of};
 use crate::row_values::node_head_value;
 use csi_node::{NodeRecord, RecordFault};
+use csi_stores::Part;
 use csi_types::{NoMemory, NodeId};
 use std::alloc::Global;
 

@@ -3,15 +3,15 @@ ghost use Rattle.std.specs.Prelude.{◌≡◌, ◌≤◌, ◌<◌, ◌++◌, ◌
 ghost use Rattle.std.specs.List.{AllByRecursion};
 ghost use Rattle.csi_types.specs.VolumeId.{IsVolumeId};
 ghost use Rattle.csi_frames.specs.Bytes.{AreBytes};
-ghost use Rattle.csi_records.specs.Part.{StoredPart, stored_in, all_stored_in};
+ghost use Rattle.csi_stores.specs.Part.{StoredPart, stored_in, all_stored_in};
 ghost use Rattle.csi_records.specs.Reading.{Reader, IsReadWhole, whole};
 ghost use Rattle.csi_records.specs.Spelling.{part_bytes, record_bytes};
 ghost use Rattle.csi_records.specs.Stopping.{AreRead};
 
 use crate::fault::Stop;
 use crate::fields::Fields;
-use crate::part::Part;
 use crate::writing::{put_byte, put_count, put_part};
+use csi_stores::Part;
 use csi_types::{NoMemory, VolumeId};
 use std::alloc::Global;
 

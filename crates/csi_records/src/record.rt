@@ -1,7 +1,7 @@
 //! Records of either plugin: as parts, as bytes, and back.
 ghost use Rattle.std.specs.Prelude.{◌≡◌, List, None, map, IfOk, length};
 ghost use Rattle.csi_node.specs.OneRow.{shown};
-ghost use Rattle.csi_records.specs.Part.{StoredPart, all_stored_in};
+ghost use Rattle.csi_stores.specs.Part.{StoredPart, all_stored_in};
 ghost use Rattle.csi_records.specs.Spelling.{controller_parts, node_parts, volume_row, record_bytes};
 ghost use Rattle.csi_records.specs.Records.{controller_layout, node_layout, IsRecordOf};
 ghost use Rattle.csi_records.specs.Places.{ReadsParts, ReadsBytes};
@@ -9,10 +9,10 @@ ghost use Rattle.csi_records.specs.Places.{ReadsParts, ReadsBytes};
 use crate::controller_record::{controller_bytes, controller_record};
 use crate::fault::{RecordStop, Stop};
 use crate::node_record::{node_bytes, node_record};
-use crate::part::Part;
 use crate::splitting::{SplitParts, split};
 use csi_controller::ControllerRecord;
 use csi_node::NodeRecord;
+use csi_stores::Part;
 use csi_types::{NoMemory, NodeId};
 use std::alloc::Global;
 

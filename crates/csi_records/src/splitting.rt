@@ -1,13 +1,13 @@
 //! The bytes of a whole record, split into parts.
 ghost use Rattle.std.specs.Prelude.{◌≡◌, Some, None, IfOk, OnErr, IsErrOf};
-ghost use Rattle.csi_records.specs.Part.{stored_in, all_stored_in};
+ghost use Rattle.csi_stores.specs.Part.{stored_in, all_stored_in};
 ghost use Rattle.csi_records.specs.Reading.{long_in, bytes_in, part_in, record_head_in};
 ghost use Rattle.csi_records.specs.Stopping.{AreSplit, HasNoHead};
 
 use crate::fault::Stop;
 use crate::fields::Fields;
-use crate::part::Part;
 use byteorder::{BigEndian, ByteOrder};
+use csi_stores::Part;
 use csi_types::NoMemory;
 use std::alloc::Global;
 

@@ -2,20 +2,20 @@
 ghost use Rattle.std.specs.Prelude.{◌≡◌, ℕ, Some, None, IfOk, IfSome, OnErr};
 ghost use Rattle.csi_types.specs.Limits.{IsWord};
 ghost use Rattle.csi_frames.specs.Bytes.{AreBytes};
-ghost use Rattle.csi_records.specs.Part.{stored_in};
+ghost use Rattle.csi_stores.specs.Part.{stored_in};
 ghost use Rattle.csi_records.specs.Spelling.{controller_head};
 ghost use Rattle.csi_records.specs.Reading.{controller_head_in, whole};
 
 use crate::fault::Stop;
 use crate::fields::Fields;
 use crate::items::{capabilities, list};
-use crate::part::Part;
 use crate::plugin_rows::Row;
 use crate::row_values::volume_value;
 use crate::texts::name;
 use crate::values::reply;
 use crate::writing::put_part;
 use csi_controller::ControllerRow;
+use csi_stores::Part;
 use csi_types::{NoMemory, VolumeId};
 use std::alloc::Global;
 

@@ -2,7 +2,8 @@
 use csi_commands::stream;
 use csi_endings::{Ending, FileCommand};
 use csi_plugins::{Plugin, ending_unopened, plugin};
-use csi_service::{Counted, SqliteKeep};
+use csi_service::Counted;
+use csi_sqlite::SqliteKeep;
 use csi_words::{CommandLine, parse};
 use sqlite::{Start, Unknown};
 use std::process::ExitCode;

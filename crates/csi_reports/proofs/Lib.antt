@@ -1,4 +1,3 @@
-pub mod Places
 pub mod Laid
 pub mod NoFloats
 pub mod OneOrder

@@ -7,10 +7,11 @@ use Rattle.csi_orchestrator.specs.declared.thing.Thing.{Thing}
 use Rattle.csi_orchestrator.specs.declared.thing.Thing.TheVariants.{Exists, Attached, Staged, Published}
 use Rattle.csi_orchestrator.specs.declared.thing.Known.{Known}
 use Rattle.csi_world.specs.Simulated.{WorldParts}
-use Rattle.csi_reports.specs.Entries.{attached_entry, staged_entry, published_entry, volume_entry, known_entry}
+use Rattle.csi_listings.specs.Entries.{attached_entry, staged_entry, published_entry, volume_entry, known_entry}
 use Rattle.csi_reports.specs.Outcomes.{outcome_entry}
 use Rattle.csi_reports.specs.Gathered.{Gathered}
-use Rattle.csi_reports.specs.Report.{report_of, live_rows}
+use Rattle.csi_listings.specs.Listed.{live_rows}
+use Rattle.csi_reports.specs.Report.{report_of}
 
 -- items that are entries without a float have none
 each-plain : {A : Type 0} (entry : A → Data) → ((x : A) → has_float (entry x) ≡ false) → (items : List A) → items_have_float (items_of (map entry items)) ≡ false

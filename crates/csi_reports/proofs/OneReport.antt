@@ -23,14 +23,14 @@ use Rattle.csi_world.specs.declared.violation.Violation.TheVariants as violation
 use Rattle.csi_world.specs.World.{NodeAt, World}
 use Rattle.csi_world.specs.Simulated.{WorldParts, AreNodesShown}
 use Rattle.csi_world.specs.Audited.{ArePlugins, Finds}
-use Rattle.csi_reports.specs.declared.entries.StagedAt.{StagedAt}
-use Rattle.csi_reports.specs.declared.entries.PublishedAt.{PublishedAt}
-use Rattle.csi_reports.specs.Entries.{attached_entry, staged_entry, published_entry}
-use Rattle.csi_reports.specs.Order.{flag_number, attached_place, staged_place, published_place, place_order}
-use Rattle.csi_reports.specs.Gathered.{staged_on, published_on}
+use Rattle.csi_listings.specs.declared.entries.StagedAt.{StagedAt}
+use Rattle.csi_listings.specs.declared.entries.PublishedAt.{PublishedAt}
+use Rattle.csi_listings.specs.Entries.{attached_entry, staged_entry, published_entry}
+use Rattle.csi_listings.specs.Order.{flag_number, attached_place, staged_place, published_place, place_order}
+use Rattle.csi_listings.specs.Listed.{staged_on, published_on}
 use Rattle.csi_reports.specs.Report.{report_of, HasOneReport}
 use Rattle.csi_reports.specs.Laws.{ShowsAState}
-use Rattle.csi_reports.proofs.Places.{order-total}
+use Rattle.csi_listings.proofs.Places.{order-total}
 use Rattle.csi_reports.proofs.OneOrder.{one-order, same-members}
 
 -- ---- what a place tells

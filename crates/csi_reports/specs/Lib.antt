@@ -1,5 +1,3 @@
-pub mod Order
-pub mod Entries
 pub mod Outcomes
 pub mod Gathered
 pub mod Report

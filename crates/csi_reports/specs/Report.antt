@@ -1,17 +1,12 @@
 -- The report of a world: one object of JSON, in compact form, with its keys in order. This profile's own.
-use Rattle.std.specs.Prelude.{◌≡◌, ℕ, List, map, filter, length, codes, not, is_some}
-use Rattle.serde_json.specs.Data.{Data, boolean, array, object, no_members, member}
-use Rattle.serde_json.specs.View.{items_of}
+use Rattle.std.specs.Prelude.{◌≡◌, ℕ, List, map, length, codes, not, is_some}
+use Rattle.serde_json.specs.Data.{Data, boolean, object, no_members, member}
 use Rattle.serde_json.specs.Written.{compact_text}
-use Rattle.csi_controller.specs.declared.row.ControllerRow.{ControllerRow}
 use Rattle.csi_world.specs.Simulated.{WorldParts}
-use Rattle.csi_reports.specs.Entries.{whole, attached_entry, staged_entry, published_entry, volume_entry, known_entry}
+use Rattle.csi_listings.specs.Listed.{live_rows}
+use Rattle.csi_listings.specs.Entries.{entries, whole, attached_entry, staged_entry, published_entry, volume_entry, known_entry}
 use Rattle.csi_reports.specs.Outcomes.{outcome_entry}
 use Rattle.csi_reports.specs.Gathered.{Gathered, IsGathered}
-
--- each item's entry, in order
-abbrev pub entries : {A : Type 0} → (A → Data) → List A → Data
-entries entry items = array (items_of (map entry items))
 
 -- ---- a function for each key
 
@@ -39,10 +34,6 @@ session_value world = whole ((world.orchestrator).last).session
 
 abbrev pub staged_value : Gathered → Data
 staged_value gathered = entries staged_entry gathered.staged
-
--- the live ones, by rising id
-abbrev pub live_rows : List ControllerRow → List ControllerRow
-live_rows rows = filter (λ row. row.live) rows
 
 abbrev pub volumes_value : WorldParts → Data
 volumes_value world = entries volume_entry (live_rows (world.controller).rows)

@@ -3,11 +3,12 @@ ghost use Rattle.std.specs.Prelude.{◌≡◌, IfOk, OnOk, string_bytes};
 ghost use Rattle.serde_json.specs.Data.{put as with_member};
 ghost use Rattle.serde_json.specs.View.{view, members_view};
 ghost use Rattle.csi_reports.specs.Found.{gathered_of};
-ghost use Rattle.csi_reports.specs.Report.{entries, report_of, IsReport};
+ghost use Rattle.csi_listings.specs.Entries.{entries};
+ghost use Rattle.csi_reports.specs.Report.{report_of, IsReport};
 
-use crate::entries::{Entry, array};
 use crate::gathering::{Findings, gathered};
-use crate::volumes::volumes;
+use crate::outcomes::outcome_texts;
+use csi_listings::{Entry, array, volumes};
 use csi_types::NoMemory;
 use csi_world::World;
 use serde_json::{Map, Value, put};
@@ -32,7 +33,8 @@ fn document(alloc: Global, world: &World, findings: &Findings) -> Result<Value, 
 {
     let mut map = Map::new(alloc);
     put_array(&mut map, alloc, "attached", &findings.attached)?;
-    put_array(&mut map, alloc, "events", world.outcomes())?;
+    let events = outcome_texts(alloc, world.outcomes())?;
+    put(&mut map, alloc, "events", events)?;
     put(&mut map, alloc, "frames", Value::from(world.frames()))?;
     put_array(&mut map, alloc, "known", &findings.known)?;
     put_array(&mut map, alloc, "published", &findings.published)?;

@@ -4,12 +4,12 @@ ghost use Rattle.std.specs.List.{flat_map};
 ghost use Rattle.csi_controller.specs.Views.{attached as attached_by_rows};
 ghost use Rattle.csi_orchestrator.specs.Listing.{ListsKnown, IsInOrder};
 ghost use Rattle.csi_orchestrator.specs.Shown.{view_of};
-ghost use Rattle.csi_reports.specs.Order.{attached_place, staged_place, published_place, IsInPlace};
-ghost use Rattle.csi_reports.specs.Gathered.{IsGathered, staged_on, published_on};
+ghost use Rattle.csi_listings.specs.Order.{attached_place, staged_place, published_place, IsInPlace};
+ghost use Rattle.csi_listings.specs.Listed.{staged_on, published_on};
+ghost use Rattle.csi_reports.specs.Gathered.{IsGathered};
 ghost use Rattle.csi_reports.specs.Found.{gathered_of};
 
-use crate::entries::{PublishedAt, StagedAt};
-use crate::lists::{attached, published, staged};
+use csi_listings::{PublishedAt, StagedAt, attached, published, staged};
 use csi_orchestrator::{Known, Thing};
 use csi_types::{Holding, NoMemory};
 use csi_world::{Violation, World, audit};

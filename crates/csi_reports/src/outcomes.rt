@@ -1,8 +1,9 @@
 //! What came of an event, as text.
-ghost use Rattle.std.specs.Prelude.{◌≡◌, IfOk, string_bytes};
-ghost use Rattle.csi_reports.specs.Outcomes.{refused_text, outcome_text};
+ghost use Rattle.std.specs.Prelude.{◌≡◌, ◌++◌, IfOk, OnOk, map, [], ◌∷◌, string_bytes};
+ghost use Rattle.serde_json.specs.View.{view};
+ghost use Rattle.csi_listings.specs.Entries.{entries};
+ghost use Rattle.csi_reports.specs.Outcomes.{refused_text, outcome_text, outcome_entry};
 
-use crate::entries::Entry;
 use csi_orchestrator::OrchFault;
 use csi_world::Outcome;
 use serde_json::Value;
@@ -36,13 +37,22 @@ fn text_of(alloc: Global, outcome: Outcome) -> Result<String, AllocError>
     }
 }
 
-impl Entry for Outcome {
-    ghost use Rattle.csi_reports.specs.Outcomes.{outcome_entry};
+// Appends the text of an outcome.
+fn add_outcome(alloc: Global, list: &mut Vec<Value>, outcome: Outcome) -> Result<(), AllocError>
+    ensures { OnOk result (map view list.new.items ≡ map view list.old.items ++ outcome_entry outcome ∷ []) }
+{
+    let text = text_of(alloc, outcome)?;
+    list.push(Value::String(text))?;
+    Ok(())
+}
 
-    ghost entry = { outcome_entry };
-
-    fn value(&self, alloc: Global) -> Result<Value, AllocError> {
-        let text = text_of(alloc, *self)?;
-        Ok(Value::String(text))
+/// The texts of these outcomes, in order, as an array.
+pub fn outcome_texts(alloc: Global, items: &[Outcome]) -> Result<Value, AllocError>
+    ensures { IfOk result (λ value. view value ≡ entries outcome_entry items.now) }
+{
+    let mut list = Vec::new(alloc);
+    for outcome in items {
+        add_outcome(alloc, &mut list, *outcome)?;
     }
+    Ok(Value::Array(list))
 }

@@ -1,11 +1,13 @@
 //! Events, in JSON.
 ghost use Rattle.std.specs.Prelude.{◌≡◌};
 ghost use Rattle.serde_json.specs.View.{view};
-ghost use Rattle.csi_schedules.specs.Json.{Reads};
+ghost use Rattle.csi_json.specs.Json.{Reads};
 ghost use Rattle.csi_schedules.specs.Events.{create_of, use_of, stop_of, delete_of, timeout_of, deliver_of, restart_of, restart_node_of, event_at as at_key, event_of};
 
-use crate::capabilities::{capabilities, capability, name, node_id, target};
-use crate::values::{Flaw, flag, member, number, only_member, sized_object, text};
+use csi_json::{
+    Flaw, capabilities, capability, flag, member, name, node_id, number, only_member, sized_object,
+    target, text,
+};
 use csi_world::Event;
 use serde_json::Value;
 use std::alloc::Global;

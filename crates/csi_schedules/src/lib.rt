@@ -1,11 +1,9 @@
 //! Schedules of the whole system's events, read from JSON. This profile's own.
 #![tactic(auto)]
 
-mod capabilities;
-mod configs;
 mod events;
 mod lists;
 mod schedule;
-mod values;
 
-pub use schedule::{MAX_EVENTS, ScheduleFault, read_config, read_schedule};
+pub use csi_json::{ScheduleFault, read_config};
+pub use schedule::{MAX_EVENTS, read_schedule};

@@ -1,59 +1,16 @@
-//! The lists of a schedule, read item by item.
+//! The events of a schedule, read one by one.
 ghost use Rattle.std.specs.Prelude.{◌≡◌, ◌∷◌, [], ◌++◌, option_map, map, IfOk, IfErr};
 ghost use Rattle.serde_json.specs.View.{view};
-ghost use Rattle.csi_schedules.specs.Json.{Reads, read_all, unless_bad};
-ghost use Rattle.csi_schedules.specs.Events.{capability_of, event_of};
-ghost use Rattle.csi_schedules.specs.Schedule.{node_of, event_fault, events_or_fault, IsFaultOf};
+ghost use Rattle.csi_json.specs.Json.{Reads, read_all};
+ghost use Rattle.csi_json.specs.Faults.{event_fault, IsFaultOf};
+ghost use Rattle.csi_schedules.specs.Events.{event_of};
+ghost use Rattle.csi_schedules.specs.Schedule.{events_or_fault};
 
-use crate::capabilities::capability;
-use crate::configs::node;
 use crate::events::event;
-use crate::schedule::ScheduleFault;
-use crate::values::Flaw;
-use csi_types::{Capability, NodeSlots};
+use csi_json::{Flaw, ScheduleFault};
 use csi_world::Event;
 use serde_json::Value;
 use std::alloc::Global;
-
-// Reads a capability, and appends it. An `Err` appends nothing.
-fn push_capability(alloc: Global, value: &Value, list: &mut Vec<Capability>) -> Result<(), Flaw>
-    ensures { Reads (λ _. list.new.items) result (option_map (λ read. list.old.items ++ read ∷ []) (capability_of (view value.now))) }
-{
-    let capability = capability(alloc, value)?;
-    list.push(capability)?;
-    Ok(())
-}
-
-/// The capabilities that the items are read as, where each is.
-pub fn read_capabilities(alloc: Global, items: &[Value]) -> Result<Vec<Capability>, Flaw>
-    ensures { Reads (λ list. list.items) result (unless_bad (read_all capability_of 1 (map view items.now))) }
-{
-    let mut list = Vec::new(alloc);
-    for item in items {
-        push_capability(alloc, item, &mut list)?;
-    }
-    Ok(list)
-}
-
-// Reads a node, and appends it. An `Err` appends nothing.
-fn push_node(alloc: Global, value: &Value, list: &mut Vec<NodeSlots>) -> Result<(), Flaw>
-    ensures { Reads (λ _. list.new.items) result (option_map (λ read. list.old.items ++ read ∷ []) (node_of (view value.now))) }
-{
-    let node = node(alloc, value)?;
-    list.push(node)?;
-    Ok(())
-}
-
-/// The nodes that the items are read as, where each is.
-pub fn read_nodes(alloc: Global, items: &[Value]) -> Result<Vec<NodeSlots>, Flaw>
-    ensures { Reads (λ list. list.items) result (unless_bad (read_all node_of 1 (map view items.now))) }
-{
-    let mut list = Vec::new(alloc);
-    for item in items {
-        push_node(alloc, item, &mut list)?;
-    }
-    Ok(list)
-}
 
 // Reads an event, and appends it. An `Err` appends nothing.
 fn push_event(alloc: Global, value: &Value, list: &mut Vec<Event>) -> Result<(), Flaw>

@@ -1,3 +1,5 @@
-pub mod KeyOrder
-pub mod Tabled
-pub mod Loading
+pub mod LoadedParts
+pub mod OpeningAnswers
+pub mod NodeSteps
+pub mod RisingParts
+pub mod ControllerChanges

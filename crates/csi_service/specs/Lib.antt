@@ -1,2 +1,5 @@
-pub mod Loading
-pub mod Tables
+pub mod Opening
+pub mod Services
+pub mod NodeServices
+pub mod WholeRecords
+pub mod Worked

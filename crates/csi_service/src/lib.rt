@@ -1,11 +1,17 @@
-//! The plugins as services: stores of their records, and serving. Each frame is answered, what it changed is committed, and
-//! only then the reply is written.
+//! The plugins as services: each with its record, opened from a store, ready to be served over it. What is public of stores and of
+//! serving is public here too.
 #![tactic(auto)]
 
-mod sqlite_keep;
+mod controller_changes;
+mod controller_service;
+mod node_service;
+mod opening;
+mod whole_records;
+mod worked;
 
-pub use csi_serving::{
-    ControllerService, Core, Counted, Keep, KeepFault, MemoryKeep, NodeService, Part, Record,
-    ServeFault, ServeFaultKind, Served, read_record, serve, write_record,
-};
-pub use sqlite_keep::SqliteKeep;
+pub use controller_service::ControllerService;
+pub use csi_records::{Record, write_record};
+pub use csi_serving::{Core, Counted, ServeFault, ServeFaultKind, Served, serve};
+pub use csi_stores::{Keep, KeepFault, MemoryKeep, Part};
+pub use node_service::NodeService;
+pub use whole_records::read_record;

@@ -1,6 +1,3 @@
-pub mod EntryPlaces
-pub mod EntrySizes
-pub mod RisingChanges
 pub mod StoreCalls
 pub mod ReplyBytes
 pub mod FaultPlaces
@@ -8,8 +5,3 @@ pub mod StreamFrames
 pub mod GrowingRuns
 pub mod Progress
 pub mod ServingEnds
-pub mod LoadedParts
-pub mod OpeningAnswers
-pub mod NodeSteps
-pub mod RisingParts
-pub mod ControllerChanges

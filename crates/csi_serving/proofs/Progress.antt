@@ -15,8 +15,8 @@ use Rattle.csi_frames.specs.Splitting.{Splitting, new_splitting, kept_after, IsN
 use Rattle.csi_frames.specs.Cutting.{Splits, begins, feeds, asks}
 use Rattle.csi_frames.proofs.Bytes.{AreBytes-drop}
 use Rattle.csi_serving.specs.declared.serving.fault.Served.{Served}
-use Rattle.csi_records.specs.Part.{StoredPart}
-use Rattle.csi_serving.specs.Stores.{Store, Follows, Rests}
+use Rattle.csi_stores.specs.Part.{StoredPart}
+use Rattle.csi_stores.specs.Stores.{Store, Follows, Rests}
 use Rattle.csi_serving.specs.Serving.{Setting, Runs, reply_bytes, output_of, reply_count}
 use Rattle.csi_serving.specs.Reading.{IsPiece, ReadsPiece}
 use Rattle.csi_serving.specs.Stopping.{AnswersNext, one_more_served}

@@ -4,7 +4,7 @@ use Rattle.std.specs.Prelude.{Option, Some, None, option_map}
 use Rattle.std.specs.Global.{Vec}
 use Rattle.csi_types.specs.Frame.{Frame}
 use Rattle.csi_frames.specs.Spelling.{spelling}
-use Rattle.csi_records.specs.Part.{bytes_in}
+use Rattle.csi_stores.specs.Part.{bytes_in}
 use Rattle.csi_serving.specs.Serving.{reply_bytes}
 use Rattle.csi_serving.specs.Answering.{IsSpelledAs}
 

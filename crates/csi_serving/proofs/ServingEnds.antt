@@ -20,10 +20,10 @@ use Rattle.csi_frames.proofs.Streams.{given_are}
 use Rattle.csi_serving.specs.declared.serving.fault.Served.{Served}
 use Rattle.csi_serving.specs.declared.serving.fault.ServeFaultKind.{ServeFaultKind}
 use Rattle.csi_serving.specs.declared.serving.fault.ServeFaultKind.TheVariants as kinds
-use Rattle.csi_serving.specs.declared.keep.KeepFault.{KeepFault}
-use Rattle.csi_records.specs.Part.{StoredPart}
-use Rattle.csi_serving.specs.Keeping.{HasRisen}
-use Rattle.csi_serving.specs.Stores.{Store, Follows}
+use Rattle.csi_stores.specs.declared.keep.KeepFault.{KeepFault}
+use Rattle.csi_stores.specs.Part.{StoredPart}
+use Rattle.csi_stores.specs.Keeping.{HasRisen}
+use Rattle.csi_stores.specs.Stores.{Store, Follows}
 use Rattle.csi_serving.specs.Serving.{Setting, Runs, reply_bytes, output_of, AllDone, LastUnwritten, NextRefused, Waits, Serves}
 use Rattle.csi_serving.specs.Reading.{IsPiece, IsPieceStop, ReadsPiece}
 use Rattle.csi_serving.specs.Stopping.{AnswersNext, stopped_by}

@@ -1,11 +1,11 @@
 -- Stores, one call after another.
 use Rattle.std.proofs.Common.{◌≡◌, ◌∙◌, inl, inr, sym, subst, ℕ, ◌≤◌, List, arith}
 use Rattle.std.specs.Prelude.{◌⊎◌}
-use Rattle.csi_serving.specs.declared.keep.KeepFault.{KeepFault}
-use Rattle.csi_serving.specs.declared.keep.KeepFault.TheVariants.{Device, NoMemory, BadRecord, Full}
-use Rattle.csi_records.specs.Part.{StoredPart}
-use Rattle.csi_serving.specs.Keeping.{HasRisen, IsCommitFault}
-use Rattle.csi_serving.specs.Stores.{Store, Follows, Rests, LeavesEither, IsRefusal}
+use Rattle.csi_stores.specs.declared.keep.KeepFault.{KeepFault}
+use Rattle.csi_stores.specs.declared.keep.KeepFault.TheVariants.{Device, NoMemory, BadRecord, Full}
+use Rattle.csi_stores.specs.Part.{StoredPart}
+use Rattle.csi_stores.specs.Keeping.{HasRisen, IsCommitFault}
+use Rattle.csi_stores.specs.Stores.{Store, Follows, Rests, LeavesEither, IsRefusal}
 
 -- ---- a commit that was refused
 pub refused-left : (before after : Store) (first next : List StoredPart) (change : List StoredPart → List StoredPart) → change first ≡ next

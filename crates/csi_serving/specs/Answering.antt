@@ -3,11 +3,11 @@ use Rattle.std.specs.Prelude.{◌≡◌, ℕ, List, [], ◌∷◌, Bool, Option,
 use Rattle.std.specs.Global.{Vec}
 use Rattle.csi_types.specs.Frame.{Frame}
 use Rattle.csi_frames.specs.Spelling.{spelling}
-use Rattle.csi_serving.specs.declared.keep.KeepFault.{KeepFault}
+use Rattle.csi_stores.specs.declared.keep.KeepFault.{KeepFault}
 use Rattle.csi_serving.specs.declared.serving.answering.FrameStop.{FrameStop}
 use Rattle.csi_serving.specs.declared.serving.answering.FrameStop.TheVariants.{NoMemory, Keep, Output}
-use Rattle.csi_records.specs.Part.{StoredPart, bytes_in}
-use Rattle.csi_serving.specs.Stores.{Store, LeavesEither, IsRefusal}
+use Rattle.csi_stores.specs.Part.{StoredPart, bytes_in}
+use Rattle.csi_stores.specs.Stores.{Store, LeavesEither, IsRefusal}
 use Rattle.csi_serving.specs.Serving.{Setting, AllDone, LastUnwritten, NextRefused}
 
 -- these bytes are the reply's, if there is one

@@ -1,16 +1,7 @@
-pub mod Content
-pub mod Keeping
-pub mod Memory
 pub mod Counting
 pub mod Reading
 pub mod Writing
-pub mod Stores
 pub mod Serving
 pub mod Answering
 pub mod Stopping
 pub mod Ending
-pub mod Worked
-pub mod Opening
-pub mod Services
-pub mod NodeServices
-pub mod WholeRecords

@@ -12,9 +12,9 @@ use Rattle.csi_serving.specs.declared.serving.fault.Served.{Served}
 use Rattle.csi_serving.specs.declared.serving.fault.ServeFault.{ServeFault}
 use Rattle.csi_serving.specs.declared.serving.fault.ServeFaultKind.{ServeFaultKind}
 use Rattle.csi_serving.specs.declared.serving.fault.ServeFaultKind.TheVariants as kinds
-use Rattle.csi_serving.specs.declared.keep.KeepFault.{KeepFault}
-use Rattle.csi_records.specs.Part.{StoredPart}
-use Rattle.csi_serving.specs.Stores.{Store, Rests, LeavesEither, IsRefusal}
+use Rattle.csi_stores.specs.declared.keep.KeepFault.{KeepFault}
+use Rattle.csi_stores.specs.Part.{StoredPart}
+use Rattle.csi_stores.specs.Stores.{Store, Rests, LeavesEither, IsRefusal}
 
 -- from one core to another, frame after frame: each frame got this reply
 abbrev pub Runs : {C : Type 0} → (C → Frame → Option Frame → C → Type 0) → C → List Frame → List (Option Frame) → C → Type 0

@@ -2,7 +2,7 @@
 ghost use Rattle.std.specs.Prelude.{◌≡◌, ◌≤◌, true, OnOk, OnErr};
 ghost use Rattle.std.specs.Io.{ReadsAtMost, WritesAtMost};
 ghost use Rattle.std.specs.Io.KnownBytes.{Keeps, Appends, Consumes, ReadConsumes, WriteAppends};
-ghost use Rattle.csi_serving.specs.Keeping.{HasRisen};
+ghost use Rattle.csi_stores.specs.Keeping.{HasRisen};
 ghost use Rattle.csi_serving.specs.Counting.{is_error, is_write_fault, counted};
 
 use std::io;

@@ -1,10 +1,10 @@
 //! What is served: a plugin with its record.
 ghost use Rattle.std.specs.Prelude.{◌≡◌, List, Option, map, IfOk, OnOk, OnErr};
 ghost use Rattle.csi_types.specs.Frame.{Frame as FrameParts};
-ghost use Rattle.csi_records.specs.Part.{StoredPart, Change, change_of};
-ghost use Rattle.csi_serving.specs.Content.{all_changed};
+ghost use Rattle.csi_stores.specs.Part.{StoredPart, Change, change_of};
+ghost use Rattle.csi_stores.specs.Content.{all_changed};
 
-use csi_records::Part;
+use csi_stores::Part;
 use csi_types::{Frame, NoMemory};
 
 /// A plugin whose record is kept as parts. This profile's own.

@@ -1,8 +1,8 @@
 //! Serving: each frame of the input is answered, what it changed is committed, and then its reply is written.
 ghost use Rattle.std.specs.Prelude.{◌≡◌, ◌≤◌, ◌+◌, ◌<◌, ◌^◌, ℕ, List, length};
 ghost use Rattle.std.specs.Io.KnownBytes.{Consumes, IsAtEnd};
-ghost use Rattle.csi_serving.specs.Keeping.{HasRisen};
-ghost use Rattle.csi_serving.specs.Stores.{store};
+ghost use Rattle.csi_stores.specs.Keeping.{HasRisen};
+ghost use Rattle.csi_stores.specs.Stores.{store};
 ghost use Rattle.csi_serving.specs.Serving.{Serves};
 ghost use Rattle.csi_serving.specs.Ending.{ended_by};
 
@@ -14,10 +14,10 @@ mod output;
 mod reading;
 
 use crate::counted::Counted;
-use crate::keep::Keep;
 use crate::plugin_core::Core;
 use csi_frames::Splitter;
 pub use fault::{ServeFault, ServeFaultKind, Served};
+use csi_stores::Keep;
 use frames::{answer_next, one_more, stopped};
 use input::read_piece;
 use reading::in_stream;

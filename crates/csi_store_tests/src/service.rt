@@ -10,11 +10,9 @@ mod stores;
 use csi_controller::{Controller, ControllerRecord};
 use csi_frames::decode;
 use csi_node::NodeRecord;
-use csi_schedules::read_config;
-use csi_service::{
-    ControllerService, Keep, KeepFault, MemoryKeep, NodeService, Part, SqliteKeep, read_record,
-    write_record,
-};
+use csi_json::read_config;
+use csi_service::{ControllerService, Keep, KeepFault, MemoryKeep, NodeService, Part, read_record, write_record};
+use csi_sqlite::SqliteKeep;
 use csi_types::{Config, NodeId};
 use sqlite::Connection;
 use std::alloc::Global;

@@ -1,14 +1,14 @@
 //! A frame, answered: stepped, committed, and then its reply written.
 ghost use Rattle.std.specs.Prelude.{◌≡◌, ◌≤◌, Option, IfOk, IfErr, OnOk, Err};
-ghost use Rattle.csi_serving.specs.Keeping.{HasRisen};
-ghost use Rattle.csi_serving.specs.Stores.{store, Rests, Follows};
+ghost use Rattle.csi_stores.specs.Keeping.{HasRisen};
+ghost use Rattle.csi_stores.specs.Stores.{store, Rests, Follows};
 ghost use Rattle.csi_serving.specs.Answering.{IsSpelledAs, Steps, StopsUnwritten, AnswersOne};
 
 use crate::counted::Counted;
-use crate::keep::{Keep, KeepFault};
 use crate::plugin_core::Core;
 use crate::serving::output::{WriteFailed, write_out};
 use csi_frames::encode;
+use csi_stores::{Keep, KeepFault};
 use csi_types::{Frame, NoMemory};
 use std::alloc::Global;
 use std::io::Write;

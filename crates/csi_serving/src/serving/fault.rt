@@ -1,6 +1,6 @@
 //! How serving ends.
-use crate::keep::KeepFault;
 use csi_frames::FaultKind;
+use csi_stores::KeepFault;
 use thiserror::Error;
 
 /// The whole input was served. This profile's own.

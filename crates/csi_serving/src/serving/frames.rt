@@ -1,16 +1,16 @@
 //! The frames of a stream, answered one after another.
 ghost use Rattle.std.specs.Prelude.{◌≡◌, ◌≤◌, ◌<◌, ◌+◌, ◌^◌, None, length};
-ghost use Rattle.csi_serving.specs.Keeping.{HasRisen};
-ghost use Rattle.csi_serving.specs.Stores.{store, Follows};
+ghost use Rattle.csi_stores.specs.Keeping.{HasRisen};
+ghost use Rattle.csi_stores.specs.Stores.{store, Follows};
 ghost use Rattle.csi_serving.specs.Stopping.{AnswersNext, kind_of_stop, one_more_served, stopped_by};
 
 use crate::counted::Counted;
-use crate::keep::Keep;
 use crate::plugin_core::Core;
 use crate::serving::answering::{FrameStop, answer_frame};
 use crate::serving::fault::{ServeFault, ServeFaultKind, Served};
 use crate::serving::reading::next_frame;
 use csi_frames::Splitter;
+use csi_stores::Keep;
 use std::alloc::Global;
 use std::io::Write;
 

@@ -1,7 +1,7 @@
 //! A reply, written.
 ghost use Rattle.std.specs.Prelude.{◌≤◌, OnOk, OnErr};
 ghost use Rattle.std.specs.Io.KnownBytes.{Appends};
-ghost use Rattle.csi_serving.specs.Keeping.{HasRisen};
+ghost use Rattle.csi_stores.specs.Keeping.{HasRisen};
 ghost use Rattle.csi_serving.specs.Writing.{WritesFront};
 
 use crate::counted::Counted;

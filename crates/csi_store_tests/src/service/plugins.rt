@@ -1,7 +1,8 @@
 //! Both plugins over a store in SQLite: opened, served, opened again, and served on.
 use super::playing::{Content, REPLIES, SCRIPT, has_parts, is_after, is_end, played, served};
 use super::{NODE_HEAD, node};
-use csi_service::{Keep, SqliteKeep};
+use csi_service::Keep;
+use csi_sqlite::SqliteKeep;
 use sqlite::{Connection, MemStore};
 use std::alloc::Global;
 use std::process::Abort;

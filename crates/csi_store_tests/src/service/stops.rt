@@ -2,7 +2,8 @@
 //! the same script once more comes to.
 use super::copied;
 use super::playing::{End, FRAMES, SCRIPT, is_after, is_end, is_replied, may_have, played};
-use csi_service::{Keep, MemoryKeep, SqliteKeep};
+use csi_service::{Keep, MemoryKeep};
+use csi_sqlite::SqliteKeep;
 use sqlite::{Connection, FileStore, Files, Options};
 use sqlite_disk::{Crash, Disk, Fuse, Memory};
 use std::alloc::Global;

@@ -1,6 +1,7 @@
 //! Stores in SQLite that something else wrote, and stores in memory at their limits.
 use super::{controller_fault, has_head, part};
-use csi_service::{Keep, KeepFault, MemoryKeep, Part, SqliteKeep};
+use csi_service::{Keep, KeepFault, MemoryKeep, Part};
+use csi_sqlite::SqliteKeep;
 use sqlite::{Connection, MemStore};
 use std::process::Abort;
 

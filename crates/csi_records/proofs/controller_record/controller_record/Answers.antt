@@ -1,6 +1,6 @@
 use Rattle.std.proofs.Common.{◌≡◌, ◌∙◌, ◌∷◌, ◌+◌, ◌-◌, ap, inr, refl, sym, subst, List, ℕ, take, drop, length, arith}
 use Rattle.csi_controller.specs.Judging.{IsFirstRefused, IsRefusal}
-use Rattle.csi_records.specs.Part.{StoredPart, all_stored_in}
+use Rattle.csi_stores.specs.Part.{StoredPart, all_stored_in}
 use Rattle.csi_records.specs.Spelling.{controller_head, volume_part, volume_row}
 use Rattle.csi_records.specs.Stopping.{AreRead}
 use Rattle.csi_records.specs.Records.{controller_layout, IsVolumeRow, IsRecordOf, IsRefusedAt}

@@ -2,7 +2,7 @@ use Rattle.std.proofs.Common.{◌≡◌, ◌∙◌, ◌∷◌, ◌+◌, ◌-◌,
 use Rattle.std.specs.Option.{option_copied}
 use Rattle.csi_node.specs.OneRow.{shown}
 use Rattle.csi_node.specs.Judging.{IsFirstRefused, IsRefusal}
-use Rattle.csi_records.specs.Part.{StoredPart, all_stored_in}
+use Rattle.csi_stores.specs.Part.{StoredPart, all_stored_in}
 use Rattle.csi_records.specs.Spelling.{node_head, answered_part}
 use Rattle.csi_records.specs.Stopping.{AreRead}
 use Rattle.csi_records.specs.Records.{node_layout, IsNodeHead, IsAnsweredRow, IsRecordOf, IsRefusedAt}

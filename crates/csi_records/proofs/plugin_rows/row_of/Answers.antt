@@ -1,6 +1,6 @@
 use Rattle.std.proofs.Common.{◌≡◌, ◌∙◌, true, false, [], ap, sym, arith}
 use Rattle.std.proofs.lemmas.Result.{IfOk-weaker}
-use Rattle.csi_records.specs.Part.{StoredPart, value_in}
+use Rattle.csi_stores.specs.Part.{StoredPart, value_in}
 use Rattle.csi_records.proofs.PartReaders.{stored-is, make_part, nothing_read, unread}
 use Rattle.csi_records.proofs.plugin_rows.row_of.Goals as goal
 

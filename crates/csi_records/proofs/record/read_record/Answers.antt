@@ -1,7 +1,7 @@
 use Rattle.std.proofs.Common.{◌≡◌, List, ℕ, length, Err, inr, subst, arith}
 use Rattle.std.proofs.lemmas.List.{length-map}
-use Rattle.csi_records.specs.declared.part.Part.{Part}
-use Rattle.csi_records.specs.Part.{all_stored_in, stored_in}
+use Rattle.csi_stores.specs.declared.part.Part.{Part}
+use Rattle.csi_stores.specs.Part.{all_stored_in, stored_in}
 use Rattle.csi_records.specs.Places.{IsBadAt, no_head, ReadsParts}
 use Rattle.csi_records.specs.Stopping.{AreSplit}
 use Rattle.csi_records.proofs.SplittingBytes.{bad-end, err-bytes}

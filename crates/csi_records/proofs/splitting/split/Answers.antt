@@ -1,7 +1,7 @@
 use Rattle.std.proofs.Common.{◌≡◌, ◌++◌, ◌∷◌, [], sym, subst, arith, List}
 use Rattle.std.proofs.lemmas.List.{length-append, length-map, map_push}
 use Rattle.csi_frames.specs.Bytes.{AreBytes}
-use Rattle.csi_records.specs.Part.{StoredPart, all_stored_in, stored_in}
+use Rattle.csi_stores.specs.Part.{StoredPart, all_stored_in, stored_in}
 use Rattle.csi_records.proofs.SplittingBytes.{IsSoFar, no-head, zero-head, one-more, split-stopped, split-ended, bytes-after}
 use Rattle.csi_records.proofs.splitting.split.Goals as goal
 

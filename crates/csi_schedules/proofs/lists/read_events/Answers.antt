@@ -1,6 +1,7 @@
 -- Each item that is read goes on the list; the first that isn't ends the reading.
 use Rattle.csi_schedules.specs.Events.{event_of}
-use Rattle.csi_schedules.proofs.ReadLists.{goes_on, faulty}
+use Rattle.csi_json.proofs.ReadLists.{goes_on}
+use Rattle.csi_schedules.proofs.ReadEvents.{faulty}
 use Rattle.csi_schedules.proofs.lists.read_events.Goals as goal
 
 pub returns-in-Err-clause-fault : goal.returns-in-Err-clause-fault

@@ -2,7 +2,7 @@
 use Rattle.std.proofs.Common.{◌≡◌, map, take}
 use Rattle.std.specs.Prelude.{Ok}
 use Rattle.serde_json.specs.View.{view}
-use Rattle.csi_schedules.specs.Json.{read_all}
+use Rattle.csi_json.specs.Json.{read_all}
 use Rattle.csi_schedules.specs.Events.{event_of}
 use Rattle.csi_schedules.proofs.lists.read_events.Given as goal
 

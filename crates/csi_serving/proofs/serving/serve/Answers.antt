@@ -1,8 +1,8 @@
 -- What was read is what the frames came from.
 use Rattle.std.proofs.Common.{◌++◌, [], ◌≤◌, ◌^◌, length, arith}
 use Rattle.std.specs.Io.KnownBytes.{IsAtEnd}
-use Rattle.csi_serving.specs.Keeping.{HasRisen}
-use Rattle.csi_serving.specs.Stores.{store}
+use Rattle.csi_stores.specs.Keeping.{HasRisen}
+use Rattle.csi_stores.specs.Stores.{store}
 use Rattle.csi_serving.proofs.StoreCalls.{risen-more}
 use Rattle.std.proofs.KnownBytes.{Consumes-nil, Consumes-trans}
 use Rattle.csi_serving.proofs.Progress.{start, more, takes_off, waits, fed, more_frames, more_replies}

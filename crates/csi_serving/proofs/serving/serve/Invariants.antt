@@ -1,7 +1,7 @@
 -- All frames that the splitter gave of what was read were answered; each answer takes of what it keeps, each read of what is still allowed.
 use Rattle.std.proofs.Common.{ℕ, List, ◌+◌, ◌-◌, ◌*◌, ◌^◌, ◌≤◌, length}
 use Rattle.std.specs.Io.KnownBytes.{Consumes}
-use Rattle.csi_serving.specs.Stores.{store}
+use Rattle.csi_stores.specs.Stores.{store}
 use Rattle.csi_serving.proofs.Progress.{Progress}
 use Rattle.csi_serving.proofs.serving.serve.Given as goal
 

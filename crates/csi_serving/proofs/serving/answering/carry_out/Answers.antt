@@ -1,8 +1,8 @@
 -- A refused commit leaves the parts before the step, or those after it.
 use Rattle.std.proofs.Common.{◌≡◌, ◌∙◌, ap, sym, map, List}
-use Rattle.csi_records.specs.Part.{StoredPart, Change, change_of}
-use Rattle.csi_serving.specs.Content.{all_changed}
-use Rattle.csi_serving.specs.Stores.{store}
+use Rattle.csi_stores.specs.Part.{StoredPart, Change, change_of}
+use Rattle.csi_stores.specs.Content.{all_changed}
+use Rattle.csi_stores.specs.Stores.{store}
 use Rattle.csi_serving.proofs.StoreCalls.{refused-left, refused-cause}
 use Rattle.csi_serving.proofs.serving.answering.carry_out.Goals as goal
 

@@ -1,0 +1,8 @@
+use Rattle.std.proofs.Common.{arith}
+use Rattle.csi_json.specs.Json.{sized_object}
+use Rattle.csi_json.proofs.Items.{members_in_view}
+use Rattle.csi_json.proofs.values.sized_object.Goals as goal
+
+pub returns-in-Some : goal.returns-in-Some
+unfolding sized_object
+returns-in-Some c = grind (arith, members_in_view)

@@ -1,0 +1,4 @@
+pub mod Json
+pub mod Capabilities
+pub mod Configs
+pub mod Faults

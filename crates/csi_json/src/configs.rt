@@ -1,0 +1,68 @@
+//! A configuration, in JSON.
+ghost use Rattle.std.specs.Prelude.{◌≡◌, IfOk, IfErr};
+ghost use Rattle.serde_json.specs.View.{view};
+ghost use Rattle.csi_json.specs.Json.{Reads, all_of};
+ghost use Rattle.csi_json.specs.Configs.{node_of, config_of, config_in, text_config};
+ghost use Rattle.csi_json.specs.Faults.{IsFaultOf};
+
+use crate::texts::node_id;
+use crate::fault::ScheduleFault;
+use crate::lists::read_nodes;
+use crate::values::{Flaw, list, member, number, sized_object};
+use csi_types::{Config, NodeSlots};
+use serde_json::Value;
+use std::alloc::Global;
+
+/// A node, and how many volumes it takes at once.
+#[tactic(auto, unfolding(crate::specs::Configs::node_of))]
+pub fn node(alloc: Global, value: &Value) -> Result<NodeSlots, Flaw>
+    ensures { Reads (λ node. node) result (node_of (view value.now)) }
+{
+    let object = sized_object(value, 2)?;
+    let id = node_id(alloc, member(object, "id")?)?;
+    let slots = number(member(object, "slots")?)?;
+    Ok(NodeSlots { id, slots })
+}
+
+#[tactic(auto, unfolding(crate::specs::Json::all_of))]
+fn nodes(alloc: Global, value: &Value) -> Result<Vec<NodeSlots>, Flaw>
+    ensures { Reads (λ nodes. nodes.items) result (all_of node_of (view value.now)) }
+{
+    let items = list(value)?;
+    read_nodes(alloc, items)
+}
+
+/// A configuration that has no fault.
+#[tactic(auto, unfolding(crate::specs::Configs::config_of))]
+pub fn config(alloc: Global, value: &Value) -> Result<Config, Flaw>
+    ensures { Reads (λ config. config) result (config_of (view value.now)) }
+{
+    let object = sized_object(value, 2)?;
+    let greatest = number(member(object, "greatest")?)?;
+    let nodes = nodes(alloc, member(object, "nodes")?)?;
+    match Config::try_new(alloc, greatest, nodes) {
+        Ok(config) => Ok(config),
+        Err(_) => Err(Flaw::Bad),
+    }
+}
+
+// The configuration that a value is.
+fn config_alone(alloc: Global, value: &Value) -> Result<Config, ScheduleFault>
+    ensures read { IfOk result (λ config. config_in (config_of (view value.now)) ≡ Ok config) }
+    ensures fault { IfErr result (IsFaultOf (config_in (config_of (view value.now)))) }
+{
+    Ok(config(alloc, value)?)
+}
+
+/// The configuration that a text says: alone, the object that a schedule has at `config`. `NotJson` where the text isn't JSON,
+/// and `BadSchedule` at 0 where it isn't as the format says. `NoMemory` can come at any step.
+pub fn read_config(alloc: Global, text: &str) -> Result<Config, ScheduleFault>
+    ensures read { IfOk result (λ config. text_config text.now ≡ Ok config) }
+    ensures fault { IfErr result (IsFaultOf (text_config text.now)) }
+{
+    match Value::from_str(alloc, text) {
+        Ok(value) => config_alone(alloc, &value),
+        Err(error) if error.is_memory() => Err(ScheduleFault::NoMemory),
+        Err(_other) => Err(ScheduleFault::NotJson),
+    }
+}

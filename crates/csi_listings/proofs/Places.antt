@@ -1,0 +1,37 @@
+-- The order of places: by the id, and then by the texts in turn.
+use Rattle.std.proofs.Common.{◌≡◌, ℕ, List, [], ◌∷◌, refl, sym}
+use Rattle.std.specs.Ordering.{nat_cmp, ordering_then}
+use Rattle.std.specs.Cmp.{IsTotalOrder, nat_cmp_total}
+use Rattle.std.specs.Cmp.Lexicographic.{slice_cmp, lists_total}
+use Rattle.std.specs.declared.cmp.Ordering.{Ordering}
+use Rattle.std.specs.declared.cmp.Ordering.TheVariants.{Less, Equal, Greater}
+use Rattle.csi_listings.specs.Order.{place_order}
+
+-- an order and then a tie is that order
+then-equal : (r : Ordering) → ordering_then r Equal ≡ r
+then-equal Less = refl
+then-equal Equal = refl
+then-equal Greater = refl
+
+-- the order of texts, byte by byte
+abbrev texts : List ℕ → List ℕ → Ordering
+texts = slice_cmp nat_cmp
+
+-- comparing an attached thing by its id, its node and then the rest is comparing its place; then the same of staged and published
+pub attached_places : (a b : ℕ) (n m : List ℕ) (p q u v : ℕ)
+    → ordering_then (nat_cmp a b) (ordering_then (texts n m) (ordering_then (nat_cmp p q) (nat_cmp u v)))
+    ≡ place_order ((a ∷ []) ∷ n ∷ (p ∷ u ∷ []) ∷ []) ((b ∷ []) ∷ m ∷ (q ∷ v ∷ []) ∷ [])
+attached_places a b n m p q u v = sym (simp then-equal refl)
+
+pub staged_places : (a b : ℕ) (n m : List ℕ) (p q : ℕ)
+    → ordering_then (nat_cmp a b) (ordering_then (texts n m) (nat_cmp p q)) ≡ place_order ((a ∷ []) ∷ n ∷ (p ∷ []) ∷ []) ((b ∷ []) ∷ m ∷ (q ∷ []) ∷ [])
+staged_places a b n m p q = sym (simp then-equal refl)
+
+pub published_places : (a b : ℕ) (n m s t : List ℕ) (u v : ℕ)
+    → ordering_then (nat_cmp a b) (ordering_then (texts n m) (ordering_then (texts s t) (nat_cmp u v)))
+    ≡ place_order ((a ∷ []) ∷ n ∷ s ∷ (u ∷ []) ∷ []) ((b ∷ []) ∷ m ∷ t ∷ (v ∷ []) ∷ [])
+published_places a b n m s t u v = sym (simp then-equal refl)
+
+-- places are totally ordered
+pub order-total : IsTotalOrder place_order
+order-total = lists_total (lists_total nat_cmp_total)

@@ -1,0 +1,25 @@
+-- What is listed of plugins: what a node has staged and published, and the controller's live volumes. This profile's own.
+use Rattle.std.specs.Prelude.{ℕ, List, map, filter}
+use Rattle.std.specs.List.{flat_map}
+use Rattle.csi_controller.specs.declared.row.ControllerRow.{ControllerRow}
+use Rattle.csi_node.specs.State.{StagedVolume, PublishedVolume}
+use Rattle.csi_node.specs.Record.{NodeParts}
+use Rattle.csi_node.specs.OneRow.{shown, alone}
+use Rattle.csi_listings.specs.declared.entries.StagedAt.{StagedAt}
+use Rattle.csi_listings.specs.declared.entries.PublishedAt.{PublishedAt}
+
+abbrev pub staged_at : List ℕ → StagedVolume → StagedAt
+staged_at node staged = record { id = staged.volume; node = node; mode = (staged.capability).mode }
+
+abbrev pub published_at : List ℕ → PublishedVolume → PublishedAt
+published_at node published = record { id = published.volume; node = node; target = published.target; readonly = published.readonly }
+
+abbrev pub staged_on : NodeParts → List StagedAt
+staged_on node = map (staged_at node.id) (flat_map (λ row. (alone (shown row)).staged) node.rows)
+
+abbrev pub published_on : NodeParts → List PublishedAt
+published_on node = map (published_at node.id) (flat_map (λ row. (alone (shown row)).published) node.rows)
+
+-- the live ones, by rising id
+abbrev pub live_rows : List ControllerRow → List ControllerRow
+live_rows rows = filter (λ row. row.live) rows

@@ -1,0 +1,12 @@
+//! What plugins and the orchestrator have, listed in order, and each thing of it as a value of JSON. This profile's own.
+#![tactic(auto)]
+
+mod entries;
+mod lists;
+mod live_volumes;
+mod order;
+mod things;
+
+pub use entries::{Entry, PublishedAt, StagedAt, array};
+pub use lists::{attached, published, staged};
+pub use live_volumes::volumes;

@@ -1,0 +1,58 @@
+-- The last numbers before and after tell which row was touched; after a refusal the rows are told by the same state.
+use Rattle.std.proofs.Common.{◌≡◌, ◌<◌, ◌∙◌, sym, ap, refl, subst, inl, inr, ◌⊎◌, ℕ, false, not, arith}
+use Rattle.std.specs.Prelude.{Option, Some, None, IfSome, ◌==◌}
+use Rattle.std.proofs.lemmas.Bool.Decides.{nat_tests}
+use Rattle.std.proofs.lemmas.Option.{same_Some}
+use Rattle.csi_lists.proofs.Options.{some_is_not_none}
+use Rattle.csi_types.specs.declared.number.Number.{Number}
+use Rattle.csi_types.specs.VolumeId.{IsVolumeId}
+use Rattle.csi_controller.specs.RowsLaw.{AreOf, after_frame}
+use Rattle.csi_service.specs.Services.{last_in}
+use Rattle.csi_service.proofs.ControllerChanges.{same-parts, same-changes, parts-changed, frame-touches, IsTouched}
+use Rattle.csi_service.proofs.controller_changes.answer.Goals as goal
+
+-- where what was read are the last numbers before and after, they tell of the touched row
+told-from : (touched : Option ℕ) (b a before after : Option (ℕ × Number)) → b ≡ before → a ≡ after → (touched ≡ None → (b ≡ a) ⊎ (a ≡ None))
+    → IfSome touched (λ id. (number : Number) × (a ≡ Some (id, number))) → IfSome touched IsVolumeId → IsTouched touched before after
+told-from None b a before after is is_too none some fits =
+    record {
+      none = λ e. elim (none refl) [ inl same ↦ inl (sym is ∙ same ∙ is_too) | inr gone ↦ inr (sym is_too ∙ gone) ];
+      some = λ id e. absurd (some_is_not_none id (sym e));
+    }
+told-from (Some own) b a before after is is_too none some fits =
+    record {
+      none = λ e. absurd (some_is_not_none own e);
+      some = λ id e. let same : own ≡ id = same_Some own id e in (subst (λ (n : ℕ). 0 < n) same fits.from_one, (some.0, sym is_too ∙ some.1 ∙ ap (λ (n : ℕ). Some (n, some.0)) same));
+    }
+
+-- next ids that the test finds equal are equal
+same-next : (x y new old : ℕ) → x ≡ new → y ≡ old → not (x == y) ≡ false → new ≡ old
+same-next x y new old is is_too same = let one : x ≡ y = grind (arith, nat_tests) in sym is ∙ one ∙ is_too
+
+pub returns-in-Err-clause-err : goal.returns-in-Err-clause-err
+returns-in-Err-clause-err c =
+    let state = c.showing_law.ensures.0 in
+    let shown = c.showing_law.ensures.1 in
+    same-parts c.rows_law.ensures c.args.controller.now c.step.new.self state (record { sound = c.sound_law.ensures; shown = shown }) (record { sound = c.sound_law-in-Err.ensures; shown = c.in-Err.ensures.err state shown })
+
+pub returns-in-Err-clause-err_changes : goal.returns-in-Err-clause-err_changes
+returns-in-Err-clause-err_changes c = λ changed.
+    let state = c.showing_law.ensures.0 in
+    let shown = c.showing_law.ensures.1 in
+    same-changes c.rows_law.ensures c.args.controller.now c.step.new.self state changed.has_new_id changed.touched
+    (record { sound = c.sound_law.ensures; shown = shown }) (record { sound = c.sound_law-in-Err.ensures; shown = c.in-Err.ensures.err state shown })
+
+pub returns-clause-parts : goal.returns-clause-parts
+returns-clause-parts c =
+    let old = c.args.controller.now in
+    let new = c.step.new.self in
+    let state = c.showing_law.ensures.0 in
+    let shown = c.showing_law.ensures.1 in
+    let after = after_frame old.config state c.args.frame.now in
+    let of_it : AreOf old state = record { sound = c.sound_law.ensures; shown = shown } in
+    let of_it_too : AreOf new after = record { sound = c.sound_law-2.ensures; shown = c.in-Ok.ensures.state state shown } in
+    let told : IsTouched c.touched.result (last_in c.args.frame.now.body state) (last_in c.args.frame.now.body after) =
+    told-from c.touched.result c.last_for-before.result c.last_for.result _ _ (c.last_for-before.ensures state shown) (c.last_for.ensures after of_it_too.shown)
+    c.touched.ensures.none c.touched.ensures.some c.touched.ensures.id in
+    parts-changed old new _ c.touched.result c.sound_law.ensures.rising c.sound_law-2.ensures.rising (same-next c.next_id.result c.next_id-next_id.result new.next_id old.next_id c.next_id.ensures.value c.next_id-next_id.ensures.value)
+    (frame-touches c.rows_law.ensures old new state c.args.frame.now c.args.frame.now.body c.touched.result of_it of_it_too refl told)

@@ -1,0 +1,131 @@
+//! The controller plugin over a store.
+ghost use Rattle.std.specs.Prelude.{◌≡◌, ◌∷◌, Some, [], map, IfOk, IfErr, OnErr, OnOk, Option};
+ghost use Rattle.csi_controller.specs.Core.{Shows};
+ghost use Rattle.csi_controller.specs.Fenced.{fenced};
+ghost use Rattle.csi_controller.specs.State.{ControllerState};
+ghost use Rattle.csi_stores.specs.Part.{change_of};
+ghost use Rattle.csi_records.specs.Records.{controller_layout, IsRecordOf, IsRefusedAt};
+ghost use Rattle.csi_records.specs.Spelling.{controller_head, controller_parts, volume_row};
+ghost use Rattle.csi_stores.specs.Content.{all_changed};
+ghost use Rattle.csi_stores.specs.Stores.{store};
+ghost use Rattle.csi_service.specs.Opening.{IsOpenFault, LeavesHead, HasRecord};
+ghost use Rattle.csi_service.specs.Services.{controller_service_parts, controller_service_changes, ControllerAnswers};
+
+use crate::controller_changes::{Changed, NOTHING, answer, push_row};
+use crate::opening::load_or_begin;
+use csi_controller::{Controller, ControllerRecord};
+use csi_records::{Record, controller_head_value};
+use csi_serving::Core;
+use csi_stores::{Keep, KeepFault, Part, push_value};
+use csi_types::{Config, Frame, NoMemory};
+use std::alloc::Global;
+
+/// The controller plugin with its record, whose parts a store keeps. This profile's own.
+#[derive(Drop)]
+pub struct ControllerService {
+    alloc: Global,
+    controller: Controller,
+    // By the last step that answered.
+    changed: Changed,
+}
+
+// A controller that made no volume.
+fn begun(alloc: Global, config: Config) -> ControllerService
+    ensures parts { controller_service_parts result ≡ controller_head 1 ∷ [] }
+    ensures config { result.controller.config ≡ config }
+    ensures changes { controller_service_changes result ≡ [] }
+{
+    ControllerService {
+        alloc,
+        controller: Controller::new(alloc, config),
+        changed: NOTHING,
+    }
+}
+
+// The controller of a record.
+fn of_record(
+    alloc: Global,
+    config: Config,
+    kept: ControllerRecord,
+) -> Result<ControllerService, NoMemory>
+    ensures parts { IfOk result (λ service. controller_service_parts service ≡ controller_parts kept.next_id (map volume_row kept.rows)) }
+    ensures config { IfOk result (λ service. service.controller.config ≡ config) }
+    ensures changes { IfOk result (λ service. controller_service_changes service ≡ []) }
+{
+    match Controller::from_record(alloc, config, kept) {
+        Ok(controller) => Ok(ControllerService {
+            alloc,
+            controller,
+            changed: NOTHING,
+        }),
+        Err(_) => Err(NoMemory),
+    }
+}
+
+impl ControllerService {
+    /// The controller of the store's record, under this configuration, which need not be the one that the record was made under.
+    /// A store without a part gets the head of an empty record first. Where the store's parts are no controller's record it answers
+    /// `BadRecord` with the first that is refused, `Device` only where the device failed in this call, and `Full` only where
+    /// there is no part and the head doesn't fit. This profile's own.
+    pub fn open<K: Keep>(
+        alloc: Global,
+        config: Config,
+        keep: &mut K,
+    ) -> Result<ControllerService, KeepFault>
+        ensures opened { IfOk result (HasRecord (IsRecordOf controller_layout) controller_service_parts (store K.is_honest K.holds K.leaves K.fits K.fault_count keep.old) (store K.is_honest K.holds K.leaves K.fits K.fault_count keep.new) (controller_head 1)) }
+        ensures config { IfOk result (λ service. service.controller.config ≡ config) }
+        ensures changes { IfOk result (λ service. controller_service_changes service ≡ []) }
+        ensures cause { IfErr result (IsOpenFault (IsRefusedAt (IsRecordOf controller_layout)) (store K.is_honest K.holds K.leaves K.fits K.fault_count keep.old) (store K.is_honest K.holds K.leaves K.fits K.fault_count keep.new) (controller_head 1)) }
+        ensures left { LeavesHead (store K.is_honest K.holds K.leaves K.fits K.fault_count keep.old) (store K.is_honest K.holds K.leaves K.fits K.fault_count keep.new) (controller_head 1) }
+    {
+        let head = controller_head_value(alloc, 1)?;
+        let parts = match load_or_begin(alloc, keep, head) {
+            Ok(parts) => parts,
+            Err(fault) => return Err(fault),
+        };
+        if parts.is_empty() {
+            return Ok(begun(alloc, config));
+        }
+        match ControllerRecord::of_parts(alloc, &parts) {
+            Ok(kept) => Ok(of_record(alloc, config, kept)?),
+            Err(stop) => Err(KeepFault::from(stop)),
+        }
+    }
+}
+
+impl Core for ControllerService {
+    ghost parts_of = { controller_service_parts };
+
+    ghost changes = { controller_service_changes };
+
+    ghost answers = { ControllerAnswers };
+
+    /// The controller's own answer. A frame that leaves its state changes no part: a reply, another plugin's call, a stale call and one
+    /// that came again. After a refusal `parts` gives what it gave before.
+    fn step(&mut self, frame: &Frame) -> Result<Option<Frame>, NoMemory>
+        ensures answered { IfOk result (λ reply. ControllerAnswers self.old frame.now reply self.new) }
+        ensures parts { OnOk result (controller_service_parts self.new ≡ all_changed (controller_service_changes self.new) (controller_service_parts self.old)) }
+        ensures nothing { (state : ControllerState) → Shows self.old.controller state → (fenced self.old.controller.config state frame.now).state ≡ state → OnOk result (controller_service_changes self.new ≡ []) }
+        ensures err { OnErr result (controller_service_parts self.new ≡ controller_service_parts self.old) }
+        ensures err_changes { OnErr result (controller_service_changes self.new ≡ controller_service_changes self.old) }
+    {
+        let (reply, changed) = answer(&mut self.controller, frame)?;
+        self.changed = changed;
+        Ok(reply)
+    }
+
+    /// The head where a volume was made, and the row of the one volume that was touched. The row is found by its id.
+    fn parts(&self) -> Result<Vec<Part>, NoMemory>
+        ensures { IfOk result (λ parts. map change_of parts.items ≡ controller_service_changes self.now) }
+    {
+        let mut parts = Vec::new(self.alloc);
+        if self.changed.has_new_id {
+            let value = controller_head_value(self.alloc, self.controller.next_id())?;
+            push_value(&mut parts, 0, value)?;
+        }
+        if let Some(id) = self.changed.touched {
+            push_row(self.alloc, &mut parts, &self.controller, id)?;
+        }
+        Ok(parts)
+    }
+}

@@ -1,8 +1,0 @@
-use Rattle.std.proofs.Common.{◌≡◌, ◌+◌, take}
-use Rattle.csi_serving.specs.Content.{size_of}
-use Rattle.csi_serving.specs.Memory.{all_stored}
-use Rattle.csi_serving.proofs.entries.fit.Given as goal
-
--- what the entries so far take, and what is left, are the limit
-abbrev pub invariant-loop-entry : goal.invariant-loop-entry
-invariant-loop-entry l = size_of (all_stored (take l.entry-index l.entries)) + l.left ≡ l.limit

@@ -1,5 +1,0 @@
-use Rattle.std.proofs.Common.{rules}
-use Rattle.csi_serving.proofs.whole_records.read_record.Goals as goal
-
-pub returns-in-Err-BadRecord : goal.returns-in-Err-BadRecord
-returns-in-Err-BadRecord c = search rules

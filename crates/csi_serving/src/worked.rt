@@ -1,6 +1,0 @@
-//! A worked example of the room in a store. The function proves a statement, and does nothing.
-ghost use Rattle.csi_serving.specs.Worked.{EmptySize};
-
-fn empty()
-    ensures { EmptySize }
-{}

@@ -1,0 +1,56 @@
+use Rattle.std.proofs.Common.{◌≡◌, ◌⊎◌, inl, inr, ℕ, List, Result, Ok, Err, IfErr, OnOk, map, sym, subst}
+use Rattle.sqlite.specs.Order.{Row}
+use Rattle.sqlite.specs.Held.{state}
+use Rattle.csi_tables.specs.Rows.{cells, AreByKey}
+use Rattle.csi_stores.specs.declared.keep.KeepFault.{KeepFault}
+use Rattle.csi_stores.specs.declared.keep.KeepFault.TheVariants.{NoMemory, BadRecord}
+use Rattle.csi_stores.specs.Part.{StoredPart}
+use Rattle.csi_stores.specs.Keeping.{IsLoadFault}
+use Rattle.csi_sqlite.specs.Tables.{row_of, HoldsParts}
+use Rattle.csi_sqlite.specs.Loading.{IsFirstBad}
+use Rattle.csi_sqlite.proofs.Tabled.{still_holds}
+use Rattle.csi_sqlite.proofs.Loading.{loaded, loaded_content, none_refused}
+use Rattle.csi_sqlite.proofs.sqlite_keep.SqliteKeepKeep.load.Goals as goal
+
+-- what is so anyway is so of an OK
+done : {A E : Type 0} (P : Type 0) (r : Result A E) → P → OnOk r P
+done P (Ok a) h = h
+done P (Err e) h = tt
+
+-- why reading the rows was refused is why loading is, where no row of a store's parts is bad
+refused : {A : Type 0} (r : Result A KeepFault) (honest : Type 0) (holds : List StoredPart → Type 0) (before after : ℕ) (rows : List Row)
+    → IfErr r (λ fault. (fault ≡ NoMemory) ⊎ ((place : ℕ) × (fault ≡ BadRecord place) × IsFirstBad rows place))
+    → (honest → (content : List StoredPart) → holds content → (place : ℕ) → ¬ IsFirstBad rows place) → IfErr r (IsLoadFault honest holds before after)
+refused (Ok a) honest holds before after rows cause never = tt
+refused (Err e) honest holds before after rows (inl is) never = subst (IsLoadFault honest holds before after) (sym is) tt
+refused (Err e) honest holds before after rows (inr bad) never = subst (IsLoadFault honest holds before after) (sym bad.1) (λ clean content has. never clean content has bad.0 bad.2)
+
+pub returns-in-Ok-clause-judged : goal.returns-in-Ok-clause-judged
+returns-in-Ok-clause-judged g c clean columns has =
+    let by_key = subst (AreByKey columns) (sym c.deref.ensures.value) (c.in-Ok.ensures.by_key clean columns has) in
+    loaded (state g.S.Store c.args.self.now.connection) columns c.deref.result.now c.parts_of.result has by_key (c.parts_of.ensures.parts, c.parts_of.ensures.bad)
+
+pub returns-in-Ok-clause-parts : goal.returns-in-Ok-clause-parts
+returns-in-Ok-clause-parts g c clean content has =
+    loaded_content (state g.S.Store c.args.self.now.connection) (map cells (map row_of content)) content c.parts_of.result has.0
+    (returns-in-Ok-clause-judged g c clean (map cells (map row_of content)) has.0.rows)
+
+pub returns-in-Ok-clause-stays : goal.returns-in-Ok-clause-stays
+returns-in-Ok-clause-stays g c clean content has =
+    let old = state g.S.Store c.args.self.now.connection in
+    let new = state g.S.Store c.all_rows.new.connection in
+    done (HoldsParts new content) c.parts_of.result (still_holds old new content (c.in-Ok.ensures.same clean (map cells (map row_of content)) has.0.rows) has)
+
+pub returns-in-Ok-clause-cause : goal.returns-in-Ok-clause-cause
+returns-in-Ok-clause-cause g c =
+    refused c.parts_of.result _ _ _ _ c.deref.result.now c.parts_of.ensures.bad (λ clean content has place bad.
+    let columns = map cells (map row_of content) in
+    none_refused content place has.0.keys (c.deref.result.now, subst (AreByKey columns) (sym c.deref.ensures.value) (c.in-Ok.ensures.by_key clean columns has.0.rows), bad))
+
+pub returns-in-Err-SqlInputError-clause-cause : goal.returns-in-Err-SqlInputError-clause-cause
+returns-in-Err-SqlInputError-clause-cause g c clean content has =
+    c.in-Err-SqlInputError.ensures.known clean (map cells (map row_of content)) has.0.rows (c.in-Err-SqlInputError.field-0-0, c.in-Err-SqlInputError.field-0-is)
+
+pub returns-in-Err-SqlInputError-clause-judged : goal.returns-in-Err-SqlInputError-clause-judged
+returns-in-Err-SqlInputError-clause-judged g c clean columns has =
+    absurd (c.in-Err-SqlInputError.ensures.known clean columns has (c.in-Err-SqlInputError.field-0-0, c.in-Err-SqlInputError.field-0-is))

@@ -1,0 +1,70 @@
+-- Rows of the table `parts` read as parts, whatever values they have. This profile's own.
+use Rattle.std.specs.Prelude.{◌≡◌, ◌<◌, ◌^◌, ◌++◌, ℕ, ⊤, Bool, true, false, List, [], ◌∷◌, map, take, slice_get, Option, Some, None, Result, Ok, Err}
+use Rattle.std.specs.Global.{Vec}
+use Rattle.std.specs.List.{AllZip}
+use Rattle.byteorder.specs.Endian.{big_bytes}
+use Rattle.sqlite.specs.declared.types.Value.{Value}
+use Rattle.sqlite.specs.declared.types.Value.TheVariants.{Null, Int, Real, Text, Blob}
+use Rattle.sqlite.specs.Order.{Row, column}
+use Rattle.sqlite.specs.State.{State}
+use Rattle.csi_tables.specs.Rows.{AreByKey}
+use Rattle.csi_stores.specs.declared.keep.KeepFault.{KeepFault}
+use Rattle.csi_stores.specs.declared.keep.KeepFault.TheVariants.{Device, NoMemory, BadRecord, Full}
+use Rattle.csi_stores.specs.declared.part.Part.{Part}
+use Rattle.csi_stores.specs.Part.{StoredPart, Change, change_of, put_all}
+use Rattle.csi_sqlite.specs.Tables.{HasParts}
+
+-- a row is this part: its columns are two BLOBs, the eight bytes of the key and the value
+pub record IsRowOf (row : Row) (part : StoredPart) : Type 0 where
+  pub fits : part.key < 2 ^ 64
+  pub key : column row 0 ≡ Blob (big_bytes 8 part.key)
+  pub value : column row 1 ≡ Blob part.value
+
+-- a row is no part
+abbrev pub IsNoPart : Row → Type 0
+IsNoPart row = (part : StoredPart) → IsRowOf row part → ⊥
+
+-- the row at this place, from 0, is the first that is no part
+pub record IsFirstBad (rows : List Row) (place : ℕ) : Type 0 where
+  pub row : Row
+  pub there : slice_get rows place ≡ Some row
+  pub bad : IsNoPart row
+  pub earlier : (parts : List StoredPart) × AllZip IsRowOf (take place rows) parts
+
+-- Why rows of these columns aren't given: BadRecord has the place, by rising key, of the first row that is no part. Want of memory and
+-- a failing device may come at any time.
+abbrev pub IsNotGiven : List Row → KeepFault → Type 0
+IsNotGiven columns Device = ⊤
+IsNotGiven columns NoMemory = ⊤
+IsNotGiven columns (BadRecord place) = (rows : List Row) × AreByKey columns rows × IsFirstBad rows place
+IsNotGiven columns Full = ⊥
+
+-- What loading a table with rows of these columns answers: parts only where each row is a part, and then all of them by rising key;
+-- BadRecord only where some row is none.
+abbrev pub IsLoaded : State → List Row → Result (Vec Part) KeepFault → Type 0
+IsLoaded s columns (Ok parts) = (content : List StoredPart) × HasParts s content × (map change_of parts.items ≡ put_all content)
+IsLoaded s columns (Err fault) = IsNotGiven columns fault
+
+-- ---- row after row
+
+-- a BLOB's bytes
+abbrev pub blob_in : Value → Option (List ℕ)
+blob_in Null = None
+blob_in (Int n) = None
+blob_in (Real x) = None
+blob_in (Text t) = None
+blob_in (Blob b) = Some b
+
+-- what reading a row gives: the part that it is, or nothing where it is none
+abbrev pub IsReadAs : Row → Option Change → Type 0
+IsReadAs row None = IsNoPart row
+IsReadAs row (Some change) = (part : StoredPart) × IsRowOf row part × (change ≡ record { key = part.key; value = Some part.value })
+
+-- the part that a row is comes behind those before it, or the row is none
+abbrev pub IsTaken : Row → List Change → List Change → Bool → Type 0
+IsTaken row before after true = (part : StoredPart) × IsRowOf row part × (after ≡ before ++ put_all (part ∷ []))
+IsTaken row before after false = IsNoPart row
+
+-- the same of all rows
+abbrev pub AreParts : List Row → List Change → Type 0
+AreParts rows changes = (parts : List StoredPart) × AllZip IsRowOf rows parts × (changes ≡ put_all parts)

@@ -1,0 +1,55 @@
+-- A store in a SQLite database, as contracts see it. This profile's own.
+use Rattle.std.specs.Prelude.{◌⊎◌, [], IsTrue, ℕ, ◌<◌, ◌^◌, ⊤, List, map}
+use Rattle.std.specs.List.{AllByRecursion}
+use Rattle.byteorder.specs.Endian.{big_bytes}
+use Rattle.sqlite.specs.Tree.{Trees}
+use Rattle.sqlite.specs.State.{State, HasCleanDisk}
+use Rattle.csi_tables.specs.Rows.{KeyedRow, StoresRows, HasRows, IsBlank, IsAtRest}
+use Rattle.csi_stores.specs.declared.keep.KeepFault.{KeepFault}
+use Rattle.csi_stores.specs.declared.keep.KeepFault.TheVariants.{Device, NoMemory, BadRecord, Full}
+use Rattle.csi_stores.specs.Part.{StoredPart}
+use Rattle.csi_stores.specs.Content.{IsRising}
+use Rattle.csi_stores.specs.Keeping.{HasRisen}
+
+-- a part as a row: its key in eight bytes, the greatest first
+abbrev pub row_of : StoredPart → KeyedRow
+row_of part = record { key = big_bytes 8 part.key; value = part.value }
+
+-- each key has 64 bits
+abbrev pub AreKeys : List StoredPart → Type 0
+AreKeys = AllByRecursion (λ (part : StoredPart). part.key < 2 ^ 64)
+
+-- a database whose one table has these parts
+pub record StoresParts (db : Trees) (content : List StoredPart) : Type 0 where
+  pub rows : StoresRows db (map row_of content)
+  pub rising : IsRising content
+  pub keys : AreKeys content
+
+-- the connection sees such a database, in a transaction or outside
+pub record HasParts (s : State) (content : List StoredPart) : Type 0 where
+  pub rows : HasRows s (map row_of content)
+  pub rising : IsRising content
+  pub keys : AreKeys content
+
+-- the same, and all is committed
+abbrev pub HoldsParts : State → List StoredPart → Type 0
+HoldsParts s content = HasParts s content × IsAtRest s
+
+-- a crash may leave such a database
+pub record LeavesParts (s : State) (content : List StoredPart) : Type 0 where
+  pub db : Trees
+  pub may : s.may_leave db
+  pub parts : StoresParts db content
+
+-- What opening leaves, also where it is refused or crashes: what was left before, or, where nothing was listed, a table without a part.
+pub record OpensOver (before after : State) : Type 0 where
+  pub honest : HasCleanDisk after → HasCleanDisk before
+  pub blank : HasCleanDisk after → IsBlank before → (db : Trees) → after.may_leave db → before.may_leave db ⊎ StoresParts db []
+  pub found : HasCleanDisk after → (content : List StoredPart) → IsTrue before.is_open → StoresParts before.now.trees content → (db : Trees) → after.may_leave db → before.may_leave db
+
+-- what a refusal by SQLite is to a keeper: want of memory, or a failure, which is counted
+abbrev pub IsCounted : ℕ → ℕ → KeepFault → Type 0
+IsCounted before after Device = HasRisen before after
+IsCounted before after NoMemory = ⊤
+IsCounted before after (BadRecord place) = ⊥
+IsCounted before after Full = ⊥

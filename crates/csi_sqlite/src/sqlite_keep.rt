@@ -1,0 +1,145 @@
+//! A store in a SQLite database.
+ghost use Rattle.std.specs.Prelude.{◌≡◌, ◌≤◌, ◌⊎◌, ℕ, List, [], map, ⊤, IsTrue, IfOk, IfErr, OnOk, OnErr};
+ghost use Rattle.sqlite.specs.Held.{state};
+ghost use Rattle.sqlite.specs.State.{HasCleanDisk};
+ghost use Rattle.sqlite.specs.Order.{Row};
+ghost use Rattle.csi_tables.specs.Rows.{IsBlank, HasColumns};
+ghost use Rattle.csi_stores.specs.Part.{StoredPart, change_of, put_all};
+ghost use Rattle.csi_stores.specs.Keeping.{IsLoadFault};
+ghost use Rattle.csi_sqlite.specs.Loading.{IsLoaded};
+ghost use Rattle.csi_sqlite.specs.Tables.{StoresParts, HoldsParts, LeavesParts, OpensOver, IsCounted};
+
+use csi_stores::{Keep, KeepFault, Part};
+use csi_tables::{all_rows, make_table};
+use sqlite::{Alter, Connection, Error, ErrorCode};
+use std::alloc::Global;
+
+mod changing;
+mod file;
+mod reading;
+
+use changing::change_at_once;
+use reading::parts_of;
+
+/// A store in a SQLite database: a part is a row of the table `parts`, its key in eight bytes, the greatest first. A commit is
+/// one transaction, and costs what it changes. It never answers `Full`. This profile's own.
+///
+/// Its promises hold while the disk gives back what was written and nobody else writes the database, and where a table `parts`
+/// that was found is declared as the one that `new` makes, with no other table, index or view beside it.
+pub struct SqliteKeep<S: Alter> {
+    alloc: Global,
+    connection: Connection<S>,
+    faults: u64,
+}
+
+impl<S: Alter + Drop> Drop for SqliteKeep<S> {
+    fn drop(self) {
+        let SqliteKeep {
+            alloc: _,
+            connection: _,
+            faults: _,
+        } = self;
+    }
+}
+
+// Whether an allocation was refused.
+fn is_memory(error: &Error) -> bool {
+    matches!(error, Error::SqliteFailure(ErrorCode::OutOfMemory))
+}
+
+// What a refusal is to the keeper; all but want of memory is a failure, and counted. A count of 2^64 - 1 stays.
+fn refused(faults: &mut u64, error: &Error) -> KeepFault
+    ensures counted { IsCounted faults.old faults.new result }
+    ensures rises { faults.old ≤ faults.new }
+{
+    if is_memory(error) {
+        return KeepFault::NoMemory;
+    }
+    *faults = faults.saturating_add(1);
+    KeepFault::Device
+}
+
+impl<S: Alter> SqliteKeep<S> {
+    /// A store in this database, in which the table `parts` is made where there is none. At a refusal the connection comes
+    /// back: `Device` stands for all but want of memory, as for a transaction that is open.
+    pub fn new(
+        alloc: Global,
+        mut connection: Connection<S>,
+    ) -> Result<SqliteKeep<S>, (KeepFault, Connection<S>)>
+        ensures blank { IfOk result (λ keep. HasCleanDisk (state S.Store keep.connection) → IsBlank (state S.Store connection) → HoldsParts (state S.Store keep.connection) []) }
+        ensures found { IfOk result (λ keep. HasCleanDisk (state S.Store keep.connection) → (content : List StoredPart) → IsTrue (state S.Store connection).is_open → StoresParts (state S.Store connection).now.trees content → HoldsParts (state S.Store keep.connection) content) }
+        ensures left { IfOk result (λ keep. OpensOver (state S.Store connection) (state S.Store keep.connection)) }
+        ensures faults { IfOk result (λ keep. keep.faults ≡ 0) }
+        ensures back { IfErr result (λ refusal. OpensOver (state S.Store connection) (state S.Store refusal.1)) }
+        ensures cause { IfErr result (λ refusal. (refusal.0 ≡ KeepFault.Device) ⊎ (refusal.0 ≡ KeepFault.NoMemory)) }
+    {
+        if !connection.is_autocommit() {
+            return Err((KeepFault::Device, connection));
+        }
+        match make_table(&mut connection) {
+            Ok(()) => Ok(SqliteKeep {
+                alloc,
+                connection,
+                faults: 0,
+            }),
+            Err(error) if is_memory(&error) => Err((KeepFault::NoMemory, connection)),
+            Err(_) => Err((KeepFault::Device, connection)),
+        }
+    }
+
+    /// The connection. It takes no memory.
+    pub fn into_connection(self) -> Connection<S>
+        ensures { result ≡ self.connection }
+    {
+        let SqliteKeep {
+            alloc: _,
+            connection: back,
+            faults: _,
+        } = self;
+        back
+    }
+}
+
+impl<S: Alter> Keep for SqliteKeep<S> {
+    ghost is_honest = { λ keep. HasCleanDisk (state S.Store keep.connection) };
+
+    ghost holds = { λ keep content. HoldsParts (state S.Store keep.connection) content };
+
+    ghost leaves = { λ keep content. LeavesParts (state S.Store keep.connection) content };
+
+    ghost fits = { λ _ _. ⊤ };
+
+    ghost fault_count = { λ keep. keep.faults };
+
+    /// All parts, by rising key, where the table is as declared and each of its rows is a part. A row that is none is `BadRecord`,
+    /// with the position, from 0, of the first such row in SQLite's order of keys. Nothing is written.
+    fn load(&mut self) -> Result<Vec<Part>, KeepFault>
+        ensures honest { HasCleanDisk (state S.Store self.new.connection) → HasCleanDisk (state S.Store self.old.connection) }
+        ensures parts { HasCleanDisk (state S.Store self.new.connection) → (content : List StoredPart) → HoldsParts (state S.Store self.old.connection) content → IfOk result (λ parts. map change_of parts.items ≡ put_all content) }
+        ensures stays { HasCleanDisk (state S.Store self.new.connection) → (content : List StoredPart) → HoldsParts (state S.Store self.old.connection) content → OnOk result (HoldsParts (state S.Store self.new.connection) content) }
+        ensures left { HasCleanDisk (state S.Store self.new.connection) → (content : List StoredPart) → LeavesParts (state S.Store self.new.connection) content → LeavesParts (state S.Store self.old.connection) content }
+        ensures faults { self.old.faults ≤ self.new.faults }
+        ensures cause { IfErr result (λ fault. IsLoadFault (HasCleanDisk (state S.Store self.new.connection)) (HoldsParts (state S.Store self.old.connection)) self.old.faults self.new.faults fault) }
+        ensures judged { HasCleanDisk (state S.Store self.new.connection) → (columns : List Row) → HasColumns (state S.Store self.old.connection) columns → IsLoaded (state S.Store self.old.connection) columns result }
+    {
+        match all_rows(&mut self.connection) {
+            Ok(rows) => parts_of(self.alloc, &rows),
+            Err(Error::SqlInputError(_)) => Err(KeepFault::BadRecord(0)),
+            Err(error) => Err(refused(&mut self.faults, &error)),
+        }
+    }
+
+    fn commit(&mut self, parts: &[Part]) -> Result<(), KeepFault> {
+        if parts.is_empty() {
+            return Ok(());
+        }
+        match change_at_once(&mut self.connection, parts) {
+            Ok(()) => Ok(()),
+            Err(error) => Err(refused(&mut self.faults, &error)),
+        }
+    }
+
+    fn faults(&self) -> u64 {
+        self.faults
+    }
+}

@@ -1,0 +1,3 @@
+pub mod EntryPlaces
+pub mod EntrySizes
+pub mod RisingChanges

@@ -1,0 +1,5 @@
+pub mod Part
+pub mod Content
+pub mod Keeping
+pub mod Memory
+pub mod Stores

@@ -1,0 +1,21 @@
+-- A store in memory, as contracts see it.
+use Rattle.std.specs.Prelude.{◌≤◌, ℕ, List, map}
+use Rattle.csi_stores.specs.declared.entries.Entry.{Entry}
+use Rattle.csi_stores.specs.Part.{StoredPart}
+use Rattle.csi_stores.specs.Content.{IsRising, size_of}
+
+-- its limit in bytes, and its parts
+pub record Memory : Type 0 where
+  pub limit : ℕ
+  pub parts : List StoredPart
+
+-- its parts stand by rising key, and fit its limit
+pub record IsMemory (memory : Memory) : Type 0 where
+  pub rising : IsRising memory.parts
+  pub fits : size_of memory.parts ≤ memory.limit
+
+abbrev pub stored : Entry → StoredPart
+stored entry = record { key = entry.key; value = entry.value.items }
+
+abbrev pub all_stored : List Entry → List StoredPart
+all_stored entries = map stored entries

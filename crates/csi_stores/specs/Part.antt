@@ -1,0 +1,40 @@
+-- The parts of a record, as contracts see them. This profile's own.
+use Rattle.std.specs.Prelude.{ℕ, ◌<◌, ◌^◌, List, [], length, map, Option, Some, None, option_map}
+use Rattle.std.specs.Global.{Vec}
+use Rattle.csi_types.specs.Limits.{IsWord}
+use Rattle.csi_stores.specs.declared.part.Part.{Part}
+
+pub record StoredPart : Type 0 where
+  pub key : ℕ
+  pub value : List ℕ
+
+-- a part that is put in, or, where it has no value, taken out
+pub record Change : Type 0 where
+  pub key : ℕ
+  pub value : Option (List ℕ)
+
+-- the changes that put these parts in
+abbrev pub put_all : List StoredPart → List Change
+put_all parts = map (λ part. record { key = part.key; value = Some part.value }) parts
+
+abbrev pub bytes_in : Vec ℕ → List ℕ
+bytes_in bytes = bytes.items
+
+abbrev pub change_of : Part → Change
+change_of part = record { key = part.key; value = option_map bytes_in part.value }
+
+-- a part without a value is as one without a byte
+abbrev pub value_in : Option (Vec ℕ) → List ℕ
+value_in None = []
+value_in (Some bytes) = bytes.items
+
+abbrev pub stored_in : Part → StoredPart
+stored_in part = record { key = part.key; value = value_in part.value }
+
+abbrev pub all_stored_in : List Part → List StoredPart
+all_stored_in parts = map stored_in parts
+
+-- what a part may be: its key is a number of 64 bits, and so is the count of its value's bytes one of 32
+pub record IsPart (part : StoredPart) : Type 0 where
+  pub key : IsWord part.key
+  pub value : length part.value < 2 ^ 32
