@@ -12,6 +12,7 @@ use Rattle.sqlite_schema.specs.declared.schema.Schema.{Schema}
 use Rattle.sqlite_resolve.specs.Compile.{table_defined_by}
 use Rattle.sqlite_catalog.specs.Listing.{IsTableRow, IsIndexRow, IsViewRow, IsDefined, IsSound, automatic, is_table_row, is_index_row, is_view_row}
 use Rattle.csi_tables.specs.Declared.{parts_table, parts_schema, no_schema}
+use Rattle.csi_tables.specs.Listed.{ListsParts}
 
 -- what stands beside nothing is nothing
 beside_none : {A B C : Type 0} (R : A → B → Type 0) (S : A → C → Type 0) (xs : List A) (zs : List C) → AllZip R xs [] → AllZip S xs zs → zs ≡ []
@@ -74,6 +75,13 @@ nothing_listed schema db none it =
     let indexes = beside_none (IsIndexRow no_schema.tables) (IsIndexRow schema.tables) (filter is_index_row objects) schema.indexes none.lists.listed.indexes it.lists.listed.indexes in
     let views = beside_none IsViewRow IsViewRow (filter is_view_row objects) schema.views none.lists.listed.views it.lists.listed.views in
     λ i. record { tables = tables i; indexes = indexes i; views = views i }
+
+-- so it doesn't list the table
+pub not_both : (schema : Schema) (db : Trees) → IsSound no_schema db → IsSound schema db → ¬ ListsParts schema
+not_both schema db none it lists =
+    let nothing : schema.tables ≡ [] = ap (λ (s : Schema). s.tables) (nothing_listed schema db none it) in
+    let some = lists.tables.1 in
+    absurd (cc)
 
 -- a database that lists the declared table and its index has the declared schema
 pub parts_listed : (schema : Schema) (db : Trees) → IsSound parts_schema db → IsSound schema db → schema ≡ parts_schema

@@ -1,14 +1,18 @@
 //! The statements on the table `parts`.
-ghost use Rattle.std.specs.Prelude.{◌≡◌, ◌⊎◌, ◌∷◌, [], List, IsTrue, map, false, IfOk, IfErr, OnOk};
+ghost use Rattle.std.specs.Prelude.{◌≡◌, ◌⊎◌, ◌∷◌, [], List, IsTrue, map, false, Err, IfOk, IfErr, OnOk, IsOk};
 ghost use Rattle.sqlite.specs.State.{HasCleanDisk, IsUnchanged, Survives};
 ghost use Rattle.sqlite.specs.Held.{state};
 ghost use Rattle.sqlite.specs.Tree.{Trees};
 ghost use Rattle.sqlite.specs.Order.{Row as Cells};
 ghost use Rattle.csi_tables.specs.Rows.{KeyedRow, cells, without, AreRising, AreByKey, StoresRows, HasColumns, HasRows, IsAtRest, IsBlank, IsInputError};
+ghost use Rattle.csi_tables.specs.Listed.{ListsParts, ListsOther};
 
-use sqlite::{Alter, Connection, Error, Row, Transaction, params};
+use crate::listed::{lists_nothing, lists_parts};
+use sqlite::{Alter, Connection, Error, ErrorCode, Row, Transaction, params};
 
-/// Makes the table where the database has no table of this name. The statement is its own transaction.
+/// Makes the table where the database lists nothing; the statement is its own transaction. Where it lists a table of this name
+/// alone, however that is declared, nothing is done, and where it lists anything else that is refused as `NotADatabase`, and nothing
+/// is done either.
 pub fn make_table<S: Alter>(connection: &mut Connection<S>) -> Result<(), Error>
     ensures made { HasCleanDisk (state S.Store connection.new) → IsBlank (state S.Store connection.old) → IsAtRest (state S.Store connection.old)
         → OnOk result (HasRows (state S.Store connection.new) [] × IsAtRest (state S.Store connection.new)) }
@@ -18,8 +22,16 @@ pub fn make_table<S: Alter>(connection: &mut Connection<S>) -> Result<(), Error>
     ensures crash_found { HasCleanDisk (state S.Store connection.new) → (rows : List KeyedRow) → IsTrue (state S.Store connection.old).is_open → StoresRows (state S.Store connection.old).now.trees rows
         → (db : Trees) → (state S.Store connection.new).may_leave db → (state S.Store connection.old).may_leave db }
     ensures clean { HasCleanDisk (state S.Store connection.new) → HasCleanDisk (state S.Store connection.old) }
+    ensures there { ListsParts (state S.Store connection.old).now.schema → IsOk result × (connection.new ≡ connection.old) }
+    ensures other { ListsOther (state S.Store connection.old).now.schema → (result ≡ Err (Error.SqliteFailure ErrorCode.NotADatabase)) × (connection.new ≡ connection.old) }
 {
-    let _schema = connection.schema();
+    let schema = connection.schema();
+    if lists_parts(schema) {
+        return Ok(());
+    }
+    if !lists_nothing(schema) {
+        return Err(Error::SqliteFailure(ErrorCode::NotADatabase));
+    }
     connection.execute(
         "CREATE TABLE IF NOT EXISTS parts (key BLOB NOT NULL PRIMARY KEY, value BLOB NOT NULL)",
         &[],

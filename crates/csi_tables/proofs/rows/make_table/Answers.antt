@@ -1,6 +1,8 @@
-use Rattle.std.proofs.Common.{inl, inr, Ok}
+use Rattle.std.proofs.Common.{inl, inr, Ok, subst}
 use Rattle.sqlite.specs.Held.{state}
-use Rattle.csi_tables.proofs.MakingTable.{makes, finds, may_make, may_find}
+use Rattle.csi_tables.proofs.MakingTable.{makes, may_make, finds, may_find}
+use Rattle.csi_tables.specs.Listed.{ListsParts}
+use Rattle.csi_tables.proofs.Schemas.{parts_listed, not_both}
 use Rattle.csi_tables.proofs.rows.make_table.Goals as goal
 
 pub returns-clause-made : goal.returns-clause-made
@@ -36,3 +38,15 @@ returns-in_err-execute-clause-crash_found g c clean rows is_open stores db may =
     let old = state g.S.Store c.args.connection.now in
     let live = (c.schema-schema.ensures.live is_open).0 in
     elim (c.execute.ensures.survives.crash clean db may) [ inl before ↦ before | inr made ↦ absurd (may_find old rows db live stores made) ]
+
+pub returns-then-lists_parts-clause-made : goal.returns-then-lists_parts-clause-made
+returns-then-lists_parts-clause-made g c clean blank rest =
+    let live = (c.schema-schema.ensures.live blank.is_open).0 in
+    let now = (state g.S.Store c.args.connection.now).now in
+    absurd (not_both now.schema now.trees blank.empty live (subst ListsParts c.schema-schema.ensures.value (c.lists_parts.ensures.0 c.if-lists_parts.true)))
+
+pub returns-then-lists_parts-clause-found : goal.returns-then-lists_parts-clause-found
+returns-then-lists_parts-clause-found g c clean rows is_open stores rest =
+    let live = (c.schema-schema.ensures.live is_open).0 in
+    let now = (state g.S.Store c.args.connection.now).now in
+    (record { is_open = is_open; declared = parts_listed now.schema now.trees stores.listed live; stores = stores }, rest)
