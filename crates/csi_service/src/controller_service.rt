@@ -1,5 +1,5 @@
 //! The controller plugin over a store.
-ghost use Rattle.std.specs.Prelude.{◌≡◌, ◌∷◌, Some, [], map, IfOk, IfErr, OnErr, OnOk, Option};
+ghost use Rattle.std.specs.Prelude.{◌≡◌, ◌∷◌, ℕ, Some, [], map, IfOk, IfErr, OnErr, OnOk, Option};
 ghost use Rattle.csi_controller.specs.Core.{Shows};
 ghost use Rattle.csi_controller.specs.Fenced.{fenced};
 ghost use Rattle.csi_controller.specs.State.{ControllerState};
@@ -7,6 +7,7 @@ ghost use Rattle.csi_stores.specs.Part.{change_of};
 ghost use Rattle.csi_records.specs.Records.{controller_layout, IsRecordOf, IsRefusedAt};
 ghost use Rattle.csi_records.specs.Spelling.{controller_head, controller_parts, volume_row};
 ghost use Rattle.csi_stores.specs.Content.{all_changed};
+ghost use Rattle.csi_stores.specs.Keeping.{RefusesAt};
 ghost use Rattle.csi_stores.specs.Stores.{store};
 ghost use Rattle.csi_service.specs.Opening.{IsOpenFault, LeavesHead, HasRecord};
 ghost use Rattle.csi_service.specs.Services.{controller_service_parts, controller_service_changes, ControllerAnswers};
@@ -76,6 +77,8 @@ impl ControllerService {
         ensures config { IfOk result (λ service. service.controller.config ≡ config) }
         ensures changes { IfOk result (λ service. controller_service_changes service ≡ []) }
         ensures cause { IfErr result (IsOpenFault (IsRefusedAt (IsRecordOf controller_layout)) (store K.is_honest K.holds K.leaves K.fits K.fault_count keep.old) (store K.is_honest K.holds K.leaves K.fits K.fault_count keep.new) (controller_head 1)) }
+        ensures honest { K.is_honest keep.new → K.is_honest keep.old }
+        ensures foreign { K.is_honest keep.new → (place : ℕ) → K.is_foreign keep.old place → RefusesAt place result }
         ensures left { LeavesHead (store K.is_honest K.holds K.leaves K.fits K.fault_count keep.old) (store K.is_honest K.holds K.leaves K.fits K.fault_count keep.new) (controller_head 1) }
     {
         let head = controller_head_value(alloc, 1)?;

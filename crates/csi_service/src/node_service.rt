@@ -1,5 +1,5 @@
 //! The node plugin over a store.
-ghost use Rattle.std.specs.Prelude.{◌≡◌, ◌∷◌, ◌↔◌, [], Some, map, option_map, IfOk, IfErr, IfSome, OnOk, OnErr, IsTrue, None, if◌then◌else◌};
+ghost use Rattle.std.specs.Prelude.{◌≡◌, ◌∷◌, ℕ, ◌↔◌, [], Some, map, option_map, IfOk, IfErr, IfSome, OnOk, OnErr, IsTrue, None, if◌then◌else◌};
 ghost use Rattle.std.specs.Option.{option_copied};
 ghost use Rattle.csi_types.specs.VolumeId.{IsVolumeId};
 ghost use Rattle.csi_node.specs.OneRow.{shown, IsSoundRow};
@@ -9,6 +9,7 @@ ghost use Rattle.csi_records.specs.Records.{node_layout, IsRecordOf, IsRefusedAt
 ghost use Rattle.csi_records.specs.Spelling.{node_head, node_parts};
 ghost use Rattle.csi_stores.specs.Content.{all_changed};
 ghost use Rattle.csi_service.specs.NodeServices.{touched_row, last_for, node_service_changes, NodeServiceAnswers};
+ghost use Rattle.csi_stores.specs.Keeping.{RefusesAt};
 ghost use Rattle.csi_stores.specs.Stores.{store};
 ghost use Rattle.csi_service.specs.Opening.{IsOpenFault, LeavesHead, HasRecord};
 ghost use Rattle.csi_service.specs.Services.{node_service_parts};
@@ -67,6 +68,8 @@ impl NodeService {
         ensures changes { IfOk result (λ service. node_service_changes service ≡ []) }
         ensures opened { IfOk result (HasRecord (IsRecordOf (node_layout (Some id))) node_service_parts (store K.is_honest K.holds K.leaves K.fits K.fault_count keep.old) (store K.is_honest K.holds K.leaves K.fits K.fault_count keep.new) (node_head id)) }
         ensures cause { IfErr result (IsOpenFault (IsRefusedAt (IsRecordOf (node_layout (Some id)))) (store K.is_honest K.holds K.leaves K.fits K.fault_count keep.old) (store K.is_honest K.holds K.leaves K.fits K.fault_count keep.new) (node_head id)) }
+        ensures honest { K.is_honest keep.new → K.is_honest keep.old }
+        ensures foreign { K.is_honest keep.new → (place : ℕ) → K.is_foreign keep.old place → RefusesAt place result }
         ensures left { LeavesHead (store K.is_honest K.holds K.leaves K.fits K.fault_count keep.old) (store K.is_honest K.holds K.leaves K.fits K.fault_count keep.new) (node_head id) }
     {
         let head = node_head_value(alloc, &id)?;

@@ -5,3 +5,4 @@ pub mod StreamFrames
 pub mod GrowingRuns
 pub mod Progress
 pub mod ServingEnds
+pub mod Failures

@@ -4,4 +4,5 @@ pub mod Writing
 pub mod Serving
 pub mod Answering
 pub mod Stopping
+pub mod Failing
 pub mod Ending

@@ -1,5 +1,5 @@
 -- Why a store refuses, and what a count of faults says. This profile's own.
-use Rattle.std.specs.Prelude.{◌≡◌, ◌⊎◌, ℕ, ◌<◌, ◌-◌, ◌^◌, List}
+use Rattle.std.specs.Prelude.{◌≡◌, ◌⊎◌, ℕ, ◌<◌, ◌-◌, ◌^◌, List, Result, Ok, Err}
 use Rattle.csi_stores.specs.declared.keep.KeepFault.{KeepFault}
 use Rattle.csi_stores.specs.declared.keep.KeepFault.TheVariants.{Device, NoMemory, BadRecord, Full}
 use Rattle.csi_stores.specs.Part.{StoredPart}
@@ -23,3 +23,15 @@ IsCommitFault honest holds fits change before after Device = HasRisen before aft
 IsCommitFault honest holds fits change before after NoMemory = Unit {0}
 IsCommitFault honest holds fits change before after (BadRecord place) = ⊥
 IsCommitFault honest holds fits change before after Full = honest → (content : List StoredPart) → holds content → fits (change content) → ⊥
+
+-- What the answer may be where a store has no list of parts: that, with the place of the first thing that is no part; but the device
+-- may fail before, or memory be wanted.
+abbrev pub IsForeignFault : ℕ → KeepFault → Type 0
+IsForeignFault place Device = Unit {0}
+IsForeignFault place NoMemory = Unit {0}
+IsForeignFault place (BadRecord at) = at ≡ place
+IsForeignFault place Full = ⊥
+
+abbrev pub RefusesAt : {A : Type 0} → ℕ → Result A KeepFault → Type 0
+RefusesAt place (Ok a) = ⊥
+RefusesAt place (Err fault) = IsForeignFault place fault

@@ -2,7 +2,7 @@
 ghost use Rattle.std.specs.Prelude.{◌≡◌, ◌≤◌, ◌⊎◌, ℕ, List, map, IfOk, IfErr, OnOk, OnErr};
 ghost use Rattle.csi_stores.specs.Part.{StoredPart, put_all, change_of};
 ghost use Rattle.csi_stores.specs.Content.{all_changed};
-ghost use Rattle.csi_stores.specs.Keeping.{IsLoadFault, IsCommitFault};
+ghost use Rattle.csi_stores.specs.Keeping.{IsLoadFault, IsCommitFault, RefusesAt};
 
 use crate::part::Part;
 use csi_types::NoMemory;
@@ -44,6 +44,9 @@ pub trait Keep {
     /// These are its parts, by rising key.
     ghost holds: { Self → List StoredPart → Type 0 };
 
+    /// What it has is no list of parts: the first thing that is none stands at this place, from 0.
+    ghost is_foreign: { Self → ℕ → Type 0 };
+
     /// A store that is opened again now may find these parts.
     ghost leaves: { Self → List StoredPart → Type 0 };
 
@@ -53,12 +56,13 @@ pub trait Keep {
     /// How often the device under it failed.
     ghost fault_count: { Self → ℕ };
 
-    /// All parts, by rising key. What opening again may find only gets less, and where the parts were given the store is as
-    /// it was.
+    /// All parts, by rising key. Where there is no list of parts that is refused, with the place of the first thing that is none.
+    /// What opening again may find only gets less, and where the parts were given the store is as it was.
     fn load(&mut self) -> Result<Vec<Part>, KeepFault>
         ensures honest { is_honest self.new → is_honest self.old }
         ensures parts { is_honest self.new → (content : List StoredPart) → holds self.old content → IfOk result (λ parts. map change_of parts.items ≡ put_all content) }
         ensures stays { is_honest self.new → (content : List StoredPart) → holds self.old content → OnOk result (holds self.new content) }
+        ensures foreign { is_honest self.new → (place : ℕ) → is_foreign self.old place → RefusesAt place result }
         ensures left { is_honest self.new → (content : List StoredPart) → leaves self.new content → leaves self.old content }
         ensures room { (content : List StoredPart) → fits self.old content → fits self.new content }
         ensures no_more_room { (content : List StoredPart) → fits self.new content → fits self.old content }

@@ -64,6 +64,8 @@ impl Keep for MemoryKeep {
 
     ghost holds = { λ memory content. memory.parts ≡ content };
 
+    ghost is_foreign = { λ _ _. ⊥ };
+
     ghost leaves = { λ memory content. memory.parts ≡ content };
 
     ghost fits = { λ memory content. size_of content ≤ memory.limit };

@@ -3,6 +3,7 @@ ghost use Rattle.std.specs.Prelude.{◌≡◌, ◌≤◌, Option, IfOk, IfErr, O
 ghost use Rattle.csi_stores.specs.Keeping.{HasRisen};
 ghost use Rattle.csi_stores.specs.Stores.{store, Rests, Follows};
 ghost use Rattle.csi_serving.specs.Answering.{IsSpelledAs, Steps, StopsUnwritten, AnswersOne};
+ghost use Rattle.csi_serving.specs.Failing.{Stays, FrameStays};
 
 use crate::counted::Counted;
 use crate::plugin_core::Core;
@@ -81,6 +82,7 @@ pub(crate) fn answer_frame<C: Core, K: Keep, W: Write>(
     ensures answer { AnswersOne (record { answers = C.answers; parts_of = C.parts_of; core = core.old; before = store K.is_honest K.holds K.leaves K.fits K.fault_count keep.old; after = store K.is_honest K.holds K.leaves K.fits K.fault_count keep.new; written_before = W.contents writer.old.inner; written_after = W.contents writer.new.inner; at_end = ⊥; reader_failed = ⊥; writer_failed = HasRisen writer.old.faults writer.new.faults; endless = ⊥ }) frame.now core.new result }
     ensures follows { Follows (store K.is_honest K.holds K.leaves K.fits K.fault_count keep.old) (store K.is_honest K.holds K.leaves K.fits K.fault_count keep.new) }
     ensures faults { writer.old.faults ≤ writer.new.faults }
+    ensures quiet { Stays FrameStays writer.old.faults writer.new.faults result }
 {
     match carry_out(alloc, core, keep, frame)? {
         Some(bytes) => match write_out(writer, &bytes) {

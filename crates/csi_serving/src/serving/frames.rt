@@ -2,6 +2,7 @@
 ghost use Rattle.std.specs.Prelude.{◌≡◌, ◌≤◌, ◌<◌, ◌+◌, ◌^◌, None, length};
 ghost use Rattle.csi_stores.specs.Keeping.{HasRisen};
 ghost use Rattle.csi_stores.specs.Stores.{store, Follows};
+ghost use Rattle.csi_serving.specs.Failing.{Stays, WriterStays};
 ghost use Rattle.csi_serving.specs.Stopping.{AnswersNext, kind_of_stop, one_more_served, stopped_by};
 
 use crate::counted::Counted;
@@ -37,6 +38,7 @@ pub(crate) fn answer_next<C: Core, K: Keep, W: Write>(
     ensures answer { AnswersNext (record { answers = C.answers; parts_of = C.parts_of; core = core.old; before = store K.is_honest K.holds K.leaves K.fits K.fault_count keep.old; after = store K.is_honest K.holds K.leaves K.fits K.fault_count keep.new; written_before = W.contents writer.old.inner; written_after = W.contents writer.new.inner; at_end = ⊥; reader_failed = ⊥; writer_failed = HasRisen writer.old.faults writer.new.faults; endless = ⊥ }) splitter.old splitter.new core.new result }
     ensures follows { Follows (store K.is_honest K.holds K.leaves K.fits K.fault_count keep.old) (store K.is_honest K.holds K.leaves K.fits K.fault_count keep.new) }
     ensures faults { writer.old.faults ≤ writer.new.faults }
+    ensures quiet { Stays WriterStays writer.old.faults writer.new.faults result }
 {
     let Some(frame) = next_frame(alloc, splitter)? else {
         return Ok(None);

@@ -3,6 +3,7 @@ ghost use Rattle.std.specs.Prelude.{◌≡◌, ◌≤◌, ◌+◌, ◌<◌, ◌^
 ghost use Rattle.csi_frames.specs.Bytes.{AreBytes};
 ghost use Rattle.csi_frames.specs.Splitting.{after_feed};
 ghost use Rattle.csi_serving.specs.Reading.{ReadsPiece};
+ghost use Rattle.csi_serving.specs.Failing.{Stays, ReaderStays};
 ghost use Rattle.csi_serving.specs.declared.serving.fault.ServeFaultKind.TheVariants.{NoMemory as Refused};
 
 use crate::counted::Counted;
@@ -37,6 +38,7 @@ pub(crate) fn read_piece<R: Read>(
     requires few { splitter.old.taken + length splitter.old.kept < 2 ^ 64 }
     ensures read { ReadsPiece (R.remaining reader.old.inner) (R.remaining reader.new.inner) reader.old.faults reader.new.faults splitter.old splitter.new result }
     ensures faults { reader.old.faults ≤ reader.new.faults }
+    ensures quiet { Stays ReaderStays reader.old.faults reader.new.faults result }
 {
     if splitter.taken() + splitter.kept() as u64 >= ENDLESS {
         return Err(ServeFaultKind::Endless);

@@ -1,5 +1,5 @@
 //! A reply, written.
-ghost use Rattle.std.specs.Prelude.{◌≤◌, OnOk, OnErr};
+ghost use Rattle.std.specs.Prelude.{◌≡◌, ◌≤◌, OnOk, OnErr};
 ghost use Rattle.std.specs.Io.KnownBytes.{Appends};
 ghost use Rattle.csi_stores.specs.Keeping.{HasRisen};
 ghost use Rattle.csi_serving.specs.Writing.{WritesFront};
@@ -17,6 +17,7 @@ fn write_all<W: Write>(writer: &mut Counted<W>, bytes: &[u8]) -> Result<(), Writ
     ensures err { OnErr result (WritesFront (W.contents writer.old.inner) (W.contents writer.new.inner) bytes.now) }
     ensures risen { OnErr result (HasRisen writer.old.faults writer.new.faults) }
     ensures faults { writer.old.faults ≤ writer.new.faults }
+    ensures quiet { OnOk result (writer.new.faults ≡ writer.old.faults) }
 {
     let mut rest = bytes;
     while !rest.is_empty() {
@@ -35,6 +36,7 @@ pub(crate) fn write_out<W: Write>(writer: &mut Counted<W>, bytes: &[u8]) -> Resu
     ensures err { OnErr result (WritesFront (W.contents writer.old.inner) (W.contents writer.new.inner) bytes.now) }
     ensures risen { OnErr result (HasRisen writer.old.faults writer.new.faults) }
     ensures faults { writer.old.faults ≤ writer.new.faults }
+    ensures quiet { OnOk result (writer.new.faults ≡ writer.old.faults) }
 {
     write_all(writer, bytes)?;
     match writer.flush() {

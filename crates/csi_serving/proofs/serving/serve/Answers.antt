@@ -1,9 +1,10 @@
 -- What was read is what the frames came from.
-use Rattle.std.proofs.Common.{◌++◌, [], ◌≤◌, ◌^◌, length, arith}
+use Rattle.std.proofs.Common.{◌∙◌, refl, ◌++◌, [], ◌≤◌, ◌^◌, length, arith}
 use Rattle.std.specs.Io.KnownBytes.{IsAtEnd}
 use Rattle.csi_stores.specs.Keeping.{HasRisen}
 use Rattle.csi_stores.specs.Stores.{store}
-use Rattle.csi_serving.proofs.StoreCalls.{risen-more}
+use Rattle.csi_serving.proofs.StoreCalls.{risen-more, follows-more}
+use Rattle.csi_serving.proofs.Failures.{reader-same, writer-more, reader-more, writer-same, reader-ends, writer-ends}
 use Rattle.std.proofs.KnownBytes.{Consumes-nil, Consumes-trans}
 use Rattle.csi_serving.proofs.Progress.{start, more, takes_off, waits, fed, more_frames, more_replies}
 use Rattle.csi_serving.proofs.ServingEnds.{halted, stopped_reading, at_end_of}
@@ -18,6 +19,8 @@ frames-init g c =
       progress = rw c.new-splitter.ensures (start g.C.Core.answers g.C.Core.parts_of c.args.core (now c.args.keep.now) (g.W.Write.contents c.args.writer.now.inner));
       reader_faults = omega arith;
       writer_faults = omega arith;
+      reader_same = refl;
+      writer_same = refl;
     }
 
 pub one_more-served-requires-clause-frames : goal.one_more-served-requires-clause-frames
@@ -49,6 +52,8 @@ frames-preserved-in-Ok-Some g c =
           c.answer_next.new.splitter c.in-Ok-Some.field-0 c.in-Ok-Some.replied c.in-Ok-Some.field-0-is i.progress c.in-Ok-Some.ensures.follows c.in-Ok-Some.ensures.answer);
       reader_faults = i.reader_faults;
       writer_faults = omega (arith, i.writer_faults, c.in-Ok-Some.ensures.faults);
+      reader_same = i.reader_same;
+      writer_same = c.in-Ok-Some.ensures.quiet ∙ i.writer_same;
     }
 
 pub frames-smaller-in-Ok-Some : goal.frames-smaller-in-Ok-Some
@@ -76,10 +81,12 @@ frames-preserved g c =
           (remaining c.frames.reader.inner) (remaining c.read_piece.new.reader.inner) c.frames.reader.faults c.read_piece.new.reader.faults c.read_piece.new.splitter c.in-Ok-true.field-0 c.in-Ok-true.field-0-test waiting.0 read;
       reader_faults = omega (arith, i.reader_faults, c.in-Ok-true.ensures.faults);
       writer_faults = omega (arith, i.writer_faults, c.in-Ok-None.ensures.faults);
+      reader_same = c.in-Ok-true.ensures.quiet ∙ i.reader_same;
+      writer_same = c.in-Ok-None.ensures.quiet ∙ i.writer_same;
     }
 
-pub returns-in-Err : goal.returns-in-Err
-returns-in-Err g c =
+pub returns-in-Err-clause-serves : goal.returns-in-Err-clause-serves
+returns-in-Err-clause-serves g c =
     let now = store g.K.Keep.is_honest g.K.Keep.holds g.K.Keep.leaves g.K.Keep.fits g.K.Keep.fault_count in
     let contents = g.W.Write.contents in
     let remaining = g.R.Read.remaining in
@@ -92,8 +99,8 @@ returns-in-Err g c =
           (λ risen. risen-more c.args.writer.now.faults c.frames.writer.faults c.answer_next.new.writer.faults i.writer_faults risen) c.in-Err.ensures.answer),
     )
 
-pub returns-in-Err-read_piece : goal.returns-in-Err-read_piece
-returns-in-Err-read_piece g c =
+pub returns-in-Err-read_piece-clause-serves : goal.returns-in-Err-read_piece-clause-serves
+returns-in-Err-read_piece-clause-serves g c =
     let now = store g.K.Keep.is_honest g.K.Keep.holds g.K.Keep.leaves g.K.Keep.fits g.K.Keep.fault_count in
     let contents = g.W.Write.contents in
     let remaining = g.R.Read.remaining in
@@ -109,8 +116,8 @@ returns-in-Err-read_piece g c =
           (λ risen. risen-more c.args.reader.now.faults c.frames.reader.faults c.read_piece.new.reader.faults i.reader_faults risen) (λ endless. endless)),
     )
 
-pub returns-in-Ok-false : goal.returns-in-Ok-false
-returns-in-Ok-false g c =
+pub returns-in-Ok-false-clause-serves : goal.returns-in-Ok-false-clause-serves
+returns-in-Ok-false-clause-serves g c =
     let now = store g.K.Keep.is_honest g.K.Keep.holds g.K.Keep.leaves g.K.Keep.fits g.K.Keep.fault_count in
     let contents = g.W.Write.contents in
     let remaining = g.R.Read.remaining in
@@ -124,3 +131,41 @@ returns-in-Ok-false g c =
           (IsAtEnd (remaining c.read_piece.new.reader.inner)) (HasRisen c.args.reader.now.faults c.read_piece.new.reader.faults) (HasRisen c.args.writer.now.faults c.answer_next.new.writer.faults) (2 ^ 63 ≤ length (i.stream ++ read.bytes))
           (remaining c.frames.reader.inner) (remaining c.read_piece.new.reader.inner) c.frames.reader.faults c.read_piece.new.reader.faults c.read_piece.new.splitter c.in-Ok-false.field-0 c.in-Ok-false.field-0-test waiting.0 waiting.1 read (λ at_end. at_end)),
     )
+
+pub returns-in-Err-clause-reader : goal.returns-in-Err-clause-reader
+returns-in-Err-clause-reader g c = reader-same c.args.reader.now.faults c.frames.reader.faults c.stopped-in-Err.result.kind c.frames.invariant.reader_same
+
+pub returns-in-Err-clause-writer : goal.returns-in-Err-clause-writer
+returns-in-Err-clause-writer g c =
+    rw c.stopped-in-Err.ensures (writer-more c.args.writer.now.faults c.frames.writer.faults c.answer_next.new.writer.faults c.in-Err.kind c.frames.served.frames c.frames.invariant.writer_same c.in-Err.ensures.quiet)
+
+pub returns-in-Err-clause-follows : goal.returns-in-Err-clause-follows
+returns-in-Err-clause-follows g c =
+    let now = store g.K.Keep.is_honest g.K.Keep.holds g.K.Keep.leaves g.K.Keep.fits g.K.Keep.fault_count in
+    follows-more (now c.args.keep.now) (now c.frames.keep) (now c.answer_next.new.keep) c.frames.invariant.progress.follows c.in-Err.ensures.follows
+
+pub returns-in-Err-read_piece-clause-reader : goal.returns-in-Err-read_piece-clause-reader
+returns-in-Err-read_piece-clause-reader g c =
+    rw c.stopped.ensures (reader-more c.args.reader.now.faults c.frames.reader.faults c.read_piece.new.reader.faults c.in-Err-read_piece.kind c.frames.served.frames c.frames.invariant.reader_same c.in-Err-read_piece.ensures.quiet)
+
+pub returns-in-Err-read_piece-clause-writer : goal.returns-in-Err-read_piece-clause-writer
+returns-in-Err-read_piece-clause-writer g c =
+    writer-same c.args.writer.now.faults c.answer_next.new.writer.faults c.stopped.result.kind (c.in-Ok-None.ensures.quiet ∙ c.frames.invariant.writer_same)
+
+pub returns-in-Err-read_piece-clause-follows : goal.returns-in-Err-read_piece-clause-follows
+returns-in-Err-read_piece-clause-follows g c =
+    let now = store g.K.Keep.is_honest g.K.Keep.holds g.K.Keep.leaves g.K.Keep.fits g.K.Keep.fault_count in
+    follows-more (now c.args.keep.now) (now c.frames.keep) (now c.answer_next.new.keep) c.frames.invariant.progress.follows c.in-Ok-None.ensures.follows
+
+pub returns-in-Ok-false-clause-reader : goal.returns-in-Ok-false-clause-reader
+returns-in-Ok-false-clause-reader g c =
+    reader-ends c.args.reader.now.faults c.read_piece.new.reader.faults c.ended.result (c.in-Ok-false.ensures.quiet ∙ c.frames.invariant.reader_same)
+
+pub returns-in-Ok-false-clause-writer : goal.returns-in-Ok-false-clause-writer
+returns-in-Ok-false-clause-writer g c =
+    writer-ends c.args.writer.now.faults c.answer_next.new.writer.faults c.ended.result (c.in-Ok-None.ensures.quiet ∙ c.frames.invariant.writer_same)
+
+pub returns-in-Ok-false-clause-follows : goal.returns-in-Ok-false-clause-follows
+returns-in-Ok-false-clause-follows g c =
+    let now = store g.K.Keep.is_honest g.K.Keep.holds g.K.Keep.leaves g.K.Keep.fits g.K.Keep.fault_count in
+    follows-more (now c.args.keep.now) (now c.frames.keep) (now c.answer_next.new.keep) c.frames.invariant.progress.follows c.in-Ok-None.ensures.follows

@@ -1,5 +1,5 @@
 -- All frames that the splitter gave of what was read were answered; each answer takes of what it keeps, each read of what is still allowed.
-use Rattle.std.proofs.Common.{ℕ, List, ◌+◌, ◌-◌, ◌*◌, ◌^◌, ◌≤◌, length}
+use Rattle.std.proofs.Common.{◌≡◌, ℕ, List, ◌+◌, ◌-◌, ◌*◌, ◌^◌, ◌≤◌, length}
 use Rattle.std.specs.Io.KnownBytes.{Consumes}
 use Rattle.csi_stores.specs.Stores.{store}
 use Rattle.csi_serving.proofs.Progress.{Progress}
@@ -16,6 +16,8 @@ invariant-frames g l =
       progress : Progress g.C.Core.answers g.C.Core.parts_of l.fn.core (now l.fn.keep) (now l.keep) (contents l.fn.writer.inner) (contents l.writer.inner) stream l.splitter l.served l.core;
       reader_faults : l.fn.reader.faults ≤ l.reader.faults;
       writer_faults : l.fn.writer.faults ≤ l.writer.faults;
+      reader_same : l.reader.faults ≡ l.fn.reader.faults;
+      writer_same : l.writer.faults ≡ l.fn.writer.faults;
     }
 
 -- twice what may still be read, and what is kept

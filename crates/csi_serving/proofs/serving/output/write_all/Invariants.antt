@@ -9,6 +9,7 @@ invariant-loop-rest g l = record {
   parts : l.fn.bytes ≡ front ++ l.rest;
   appended : Appends (g.W.Write.contents l.fn.writer.inner) (g.W.Write.contents l.writer.inner) front;
   faults : l.fn.writer.faults ≤ l.writer.faults;
+  quiet : l.writer.faults ≡ l.fn.writer.faults;
 }
 
 -- what is still to come

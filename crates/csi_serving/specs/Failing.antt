@@ -1,0 +1,35 @@
+-- Where a count of failures stays: the reader's at each end of serving but Input, the writer's at each but Output. This profile's own.
+use Rattle.std.specs.Prelude.{◌≡◌, ℕ, Result, Ok, Err}
+use Rattle.csi_serving.specs.declared.serving.fault.ServeFault.{ServeFault}
+use Rattle.csi_serving.specs.declared.serving.fault.ServeFaultKind.{ServeFaultKind}
+use Rattle.csi_serving.specs.declared.serving.fault.ServeFaultKind.TheVariants as kinds
+use Rattle.csi_serving.specs.declared.serving.answering.FrameStop.{FrameStop}
+use Rattle.csi_serving.specs.declared.serving.answering.FrameStop.TheVariants as stops
+
+-- the reader's count, before and after
+abbrev pub ReaderStays : ℕ → ℕ → ServeFaultKind → Type 0
+ReaderStays before after kinds.Input = Unit {0}
+ReaderStays before after _ = after ≡ before
+
+-- the writer's
+abbrev pub WriterStays : ℕ → ℕ → ServeFaultKind → Type 0
+WriterStays before after kinds.Output = Unit {0}
+WriterStays before after _ = after ≡ before
+
+-- by a fault that serving answers
+abbrev pub ReaderStaysAt : ℕ → ℕ → ServeFault → Type 0
+ReaderStaysAt before after fault = ReaderStays before after fault.kind
+
+abbrev pub WriterStaysAt : ℕ → ℕ → ServeFault → Type 0
+WriterStaysAt before after fault = WriterStays before after fault.kind
+
+-- a count stays where all went well, and else by why it stopped
+abbrev pub Stays : {A E : Type 0} → (ℕ → ℕ → E → Type 0) → ℕ → ℕ → Result A E → Type 0
+Stays At before after (Ok a) = after ≡ before
+Stays At before after (Err stop) = At before after stop
+
+-- the writer's count at the answer to one frame
+abbrev pub FrameStays : ℕ → ℕ → FrameStop → Type 0
+FrameStays before after stops.NoMemory = after ≡ before
+FrameStays before after (stops.Keep fault) = after ≡ before
+FrameStays before after stops.Output = Unit {0}
