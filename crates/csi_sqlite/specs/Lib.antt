@@ -1,2 +1,3 @@
 pub mod Loading
 pub mod Tables
+pub mod Closing

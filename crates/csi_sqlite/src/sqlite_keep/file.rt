@@ -1,15 +1,19 @@
 //! A store in a file.
 ghost use Rattle.std.specs.Prelude.{◌≡◌, ◌⊎◌, List, IfOk, IfErr};
 ghost use Rattle.sqlite_wal.specs.Files.{image_at};
+ghost use Rattle.sqlite_wal.specs.Reads.{AreClean};
 ghost use Rattle.sqlite_trees.specs.Tree.{Trees};
+ghost use Rattle.sqlite_store.specs.FileStore.{recovers};
 ghost use Rattle.sqlite.specs.State.{HasCleanDisk};
 ghost use Rattle.sqlite.specs.Files.{file_state, HoldsDatabase};
 ghost use Rattle.csi_stores.specs.Part.{StoredPart};
 ghost use Rattle.csi_sqlite.specs.Tables.{StoresParts, HoldsParts};
+ghost use Rattle.csi_sqlite.specs.Closing.{AreWhole};
 
 use crate::sqlite_keep::{SqliteKeep, is_memory};
 use csi_stores::KeepFault;
-use sqlite::{Connection, FileFrom, FileStore, Start};
+use sqlite::{Connection, FileFrom, FileStore, Files, Start};
+use sqlite_disk::Disk;
 
 impl<S: Start> SqliteKeep<FileStore<FileFrom<S>>> {
     /// The store in the SQLite file at this path, which is made where there is none, as is the table `parts`. `S` stands for what the
@@ -34,17 +38,34 @@ impl<S: Start> SqliteKeep<FileStore<FileFrom<S>>> {
             Err((fault, _connection)) => Err(fault),
         }
     }
+}
 
-    /// Closes the file; every commit is in it or in its log already. The answer is how often its device had failed. It takes no
-    /// memory.
-    pub fn close(self) -> u64
-        ensures { result ≡ self.faults }
+impl<D: Disk + Drop> SqliteKeep<FileStore<D>> {
+    /// Puts the log back into the database file, and gives the two files back: then that file alone has the parts, also after a
+    /// crash. Where a device fails, or memory is wanted, the store under the connection comes back: the parts are in the file and
+    /// its log, as they were.
+    pub fn close_files(self) -> Result<Files<D>, FileStore<D>>
+        ensures whole { IfOk result (λ files. AreClean D.Disk files.log files.db → (content : List StoredPart) → HoldsParts (file_state self.connection) content → AreWhole D.Disk files content) }
+        ensures left { IfErr result (λ store. (db : Trees) → recovers store db → (file_state self.connection).may_leave db) }
     {
         let SqliteKeep {
             alloc: _,
-            connection: _,
-            faults: count,
+            connection: back,
+            faults: _,
         } = self;
+        match back.close_files() {
+            Ok(files) => Ok(files),
+            Err((_error, store)) => Err(store),
+        }
+    }
+
+    /// Closes the files as `close_files` does, whether the log could be put back or not: every commit is in the one or in the two.
+    /// The answer is how often its device had failed before.
+    pub fn close(self) -> u64
+        ensures { result ≡ self.faults }
+    {
+        let count = self.faults;
+        drop(self.close_files());
         count
     }
 }

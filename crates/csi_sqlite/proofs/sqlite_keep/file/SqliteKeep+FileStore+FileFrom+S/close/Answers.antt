@@ -1,5 +1,0 @@
-use Rattle.std.proofs.Common.{rules}
-use Rattle.csi_sqlite.proofs.sqlite_keep.file.SqliteKeep+FileStore+FileFrom+S.close.Goals as goal
-
-pub returns : goal.returns
-returns g c = search rules
