@@ -1,3 +1,5 @@
 pub mod KeyOrder
 pub mod Tabled
 pub mod Loading
+pub mod ForeignRows
+pub mod Closed

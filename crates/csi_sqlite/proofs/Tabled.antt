@@ -37,18 +37,18 @@ rising_rows (part ∷ parts) rising keys = (go parts rising.0 keys.1, rising_row
 -- ---- one list of parts
 
 -- a list in which each value is below the later ones is sorted
-sorted_from : {X : Type 0} (cmp : X → X → Ordering) → IsTotalOrder cmp → (xs : List X) → IsAscending (λ a b. cmp a b ≡ Less) xs → IsSorted cmp xs
+pub sorted_from : {X : Type 0} (cmp : X → X → Ordering) → IsTotalOrder cmp → (xs : List X) → IsAscending (λ a b. cmp a b ≡ Less) xs → IsSorted cmp xs
 sorted_from cmp total [] up k d low within = absurd (omega arith)
 sorted_from cmp total (x ∷ []) up k d low within = absurd (omega arith)
 sorted_from cmp total (x ∷ y ∷ xs) up zero d low within = ap is_lt (total.antisymm y x ∙ ap ordering_reverse up.0.0)
 sorted_from cmp total (x ∷ y ∷ xs) up (suc k) d low within = rw add-one (rw add-one at (sorted_from cmp total (y ∷ xs) up.1 k d (omega arith) (omega arith)))
 
 -- the order by the first column
-abbrev by_key : Row → Row → Ordering
+abbrev pub by_key : Row → Row → Ordering
 by_key = on (λ c. column c 0) value_cmp
 
 -- the order by the first column is a total one
-by_key_total : IsTotalOrder by_key
+pub by_key_total : IsTotalOrder by_key
 by_key_total = on_total (λ c. column c 0) value_cmp_total
 
 -- rows by rising key rise by their first column

@@ -7,7 +7,7 @@ use Rattle.sqlite.specs.declared.types.Value.{Value}
 use Rattle.sqlite.specs.declared.types.Value.TheVariants.{Null, Int, Real, Text, Blob}
 use Rattle.sqlite.specs.Order.{Row, column}
 use Rattle.sqlite.specs.State.{State}
-use Rattle.csi_tables.specs.Rows.{AreByKey}
+use Rattle.csi_tables.specs.Rows.{AreByKey, HasColumns}
 use Rattle.csi_stores.specs.declared.keep.KeepFault.{KeepFault}
 use Rattle.csi_stores.specs.declared.keep.KeepFault.TheVariants.{Device, NoMemory, BadRecord, Full}
 use Rattle.csi_stores.specs.declared.part.Part.{Part}
@@ -44,6 +44,12 @@ IsNotGiven columns Full = ⊥
 abbrev pub IsLoaded : State → List Row → Result (Vec Part) KeepFault → Type 0
 IsLoaded s columns (Ok parts) = (content : List StoredPart) × HasParts s content × (map change_of parts.items ≡ put_all content)
 IsLoaded s columns (Err fault) = IsNotGiven columns fault
+
+-- The table has rows of some columns, and the one at this place, by rising key, is the first that is no part.
+pub record IsForeign (s : State) (place : ℕ) : Type 0 where
+  pub columns : List Row
+  pub has : HasColumns s columns
+  pub first : IsNotGiven columns (BadRecord place)
 
 -- ---- row after row
 

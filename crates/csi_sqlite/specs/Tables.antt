@@ -1,5 +1,5 @@
 -- A store in a SQLite database, as contracts see it. This profile's own.
-use Rattle.std.specs.Prelude.{◌⊎◌, [], IsTrue, ℕ, ◌<◌, ◌^◌, ⊤, List, map}
+use Rattle.std.specs.Prelude.{◌≡◌, ◌⊎◌, [], IsTrue, ℕ, ◌<◌, ◌^◌, ⊤, List, map, Result, Ok, Err}
 use Rattle.std.specs.List.{AllByRecursion}
 use Rattle.byteorder.specs.Endian.{big_bytes}
 use Rattle.sqlite.specs.Tree.{Trees}
@@ -9,6 +9,7 @@ use Rattle.csi_stores.specs.declared.keep.KeepFault.{KeepFault}
 use Rattle.csi_stores.specs.declared.keep.KeepFault.TheVariants.{Device, NoMemory, BadRecord, Full}
 use Rattle.csi_stores.specs.Part.{StoredPart}
 use Rattle.csi_stores.specs.Content.{IsRising}
+use Rattle.csi_serving.specs.Counting.{one_more}
 use Rattle.csi_stores.specs.Keeping.{HasRisen}
 
 -- a part as a row: its key in eight bytes, the greatest first
@@ -53,3 +54,15 @@ IsCounted before after Device = HasRisen before after
 IsCounted before after NoMemory = ⊤
 IsCounted before after (BadRecord place) = ⊥
 IsCounted before after Full = ⊥
+
+-- how many failures there are after a refusal: at Device one more, up to 2^64 - 1, and else as many; Full is never answered
+abbrev pub CountsFault : ℕ → ℕ → KeepFault → Type 0
+CountsFault before after Device = after ≡ one_more before
+CountsFault before after NoMemory = after ≡ before
+CountsFault before after (BadRecord place) = after ≡ before
+CountsFault before after Full = ⊥
+
+-- and after any answer
+abbrev pub CountsOnce : {A : Type 0} → ℕ → ℕ → Result A KeepFault → Type 0
+CountsOnce before after (Ok a) = after ≡ before
+CountsOnce before after (Err fault) = CountsFault before after fault

@@ -1,13 +1,16 @@
 //! A store in a SQLite database.
-ghost use Rattle.std.specs.Prelude.{◌≡◌, ◌≤◌, ◌⊎◌, ℕ, List, [], map, ⊤, IsTrue, IfOk, IfErr, OnOk, OnErr};
+ghost use Rattle.std.specs.Prelude.{◌≡◌, ◌≤◌, ◌⊎◌, ◌↔◌, ℕ, List, [], map, ⊤, IsTrue, IfOk, IfErr, IsErrAnd, OnOk, OnErr};
 ghost use Rattle.sqlite.specs.Held.{state};
 ghost use Rattle.sqlite.specs.State.{HasCleanDisk};
 ghost use Rattle.sqlite.specs.Order.{Row};
+ghost use Rattle.sqlite.specs.Tree.{Trees};
+ghost use Rattle.csi_tables.specs.Listed.{ListsParts, ListsOther};
 ghost use Rattle.csi_tables.specs.Rows.{IsBlank, HasColumns};
 ghost use Rattle.csi_stores.specs.Part.{StoredPart, change_of, put_all};
-ghost use Rattle.csi_stores.specs.Keeping.{IsLoadFault};
-ghost use Rattle.csi_sqlite.specs.Loading.{IsLoaded};
-ghost use Rattle.csi_sqlite.specs.Tables.{StoresParts, HoldsParts, LeavesParts, OpensOver, IsCounted};
+ghost use Rattle.csi_stores.specs.Content.{all_changed};
+ghost use Rattle.csi_stores.specs.Keeping.{IsLoadFault, IsCommitFault, RefusesAt};
+ghost use Rattle.csi_sqlite.specs.Loading.{IsLoaded, IsForeign};
+ghost use Rattle.csi_sqlite.specs.Tables.{StoresParts, HoldsParts, LeavesParts, OpensOver, IsCounted, CountsFault, CountsOnce};
 
 use csi_stores::{Keep, KeepFault, Part};
 use csi_tables::{all_rows, make_table};
@@ -25,7 +28,7 @@ use reading::parts_of;
 /// one transaction, and costs what it changes. It never answers `Full`. This profile's own.
 ///
 /// Its promises hold while the disk gives back what was written and nobody else writes the database, and where a table `parts`
-/// that was found is declared as the one that `new` makes, with no other table, index or view beside it.
+/// that was found is declared as the one that `new` makes. A database with another table, index, view or trigger is refused.
 pub struct SqliteKeep<S: Alter> {
     alloc: Global,
     connection: Connection<S>,
@@ -43,13 +46,17 @@ impl<S: Alter + Drop> Drop for SqliteKeep<S> {
 }
 
 // Whether an allocation was refused.
-fn is_memory(error: &Error) -> bool {
+fn is_memory(error: &Error) -> bool
+    ensures { IsTrue result ↔ (error.now ≡ Error.SqliteFailure ErrorCode.OutOfMemory) }
+{
     matches!(error, Error::SqliteFailure(ErrorCode::OutOfMemory))
 }
 
 // What a refusal is to the keeper; all but want of memory is a failure, and counted. A count of 2^64 - 1 stays.
 fn refused(faults: &mut u64, error: &Error) -> KeepFault
     ensures counted { IsCounted faults.old faults.new result }
+    ensures once { CountsFault faults.old faults.new result }
+    ensures memory { (result ≡ KeepFault.NoMemory) ↔ (error.now ≡ Error.SqliteFailure ErrorCode.OutOfMemory) }
     ensures rises { faults.old ≤ faults.new }
 {
     if is_memory(error) {
@@ -60,14 +67,17 @@ fn refused(faults: &mut u64, error: &Error) -> KeepFault
 }
 
 impl<S: Alter> SqliteKeep<S> {
-    /// A store in this database, in which the table `parts` is made where there is none. At a refusal the connection comes
-    /// back: `Device` stands for all but want of memory, as for a transaction that is open.
+    /// A store in this database, in which the table `parts` is made where nothing is listed. A database that lists such a table
+    /// alone is taken as it is, and one that lists anything else is refused, as it is. At a refusal the connection comes back:
+    /// `Device` stands for all but want of memory, as for a transaction that is open.
     pub fn new(
         alloc: Global,
         mut connection: Connection<S>,
     ) -> Result<SqliteKeep<S>, (KeepFault, Connection<S>)>
         ensures blank { IfOk result (λ keep. HasCleanDisk (state S.Store keep.connection) → IsBlank (state S.Store connection) → HoldsParts (state S.Store keep.connection) []) }
         ensures found { IfOk result (λ keep. HasCleanDisk (state S.Store keep.connection) → (content : List StoredPart) → IsTrue (state S.Store connection).is_open → StoresParts (state S.Store connection).now.trees content → HoldsParts (state S.Store keep.connection) content) }
+        ensures there { IfOk result (λ keep. ListsParts (state S.Store connection).now.schema → keep.connection ≡ connection) }
+        ensures other { ListsOther (state S.Store connection).now.schema → IsErrAnd result (λ refusal. (refusal.0 ≡ KeepFault.Device) × (refusal.1 ≡ connection)) }
         ensures left { IfOk result (λ keep. OpensOver (state S.Store connection) (state S.Store keep.connection)) }
         ensures faults { IfOk result (λ keep. keep.faults ≡ 0) }
         ensures back { IfErr result (λ refusal. OpensOver (state S.Store connection) (state S.Store refusal.1)) }
@@ -105,6 +115,8 @@ impl<S: Alter> Keep for SqliteKeep<S> {
 
     ghost holds = { λ keep content. HoldsParts (state S.Store keep.connection) content };
 
+    ghost is_foreign = { λ keep place. IsForeign (state S.Store keep.connection) place };
+
     ghost leaves = { λ keep content. LeavesParts (state S.Store keep.connection) content };
 
     ghost fits = { λ _ _. ⊤ };
@@ -112,13 +124,17 @@ impl<S: Alter> Keep for SqliteKeep<S> {
     ghost fault_count = { λ keep. keep.faults };
 
     /// All parts, by rising key, where the table is as declared and each of its rows is a part. A row that is none is `BadRecord`,
-    /// with the position, from 0, of the first such row in SQLite's order of keys. Nothing is written.
+    /// with the position, from 0, of the first such row in SQLite's order of keys. Nothing is written: whatever the database has,
+    /// a crash leaves nothing new.
     fn load(&mut self) -> Result<Vec<Part>, KeepFault>
         ensures honest { HasCleanDisk (state S.Store self.new.connection) → HasCleanDisk (state S.Store self.old.connection) }
         ensures parts { HasCleanDisk (state S.Store self.new.connection) → (content : List StoredPart) → HoldsParts (state S.Store self.old.connection) content → IfOk result (λ parts. map change_of parts.items ≡ put_all content) }
         ensures stays { HasCleanDisk (state S.Store self.new.connection) → (content : List StoredPart) → HoldsParts (state S.Store self.old.connection) content → OnOk result (HoldsParts (state S.Store self.new.connection) content) }
         ensures left { HasCleanDisk (state S.Store self.new.connection) → (content : List StoredPart) → LeavesParts (state S.Store self.new.connection) content → LeavesParts (state S.Store self.old.connection) content }
         ensures faults { self.old.faults ≤ self.new.faults }
+        ensures foreign { HasCleanDisk (state S.Store self.new.connection) → (place : ℕ) → IsForeign (state S.Store self.old.connection) place → RefusesAt place result }
+        ensures counted { CountsOnce self.old.faults self.new.faults result }
+        ensures crash { HasCleanDisk (state S.Store self.new.connection) → (db : Trees) → (state S.Store self.new.connection).may_leave db → (state S.Store self.old.connection).may_leave db }
         ensures cause { IfErr result (λ fault. IsLoadFault (HasCleanDisk (state S.Store self.new.connection)) (HoldsParts (state S.Store self.old.connection)) self.old.faults self.new.faults fault) }
         ensures judged { HasCleanDisk (state S.Store self.new.connection) → (columns : List Row) → HasColumns (state S.Store self.old.connection) columns → IsLoaded (state S.Store self.old.connection) columns result }
     {
@@ -129,7 +145,18 @@ impl<S: Alter> Keep for SqliteKeep<S> {
         }
     }
 
-    fn commit(&mut self, parts: &[Part]) -> Result<(), KeepFault> {
+    /// One transaction. Whatever it answers, a crash leaves what it would have left before, or a database whose one table has the
+    /// parts as they are to be. It is never `Full`.
+    fn commit(&mut self, parts: &[Part]) -> Result<(), KeepFault>
+        ensures honest { HasCleanDisk (state S.Store self.new.connection) → HasCleanDisk (state S.Store self.old.connection) }
+        ensures done { HasCleanDisk (state S.Store self.new.connection) → (content : List StoredPart) → HoldsParts (state S.Store self.old.connection) content → OnOk result (HoldsParts (state S.Store self.new.connection) (all_changed (map change_of parts.now) content)) }
+        ensures alone { HasCleanDisk (state S.Store self.new.connection) → (content : List StoredPart) → HoldsParts (state S.Store self.old.connection) content → OnOk result ((other : List StoredPart) → LeavesParts (state S.Store self.new.connection) other → other ≡ all_changed (map change_of parts.now) content) }
+        ensures refused { HasCleanDisk (state S.Store self.new.connection) → (content : List StoredPart) → HoldsParts (state S.Store self.old.connection) content → OnErr result ((other : List StoredPart) → LeavesParts (state S.Store self.new.connection) other → LeavesParts (state S.Store self.old.connection) other ⊎ (other ≡ all_changed (map change_of parts.now) content)) }
+        ensures faults { self.old.faults ≤ self.new.faults }
+        ensures cause { IfErr result (λ fault. IsCommitFault (HasCleanDisk (state S.Store self.new.connection)) (HoldsParts (state S.Store self.old.connection)) (λ _. ⊤) (all_changed (map change_of parts.now)) self.old.faults self.new.faults fault) }
+        ensures counted { CountsOnce self.old.faults self.new.faults result }
+        ensures crash { HasCleanDisk (state S.Store self.new.connection) → (content : List StoredPart) → HoldsParts (state S.Store self.old.connection) content → (db : Trees) → (state S.Store self.new.connection).may_leave db → (state S.Store self.old.connection).may_leave db ⊎ StoresParts db (all_changed (map change_of parts.now) content) }
+    {
         if parts.is_empty() {
             return Ok(());
         }

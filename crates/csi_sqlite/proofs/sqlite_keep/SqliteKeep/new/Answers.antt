@@ -1,7 +1,9 @@
-use Rattle.std.proofs.Common.{◌≡◌, Bool, true, false, not, refl, map}
+use Rattle.std.proofs.Common.{◌≡◌, ◌⊎◌, inl, inr, List, [], IsTrue, Bool, true, false, not, refl, map}
+use Rattle.sqlite.specs.Tree.{Trees}
+use Rattle.sqlite.specs.State.{State, HasCleanDisk}
 use Rattle.sqlite.specs.Held.{state}
-use Rattle.csi_tables.specs.Rows.{IsAtRest}
-use Rattle.csi_sqlite.specs.Tables.{row_of}
+use Rattle.csi_tables.specs.Rows.{KeyedRow, StoresRows, IsBlank, IsAtRest}
+use Rattle.csi_sqlite.specs.Tables.{row_of, OpensOver}
 use Rattle.csi_sqlite.proofs.sqlite_keep.SqliteKeep.new.Goals as goal
 
 -- where a test is passed that denies a flag, the flag is off
@@ -22,3 +24,28 @@ returns-in-Ok-clause-found g c clean content is_open parts =
     record { autocommit = off _ _ c.is_autocommit.ensures.value c.if-not-is_autocommit.false; committed = c.is_autocommit.ensures.settled c.if-not-is_autocommit.false is_open } in
     let found = c.in-Ok.ensures.found clean (map row_of content) is_open parts.rows rest in
     (record { rows = found.0; rising = parts.rising; keys = parts.keys }, found.1)
+
+-- what making the table leaves of rows is what it leaves of parts
+opens : (before after : State) → (HasCleanDisk after → HasCleanDisk before)
+    → (HasCleanDisk after → IsBlank before → (db : Trees) → after.may_leave db → before.may_leave db ⊎ StoresRows db [])
+    → (HasCleanDisk after → (rows : List KeyedRow) → IsTrue before.is_open → StoresRows before.now.trees rows → (db : Trees) → after.may_leave db → before.may_leave db) → OpensOver before after
+opens before after honest made found = record {
+  honest = honest;
+  blank = λ clean blank db may. elim (made clean blank db may) [ inl was ↦ inl was | inr rows ↦ inr (record { rows = rows; rising = tt; keys = tt }) ];
+  found = λ clean content is_open parts db may. found clean (map row_of content) is_open parts.rows db may;
+}
+
+pub returns-in-Ok-clause-there : goal.returns-in-Ok-clause-there
+returns-in-Ok-clause-there g c lists = (c.make_table.ensures.there lists).1
+
+pub returns-in-Ok-clause-left : goal.returns-in-Ok-clause-left
+returns-in-Ok-clause-left g c =
+    opens (state g.S.Store c.args.connection) (state g.S.Store c.make_table.new.connection) c.make_table.ensures.clean c.make_table.ensures.crash_made c.make_table.ensures.crash_found
+
+pub returns-in-Err-clause-back : goal.returns-in-Err-clause-back
+returns-in-Err-clause-back g c =
+    opens (state g.S.Store c.args.connection) (state g.S.Store c.make_table.new.connection) c.make_table.ensures.clean c.make_table.ensures.crash_made c.make_table.ensures.crash_found
+
+pub returns-in-Err-2-clause-back : goal.returns-in-Err-2-clause-back
+returns-in-Err-2-clause-back g c =
+    opens (state g.S.Store c.args.connection) (state g.S.Store c.make_table.new.connection) c.make_table.ensures.clean c.make_table.ensures.crash_made c.make_table.ensures.crash_found

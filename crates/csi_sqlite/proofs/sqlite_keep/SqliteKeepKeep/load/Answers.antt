@@ -10,6 +10,7 @@ use Rattle.csi_sqlite.specs.Tables.{row_of, HoldsParts}
 use Rattle.csi_sqlite.specs.Loading.{IsFirstBad}
 use Rattle.csi_sqlite.proofs.Tabled.{still_holds}
 use Rattle.csi_sqlite.proofs.Loading.{loaded, loaded_content, none_refused}
+use Rattle.csi_sqlite.proofs.ForeignRows.{refuses_at}
 use Rattle.csi_sqlite.proofs.sqlite_keep.SqliteKeepKeep.load.Goals as goal
 
 -- what is so anyway is so of an OK
@@ -54,3 +55,11 @@ returns-in-Err-SqlInputError-clause-cause g c clean content has =
 pub returns-in-Err-SqlInputError-clause-judged : goal.returns-in-Err-SqlInputError-clause-judged
 returns-in-Err-SqlInputError-clause-judged g c clean columns has =
     absurd (c.in-Err-SqlInputError.ensures.known clean columns has (c.in-Err-SqlInputError.field-0-0, c.in-Err-SqlInputError.field-0-is))
+
+pub returns-in-Ok-clause-foreign : goal.returns-in-Ok-clause-foreign
+returns-in-Ok-clause-foreign g c clean place foreign =
+    refuses_at (state g.S.Store c.args.self.now.connection) place c.parts_of.result foreign (returns-in-Ok-clause-judged g c clean foreign.columns foreign.has)
+
+pub returns-in-Err-SqlInputError-clause-foreign : goal.returns-in-Err-SqlInputError-clause-foreign
+returns-in-Err-SqlInputError-clause-foreign g c clean place foreign =
+    absurd (c.in-Err-SqlInputError.ensures.known clean foreign.columns foreign.has (c.in-Err-SqlInputError.field-0-0, c.in-Err-SqlInputError.field-0-is))
