@@ -1,5 +1,5 @@
 -- How a plugin's process ends, by what its store and serving answered. This profile's own.
-use Rattle.std.specs.Prelude.{Result, Ok, Err}
+use Rattle.std.specs.Prelude.{◌≡◌, ℕ, Result, Ok, Err}
 use Rattle.csi_endings.specs.declared.ending.Ending.{Ending}
 use Rattle.csi_endings.specs.declared.ending.Ending.TheVariants as endings
 use Rattle.csi_stores.specs.declared.keep.KeepFault.{KeepFault}
@@ -14,6 +14,13 @@ ending_of_store Device = endings.Device
 ending_of_store NoMemory = endings.Memory
 ending_of_store (BadRecord place) = endings.RecordFault place
 ending_of_store Full = endings.Device
+
+-- how a process may end whose store has no list of parts, but at this place what is none
+abbrev pub EndsAt : ℕ → Ending → Type 0
+EndsAt place endings.Device = Unit {0}
+EndsAt place endings.Memory = Unit {0}
+EndsAt place (endings.RecordFault at) = at ≡ place
+EndsAt place _ = ⊥
 
 -- where there is no store to be asked
 abbrev pub ending_unopened : KeepFault → Ending

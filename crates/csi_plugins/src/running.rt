@@ -1,6 +1,8 @@
 //! A plugin's process, but for what it asks of the system.
+ghost use Rattle.std.specs.Prelude.{ℕ};
 ghost use Rattle.csi_stores.specs.Stores.{store};
 ghost use Rattle.csi_plugins.specs.Service.{streams};
+ghost use Rattle.csi_plugins.specs.Ending.{EndsAt};
 ghost use Rattle.csi_plugins.specs.Running.{ControllerRuns, NodeRuns, PluginRuns};
 
 use crate::ending::ending_of_store;
@@ -20,7 +22,9 @@ fn run_controller<K: Keep, R: Read, W: Write>(
     reader: &mut Counted<R>,
     writer: &mut Counted<W>,
 ) -> Ending
-    ensures { ControllerRuns (store K.is_honest K.holds K.leaves K.fits K.fault_count) config keep.old keep.new (streams R.remaining W.contents reader.old reader.new writer.old writer.new) result }
+    ensures runs { ControllerRuns (store K.is_honest K.holds K.leaves K.fits K.fault_count) config keep.old keep.new (streams R.remaining W.contents reader.old reader.new writer.old writer.new) result }
+    ensures honest { K.is_honest keep.new → K.is_honest keep.old }
+    ensures foreign { K.is_honest keep.new → (place : ℕ) → K.is_foreign keep.old place → EndsAt place result }
 {
     match ControllerService::open(alloc, config, keep) {
         Ok(core) => served(alloc, core, keep, reader, writer),
@@ -36,7 +40,9 @@ fn run_node<K: Keep, R: Read, W: Write>(
     reader: &mut Counted<R>,
     writer: &mut Counted<W>,
 ) -> Ending
-    ensures { NodeRuns (store K.is_honest K.holds K.leaves K.fits K.fault_count) id keep.old keep.new (streams R.remaining W.contents reader.old reader.new writer.old writer.new) result }
+    ensures runs { NodeRuns (store K.is_honest K.holds K.leaves K.fits K.fault_count) id keep.old keep.new (streams R.remaining W.contents reader.old reader.new writer.old writer.new) result }
+    ensures honest { K.is_honest keep.new → K.is_honest keep.old }
+    ensures foreign { K.is_honest keep.new → (place : ℕ) → K.is_foreign keep.old place → EndsAt place result }
 {
     match NodeService::open(alloc, id, keep) {
         Ok(core) => served(alloc, core, keep, reader, writer),
@@ -48,7 +54,9 @@ fn run_node<K: Keep, R: Read, W: Write>(
 /// something is refused; the answer is how that is told. Where the store can't be opened nothing is read nor written: `Device` where
 /// the device failed or the store is full, `RecordFault` with the first part that is none of this plugin's record, and `Memory`.
 /// Else `Done`, or `FrameFault` with the place in the input, `Endless`, `Memory`, or `Device` where the reader, the writer or the
-/// store failed. What was committed and written before a fault stays. This profile's own.
+/// store failed. What was committed and written before a fault stays. A store that has no list of parts ends it by `RecordFault`,
+/// with the place of the first thing that is none, unless the device fails before or memory is wanted; and a store that is honest
+/// afterwards was before. This profile's own.
 pub fn plugin<K: Keep, R: Read, W: Write>(
     alloc: Global,
     plugin: Plugin,
@@ -56,7 +64,9 @@ pub fn plugin<K: Keep, R: Read, W: Write>(
     reader: &mut Counted<R>,
     writer: &mut Counted<W>,
 ) -> Ending
-    ensures { PluginRuns (store K.is_honest K.holds K.leaves K.fits K.fault_count) plugin keep.old keep.new (streams R.remaining W.contents reader.old reader.new writer.old writer.new) result }
+    ensures runs { PluginRuns (store K.is_honest K.holds K.leaves K.fits K.fault_count) plugin keep.old keep.new (streams R.remaining W.contents reader.old reader.new writer.old writer.new) result }
+    ensures honest { K.is_honest keep.new → K.is_honest keep.old }
+    ensures foreign { K.is_honest keep.new → (place : ℕ) → K.is_foreign keep.old place → EndsAt place result }
 {
     match plugin {
         Plugin::Controller(config) => run_controller(alloc, config, keep, reader, writer),

@@ -16,7 +16,8 @@ pub(crate) fn served<C: Core, K: Keep, R: Read, W: Write>(
     reader: &mut Counted<R>,
     writer: &mut Counted<W>,
 ) -> Ending
-    ensures { IsServed C.answers C.parts_of core (store K.is_honest K.holds K.leaves K.fits K.fault_count keep.old) (store K.is_honest K.holds K.leaves K.fits K.fault_count keep.new) (streams R.remaining W.contents reader.old reader.new writer.old writer.new) result }
+    ensures serves { IsServed C.answers C.parts_of core (store K.is_honest K.holds K.leaves K.fits K.fault_count keep.old) (store K.is_honest K.holds K.leaves K.fits K.fault_count keep.new) (streams R.remaining W.contents reader.old reader.new writer.old writer.new) result }
+    ensures honest { K.is_honest keep.new → K.is_honest keep.old }
 {
     ending_of_serving(serve(alloc, core, keep, reader, writer))
 }

@@ -2,12 +2,12 @@
 use Rattle.std.proofs.Common.{inr}
 use Rattle.csi_plugins.proofs.running.run_controller.Goals as goal
 
-pub returns-in-Ok : goal.returns-in-Ok
-returns-in-Ok g c = inr (record {
+pub returns-in-Ok-clause-runs : goal.returns-in-Ok-clause-runs
+returns-in-Ok-clause-runs g c = inr (record {
   core = c.in-Ok.core;
   asked = c.in-Ok.ensures.config;
   opened = c.open.new.keep;
   found = c.in-Ok.ensures.opened;
   left = c.in-Ok.ensures.left;
-  served = c.served.ensures;
+  served = c.served.ensures.serves;
 })
