@@ -1,7 +1,10 @@
 -- A command on a stream ends as on the bytes of it.
-use Rattle.std.proofs.Common.{◌≡◌, sym, subst, refl, inr, ℕ, List, [], length, drop, take_all, OnOk, OnErr, Option, Result, Ok, Err, arith}
+use Rattle.std.proofs.Common.{◌≡◌, sym, subst, refl, inl, inr, ℕ, List, [], length, drop, take_all, OnOk, OnErr, Option, Result, Ok, Err, arith}
 use Rattle.std.proofs.lemmas.List.{append-nil}
 use Rattle.std.specs.Io.KnownBytes.{Appends, Consumes, IsAtEnd}
+use Rattle.std.proofs.KnownBytes.{Appends-nil}
+use Rattle.std.specs.declared.io.ErrorKind.{ErrorKind}
+use Rattle.std.specs.declared.io.ErrorKind.TheVariants.{OutOfMemory}
 use Rattle.csi_types.specs.Frame.{Frame}
 use Rattle.csi_frames.specs.Stream.{FramesOf}
 use Rattle.csi_streams.specs.declared.output.WriteFailed.{WriteFailed}
@@ -10,11 +13,13 @@ use Rattle.csi_streams.specs.declared.streaming.StreamFault.TheVariants as stops
 use Rattle.csi_streams.specs.Replay.{Grows}
 use Rattle.csi_streams.specs.Streaming.{AreReplies, AreLines, GivesFront, StreamEnds, Streams, WritesFront}
 use Rattle.csi_streams.proofs.Streams.{one_stream}
-use Rattle.csi_endings.specs.declared.command.FileCommand.TheVariants.{Answer, Show, Run}
+use Rattle.csi_endings.specs.declared.command.FileCommand.TheVariants.{Answer, Show, Schedule}
+use Rattle.csi_endings.specs.declared.command.ScheduleCommand.{ScheduleCommand}
 use Rattle.csi_endings.specs.declared.ending.Ending.{Ending}
 use Rattle.csi_endings.specs.declared.ending.Ending.TheVariants as endings
+use Rattle.csi_endings.specs.Ending.{ending_unless_memory}
 use Rattle.csi_commands.specs.Ending.{EndsAs}
-use Rattle.csi_commands.specs.Running.{Runs, IsRefused}
+use Rattle.csi_commands.specs.Running.{Plays, IsRefused}
 use Rattle.csi_commands.specs.Streaming.{StreamsAs, StreamEndsAs, WasCut, ending_of_stream, ending_of_written}
 
 -- all bytes begin with none; and all begin with themselves
@@ -68,38 +73,46 @@ answers_so left now had has result s = record { bytes = s.read; consumed = s.con
 pub shows_so : (left now had has : Option (List ℕ)) (result : Result ℕ StreamFault) → Streams AreLines left now had has result → StreamsAs Show left now had has (ending_of_stream result)
 shows_so left now had has result s = record { bytes = s.read; consumed = s.consumed; out = s.out; written = s.written; ends = show_ends s.read s.rest s.frames s.stream (IsAtEnd now) s.out result s.ends }
 
--- a run that is refused writes nothing
-pub refused_so : (at_end : Type 0) (bytes : List ℕ) (ending : Ending) → at_end → IsRefused bytes ending → StreamEndsAs Run at_end bytes [] ending
-refused_so at_end bytes endings.Done end refused = absurd refused
-refused_so at_end bytes (endings.FrameFault kind place) end refused = absurd refused
-refused_so at_end bytes (endings.ScheduleFault fault) end refused = (end, (λ frames rest of. tt, (refused, refl)))
-refused_so at_end bytes endings.NotUtf8 end refused = (end, (λ frames rest of. tt, (refused, refl)))
-refused_so at_end bytes endings.ConfigRefused end refused = absurd refused
-refused_so at_end bytes (endings.RecordFault place) end refused = absurd refused
-refused_so at_end bytes endings.Usage end refused = absurd refused
-refused_so at_end bytes endings.Device end refused = absurd refused
-refused_so at_end bytes endings.StoreNotOpened end refused = absurd refused
-refused_so at_end bytes endings.Endless end refused = absurd refused
-refused_so at_end bytes endings.Memory end refused = (tt, (λ frames rest of. tt, (refused, refl)))
+-- a schedule that is refused gives nothing
+pub refused_so : (command : ScheduleCommand) (at_end : Type 0) (bytes : List ℕ) (ending : Ending) → at_end → IsRefused bytes ending → StreamEndsAs (Schedule command) at_end bytes [] ending
+refused_so command at_end bytes endings.Done end refused = absurd refused
+refused_so command at_end bytes (endings.FrameFault kind place) end refused = absurd refused
+refused_so command at_end bytes (endings.ScheduleFault fault) end refused = (end, (λ frames rest of. tt, (refused, refl)))
+refused_so command at_end bytes endings.NotUtf8 end refused = (end, (λ frames rest of. tt, (refused, refl)))
+refused_so command at_end bytes endings.ConfigRefused end refused = absurd refused
+refused_so command at_end bytes (endings.RecordFault place) end refused = absurd refused
+refused_so command at_end bytes endings.Usage end refused = absurd refused
+refused_so command at_end bytes endings.Device end refused = absurd refused
+refused_so command at_end bytes endings.StoreNotOpened end refused = absurd refused
+refused_so command at_end bytes endings.Endless end refused = absurd refused
+refused_so command at_end bytes endings.Memory end refused = (tt, (λ frames rest of. tt, (refused, refl)))
+
+-- where the reader failed, or memory ran out, nothing is given
+unread : (command : ScheduleCommand) (at_end : Type 0) (bytes : List ℕ) (kind : ErrorKind) → StreamEndsAs (Schedule command) at_end bytes [] (ending_unless_memory kind endings.Device)
+unread command at_end bytes OutOfMemory = (tt, (λ frames rest of. tt, (tt, refl)))
+unread command at_end bytes _ = record { all = []; appended = inl refl; grows = grows-none [] }
+
+pub unread_so : (command : ScheduleCommand) (left now has : Option (List ℕ)) (bytes : List ℕ) (kind : ErrorKind) → Consumes left now bytes → StreamsAs (Schedule command) left now has has (ending_unless_memory kind endings.Device)
+unread_so command left now has bytes kind consumed = record { bytes = bytes; consumed = consumed; out = []; written = Appends-nil has; ends = unread command (IsAtEnd now) bytes kind }
 
 -- what came into an empty vector was read
 pub read_in : (left now : Option (List ℕ)) (before after bytes : List ℕ) → before ≡ [] → bytes ≡ after → Consumes left now (drop (length before) after) → Consumes left now bytes
 read_in left now before after bytes none is consumed = subst (Consumes left now) (sym is) (subst (λ (front : List ℕ). Consumes left now (drop (length front) after)) none consumed)
 
--- a report was written, or not
-pub runs_so : (left now had has : Option (List ℕ)) (bytes before report text : List ℕ) (result : Result (Unit {0}) WriteFailed) → Consumes left now bytes → IsAtEnd now → before ≡ [] → text ≡ report → Runs bytes before report
-    → OnOk result (Appends had has text) → OnErr result (WritesFront had has text) → StreamsAs Run left now had has (ending_of_written result)
-runs_so left now had has bytes before report text (Ok done) consumed end none is runs written cut = record {
+-- what a schedule gives was written, or not
+pub plays_so : (command : ScheduleCommand) (left now had has : Option (List ℕ)) (bytes before given text : List ℕ) (result : Result (Unit {0}) WriteFailed) → Consumes left now bytes → IsAtEnd now → before ≡ [] → text ≡ given → Plays command bytes before given
+    → OnOk result (Appends had has text) → OnErr result (WritesFront had has text) → StreamsAs (Schedule command) left now had has (ending_of_written result)
+plays_so command left now had has bytes before given text (Ok done) consumed end none is plays written cut = record {
   bytes = bytes;
   consumed = consumed;
-  out = report;
+  out = given;
   written = subst (Appends had has) is written;
-  ends = (end, (λ frames rest of. tt, subst (λ (old : List ℕ). Runs bytes old report) none runs));
+  ends = (end, (λ frames rest of. tt, subst (λ (old : List ℕ). Plays command bytes old given) none plays));
 }
-runs_so left now had has bytes before report text (Err failed) consumed end none is runs written cut = record {
+plays_so command left now had has bytes before given text (Err failed) consumed end none is plays written cut = record {
   bytes = bytes;
   consumed = consumed;
   out = cut.front;
   written = cut.appended;
-  ends = record { all = report; appended = inr (subst (λ (old : List ℕ). Runs bytes old report) none runs); grows = subst (Grows cut.front) is cut.grows };
+  ends = record { all = given; appended = inr (subst (λ (old : List ℕ). Plays command bytes old given) none plays); grows = subst (Grows cut.front) is cut.grows };
 }

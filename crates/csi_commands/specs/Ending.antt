@@ -6,9 +6,9 @@ use Rattle.csi_endings.specs.declared.ending.Ending.TheVariants.{Done, FrameFaul
 use Rattle.csi_streams.specs.declared.answers.AnswerFault.{AnswerFault}
 use Rattle.csi_streams.specs.declared.answers.AnswerFault.TheVariants as faults
 use Rattle.csi_endings.specs.declared.command.FileCommand.{FileCommand}
-use Rattle.csi_endings.specs.declared.command.FileCommand.TheVariants.{Answer, Show, Run}
+use Rattle.csi_endings.specs.declared.command.FileCommand.TheVariants.{Answer, Show, Schedule}
 use Rattle.csi_streams.specs.Replay.{answered, Fails, IsFaultOf, Grows}
-use Rattle.csi_commands.specs.Running.{Runs, IsRefused}
+use Rattle.csi_commands.specs.Running.{Plays, IsRefused}
 
 abbrev pub ending_of : AnswerFault → Ending
 ending_of (faults.Frame kind place) = FrameFault kind place
@@ -25,11 +25,11 @@ EndsAs Show frames rest old new Done = (rest ≡ []) × Grows old new
 EndsAs Show frames rest old new (FrameFault kind place) = IsFaultOf frames rest kind place × Grows old new
 EndsAs Show frames rest old new Memory = Grows old new
 EndsAs Show frames rest old new _ = ⊥
-EndsAs Run frames rest old new ending = Unit {0}
+EndsAs (Schedule command) frames rest old new ending = Unit {0}
 
--- Where a schedule was run, its report and a newline were appended, and otherwise nothing.
+-- Where a schedule was run, what the command gives of it was appended, and otherwise nothing.
 abbrev pub RunsAs : FileCommand → List ℕ → List ℕ → List ℕ → Ending → Type 0
 RunsAs Answer input old new ending = Unit {0}
 RunsAs Show input old new ending = Unit {0}
-RunsAs Run input old new Done = Runs input old new
-RunsAs Run input old new ending = IsRefused input ending × (new ≡ old)
+RunsAs (Schedule command) input old new Done = Plays command input old new
+RunsAs (Schedule command) input old new ending = IsRefused input ending × (new ≡ old)

@@ -1,28 +1,43 @@
--- What is printed of a schedule that is run, and why one isn't run. This profile's own.
+-- What is given of a schedule that is run, and why one isn't run. This profile's own.
 use Rattle.std.specs.Prelude.{◌≡◌, ℕ, List, [], ◌∷◌, ◌++◌, Ok, Err}
+use Rattle.std.specs.List.{flat_map}
 use Rattle.std.specs.Str.{IsUtf8}
+use Rattle.csi_frames.specs.Spelling.{spelling}
 use Rattle.csi_schedules.specs.Schedule.{Schedule, text_schedule}
 use Rattle.csi_world.specs.After.{after}
 use Rattle.csi_world.specs.Simulated.{WorldParts, ShowsRun}
 use Rattle.csi_reports.specs.Report.{IsReport}
+use Rattle.csi_endings.specs.declared.command.ScheduleCommand.{ScheduleCommand}
+use Rattle.csi_endings.specs.declared.command.ScheduleCommand.TheVariants.{Run, Frames}
 use Rattle.csi_endings.specs.declared.ending.Ending.{Ending}
 use Rattle.csi_endings.specs.declared.ending.Ending.TheVariants as endings
 use Rattle.csi_json.specs.declared.fault.ScheduleFault.{ScheduleFault}
 use Rattle.csi_json.specs.declared.fault.ScheduleFault.TheVariants.{NotJson, BadSchedule, TooMany, NoMemory}
 
--- the text is the report of the world to which the schedule's events lead from an empty one
-pub record IsReportOf (schedule : Schedule) (text : List ℕ) : Type 0 where
+-- the bytes are the report of the world, and a newline
+pub record IsReportLine (world : WorldParts) (bytes : List ℕ) : Type 0 where
+  pub report : List ℕ
+  pub reported : IsReport world report
+  pub line : bytes ≡ report ++ 10 ∷ []
+
+-- what a command gives of a world: its report and a newline, or the spellings of all frames that were sent, in order
+abbrev pub IsGivenOf : ScheduleCommand → WorldParts → List ℕ → Type 0
+IsGivenOf Run world bytes = IsReportLine world bytes
+IsGivenOf Frames world bytes = bytes ≡ flat_map spelling world.frames
+
+-- the command gives this of the world to which the schedule's events lead from an empty one
+pub record IsGiven (command : ScheduleCommand) (schedule : Schedule) (bytes : List ℕ) : Type 0 where
   pub world : WorldParts
   pub shows : ShowsRun world (after schedule.config schedule.events)
-  pub reported : IsReport world text
+  pub given : IsGivenOf command world bytes
 
--- the input is a schedule, and its report and a newline were appended
-pub record Runs (input old new : List ℕ) : Type 0 where
+-- the input is a schedule, and what the command gives of it was appended
+pub record Plays (command : ScheduleCommand) (input old new : List ℕ) : Type 0 where
   pub schedule : Schedule
   pub read : text_schedule input ≡ Ok schedule
-  pub report : List ℕ
-  pub reported : IsReportOf schedule report
-  pub appended : new ≡ old ++ report ++ 10 ∷ []
+  pub given : List ℕ
+  pub gives : IsGiven command schedule given
+  pub appended : new ≡ old ++ given
 
 -- The input is no UTF-8, or has this fault; or memory ran out.
 abbrev pub IsRefused : List ℕ → Ending → Type 0

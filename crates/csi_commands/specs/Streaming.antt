@@ -10,21 +10,21 @@ use Rattle.csi_streams.specs.declared.streaming.StreamFault.TheVariants as stops
 use Rattle.csi_streams.specs.Replay.{Grows}
 use Rattle.csi_streams.specs.Streaming.{AreReplies, GivesFront}
 use Rattle.csi_endings.specs.declared.command.FileCommand.{FileCommand}
-use Rattle.csi_endings.specs.declared.command.FileCommand.TheVariants.{Answer, Show, Run}
+use Rattle.csi_endings.specs.declared.command.FileCommand.TheVariants.{Answer, Show, Schedule}
 use Rattle.csi_endings.specs.declared.ending.Ending.{Ending}
 use Rattle.csi_endings.specs.declared.ending.Ending.TheVariants as endings
 use Rattle.csi_commands.specs.Ending.{EndsAs, RunsAs}
-use Rattle.csi_commands.specs.Running.{Runs}
+use Rattle.csi_commands.specs.Running.{Plays}
 
 -- `file` ends so on these bytes, and appends this to nothing
 abbrev pub FileEnds : FileCommand → List ℕ → List ℕ → Ending → Type 0
 FileEnds command bytes out ending = ((frames : List Frame) (rest : List ℕ) → FramesOf bytes frames rest → EndsAs command frames rest [] out ending) × RunsAs command bytes [] out ending
 
--- what `file` appends for these bytes at some time: the replies to some of the first frames, or some lines, or the report or nothing
+-- what `file` appends for these bytes at some time: the replies to some of the first frames, or some lines, or what a schedule gives or nothing
 abbrev pub FileAppends : FileCommand → List ℕ → List ℕ → Type 0
 FileAppends Answer bytes all = (frames : List Frame) (rest : List ℕ) → FramesOf bytes frames rest → GivesFront AreReplies frames all
 FileAppends Show bytes all = Unit {0}
-FileAppends Run bytes all = (all ≡ []) ⊎ Runs bytes [] all
+FileAppends (Schedule command) bytes all = (all ≡ []) ⊎ Plays command bytes [] all
 
 -- a front of it was written
 pub record WasCut (command : FileCommand) (bytes out : List ℕ) : Type 0 where

@@ -4,7 +4,7 @@ ghost use Rattle.csi_types.specs.Frame.{Frame};
 ghost use Rattle.csi_frames.specs.Stream.{FramesOf};
 ghost use Rattle.csi_commands.specs.Ending.{EndsAs, RunsAs, ending_of as ending};
 
-use crate::running::run;
+use crate::running::play;
 use csi_endings::{Ending, FileCommand};
 use csi_streams::{AnswerFault, answer, show};
 use std::alloc::Global;
@@ -20,7 +20,7 @@ fn ending_of(fault: AnswerFault) -> Ending
 }
 
 /// Carries the command out on the bytes of a file, and appends to `out` what goes to standard output. What was appended
-/// before a fault stays; of a run that is the whole report with a newline, or nothing. The ending is never `Usage` nor
+/// before a fault stays; of a schedule that is all that the command gives, or nothing. The ending is never `Usage` nor
 /// `Device`.
 pub fn file(alloc: Global, command: FileCommand, input: &[u8], out: &mut Vec<u8>) -> Ending
     ensures frames { (frames : List Frame) (rest : List ℕ) → FramesOf input.now frames rest →
@@ -36,7 +36,7 @@ pub fn file(alloc: Global, command: FileCommand, input: &[u8], out: &mut Vec<u8>
             Ok(()) => Ending::Done,
             Err(fault) => ending_of(fault),
         },
-        FileCommand::Run => match run(alloc, input, out) {
+        FileCommand::Schedule(command) => match play(alloc, command, input, out) {
             Ok(()) => Ending::Done,
             Err(ending) => ending,
         },

@@ -1,5 +1,5 @@
 //! What `csi-replay` does with the bytes of a file or of a stream, without a process: frames are answered by a new controller, or
-//! shown in lines, and schedules are run. This profile's own.
+//! shown in lines, and schedules are run to a report or to the frames that they send. This profile's own.
 #![tactic(auto)]
 
 mod commands;
@@ -8,5 +8,5 @@ mod streaming;
 
 pub use commands::file;
 pub use csi_streams::{AnswerFault, StreamFault, answer, answer_from, show, show_from};
-pub use running::run;
+pub use running::play;
 pub use streaming::stream;

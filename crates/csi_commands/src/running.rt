@@ -1,13 +1,16 @@
-//! A schedule, run to its report.
-ghost use Rattle.std.specs.Prelude.{◌≡◌, ◌++◌, ◌∷◌, [], IfOk, IfErr, OnOk, OnErr, string_bytes};
+//! A schedule, run to its report or to the frames that it sends.
+ghost use Rattle.std.specs.Prelude.{◌≡◌, IfOk, IfErr, OnOk, OnErr};
+ghost use Rattle.std.specs.List.{flat_map};
+ghost use Rattle.csi_frames.specs.Spelling.{spelling};
 ghost use Rattle.csi_schedules.specs.Schedule.{text_schedule};
-ghost use Rattle.csi_commands.specs.Running.{IsReportOf, Runs, IsRefused, refusal_of as refusal};
+ghost use Rattle.csi_commands.specs.Running.{IsReportLine, IsGivenOf, IsGiven, Plays, IsRefused, refusal_of as refusal};
 
-use csi_endings::Ending;
+use csi_endings::{Ending, ScheduleCommand};
+use csi_frames::encode;
 use csi_reports::report;
 use csi_schedules::{ScheduleFault, read_schedule};
 use csi_types::{Config, NoMemory};
-use csi_world::{Event, simulate};
+use csi_world::{Event, World, simulate};
 use std::alloc::Global;
 
 // The ending where a text is no schedule.
@@ -34,34 +37,66 @@ fn schedule_in(alloc: Global, input: &[u8]) -> Result<(Config, Vec<Event>), Endi
     }
 }
 
-// The report of the world to which these events lead.
-fn report_of(alloc: Global, config: &Config, events: &[Event]) -> Result<String, NoMemory>
-    ensures { IfOk result (λ text. IsReportOf (record { config = config.now; events = events.now }) (string_bytes text)) }
+// The report of a world, and a newline.
+fn line_of(alloc: Global, world: &World) -> Result<Vec<u8>, NoMemory>
+    ensures { IfOk result (λ line. IsReportLine world.now line.items) }
+{
+    let mut text = report(alloc, world)?;
+    text.push_str("\n")?;
+    Ok(text.into_bytes())
+}
+
+// The spellings of the frames that were sent.
+fn frames_of(alloc: Global, world: &World) -> Result<Vec<u8>, NoMemory>
+    ensures { IfOk result (λ bytes. bytes.items ≡ flat_map spelling world.now.frames) }
+{
+    let frames = world.sent();
+    let mut bytes = Vec::new(alloc);
+    for frame in frames {
+        encode(frame, &mut bytes)?;
+    }
+    Ok(bytes)
+}
+
+// What the command gives of a world.
+fn given_of(alloc: Global, command: ScheduleCommand, world: &World) -> Result<Vec<u8>, NoMemory>
+    ensures { IfOk result (λ given. IsGivenOf command world.now given.items) }
+{
+    match command {
+        ScheduleCommand::Run => line_of(alloc, world),
+        ScheduleCommand::Frames => frames_of(alloc, world),
+    }
+}
+
+// What the command gives of the world to which these events lead.
+fn given(
+    alloc: Global,
+    command: ScheduleCommand,
+    config: &Config,
+    events: &[Event],
+) -> Result<Vec<u8>, NoMemory>
+    ensures { IfOk result (λ given. IsGiven command (record { config = config.now; events = events.now }) given.items) }
 {
     let world = simulate(alloc, config, events)?;
-    report(alloc, &world)
+    given_of(alloc, command, &world)
 }
 
-// Appends a text and a newline. An `Err` appends nothing.
-fn append_line(mut text: String, out: &mut Vec<u8>) -> Result<(), NoMemory>
-    ensures ok { OnOk result (out.new.items ≡ out.old.items ++ string_bytes text ++ 10 ∷ []) }
-    ensures err { OnErr result (out.new.items ≡ out.old.items) }
-{
-    text.push_str("\n")?;
-    out.extend_from_slice(text.as_bytes())?;
-    Ok(())
-}
-
-/// Reads `input` as a schedule, lets its events happen one after another to an empty world, and appends the world's report and
-/// a newline to `out`. An `Err` appends nothing: `NotUtf8` and `ScheduleFault` say what is wrong with the input, in this
-/// order, and `Memory` that an allocation was refused. The report is this profile's own.
-pub fn run(alloc: Global, input: &[u8], out: &mut Vec<u8>) -> Result<(), Ending>
-    ensures ok { OnOk result (Runs input.now out.old.items out.new.items) }
+/// Reads `input` as a schedule, lets its events happen one after another to an empty world, and appends to `out` what the
+/// command gives of the world: its report and a newline, or the spellings of all frames that were sent, in order. An
+/// `Err` appends nothing: `NotUtf8` and `ScheduleFault` say what is wrong with the input, in this order, and `Memory` that
+/// an allocation was refused. The report is this profile's own.
+pub fn play(
+    alloc: Global,
+    command: ScheduleCommand,
+    input: &[u8],
+    out: &mut Vec<u8>,
+) -> Result<(), Ending>
+    ensures ok { OnOk result (Plays command input.now out.old.items out.new.items) }
     ensures refused { IfErr result (IsRefused input.now) }
     ensures err { OnErr result (out.new.items ≡ out.old.items) }
 {
     let (config, events) = schedule_in(alloc, input)?;
-    let text = report_of(alloc, &config, &events)?;
-    append_line(text, out)?;
+    let given = given(alloc, command, &config, &events)?;
+    out.extend_from_slice(&given)?;
     Ok(())
 }

@@ -1,5 +1,14 @@
 //! The commands that read a file.
 
+/// What is done with a schedule.
+#[derive(Clone, Copy, Debug, PartialEq, Eq)]
+pub enum ScheduleCommand {
+    /// It is run, and the report of its world is shown.
+    Run,
+    /// It is run, and the frames that were sent are given as bytes.
+    Frames,
+}
+
 /// What is done with the bytes of a file.
 #[derive(Clone, Copy, Debug, PartialEq, Eq)]
 pub enum FileCommand {
@@ -7,6 +16,6 @@ pub enum FileCommand {
     Answer,
     /// A line is shown for each frame.
     Show,
-    /// The schedule is run, and the report of its world is shown.
-    Run,
+    /// They are a schedule, with which this is done.
+    Schedule(ScheduleCommand),
 }

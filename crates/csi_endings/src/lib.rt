@@ -4,5 +4,5 @@
 mod command;
 mod ending;
 
-pub use command::FileCommand;
+pub use command::{FileCommand, ScheduleCommand};
 pub use ending::Ending;

@@ -1,5 +1,5 @@
 //! The words of the command line, and the status of a process that was started with others.
-use csi_endings::{Ending, FileCommand};
+use csi_endings::{Ending, FileCommand, ScheduleCommand};
 use csi_words::{CommandLine, parse};
 use std::alloc::{AllocError, Global};
 use std::process::{Abort, ExitCode};
@@ -45,7 +45,11 @@ const NAMED: &[(&[&str], CommandLine<'static>)] = &[
     ),
     (
         &["csi-replay", "run", "a.file"],
-        CommandLine::File(FileCommand::Run, "a.file"),
+        CommandLine::File(FileCommand::Schedule(ScheduleCommand::Run), "a.file"),
+    ),
+    (
+        &["csi-replay", "frames", "a.file"],
+        CommandLine::File(FileCommand::Schedule(ScheduleCommand::Frames), "a.file"),
     ),
     (
         &["csi-replay", "controller", "a.db", "a.config"],

@@ -4,7 +4,8 @@ use Rattle.clap.specs.Words.{App, Row, first_of, new_app, new_rule, subcommand_o
 use Rattle.clap.specs.declared.error.kind.ErrorKind.{ErrorKind}
 use Rattle.clap.specs.declared.error.kind.ErrorKind.TheVariants.{OutOfMemory}
 use Rattle.csi_endings.specs.declared.command.FileCommand.{FileCommand}
-use Rattle.csi_endings.specs.declared.command.FileCommand.TheVariants.{Answer, Show, Run}
+use Rattle.csi_endings.specs.declared.command.FileCommand.TheVariants.{Answer, Show, Schedule}
+use Rattle.csi_endings.specs.declared.command.ScheduleCommand.TheVariants.{Run, Frames}
 use Rattle.csi_endings.specs.declared.ending.Ending.{Ending}
 use Rattle.csi_endings.specs.declared.ending.Ending.TheVariants.{Usage, Memory}
 use Rattle.csi_words.specs.declared.command_line.CommandLine.{CommandLine}
@@ -40,7 +41,7 @@ bare = record (new_app (codes "csi-replay")) { top = record (new_app (codes "csi
 
 -- its commands on a file
 abbrev pub on_files : App
-on_files = with_file_command (with_file_command (with_file_command bare (codes "answer")) (codes "show")) (codes "run")
+on_files = with_file_command (with_file_command (with_file_command (with_file_command bare (codes "answer")) (codes "show")) (codes "run")) (codes "frames")
 
 abbrev pub program : App
 program = with_store_command (with_store_command on_files (codes "controller") (codes "CONFIG")) (codes "node") (codes "ID")
@@ -63,7 +64,8 @@ abbrev pub command_in : List ℕ → List Row → Option Named
 command_in name rows =
     if bytes_eq name (codes "answer") then on_file_in Answer rows
     else if bytes_eq name (codes "show") then on_file_in Show rows
-    else if bytes_eq name (codes "run") then on_file_in Run rows
+    else if bytes_eq name (codes "run") then on_file_in (Schedule Run) rows
+    else if bytes_eq name (codes "frames") then on_file_in (Schedule Frames) rows
     else if bytes_eq name (codes "controller") then controller_in rows
     else if bytes_eq name (codes "node") then node_in rows
     else None

@@ -6,13 +6,13 @@ ghost use Rattle.csi_words.specs.Words.{command_entered, command_in as named_in,
 
 use clap::error::ErrorKind;
 use clap::{Arg, ArgMatches, Command, Error};
-use csi_endings::{Ending, FileCommand};
+use csi_endings::{Ending, FileCommand, ScheduleCommand};
 use std::alloc::{AllocError, Global};
 
 /// What the words name: a command, with the texts behind it.
 #[derive(Clone, Copy, Debug, PartialEq, Eq)]
 pub enum CommandLine<'a> {
-    /// `answer FILE`, `show FILE` and `run FILE`: what is done, and the path of the file.
+    /// `answer FILE`, `show FILE`, `run FILE` and `frames FILE`: what is done, and the path of the file.
     File(FileCommand, &'a str),
     /// `controller DB CONFIG`: the paths of the store and of the file of the configuration.
     Controller { store: &'a str, config: &'a str },
@@ -56,7 +56,8 @@ fn with_file_commands<'a>(alloc: Global) -> Result<Command<'a>, AllocError>
     let bare = Command::new(alloc, "csi-replay").subcommand_required(true);
     let one = with_file_command(alloc, bare, "answer")?;
     let two = with_file_command(alloc, one, "show")?;
-    with_file_command(alloc, two, "run")
+    let three = with_file_command(alloc, two, "run")?;
+    with_file_command(alloc, three, "frames")
 }
 
 // What the words mean to `clap`.
@@ -120,7 +121,8 @@ fn command_of<'a>(name: &str, matches: &ArgMatches<'a>) -> Option<CommandLine<'a
     match name {
         "answer" => on_file(matches, FileCommand::Answer),
         "show" => on_file(matches, FileCommand::Show),
-        "run" => on_file(matches, FileCommand::Run),
+        "run" => on_file(matches, FileCommand::Schedule(ScheduleCommand::Run)),
+        "frames" => on_file(matches, FileCommand::Schedule(ScheduleCommand::Frames)),
         "controller" => controller(matches),
         "node" => node(matches),
         _ => None,

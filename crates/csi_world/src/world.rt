@@ -54,6 +54,13 @@ impl World {
         self.system.frames.len() as u64
     }
 
+    /// The frames in the order in which they were sent, replies too. It takes no memory.
+    pub fn sent(&self) -> &[Frame]
+        ensures { result.now ≡ self.now.frames }
+    {
+        self.system.frames.as_slice()
+    }
+
     /// The frame of a number, from 1, in the order in which they were sent; `None` at 0 and above the last one. It takes
     /// no memory.
     pub fn frame(&self, number: u64) -> Option<&Frame>

@@ -2,7 +2,7 @@
 use super::listed::Listed;
 use super::running::gives;
 use super::scripts::{Place, Script};
-use csi_endings::{Ending, FileCommand};
+use csi_endings::{Ending, FileCommand, ScheduleCommand};
 use csi_schedules::read_schedule;
 use csi_types::Config;
 use csi_world::{Event, audit, simulate};
@@ -47,7 +47,10 @@ fn leads_to_safety(rt: &(impl Abort + AllocGlobal), schedule: &str) -> bool {
 
 // The schedule is run to its report, and the world that its events lead to is safe.
 fn runs(rt: &(impl Abort + AllocGlobal), (schedule, report): &Texts) {
-    let asked = (FileCommand::Run, schedule.as_bytes());
+    let asked = (
+        FileCommand::Schedule(ScheduleCommand::Run),
+        schedule.as_bytes(),
+    );
     gives(rt, asked, report.as_bytes(), Ending::Done, 0);
     assert!(rt; leads_to_safety(rt, schedule));
 }

@@ -2,7 +2,7 @@
 use super::running::bytes;
 use super::{CONTROLLER_PUBLISH, CREATE, CREATED, Case, DAMAGED, DELETE, DELETED, NO_NODE};
 use csi_commands::{StreamFault, answer_from, show_from, stream};
-use csi_endings::{Ending, FileCommand};
+use csi_endings::{Ending, FileCommand, ScheduleCommand};
 use csi_frames::FaultKind;
 use std::alloc::Global;
 use std::io;
@@ -171,11 +171,20 @@ fn gives_front(rt: &(impl Abort + AllocGlobal), case: Case, ways: Ways, written:
         }
         Case::Runs(schedule, report, ending) => {
             let asked = Asked {
-                command: FileCommand::Run,
+                command: FileCommand::Schedule(ScheduleCommand::Run),
                 input: schedule.as_bytes(),
                 ending,
             };
             is_given(rt.alloc(), asked, ways, report.as_bytes(), written)
+        }
+        Case::Sends(schedule, frames, ending) => {
+            let frames = bytes(rt, frames);
+            let asked = Asked {
+                command: FileCommand::Schedule(ScheduleCommand::Frames),
+                input: schedule.as_bytes(),
+                ending,
+            };
+            is_given(rt.alloc(), asked, ways, &frames, written)
         }
         Case::RunsBytes(..) => false,
     }

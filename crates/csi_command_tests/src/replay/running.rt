@@ -2,7 +2,7 @@
 //! memory, after a beginning of what it is to give, and gives all of it the second time.
 use super::Case;
 use csi_commands::file;
-use csi_endings::{Ending, FileCommand};
+use csi_endings::{Ending, FileCommand, ScheduleCommand};
 use std::alloc::{AllocError, Global};
 use std::process::Abort;
 
@@ -124,12 +124,27 @@ fn run_case(rt: &(impl Abort + AllocGlobal), case: Case, index: usize) {
             gives(rt, asked, lines.as_bytes(), ending, index)
         }
         Case::Runs(schedule, report, ending) => {
-            let asked = (FileCommand::Run, schedule.as_bytes());
+            let asked = (
+                FileCommand::Schedule(ScheduleCommand::Run),
+                schedule.as_bytes(),
+            );
             gives(rt, asked, report.as_bytes(), ending, index)
         }
         Case::RunsBytes(input, ending) => {
             let input = bytes(rt, input);
-            gives(rt, (FileCommand::Run, input.as_slice()), b"", ending, index)
+            let asked = (
+                FileCommand::Schedule(ScheduleCommand::Run),
+                input.as_slice(),
+            );
+            gives(rt, asked, b"", ending, index)
+        }
+        Case::Sends(schedule, frames, ending) => {
+            let frames = bytes(rt, frames);
+            let asked = (
+                FileCommand::Schedule(ScheduleCommand::Frames),
+                schedule.as_bytes(),
+            );
+            gives(rt, asked, frames.as_slice(), ending, index)
         }
     }
 }

@@ -1,8 +1,8 @@
 //! Schedules that are run to their reports, and bytes that are no schedule.
-use super::Case;
 use super::running::{gives, run_all};
 use super::schedules::with_zeros;
-use csi_endings::{Ending, FileCommand};
+use super::{CREATE, CREATED, Case};
+use csi_endings::{Ending, FileCommand, ScheduleCommand};
 use csi_schedules::{MAX_EVENTS, ScheduleFault};
 
 const DONE: Ending = Ending::Done;
@@ -44,6 +44,21 @@ fn a_schedule_is_run_to_its_report(rt: HostRuntime) {
     run_all(&rt, RUNS);
 }
 
+// A volume is asked for, and the call comes to the controller, whose reply nobody delivers.
+const ASKED: &str =
+    "{\"config\":{\"greatest\":1000,\"nodes\":[]},\"events\":[{\"create\":{\"capabilities\":[{\"access\":\"block\",\"mode\":1}],\"limit\":0,\"name\":\"v\",\"required\":10}},{\"deliver\":1}]}";
+
+const SENT: &[Case] = &[
+    Case::Sends(ASKED, &[CREATE, CREATED], DONE),
+    Case::Sends(NO_EVENT, &[], DONE),
+    Case::Sends("{", &[], Ending::ScheduleFault(ScheduleFault::NotJson)),
+];
+
+#[test]
+fn a_schedule_gives_the_frames_that_its_run_sends(rt: HostRuntime) {
+    run_all(&rt, SENT);
+}
+
 const REFUSED: &[Case] = &[
     Case::Runs("{", "", Ending::ScheduleFault(ScheduleFault::NotJson)),
     Case::Runs("", "", Ending::ScheduleFault(ScheduleFault::NotJson)),
@@ -82,7 +97,7 @@ fn bytes_that_are_no_text_are_not_run(rt: HostRuntime) {
 #[test]
 fn too_many_events_are_not_run(rt: HostRuntime) {
     let text = with_zeros(&rt, MAX_EVENTS + 1);
-    let asked = (FileCommand::Run, text.as_bytes());
+    let asked = (FileCommand::Schedule(ScheduleCommand::Run), text.as_bytes());
     let ending = Ending::ScheduleFault(ScheduleFault::TooMany);
     gives(&rt, asked, b"", ending, 0);
 }
