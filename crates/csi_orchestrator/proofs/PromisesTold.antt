@@ -1,14 +1,16 @@
 -- What the rows tell is what each call promises.
-use Rattle.std.proofs.Common.{◌≡◌, sym, ◌∙◌, ap, subst}
+use Rattle.std.proofs.Common.{◌≡◌, ℕ, List, refl, sym, ◌∙◌, ap, subst}
 use Rattle.std.specs.Prelude.{Result, Ok, Err, IfOk, IfErr}
 use Rattle.csi_orchestrator.specs.declared.fault.OrchFault.{OrchFault}
-use Rattle.csi_orchestrator.specs.History.{History}
+use Rattle.csi_orchestrator.specs.History.{History, with_items}
 use Rattle.csi_orchestrator.specs.WellFormed.{IsWellFormed}
-use Rattle.csi_orchestrator.specs.Moves.{Input, Answer, Moved, moves}
+use Rattle.csi_orchestrator.specs.Moves.{Input, Answer, Moved, moves, moved_to}
 use Rattle.csi_orchestrator.specs.Shown.{Parts, Shows}
 use Rattle.csi_orchestrator.specs.RowMoves.{MovedRows, row_moves, IsRefusal, IsMoveOf, RowsAnswer}
-use Rattle.csi_orchestrator.specs.Sound.{IsSound}
+use Rattle.csi_orchestrator.specs.Sound.{IsSound, HasHistory, IsKept}
+use Rattle.csi_orchestrator.specs.Steps.{IsReached, GoesOn}
 use Rattle.csi_orchestrator.specs.Promises.{IsDone, IsAnsweredAs}
+use Rattle.csi_orchestrator.proofs.AddedItems.{moves-add, stays-formed}
 use Rattle.csi_orchestrator.proofs.SendingAgrees.{Tells}
 use Rattle.csi_orchestrator.proofs.RulesStay.{rows-stay-sound}
 use Rattle.csi_orchestrator.proofs.RepliesAgree.{all-tell}
@@ -36,6 +38,19 @@ pub is-refused : (old : Parts) (history : History) (input : Input) (fault : Orch
     → IsRefusal (moves old.nodes history input) fault
 is-refused old history input fault kept form agrees is = refused history (row_moves old input) (moves old.nodes history input) fault (all-tell old history input form kept agrees) is
 
+-- what was told is told by a history that goes on
+told-on : (old new : Parts) (told : HasHistory old) (input : Input) (answer : Answer) → new.nodes ≡ old.nodes → (moved : Result Moved OrchFault) → moves old.nodes told.history input ≡ moved → IsDone told.history moved answer new → HasHistory new
+told-on old new told input answer nodes (Ok moved) e done =
+    record {
+      history = with_items told.history moved.items;
+      reached =
+          subst (λ (n : List (List ℕ)). IsReached n (with_items told.history moved.items)) (sym nodes)
+          (subst (λ m. IsReached old.nodes (moved_to told.history m)) e (GoesOn told.history input told.reached));
+      form = subst (λ m. IsWellFormed (moved_to told.history m)) e (stays-formed told.history input _ told.form (moves-add old.nodes told.history input told.form));
+      agrees = done.agrees;
+    }
+told-on old new told input answer nodes (Err fault) e done = absurd done
+
 -- the same of a call's result, by the parts that are shown
 pub ok-promised : {R : Type 0} {old now new : Parts} {input : Input} {says : R → Answer} {result : Result R OrchFault} → old ≡ now → IsSound old.rows → IsMoveOf old new input says result
     → (history : History) → IsWellFormed history → Shows now history
@@ -52,15 +67,26 @@ err-promised {old = old} {now = now} {new = new} {input = input} {says = says} {
 err-promised {old = old} {now = now} {new = new} {input = input} {says = says} {result = Err fault} is kept told history form agrees =
     subst (λ (p : Parts). IsRefusal (moves p.nodes history input) fault) is (is-refused old history input fault kept form (subst (λ (p : Parts). Shows p history) (sym is) agrees) told.err)
 
-pub kept-promised : {R : Type 0} {old new : Parts} {input : Input} {says : R → Answer} {result : Result R OrchFault} → IsSound old.rows → IsMoveOf old new input says result
+sound-promised : {R : Type 0} {old new : Parts} {input : Input} {says : R → Answer} {result : Result R OrchFault} → IsSound old.rows → IsMoveOf old new input says result
     → IsSound new.rows × (new.nodes ≡ old.nodes)
-kept-promised {old = old} {new = new} {input = input} {says = says} {result = Ok r} kept told = rows-stay-sound old input (record { answer = says r; parts = new }) kept told.ok
-kept-promised {old = old} {new = new} {input = input} {says = says} {result = Err fault} kept told =
+sound-promised {old = old} {new = new} {input = input} {says = says} {result = Ok r} kept told = rows-stay-sound old input (record { answer = says r; parts = new }) kept told.ok
+sound-promised {old = old} {new = new} {input = input} {says = says} {result = Err fault} kept told =
     (subst (λ (p : Parts). IsSound p.rows) (sym told.stays) kept, ap (λ (p : Parts). p.nodes) told.stays)
+
+pub kept-promised : {R : Type 0} {old new : Parts} {input : Input} {says : R → Answer} {result : Result R OrchFault} → IsKept old → IsMoveOf old new input says result → IsKept new
+kept-promised {old = old} {new = new} {input = input} {says = says} {result = Ok r} kept told =
+    let after = sound-promised {input = input} {says = says} {result = Ok r} kept.sound told in
+    record {
+      sound = after.0;
+      told =
+          told-on old new kept.told input (says r) after.1 _ refl
+          (is-done old kept.told.history input (record { answer = says r; parts = new }) kept.sound kept.told.form kept.told.agrees told.ok);
+    }
+kept-promised {old = old} {new = new} {input = input} {says = says} {result = Err fault} kept told = subst IsKept (sym told.stays) kept
 
 pub nodes-promised : {R : Type 0} {old now new : Parts} {input : Input} {says : R → Answer} {result : Result R OrchFault} → old ≡ now → IsSound old.rows → IsMoveOf old new input says result
     → new.nodes ≡ now.nodes
-nodes-promised is kept told = (kept-promised kept told).1 ∙ ap (λ (p : Parts). p.nodes) is
+nodes-promised is kept told = (sound-promised kept told).1 ∙ ap (λ (p : Parts). p.nodes) is
 
 -- where they do, what the history answers the rows answer
 told-so : (history : History) (answer : Answer) (result : Result MovedRows OrchFault) (moved : Result Moved OrchFault) → Tells history result moved → IsAnsweredAs answer moved → RowsAnswer answer result

@@ -1,6 +1,6 @@
 -- What holds of a row after it was changed.
-use Rattle.std.proofs.Common.{◌≡◌, ℕ, List, Bool, false, cond, not, map, refl, sym, ◌∙◌, ap, subst}
-use Rattle.std.specs.Prelude.{Option, Some, None, option_map, find, ◌&&◌}
+use Rattle.std.proofs.Common.{◌≡◌, ℕ, List, [], ◌∷◌, Bool, true, false, cond, not, map, filter, refl, sym, ◌∙◌, ap, subst}
+use Rattle.std.specs.Prelude.{◌≢◌, Option, Some, None, option_map, find, ◌&&◌}
 use Rattle.std.specs.List.{AllByRecursion, list_any}
 use Rattle.csi_types.specs.declared.call.Kind.{Kind}
 use Rattle.csi_types.specs.declared.call.Kind.TheVariants as kinds
@@ -8,7 +8,9 @@ use Rattle.csi_types.specs.declared.number.Number.{Number}
 use Rattle.csi_types.specs.Call.{kind_of}
 use Rattle.csi_types.specs.Same.{same_text}
 use Rattle.csi_lists.proofs.Pairs.{two-filter}
-use Rattle.csi_lists.proofs.Each.{each-filter, each-map}
+use Rattle.std.proofs.lemmas.Bool.{false≢true}
+use Rattle.csi_lists.proofs.Each.{each-filter, each-map, each-weaker}
+use Rattle.csi_lists.proofs.Filters.{each-passes}
 use Rattle.csi_types.proofs.Equality.{same_text-tells}
 use Rattle.csi_orchestrator.specs.declared.row.Goal.{Goal}
 use Rattle.csi_orchestrator.specs.declared.row.Goal.TheVariants.{Create, Use, Stop, Delete}
@@ -21,10 +23,10 @@ use Rattle.csi_orchestrator.specs.History.{Held}
 use Rattle.csi_orchestrator.specs.Commands.{is_for_one_node, is_second_writer}
 use Rattle.csi_orchestrator.specs.Due.{Due}
 use Rattle.csi_orchestrator.specs.Shown.{NodeEntryShown, RowShown, node_entry_of, target_entry_of, held_at, due_by, due_in, closed, AreTargetsApart}
-use Rattle.csi_orchestrator.specs.RowChanges.{Aspect, Existence, Publication, aspect_of, node_marked, marked_at, at_goal, exists_marked, nodes_marked, marked, sent, told_of, succeeded, wanted, is_target_kept, with_kept_targets, is_node_kept, dropped, stopped_goal}
+use Rattle.csi_orchestrator.specs.RowChanges.{Aspect, Existence, Publication, aspect_of, node_marked, marked_at, at_goal, exists_marked, nodes_marked, marked, sent, told_of, succeeded, wanted, is_target_kept, with_kept_targets, is_node_kept, has_targets, tidied, dropped, stopped_goal}
 use Rattle.csi_orchestrator.specs.RowRefusals.{is_so_elsewhere}
 use Rattle.csi_orchestrator.specs.Keyed.{change_by}
-use Rattle.csi_orchestrator.specs.Sound.{AreNodesApart, IsUsable, MayBeWanted, IsSoundRow}
+use Rattle.csi_orchestrator.specs.Sound.{AreNodesApart, IsNeeded, IsUsable, MayBeWanted, IsSoundRow}
 use Rattle.csi_orchestrator.proofs.TextLists.{text-same}
 use Rattle.csi_orchestrator.proofs.DueCases.{IsDueFor, due-cases, ToMake, ToRemove, ToAttach, ToStage, ToPublish, ToUnpublish, ToUnstage, ToDetach}
 use Rattle.csi_orchestrator.proofs.KeyedSearches.{find-change}
@@ -200,11 +202,43 @@ kept-sent number row due e distinct may =
       nodes = after.nodes;
       targets = after.targets;
       goal = wanted-alike (marked Maybe (kind_of due.call) row) (sent number (kind_of due.call) row) row.goal refl refl refl still;
+      needed = λ none. absurd (subst (λ g. FitsGoal g (kind_of due.call)) none (due-fits-goal row due e));
     }
 
 -- the open call is given up
 pub kept-closed : (row : RowShown) → IsSoundRow row → IsSoundRow (closed row)
-kept-closed row kept = record { nodes = kept.nodes; targets = kept.targets; goal = wanted-alike row (closed row) row.goal refl refl refl kept.goal }
+kept-closed row kept = record { nodes = kept.nodes; targets = kept.targets; goal = wanted-alike row (closed row) row.goal refl refl refl kept.goal; needed = kept.needed }
+
+-- at each target that has an entry the volume may be published
+abbrev MayBePublishedAtAll : NodeEntryShown → Type 0
+MayBePublishedAtAll entry = AllByRecursion (λ (target_entry : TargetEntry). target_entry.published ≢ No) entry.target_entries
+
+-- entries that are kept are needed
+target-needed : (target_entry : TargetEntry) → is_target_kept target_entry ≡ true → target_entry.published ≢ No
+target-needed target_entry e = λ no. false≢true (sym (ap (λ k. not (is_no k)) no) ∙ e)
+
+targets-needed : (entry : NodeEntryShown) → AllByRecursion (λ (target_entry : TargetEntry). target_entry.published ≢ No) (with_kept_targets entry).target_entries
+targets-needed entry =
+    each-weaker (λ (target_entry : TargetEntry). is_target_kept target_entry ≡ true) (λ (target_entry : TargetEntry). target_entry.published ≢ No) (filter is_target_kept entry.target_entries) target-needed
+    (each-passes is_target_kept entry.target_entries)
+
+node-needed : (entry : NodeEntryShown) → is_node_kept entry ≡ true → entry.attached ≡ No → entry.staged ≡ No → entry.target_entries ≢ []
+node-needed entry e attached staged none =
+    false≢true (sym (ap (λ k. not (is_no k && is_no entry.staged && not (has_targets entry.target_entries))) attached ∙ ap (λ k. not (is_no k && not (has_targets entry.target_entries))) staged ∙ ap (λ entries. not (not (has_targets entries))) none) ∙ e)
+
+tidied-needed : (entries : List NodeEntryShown) → AllByRecursion IsNeeded (tidied entries)
+tidied-needed entries =
+    let kept = each-passes is_node_kept (map with_kept_targets entries) in
+    let targets = each-filter MayBePublishedAtAll is_node_kept (map with_kept_targets entries) (each-map (λ (entry : NodeEntryShown). Unit {0}) MayBePublishedAtAll with_kept_targets entries (λ entry all. targets-needed entry) (each-trivial entries)) in
+    both (tidied entries) kept targets
+  where
+    each-trivial : (entries : List NodeEntryShown) → AllByRecursion (λ (entry : NodeEntryShown). Unit {0}) entries
+    each-trivial [] = tt
+    each-trivial (entry ∷ entries) = (tt, each-trivial entries)
+
+    both : (entries : List NodeEntryShown) → AllByRecursion (λ (entry : NodeEntryShown). is_node_kept entry ≡ true) entries → AllByRecursion MayBePublishedAtAll entries → AllByRecursion IsNeeded entries
+    both [] kept targets = tt
+    both (entry ∷ entries) kept targets = (record { node = node-needed entry kept.0; targets = targets.0 }, both entries kept.1 targets.1)
 
 -- nothing is wanted now
 pub kept-dropped : (row : RowShown) → AreDistinct row.node_entries → IsSoundRow (dropped row)
@@ -215,6 +249,7 @@ kept-dropped row distinct =
           each-filter AreTargetsApart is_node_kept (map with_kept_targets row.node_entries)
           (each-map AreTargetsApart AreTargetsApart with_kept_targets row.node_entries (λ entry apart. two-filter (λ (a b : TargetEntry). same_text a.target b.target ≡ false) is_target_kept entry.target_entries apart) distinct.targets);
       goal = tt;
+      needed = λ none. tidied-needed row.node_entries;
     }
 
 -- a use that didn't come about is stopped

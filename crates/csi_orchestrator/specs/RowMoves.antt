@@ -1,5 +1,5 @@
 -- What an orchestrator answers to each input, and what it shows then, read from its rows alone: a step of one row
--- (`RowSteps.antt`), a new row, or a restart. This profile's own. The law `RowsTell` of `Kept.antt` says that this is what
+-- (`RowSteps.antt`), a new row, or a restart. This profile's own. The law `RowsTell` of `Sound.antt` says that this is what
 -- the definitions over histories say.
 use Rattle.std.specs.Prelude.{◌≡◌, ℕ, ◌+◌, ◌^◌, List, find, Bool, false, ◌&&◌, nat_lt, Option, Some, None, if◌then◌else◌, Result, Ok, Err, IfOk, IfErr, OnErr}
 use Rattle.csi_types.specs.declared.number.Number.{Number}

@@ -1,5 +1,5 @@
 -- The rules of an orchestrator's rows, which its type keeps, and what follows from them. This profile's own.
-use Rattle.std.specs.Prelude.{◌≡◌, List, [], ◌∷◌, false, Option, Some, None, Result, Ok, Err}
+use Rattle.std.specs.Prelude.{◌≡◌, ◌≢◌, List, [], ◌∷◌, false, Option, Some, None, Result, Ok, Err}
 use Rattle.std.specs.List.{AllByRecursion}
 use Rattle.csi_lists.specs.Members.{EachTwo}
 use Rattle.csi_types.specs.Same.{same_text}
@@ -16,6 +16,7 @@ use Rattle.csi_orchestrator.specs.Moves.{Input, Moved, moves}
 use Rattle.csi_orchestrator.specs.Shown.{NodeEntryShown, RowShown, Parts, node_entry_of, target_entry_of, AreTargetsApart, Shows}
 use Rattle.csi_orchestrator.specs.RowRefusals.{has_elsewhere}
 use Rattle.csi_orchestrator.specs.RowMoves.{MovedRows, row_moves}
+use Rattle.csi_orchestrator.specs.Steps.{IsReached}
 use Rattle.csi_orchestrator.specs.WellFormed.{IsWellFormed}
 
 -- a node has one entry
@@ -46,16 +47,39 @@ MayBeWanted row (Some (Use usage)) = IsUsable row usage
 MayBeWanted row (Some (Stop node target)) = Unit {0}
 MayBeWanted row (Some Delete) = AllByRecursion (λ (entry : NodeEntryShown). entry.attached ≡ No) row.node_entries
 
+-- an entry of a node is needed: where the volume isn't attached or staged there, it may be published there, and so it may be at each
+-- target that has an entry
+pub record IsNeeded (entry : NodeEntryShown) : Type 0 where
+  pub node : entry.attached ≡ No → entry.staged ≡ No → entry.target_entries ≢ []
+  pub targets : AllByRecursion (λ (target_entry : TargetEntry). target_entry.published ≢ No) entry.target_entries
+
+-- where nothing is wanted of the volume, each entry is needed
+abbrev pub KeepsWhatIsNeeded : RowShown → Type 0
+KeepsWhatIsNeeded row = row.goal ≡ None → AllByRecursion IsNeeded row.node_entries
+
 -- the rules of one row
 pub record IsSoundRow (row : RowShown) : Type 0 where
   pub nodes : AreNodesApart row.node_entries
   pub targets : AllByRecursion AreTargetsApart row.node_entries
   pub goal : MayBeWanted row row.goal
+  pub needed : KeepsWhatIsNeeded row
 
 -- the rules of all rows: a name has one, and each keeps its own
 pub record IsSound (rows : List RowShown) : Type 0 where
   pub names : EachTwo (λ (a b : RowShown). same_text a.name b.name ≡ false) rows
   pub each : AllByRecursion IsSoundRow rows
+
+-- an orchestrator of these nodes came to this history, and they agree with it
+pub record HasHistory (parts : Parts) : Type 0 where
+  pub history : History
+  pub reached : IsReached parts.nodes history
+  pub form : IsWellFormed history
+  pub agrees : Shows parts history
+
+-- what an orchestrator's type keeps of what it shows
+pub record IsKept (parts : Parts) : Type 0 where
+  pub sound : IsSound parts.rows
+  pub told : HasHistory parts
 
 -- the two answers are one, and what is shown agrees with the history that goes on so
 abbrev pub Fits : History → Result MovedRows OrchFault → Result Moved OrchFault → Type 0

@@ -3,7 +3,10 @@ ghost use Rattle.csi_orchestrator.specs.Laws.{MovesKeepForm};
 ghost use Rattle.csi_orchestrator.specs.Following.{ViewFollows};
 ghost use Rattle.csi_orchestrator.specs.Shown.{DueIsTold};
 ghost use Rattle.csi_orchestrator.specs.Steps.{MovesLaw};
-ghost use Rattle.csi_orchestrator.specs.Sound.{RowsTell, RowsStaySound, MovesAreGuarded};
+ghost use Rattle.std.specs.List.{AllByRecursion};
+ghost use Rattle.csi_orchestrator.specs.Sound.{RowsTell, RowsStaySound, MovesAreGuarded, HasHistory, KeepsWhatIsNeeded};
+
+use crate::orchestrator::Orchestrator;
 
 /// A law, and nothing that runs: the history of an orchestrator that did nothing is well-formed, and stays so whatever
 /// comes: each number is after the ones before it, each call that is answered or given up was open, and each session
@@ -29,3 +32,19 @@ fn rows_follow()
 pub fn moves_law()
     ensures { MovesLaw }
 {}
+
+/// A law, and nothing that runs: every orchestrator, whatever it was asked, came to a well-formed history with which what it shows
+/// agrees, so that what its contracts say of each such history is said of every orchestrator. This profile's own.
+pub fn showing_law(orchestrator: &Orchestrator)
+    ensures { HasHistory orchestrator.now }
+{
+    orchestrator.assert_kept();
+}
+
+/// A law, and nothing that runs: every orchestrator keeps of a volume of which nothing is wanted only the nodes at which it may be
+/// attached, staged or published, and the targets at which it may be published. This profile's own.
+pub fn entries_law(orchestrator: &Orchestrator)
+    ensures { AllByRecursion KeepsWhatIsNeeded orchestrator.now.rows }
+{
+    orchestrator.assert_kept();
+}

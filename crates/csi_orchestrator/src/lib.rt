@@ -26,6 +26,6 @@ mod thing;
 mod worked;
 
 pub use fault::{Heard, OrchFault};
-pub use laws::{form_law, moves_law};
+pub use laws::{entries_law, form_law, moves_law, showing_law};
 pub use orchestrator::Orchestrator;
 pub use thing::{Known, Thing};

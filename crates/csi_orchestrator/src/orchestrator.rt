@@ -27,13 +27,13 @@ pub struct Orchestrator {
 impl Model for Orchestrator {
     ghost use Rattle.csi_orchestrator.specs.Shown.{Parts};
     ghost use Rattle.csi_orchestrator.specs.Core.{parts_of, IsFiled};
-    ghost use Rattle.csi_orchestrator.specs.Sound.{IsSound};
+    ghost use Rattle.csi_orchestrator.specs.Sound.{IsKept};
 
     ghost Value = { Parts };
 
     ghost view = { λ orchestrator. parts_of orchestrator.core };
 
-    ghost invariant = { λ orchestrator. IsSound (parts_of orchestrator.core).rows × IsFiled orchestrator.core };
+    ghost invariant = { λ orchestrator. IsKept (parts_of orchestrator.core) × IsFiled orchestrator.core };
 }
 
 impl Orchestrator {
@@ -45,6 +45,14 @@ impl Orchestrator {
     ghost use Rattle.csi_orchestrator.specs.RowMoves.{IsRefusal};
     ghost use Rattle.csi_orchestrator.specs.Promises.{IsDone, IsAnsweredAs, IsHeardAs};
     ghost use Rattle.csi_orchestrator.specs.Listing.{ListsKnown, IsInOrder};
+    ghost use Rattle.csi_orchestrator.specs.Sound.{IsKept};
+
+    // What its type keeps of what it shows. It does nothing.
+    pub(crate) fn assert_kept(&self)
+        ensures { IsKept self.now }
+    {
+        let _core = &self.core;
+    }
 
     /// An orchestrator of these nodes that did nothing, in session 1. It takes no memory.
     pub fn new(alloc: Global, nodes: Vec<NodeId>) -> Orchestrator

@@ -1,9 +1,24 @@
--- No rows, and no call is noted.
-use Rattle.std.proofs.Common.{List, map, sym, subst}
+-- No rows, and no call is noted; what is shown agrees with the history of an orchestrator that did nothing.
+use Rattle.std.proofs.Common.{List, map, refl, sym, subst}
 use Rattle.csi_orchestrator.specs.declared.row.Row.{Row}
-use Rattle.csi_orchestrator.specs.Sound.{IsSound}
-use Rattle.csi_orchestrator.specs.Shown.{row_shown}
+use Rattle.csi_orchestrator.specs.History.{history_after}
+use Rattle.csi_orchestrator.specs.Sound.{IsKept}
+use Rattle.csi_orchestrator.specs.Steps.{Begins}
+use Rattle.csi_orchestrator.specs.Shown.{Parts, row_shown}
 use Rattle.csi_orchestrator.proofs.orchestrator.Orchestrator.numbered.Goals as goal
 
 pub invariant_of-result : goal.invariant_of-result
-invariant_of-result c = (subst (λ (rows : List Row). IsSound (map row_shown rows)) (sym c.new.ensures.rows) (record { names = tt; each = tt }), record { indexed = c.new.ensures.indexed; known = c.new.ensures.known c.args.last.call })
+invariant_of-result c =
+    let none : List Row → Parts = λ rows. record { nodes = c.args.nodes.items; last = c.args.last; rows = map row_shown rows } in (
+      subst (λ rows. IsKept (none rows)) (sym c.new.ensures.rows) (record {
+        sound = record { names = tt; each = tt };
+        told =
+            record {
+              history = history_after c.args.last;
+              reached = Begins c.args.last;
+              form = tt;
+              agrees = record { same_last = refl; same_rows = λ name. refl; same_marks = λ thing. refl; same_ids = λ name. refl; same_goals = λ name. refl; same_arguments = λ name. refl; same_holdings = λ name node may. refl; same_open_calls = λ name. refl; same_counts = λ name. refl };
+            };
+      }),
+      record { indexed = c.new.ensures.indexed; known = c.new.ensures.known c.args.last.call },
+    )

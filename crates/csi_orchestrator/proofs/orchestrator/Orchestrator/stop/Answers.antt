@@ -4,13 +4,13 @@ use Rattle.csi_orchestrator.proofs.PromisesTold.{ok-promised, err-promised, kept
 use Rattle.csi_orchestrator.proofs.orchestrator.Orchestrator.stop.Goals as goal
 
 pub invariant_of-self : goal.invariant_of-self
-invariant_of-self c = ((kept-promised c.self.invariant.0 (c.ask.ensures.told _ refl)).0, c.ask.ensures.filed)
+invariant_of-self c = (kept-promised c.self.invariant.0 (c.ask.ensures.told _ refl), c.ask.ensures.filed)
 
 pub returns-clause-ok : goal.returns-clause-ok
-returns-clause-ok c = ok-promised c.self.view_is c.self.invariant.0 (c.ask.ensures.told _ refl)
+returns-clause-ok c = ok-promised c.self.view_is c.self.invariant.0.sound (c.ask.ensures.told _ refl)
 
 pub returns-clause-err : goal.returns-clause-err
-returns-clause-err c = err-promised c.self.view_is c.self.invariant.0 (c.ask.ensures.told _ refl)
+returns-clause-err c = err-promised c.self.view_is c.self.invariant.0.sound (c.ask.ensures.told _ refl)
 
 pub returns-clause-nodes : goal.returns-clause-nodes
-returns-clause-nodes c = nodes-promised c.self.view_is c.self.invariant.0 (c.ask.ensures.told _ refl)
+returns-clause-nodes c = nodes-promised c.self.view_is c.self.invariant.0.sound (c.ask.ensures.told _ refl)
