@@ -17,7 +17,7 @@ use Rattle.csi_types.proofs.Equality.{same_text-tells}
 use Rattle.csi_orchestrator.specs.declared.row.Goal.{Goal}
 use Rattle.csi_orchestrator.specs.declared.row.Goal.TheVariants.{Create}
 use Rattle.csi_orchestrator.specs.declared.row.TargetEntry.{TargetEntry}
-use Rattle.csi_orchestrator.specs.declared.row.Usage.{Usage}
+use Rattle.csi_orchestrator.specs.declared.request.Usage.{Usage}
 use Rattle.csi_orchestrator.specs.declared.thing.Thing.{Thing}
 use Rattle.csi_orchestrator.specs.declared.thing.Thing.TheVariants.{Exists, Attached, Staged, Published}
 use Rattle.csi_orchestrator.specs.declared.thing.Known.{Known}

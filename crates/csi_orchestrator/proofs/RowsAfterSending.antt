@@ -15,7 +15,7 @@ use Rattle.csi_types.specs.Same.{same_text}
 use Rattle.csi_types.proofs.Equality.{same_text-tells}
 use Rattle.csi_orchestrator.specs.declared.row.Goal.{Goal}
 use Rattle.csi_orchestrator.specs.declared.row.Goal.TheVariants.{Create, Use, Stop, Delete}
-use Rattle.csi_orchestrator.specs.declared.row.Usage.{Usage}
+use Rattle.csi_orchestrator.specs.declared.request.Usage.{Usage}
 use Rattle.csi_orchestrator.specs.declared.thing.Thing.{Thing}
 use Rattle.csi_orchestrator.specs.declared.thing.Thing.TheVariants.{Exists, Attached}
 use Rattle.csi_orchestrator.specs.declared.thing.Known.TheVariants.{No, Maybe}

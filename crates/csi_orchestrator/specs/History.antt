@@ -6,9 +6,9 @@ use Rattle.csi_types.specs.declared.number.Number.{Number}
 use Rattle.csi_types.specs.declared.status.Status.{Status}
 use Rattle.csi_orchestrator.specs.Thing.{Issued}
 -- what a volume is to be created with (`required`, `limit` and `capabilities`), and where and how it is to be used (`node`, `target`,
--- `capability` and `readonly`): the two structs of `row.rt`
-pub use Rattle.csi_orchestrator.specs.declared.row.Arguments.{Arguments}
-pub use Rattle.csi_orchestrator.specs.declared.row.Usage.{Usage}
+-- `capability` and `readonly`): the two structs of `request.rt`
+pub use Rattle.csi_orchestrator.specs.declared.request.Arguments.{Arguments}
+pub use Rattle.csi_orchestrator.specs.declared.request.Usage.{Usage}
 
 -- how a volume is held at a node
 pub record Held : Type 0 where

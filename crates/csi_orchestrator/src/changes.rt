@@ -4,7 +4,8 @@ ghost use Rattle.csi_orchestrator.specs.Shown.{row_shown, node_entry_shown};
 ghost use Rattle.csi_orchestrator.specs.RowChanges.{at_goal, aspect_of, marked_at, marked, sent, told_of, id_told as id_by_kind, succeeded, wanted, stopped_goal, dropped, new_row as new_row_shown};
 
 use crate::entries::{mark_at, tidy};
-use crate::row::{Arguments, Goal, NodeEntry, Row};
+use crate::request::Arguments;
+use crate::row::{Goal, NodeEntry, Row};
 use crate::thing::Known;
 use csi_types::{Kind, Name, Number, VolumeId};
 use std::alloc::Global;

@@ -9,7 +9,8 @@ ghost use Rattle.csi_orchestrator.specs.Shown.{create_due as create_told, use_du
 ghost use Rattle.csi_orchestrator.specs.Found.{due_shown, node_due, call_due};
 
 use crate::marks::Marks;
-use crate::row::{Arguments, Goal, Row, Usage};
+use crate::request::{Arguments, Usage};
+use crate::row::{Goal, Row};
 use csi_types::{Kind, Name, NodeId, Number, Party, Target, VolumeId};
 
 /// The call that is due, with what it is spelled by.

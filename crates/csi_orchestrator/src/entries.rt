@@ -5,7 +5,8 @@ ghost use Rattle.csi_orchestrator.specs.Shown.{node_entry_shown};
 ghost use Rattle.csi_orchestrator.specs.RowChanges.{aspect_of, node_marked, marked_at, target_marked, is_target_kept as is_kept_target, is_node_kept as is_kept_shown, with_kept_targets, tidied, with_target, entry_for, new_target_entry as new_target_entry_shown};
 ghost use Rattle.csi_orchestrator.specs.Keyed.{put_by};
 
-use crate::row::{NodeEntry, TargetEntry, Usage};
+use crate::request::Usage;
+use crate::row::{NodeEntry, TargetEntry};
 use crate::thing::Known;
 use csi_types::{Kind, NoMemory, NodeId, Target};
 use std::alloc::Global;

@@ -16,6 +16,7 @@ mod next_call;
 mod orchestrator;
 mod refusals;
 mod replies;
+mod request;
 mod row;
 mod sending;
 mod sharing;

@@ -10,7 +10,8 @@ ghost use Rattle.csi_orchestrator.specs.Sound.{IsSoundRow};
 use crate::changes::{id_told, told};
 use crate::due::{Due, create_due, delete_due, due_for, stop_due, use_due};
 use crate::marks::{Marks, known_for, marks_in, of_volume};
-use crate::row::{Goal, Row, Usage};
+use crate::request::Usage;
+use crate::row::{Goal, Row};
 use crate::step::Step;
 use csi_types::{Kind, NodeId, Target, VolumeId};
 

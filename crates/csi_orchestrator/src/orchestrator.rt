@@ -8,7 +8,7 @@ ghost use Rattle.csi_orchestrator.specs.declared.thing.Thing.{Thing as ThingShow
 use crate::catalog::Catalog;
 use crate::fault::{Heard, OrchFault};
 use crate::listing::things_in;
-use crate::row::{Arguments, Usage};
+use crate::request::{Arguments, Usage};
 use crate::state::{Core, known_in};
 use crate::step::Step;
 use crate::thing::{Known, Thing};

@@ -7,7 +7,8 @@ ghost use Rattle.csi_orchestrator.specs.RowRefusals.{first_fault as first_refusa
 use crate::due::next_number;
 use crate::fault::OrchFault;
 use crate::marks::marks_in;
-use crate::row::{Row, Usage};
+use crate::request::Usage;
+use crate::row::Row;
 use crate::sharing::{
     has_node, is_attached_somewhere, is_held_elsewhere, is_held_otherwise, is_written_elsewhere,
     others_count,

@@ -1,24 +1,7 @@
 //! What an orchestrator keeps of a volume.
+use crate::request::{Arguments, Usage};
 use crate::thing::Known;
-use csi_types::{Capability, CapabilityList, Name, NodeId, Number, Target, VolumeId};
-
-/// What a volume is to be created with, in bytes.
-#[derive(Drop)]
-pub(crate) struct Arguments {
-    pub required: u64,
-    /// 0 for none.
-    pub limit: u64,
-    pub capabilities: CapabilityList,
-}
-
-/// Where and how a volume is to be used.
-#[derive(Drop)]
-pub(crate) struct Usage {
-    pub node: NodeId,
-    pub target: Target,
-    pub capability: Capability,
-    pub readonly: bool,
-}
+use csi_types::{Capability, Name, NodeId, Number, Target, VolumeId};
 
 /// What is requested of a volume.
 #[derive(Drop)]

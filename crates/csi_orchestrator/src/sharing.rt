@@ -8,7 +8,8 @@ ghost use Rattle.csi_orchestrator.specs.Shown.{row_shown, node_entry_shown, node
 ghost use Rattle.csi_orchestrator.specs.RowRefusals.{is_so_elsewhere, is_entry_otherwise, others_count as count_others};
 
 use crate::marks::others_of;
-use crate::row::{NodeEntry, Row, Usage};
+use crate::request::Usage;
+use crate::row::{NodeEntry, Row};
 use crate::state::node_entry_at;
 use csi_types::{NodeId, Target, same_way, single_node, two_writers};
 
