@@ -1,6 +1,6 @@
 -- What an audit of a system's parts tells: whether they are safe, where what is recorded is what the orchestrator shows. This
 -- profile's own; the clauses are those of `Safe`.
-use Rattle.std.specs.Prelude.{◌≡◌, ◌↔◌, List, true, false, Option, Some, None}
+use Rattle.std.specs.Prelude.{◌≡◌, ◌↔◌, ℕ, List, true, false, Option, Some, None}
 use Rattle.csi_controller.specs.Core.{Shows as ControllerShows}
 use Rattle.csi_controller.specs.Core.{Parts as ControllerParts}
 use Rattle.csi_node.specs.Record.{NodeParts}
@@ -38,6 +38,14 @@ Finds marks world (Some violations.PublishedUnstaged) = IsExclusive world × IsS
 Finds marks world (Some violations.DeletedAttached) = IsExclusive world × IsStagedWhereAttached world × IsPublishedWhereStaged world × (IsAttachedWhileLive world → ⊥)
 Finds marks world (Some violations.RecordedWrong) =
     IsExclusive world × IsStagedWhereAttached world × IsPublishedWhereStaged world × IsAttachedWhileLive world × (AreMarkedRight marks world → ⊥)
+
+-- the number of a clause
+abbrev pub violation_number : Violation → ℕ
+violation_number violations.TwoNodes = 1
+violation_number violations.StagedUnattached = 2
+violation_number violations.PublishedUnstaged = 3
+violation_number violations.DeletedAttached = 4
+violation_number violations.RecordedWrong = 5
 
 -- where the orchestrator agrees with the world's history, nothing is found exactly where the world is safe
 abbrev pub AuditsTellSafety : Type 0

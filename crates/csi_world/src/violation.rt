@@ -1,4 +1,6 @@
 //! What an audit finds.
+ghost use Rattle.std.specs.Prelude.{◌≡◌};
+ghost use Rattle.csi_world.specs.Audited.{violation_number};
 
 /// Which clause of safety fails first, in this order (CSI's spec.md, "CreateVolume", `AccessMode`, for the first, and "Volume
 /// Lifecycle" for the others).
@@ -14,4 +16,19 @@ pub enum Violation {
     DeletedAttached,
     /// What the orchestrator knows isn't so.
     RecordedWrong,
+}
+
+impl Violation {
+    /// The number of the clause. This profile's own.
+    pub fn number(self) -> u8
+        ensures { result ≡ violation_number self }
+    {
+        match self {
+            Violation::TwoNodes => 1,
+            Violation::StagedUnattached => 2,
+            Violation::PublishedUnstaged => 3,
+            Violation::DeletedAttached => 4,
+            Violation::RecordedWrong => 5,
+        }
+    }
 }

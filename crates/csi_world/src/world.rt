@@ -14,7 +14,7 @@ use crate::system::System;
 use csi_controller::Controller;
 use csi_node::Node;
 use csi_orchestrator::Orchestrator;
-use csi_types::{Frame, NodeId};
+use csi_types::{Config, Frame, NodeId};
 use std::marker::Model;
 
 /// An orchestrator, a controller and its nodes, and every frame that was ever sent, as a run of events left them. A
@@ -45,6 +45,13 @@ impl World {
         ensures { result ≡ parts_of system }
     {
         World { system }
+    }
+
+    /// The configuration. It takes no memory.
+    pub fn config(&self) -> &Config
+        ensures { result.now ≡ self.now.config }
+    {
+        &self.system.config
     }
 
     /// How many frames were sent. It takes no memory.
