@@ -19,8 +19,8 @@ fn refused_text(alloc: Global, fault: OrchFault) -> Result<String, AllocError>
     Ok(text)
 }
 
-// The text of an outcome.
-fn text_of(alloc: Global, outcome: Outcome) -> Result<String, AllocError>
+/// The text of an outcome, as a report has it: printable ASCII with no mark of XML's. This profile's own.
+pub fn text_of(alloc: Global, outcome: Outcome) -> Result<String, AllocError>
     ensures { IfOk result (λ text. string_bytes text ≡ outcome_text outcome) }
 {
     match outcome {

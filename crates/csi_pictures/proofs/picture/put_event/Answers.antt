@@ -1,0 +1,15 @@
+use Rattle.std.proofs.Common.{◌∙◌, ap, List, ◌++◌}
+use Rattle.csi_node.specs.Record.{NodeParts}
+use Rattle.csi_pictures.specs.Scene.{sent_number}
+use Rattle.csi_pictures.specs.Rows.{row_text, mark}
+use Rattle.csi_pictures.specs.Picture.{sent_frame}
+use Rattle.csi_pictures.proofs.Joins.{three}
+use Rattle.csi_pictures.proofs.picture.put_event.Goals as goal
+
+pub returns : goal.returns
+returns c =
+    three c.put_sent.result c.args.out.now.items c.put_row_text.new.out.items c.put_mark.new.out.items c.put_sent.new.out.items
+    (row_text c.args.row c.args.event.now c.args.outcome) (mark (c.args.world.now).nodes c.args.row c.args.event.now c.args.outcome) (sent_frame c.args.world.now c.args.events.now c.args.row (sent_number c.args.outcome))
+    c.in_ok-put_row_text.ensures
+    (c.in_ok-put_mark.ensures ∙ ap (λ (nodes : List NodeParts). c.put_row_text.new.out.items ++ mark nodes c.args.row c.args.event.now c.args.outcome) c.nodes.ensures)
+    c.put_sent.ensures

@@ -1,0 +1,101 @@
+-- The picture of a run: one SVG. This profile's own.
+use Rattle.std.specs.Prelude.{◌≡◌, ℕ, ◌+◌, Bool, List, [], ◌∷◌, ◌++◌, length, slice_get, codes, decimal, Option, Some, None, if◌then◌else◌, not, is_some}
+use Rattle.std.specs.List.{list_any}
+use Rattle.csi_types.specs.Frame.{Frame}
+use Rattle.csi_node.specs.Record.{NodeParts}
+use Rattle.csi_orchestrator.specs.Shown.{view_of}
+use Rattle.csi_world.specs.declared.event.Event.{Event}
+use Rattle.csi_world.specs.declared.event.Event.TheVariants as events
+use Rattle.csi_world.specs.declared.event.Outcome.{Outcome}
+use Rattle.csi_world.specs.declared.violation.Violation.{Violation}
+use Rattle.csi_world.specs.World.{World}
+use Rattle.csi_world.specs.Simulated.{WorldParts}
+use Rattle.csi_world.specs.Simulating.{numbered}
+use Rattle.csi_world.specs.Audited.{ArePlugins, Finds}
+use Rattle.csi_pictures.specs.Pieces.{pieces, each}
+use Rattle.csi_pictures.specs.Escaping.{escaped}
+use Rattle.csi_pictures.specs.Front.{front}
+use Rattle.csi_pictures.specs.Elements.{arrow}
+use Rattle.csi_pictures.specs.Bars.{event_bar}
+use Rattle.csi_pictures.specs.Scene.{sender, receiver, sent_number, sent_row, delivers, way_of}
+use Rattle.csi_pictures.specs.Rows.{row_text, mark, label, lost_of}
+
+-- ---- lanes
+
+unfoldable pub band : ℕ → ℕ → List ℕ → List ℕ
+band place below kind = pieces (codes "<g transform='translate(" ∷ decimal place ∷ codes "045 0)'><path class='lane' d='M0 75V" ∷ decimal below ∷ codes "30'/><svg x='-450' y='10' width='900' height='60'><text class='h' x='450' y='45'>" ∷ kind ∷ [])
+
+unfoldable pub name_below : ℕ → List ℕ → List ℕ
+name_below below kind = pieces (codes "</text></svg><svg x='-450' y='" ∷ decimal below ∷ codes "35' width='900' height='60'><text class='h' x='450' y='45'>" ∷ kind ∷ [])
+
+-- a band, down to a row, and its name above and below it
+abbrev pub lane : ℕ → ℕ → List ℕ → List ℕ → List ℕ
+lane place below kind id = band place below kind ++ escaped id ++ name_below below kind ++ escaped id ++ codes "</text></svg></g>\n"
+
+abbrev pub node_lane_of : ℕ → ℕ → Option NodeParts → List ℕ
+node_lane_of below place None = []
+node_lane_of below place (Some node) = lane (place + 3) below (codes "node ") node.id
+
+abbrev pub node_head : ℕ → List NodeParts → ℕ → List ℕ
+node_head below nodes place = node_lane_of below place (slice_get nodes place)
+
+abbrev pub lanes : ℕ → List NodeParts → List ℕ
+lanes below nodes = lane 1 below (codes "orchestrator") [] ++ lane 2 below (codes "controller") [] ++ each (node_head below nodes) (length nodes)
+
+-- ---- events
+
+-- the arrow of a delivery, from where and when the frame was sent to where and when it is delivered
+abbrev pub passage_of : WorldParts → ℕ → ℕ → Outcome → Option Frame → List ℕ
+passage_of world row number outcome None = []
+passage_of world row number outcome (Some frame) = arrow (way_of world.frames outcome) (sender world.nodes frame) (sent_row number world.outcomes) (receiver world.nodes frame) row
+
+abbrev pub passage : WorldParts → ℕ → Event → Outcome → List ℕ
+passage world row (events.Deliver number) outcome = passage_of world row number outcome (numbered world.frames number)
+passage world row _ outcome = []
+
+-- the frame that an event sent, and its way where nobody delivers it
+abbrev pub sent_of : WorldParts → List Event → ℕ → ℕ → Option Frame → List ℕ
+sent_of world events row number None = []
+sent_of world events row number (Some frame) = label world.nodes row number frame ++ (if list_any (delivers number) events then [] else lost_of (sender world.nodes frame) row frame.body)
+
+abbrev pub sent_frame : WorldParts → List Event → ℕ → Option ℕ → List ℕ
+sent_frame world events row None = []
+sent_frame world events row (Some number) = sent_of world events row number (numbered world.frames number)
+
+abbrev pub under_of : WorldParts → List Event → ℕ → Option Event → Option Outcome → List ℕ
+under_of world events row (Some event) (Some outcome) = event_bar world events row event outcome ++ passage world row event outcome
+under_of world events row _ _ = []
+
+-- what is drawn of an event below the texts: the bar that begins with it, and its arrow
+abbrev pub under : WorldParts → List Event → ℕ → List ℕ
+under world events place = under_of world events (place + 1) (slice_get events place) (slice_get world.outcomes place)
+
+-- its texts and its mark
+abbrev pub event_over : WorldParts → List Event → ℕ → Event → Outcome → List ℕ
+event_over world events row event outcome = row_text row event outcome ++ mark world.nodes row event outcome ++ sent_frame world events row (sent_number outcome)
+
+abbrev pub over_of : WorldParts → List Event → ℕ → Option Event → Option Outcome → List ℕ
+over_of world events row (Some event) (Some outcome) = event_over world events row event outcome
+over_of world events row _ _ = []
+
+abbrev pub over : WorldParts → List Event → ℕ → List ℕ
+over world events place = over_of world events (place + 1) (slice_get events place) (slice_get world.outcomes place)
+
+-- ---- the whole
+
+abbrev pub world_front : WorldParts → List Event → Bool → List ℕ
+world_front world events is_safe = front (length world.nodes + 2) (length events + 4) (length events) (length world.frames) is_safe
+
+abbrev pub picture : WorldParts → List Event → Bool → List ℕ
+picture world events is_safe =
+    world_front world events is_safe
+    ++ lanes (length events + 1) world.nodes
+    ++ each (under world events) (length events)
+    ++ each (over world events) (length events)
+    ++ codes "</svg>\n"
+
+-- the text is the picture of this world, to which these events led
+pub record IsPicture (world : WorldParts) (events : List Event) (text : List ℕ) : Type 0 where
+  pub found : Option Violation
+  pub finds : (shown : World) → ArePlugins world.controller world.nodes shown → Finds (view_of world.orchestrator).marks shown found
+  pub drawn : text ≡ picture world events (not (is_some found))

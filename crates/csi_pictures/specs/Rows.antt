@@ -1,0 +1,131 @@
+-- What is written of an event in its row. This profile's own.
+use Rattle.std.specs.Prelude.{ℕ, Bool, true, false, List, [], ◌∷◌, ◌++◌, codes, decimal, if◌then◌else◌}
+use Rattle.csi_types.specs.declared.call.Kind.{Kind}
+use Rattle.csi_types.specs.declared.frame.Body.{Body}
+use Rattle.csi_types.specs.declared.frame.Body.TheVariants as bodies
+use Rattle.csi_types.specs.declared.call.Party.{Party}
+use Rattle.csi_types.specs.declared.number.Number.{Number}
+use Rattle.csi_types.specs.declared.reply.Reply.{Reply}
+use Rattle.csi_types.specs.declared.status.Status.{Status}
+use Rattle.csi_types.specs.Call.{kind_of}
+use Rattle.csi_types.specs.Frame.{Frame}
+use Rattle.csi_node.specs.Record.{NodeParts}
+use Rattle.csi_world.specs.declared.event.Event.{Event}
+use Rattle.csi_world.specs.declared.event.Event.TheVariants as events
+use Rattle.csi_world.specs.declared.event.Outcome.{Outcome}
+use Rattle.csi_world.specs.declared.event.Outcome.TheVariants as outcomes
+use Rattle.csi_reports.specs.Outcomes.{outcome_text}
+use Rattle.csi_pictures.specs.Pieces.{pieces}
+use Rattle.csi_pictures.specs.Escaping.{escaped}
+use Rattle.csi_pictures.specs.Naming.{kind_name, status_name}
+use Rattle.csi_pictures.specs.Scene.{is_ok, lane_of, node_lane}
+
+-- ---- the words
+
+abbrev pub placed : List ℕ → List ℕ → List ℕ → List ℕ → List ℕ
+placed command name node target = command ++ escaped name ++ codes " at " ++ escaped node ++ codes " " ++ escaped target
+
+abbrev pub words : Event → List ℕ
+words (events.Create name required limit capabilities) = codes "create " ++ escaped name
+words (events.Use name node target capability readonly) = placed (codes "use ") name node target
+words (events.Stop name node target) = placed (codes "stop ") name node target
+words (events.Delete name) = codes "delete " ++ escaped name
+words (events.Timeout name) = codes "timeout " ++ escaped name
+words (events.Deliver number) = codes "deliver " ++ decimal number
+words events.RestartOrchestrator = codes "restart orchestrator"
+words events.RestartController = codes "restart controller"
+words (events.RestartNode node) = codes "restart node " ++ escaped node
+
+-- it couldn't happen
+abbrev pub is_wrong : Outcome → Bool
+is_wrong (outcomes.Refused fault) = true
+is_wrong outcomes.NoSuchFrame = true
+is_wrong outcomes.NoSuchNode = true
+is_wrong _ = false
+
+abbrev pub class_of : Outcome → List ℕ
+class_of (outcomes.Refused fault) = codes "wrong"
+class_of outcomes.NoSuchFrame = codes "wrong"
+class_of outcomes.NoSuchNode = codes "wrong"
+class_of outcomes.Ignored = codes "odd"
+class_of _ = codes "plain"
+
+unfoldable pub row_front : ℕ → List ℕ → List ℕ
+row_front row class = pieces (codes "<svg y='" ∷ decimal row ∷ codes "00' width='970' height='95'><text class='" ∷ class ∷ codes "' x='30' y='42'>" ∷ decimal row ∷ codes " " ∷ [])
+
+unfoldable pub row_middle : List ℕ → List ℕ
+row_middle class = pieces (codes "</text><text class='" ∷ class ∷ codes " o' x='75' y='82'>" ∷ [])
+
+-- the words, and below them what came of the event, as a report has it
+abbrev pub row_text : ℕ → Event → Outcome → List ℕ
+row_text row event outcome = row_front row (class_of outcome) ++ words event ++ row_middle (class_of outcome) ++ outcome_text outcome ++ codes "</text></svg>\n"
+
+-- ---- the mark
+
+abbrev pub shape_of : Event → List ℕ
+shape_of (events.Timeout name) = codes "clock"
+shape_of events.RestartOrchestrator = codes "restart"
+shape_of events.RestartController = codes "restart"
+shape_of (events.RestartNode node) = codes "restart"
+shape_of _ = codes "command"
+
+abbrev pub mark_of : Event → Outcome → List ℕ
+mark_of event outcome = if is_wrong outcome then codes "cross" else shape_of event
+
+abbrev pub mark_lane : List NodeParts → Event → ℕ
+mark_lane nodes events.RestartController = 2
+mark_lane nodes (events.RestartNode node) = node_lane node nodes
+mark_lane nodes _ = 1
+
+unfoldable pub mark_at : ℕ → ℕ → List ℕ → List ℕ
+mark_at lane row shape = pieces (codes "<use href='#" ∷ shape ∷ codes "' x='" ∷ decimal lane ∷ codes "045' y='" ∷ decimal row ∷ codes "20'/>\n" ∷ [])
+
+abbrev pub is_delivery : Event → Bool
+is_delivery (events.Deliver number) = true
+is_delivery _ = false
+
+-- a delivery has none but its arrow
+abbrev pub mark : List NodeParts → ℕ → Event → Outcome → List ℕ
+mark nodes row event outcome = if is_delivery event then [] else mark_at (mark_lane nodes event) row (mark_of event outcome)
+
+-- ---- the frame that it sent
+
+unfoldable pub call_front : ℕ → List ℕ
+call_front row = pieces (codes "<svg x='1100' y='" ∷ decimal row ∷ codes "20' width='895' height='55'><text class='label' x='10' y='44'>" ∷ [])
+
+-- its count and its call's name
+unfoldable pub frame_words : ℕ → Kind → List ℕ
+frame_words sent kind = pieces (decimal sent ∷ codes " " ∷ kind_name kind ∷ codes " " ∷ [])
+
+unfoldable pub number_words : ℕ → ℕ → List ℕ
+number_words session call = pieces (decimal session ∷ codes "." ∷ decimal call ∷ codes "</text></svg>\n" ∷ [])
+
+abbrev pub call_label : ℕ → ℕ → Kind → Number → List ℕ
+call_label row sent kind number = call_front row ++ frame_words sent kind ++ number_words number.session number.call
+
+abbrev pub reply_class : Status → List ℕ
+reply_class status = if is_ok status then codes "label" else codes "bad"
+
+unfoldable pub reply_place : ℕ → ℕ → List ℕ
+reply_place row lane = pieces (codes "<g transform='translate(" ∷ decimal lane ∷ codes "000 " ∷ decimal row ∷ codes "20)'>" ∷ [])
+
+unfoldable pub reply_front : List ℕ → List ℕ
+reply_front class = pieces (codes "<svg x='-905' width='895' height='55'><text class='" ∷ class ∷ codes " b' x='885' y='44'>" ∷ [])
+
+abbrev pub status_words : Reply → List ℕ
+status_words reply = status_name reply.status ++ codes " " ++ escaped reply.detail
+
+abbrev pub reply_label : ℕ → ℕ → ℕ → Kind → Reply → List ℕ
+reply_label row lane sent kind reply = reply_place row lane ++ reply_front (reply_class reply.status) ++ frame_words sent kind ++ status_words reply ++ codes "</text></svg></g>\n"
+
+abbrev pub label_of : List NodeParts → ℕ → ℕ → Number → Party → Body → List ℕ
+label_of nodes row sent number party (bodies.Call call) = call_label row sent (kind_of call) number
+label_of nodes row sent number party (bodies.Reply kind reply) = reply_label row (lane_of nodes party) sent kind reply
+
+abbrev pub label : List NodeParts → ℕ → ℕ → Frame → List ℕ
+label nodes row sent frame = label_of nodes row sent frame.number frame.party frame.body
+
+-- a frame that nobody delivers ends in the open
+abbrev pub lost_of : ℕ → ℕ → Body → List ℕ
+lost_of lane row (bodies.Call call) = pieces (codes "<path class='lost' d='M" ∷ decimal lane ∷ codes "090 " ∷ decimal row ∷ codes "74l220 15'/>\n" ∷ [])
+lost_of lane row (bodies.Reply kind reply) = pieces (codes "<path class='lost' d='M" ∷ decimal lane ∷ codes "000 " ∷ decimal row ∷ codes "74l-220 15'/>\n" ∷ [])

@@ -1,0 +1,98 @@
+-- Where things of a run stand in its picture: lanes and rows, from 1. This profile's own.
+use Rattle.std.specs.Prelude.{ℕ, suc, ◌==◌, Bool, true, false, List, [], ◌∷◌, codes, Option, Some, None, if◌then◌else◌}
+use Rattle.csi_types.specs.declared.call.Party.{Party}
+use Rattle.csi_types.specs.declared.call.Party.TheVariants.{Controller, Node}
+use Rattle.csi_types.specs.declared.frame.Body.{Body}
+use Rattle.csi_types.specs.declared.frame.Body.TheVariants as bodies
+use Rattle.csi_types.specs.declared.status.Status.{Status}
+use Rattle.csi_types.specs.declared.status.Status.TheVariants as statuses
+use Rattle.csi_types.specs.Frame.{Frame}
+use Rattle.csi_types.specs.Same.{same_text}
+use Rattle.csi_node.specs.Record.{NodeParts}
+use Rattle.csi_world.specs.declared.event.Event.{Event}
+use Rattle.csi_world.specs.declared.event.Event.TheVariants as events
+use Rattle.csi_world.specs.declared.event.Outcome.{Outcome}
+use Rattle.csi_world.specs.declared.event.Outcome.TheVariants as outcomes
+use Rattle.csi_world.specs.Simulating.{numbered}
+
+-- ---- lanes: the orchestrator's, the controller's, and those of the nodes, in their order
+
+-- behind the last where there is no node of this id
+abbrev pub node_lane : List ℕ → List NodeParts → ℕ
+node_lane id [] = 3
+node_lane id (node ∷ nodes) = if same_text node.id id then 3 else suc (node_lane id nodes)
+
+abbrev pub lane_of : List NodeParts → Party → ℕ
+lane_of nodes Controller = 2
+lane_of nodes (Node id) = node_lane id nodes
+
+-- calls come from the orchestrator, and replies go to it
+abbrev pub sender_of : List NodeParts → Party → Body → ℕ
+sender_of nodes party (bodies.Call call) = 1
+sender_of nodes party (bodies.Reply kind reply) = lane_of nodes party
+
+abbrev pub sender : List NodeParts → Frame → ℕ
+sender nodes frame = sender_of nodes frame.party frame.body
+
+abbrev pub receiver_of : List NodeParts → Party → Body → ℕ
+receiver_of nodes party (bodies.Call call) = lane_of nodes party
+receiver_of nodes party (bodies.Reply kind reply) = 1
+
+abbrev pub receiver : List NodeParts → Frame → ℕ
+receiver nodes frame = receiver_of nodes frame.party frame.body
+
+-- ---- rows: an event's is its number, from 1
+
+-- the frame that an event sent
+abbrev pub sent_number : Outcome → Option ℕ
+sent_number (outcomes.Sent number) = Some number
+sent_number (outcomes.Answered number) = Some number
+sent_number (outcomes.Taken (Some number)) = Some number
+sent_number _ = None
+
+abbrev pub is_number : ℕ → Option ℕ → Bool
+is_number number None = false
+is_number number (Some sent) = sent == number
+
+abbrev pub sends : ℕ → Outcome → Bool
+sends number outcome = is_number number (sent_number outcome)
+
+-- the row of the event that sent the frame of this number; behind the last where none did
+abbrev pub sent_row : ℕ → List Outcome → ℕ
+sent_row number [] = 1
+sent_row number (outcome ∷ outcomes) = if sends number outcome then 1 else suc (sent_row number outcomes)
+
+-- ---- deliveries
+
+abbrev pub delivers : ℕ → Event → Bool
+delivers number (events.Deliver delivered) = delivered == number
+delivers number _ = false
+
+-- the frame that an event delivers
+abbrev pub delivered : List Frame → Event → Option Frame
+delivered frames (events.Deliver number) = numbered frames number
+delivered frames _ = None
+
+abbrev pub is_ok : Status → Bool
+is_ok statuses.Ok = true
+is_ok _ = false
+
+-- a reply that says that its call succeeded
+abbrev pub is_success : Body → Bool
+is_success (bodies.Call call) = false
+is_success (bodies.Reply kind reply) = is_ok reply.status
+
+abbrev pub is_reply_of_success : Option Frame → Bool
+is_reply_of_success None = false
+is_reply_of_success (Some frame) = is_success frame.body
+
+-- a call came to its plugin, which answered OK
+abbrev pub succeeded : List Frame → Outcome → Bool
+succeeded frames (outcomes.Answered number) = is_reply_of_success (numbered frames number)
+succeeded frames _ = false
+
+-- a plugin refused it, or the orchestrator ignored it, or it was carried out or taken
+abbrev pub way_of : List Frame → Outcome → List ℕ
+way_of frames outcomes.Ignored = codes "ignored"
+way_of frames (outcomes.Answered number) = if succeeded frames (outcomes.Answered number) then codes "taken" else codes "refused"
+way_of frames _ = codes "taken"

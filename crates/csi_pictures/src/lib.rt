@@ -1,0 +1,14 @@
+//! A run as a picture: one SVG, in which a row is an event and a lane is the orchestrator, the controller or a node. This
+//! profile's own.
+#![tactic(auto)]
+
+mod bars;
+mod elements;
+mod escaping;
+mod front;
+mod naming;
+mod picture;
+mod rows;
+mod scene;
+
+pub use picture::draw;

@@ -1,0 +1,168 @@
+//! Where things of a run stand in its picture: the lanes of parties, and the rows of events, from 1.
+ghost use Rattle.std.specs.Prelude.{◌≡◌};
+ghost use Rattle.std.specs.List.{list_any};
+ghost use Rattle.std.specs.Option.{option_copied};
+ghost use Rattle.csi_types.specs.Same.{same_text};
+ghost use Rattle.csi_pictures.specs.Scene.{node_lane as node_lane_by, lane_of as lane_by, sender as sender_by, receiver as receiver_by, sent_number as number_sent, sends as sends_it, sent_row as row_sent, delivers as delivers_it, delivered as frame_delivered, is_ok as is_status_ok, is_success as is_success_in, succeeded as has_succeeded, way_of as way_by};
+
+use csi_node::Node;
+use csi_types::{Body, Frame, NodeId, Party, Status};
+use csi_world::{Event, Outcome, World};
+
+// Whether the node has this id.
+fn is_node(node: &Node, id: &NodeId) -> bool
+    ensures { result ≡ same_text node.now.id id.now }
+{
+    node.id() == id
+}
+
+/// The lane of the node of this id; behind the last where there is none.
+pub fn node_lane(nodes: &[Node], id: &NodeId) -> usize
+    ensures { result ≡ node_lane_by id.now nodes.now }
+{
+    let mut lane = 3;
+    for node in nodes {
+        if is_node(node, id) {
+            return lane;
+        }
+        lane += 1;
+    }
+    lane
+}
+
+/// The lane of a plugin: 1 is the orchestrator's, 2 the controller's, and from 3 on are the nodes'.
+pub fn lane_of(nodes: &[Node], party: &Party) -> usize
+    ensures { result ≡ lane_by nodes.now party.now }
+{
+    match party {
+        Party::Controller => 2,
+        Party::Node(id) => node_lane(nodes, id),
+    }
+}
+
+/// The lane that a frame is sent from.
+pub fn sender(nodes: &[Node], frame: &Frame) -> usize
+    ensures { result ≡ sender_by nodes.now frame.now }
+{
+    match frame.body() {
+        Body::Call(_) => 1,
+        Body::Reply(..) => lane_of(nodes, frame.party()),
+    }
+}
+
+/// The lane that it is for.
+pub fn receiver(nodes: &[Node], frame: &Frame) -> usize
+    ensures { result ≡ receiver_by nodes.now frame.now }
+{
+    match frame.body() {
+        Body::Call(_) => lane_of(nodes, frame.party()),
+        Body::Reply(..) => 1,
+    }
+}
+
+/// The number of the frame that an event sent, if it sent one.
+pub fn sent_number(outcome: Outcome) -> Option<u64>
+    ensures { result ≡ number_sent outcome }
+{
+    match outcome {
+        Outcome::Sent(number) | Outcome::Answered(number) | Outcome::Taken(Some(number)) => {
+            Some(number)
+        }
+        _ => None,
+    }
+}
+
+// Whether an event sent the frame of this number.
+fn sends(outcome: Outcome, number: u64) -> bool
+    ensures { result ≡ sends_it number outcome }
+{
+    match sent_number(outcome) {
+        Some(sent) => sent == number,
+        None => false,
+    }
+}
+
+/// The row of the event that sent the frame of this number; behind the last where none did.
+pub fn sent_row(outcomes: &[Outcome], number: u64) -> usize
+    ensures { result ≡ row_sent number outcomes.now }
+{
+    let mut row = 1;
+    for outcome in outcomes {
+        if sends(*outcome, number) {
+            return row;
+        }
+        row += 1;
+    }
+    row
+}
+
+/// Whether an event delivers the frame of this number.
+pub fn is_delivered(events: &[Event], number: u64) -> bool
+    ensures { result ≡ list_any (delivers_it number) events.now }
+{
+    for event in events {
+        if let Event::Deliver(delivered) = event
+            && *delivered == number
+        {
+            return true;
+        }
+    }
+    false
+}
+
+/// The call or reply that an event delivers, if it delivers one that was sent.
+pub fn delivered<'a>(world: &'a World, event: &Event) -> Option<&'a Frame>
+    ensures { option_copied result ≡ frame_delivered world.now.frames event.now }
+{
+    match event {
+        Event::Deliver(number) => world.frame(*number),
+        _ => None,
+    }
+}
+
+// Whether a frame is a reply that says that its call succeeded.
+fn is_success(frame: &Frame) -> bool
+    ensures { result ≡ is_success_in frame.now.body }
+{
+    match frame.body() {
+        Body::Call(_) => false,
+        Body::Reply(_, reply) => is_ok(reply.status),
+    }
+}
+
+/// Whether a status is OK.
+pub fn is_ok(status: Status) -> bool
+    ensures { result ≡ is_status_ok status }
+{
+    matches!(status, Status::Ok)
+}
+
+/// Whether an event was a call that its plugin answered with OK.
+pub fn succeeded(world: &World, outcome: Outcome) -> bool
+    ensures { result ≡ has_succeeded world.now.frames outcome }
+{
+    let Outcome::Answered(number) = outcome else {
+        return false;
+    };
+    match world.frame(number) {
+        Some(reply) => is_success(reply),
+        None => false,
+    }
+}
+
+/// How a delivery is drawn: what a plugin refused, a reply that was ignored, and what was carried out or taken.
+pub fn way_of(world: &World, outcome: Outcome) -> &'static str
+    ensures { result.now ≡ way_by world.now.frames outcome }
+{
+    match outcome {
+        Outcome::Ignored => "ignored",
+        Outcome::Answered(_) => {
+            if succeeded(world, outcome) {
+                "taken"
+            } else {
+                "refused"
+            }
+        }
+        _ => "taken",
+    }
+}
