@@ -110,6 +110,8 @@ impl Keep for Device {
 
     ghost holds = { λ _ _. ⊥ };
 
+    ghost is_foreign = { λ _ _. ⊥ };
+
     ghost leaves = { λ _ _. ⊥ };
 
     ghost fits = { λ _ _. ⊥ };
