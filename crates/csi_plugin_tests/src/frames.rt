@@ -1,8 +1,12 @@
 //! Frames as bytes: that they are written and read with memory to spare, and literal bytes.
+mod damage;
 mod faults;
 mod growths;
 mod pieces;
+mod plain;
 mod round_trips;
+mod spelled;
+mod used;
 mod vectors;
 
 use csi_frames::{decode, encode};

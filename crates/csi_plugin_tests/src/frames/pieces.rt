@@ -1,9 +1,7 @@
 //! Frames that come in pieces, with memory to spare.
 use super::read;
-use super::vectors::{
-    ATTACH, CREATE, CREATE_ACCENTED, CREATE_REPLY, DELETE, DELETE_REPLY, LONGER_DELETE, PUBLISH,
-    REFUSAL,
-};
+use super::spelled::{OF_CONTROLLER, OF_NODE, Vector, WORKED};
+use super::vectors::{CREATE, DELETE, LONGER_DELETE};
 use csi_frames::{FaultKind, Splitter, encode};
 use csi_types::Frame;
 use std::alloc::Global;
@@ -17,8 +15,12 @@ fn waits(splitter: &mut Splitter) -> bool {
     }
 }
 
-// Whether it gives this frame.
-fn gives(rt: &(impl Abort + AllocGlobal), splitter: &mut Splitter, frame: &Frame) -> bool {
+/// Whether it gives this frame.
+pub(super) fn gives(
+    rt: &(impl Abort + AllocGlobal),
+    splitter: &mut Splitter,
+    frame: &Frame,
+) -> bool {
     match splitter.next() {
         Ok(Some(lent)) => {
             let copy = lent.to_frame(rt.alloc()).expect(rt, "memory");
@@ -98,34 +100,34 @@ fn comes_in_bytes(rt: &(impl Abort + AllocGlobal), bytes: &[u8], frame: &Frame) 
     has_waited && is_given
 }
 
-const VECTORS: &[&[u8]] = &[
-    &DELETE,
-    &DELETE_REPLY,
-    &CREATE,
-    &CREATE_REPLY,
-    &CREATE_ACCENTED,
-    &REFUSAL,
-    &ATTACH,
-    &PUBLISH,
-];
+const VECTORS: &[&[Vector]] = &[WORKED, OF_CONTROLLER, OF_NODE];
+
+// A frame in any two pieces.
+fn come_in_two(rt: &(impl Abort + AllocGlobal), bytes: &[u8]) {
+    let frame = read(rt, bytes);
+    for cut in 0..bytes.len() {
+        assert!(rt; comes_in_two(rt, bytes, cut, &frame), "cut at {cut}");
+    }
+    drop(frame);
+}
 
 #[test]
 fn a_frame_in_any_two_pieces(rt: HostRuntime) {
-    for bytes in VECTORS {
-        let frame = read(&rt, bytes);
-        for cut in 0..bytes.len() {
-            assert!(rt; comes_in_two(&rt, bytes, cut, &frame), "cut at {cut}");
+    for vectors in VECTORS {
+        for vector in *vectors {
+            come_in_two(&rt, vector.0);
         }
-        drop(frame);
     }
 }
 
 #[test]
 fn a_frame_byte_by_byte(rt: HostRuntime) {
-    for bytes in VECTORS {
-        let frame = read(&rt, bytes);
-        assert!(rt; comes_in_bytes(&rt, bytes, &frame));
-        drop(frame);
+    for vectors in VECTORS {
+        for vector in *vectors {
+            let frame = read(&rt, vector.0);
+            assert!(rt; comes_in_bytes(&rt, vector.0, &frame));
+            drop(frame);
+        }
     }
 }
 
@@ -160,8 +162,10 @@ fn is_written_again(rt: &(impl Abort + AllocGlobal), stream: &[u8], size: usize)
 #[test]
 fn a_stream_in_pieces_of_any_size(rt: HostRuntime) {
     let mut stream = Vec::new(rt.alloc());
-    for bytes in VECTORS {
-        stream.extend_from_slice(bytes).expect(&rt, "memory");
+    for vectors in VECTORS {
+        for vector in *vectors {
+            stream.extend_from_slice(vector.0).expect(&rt, "memory");
+        }
     }
     for size in 1..=stream.len() {
         assert!(rt;
@@ -174,7 +178,12 @@ fn a_stream_in_pieces_of_any_size(rt: HostRuntime) {
 
 #[test]
 fn a_fault_stays(rt: HostRuntime) {
-    let mut splitter = fed(&rt, &[&DELETE, &LONGER_DELETE]);
+    let mut bytes = DELETE.to_vec(rt.alloc()).expect(&rt, "memory");
+    bytes
+        .extend_from_slice(&LONGER_DELETE)
+        .expect(&rt, "memory");
+    let mut splitter = fed(&rt, &[bytes.as_slice()]);
+    drop(bytes);
     let frame = read(&rt, DELETE.as_slice());
     assert!(rt; gives(&rt, &mut splitter, &frame) && splitter.taken() == 31);
     drop(frame);

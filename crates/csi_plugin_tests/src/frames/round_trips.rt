@@ -1,67 +1,15 @@
 //! Frames written and read with memory to spare.
-use super::vectors::{ATTACH, CREATE, CREATE_REPLY, DELETE, DELETE_REPLY, PUBLISH, REFUSAL};
+use super::vectors::DELETE;
 use super::{read, written};
-use crate::values::{
-    block, blocks, call_frame, detail, mount, name, node_id, number, room, target, volume_id,
-};
+use crate::values::{call_frame, mount, name, room, volume_id};
 use csi_frames::encode;
-use csi_types::{Call, CapabilityList, Frame, Kind, Mode, Number, Party, Reply, Status};
+use csi_types::{Call, CapabilityList, Frame, Mode, Number, Party};
 use std::alloc::Global;
 use std::process::Abort;
-
-const VECTORS: &[&[u8]] = &[
-    &DELETE,
-    &DELETE_REPLY,
-    &CREATE,
-    &CREATE_REPLY,
-    &REFUSAL,
-    &ATTACH,
-    &PUBLISH,
-];
-
-#[test]
-fn each_vector_is_read_and_written_again(rt: HostRuntime) {
-    for bytes in VECTORS {
-        let frame = read(&rt, bytes);
-        let out = written(&rt, &frame);
-        drop(frame);
-        assert!(rt; out.as_slice() == *bytes);
-        drop(out);
-    }
-}
 
 fn delete(rt: &(impl Abort + AllocGlobal)) -> Frame {
     let id = volume_id(rt, 1);
     call_frame(rt, Party::Controller, 2, Call::DeleteVolume { id })
-}
-
-fn create(rt: &(impl Abort + AllocGlobal)) -> Frame {
-    let call = Call::CreateVolume {
-        name: name(rt, "v"),
-        required: 10,
-        limit: 0,
-        capabilities: blocks(rt, &[Mode::SingleNodeWriter]),
-    };
-    call_frame(rt, Party::Controller, 1, call)
-}
-
-fn refusal(rt: &(impl Abort + AllocGlobal)) -> Frame {
-    let reply = Reply {
-        status: Status::AlreadyExists,
-        id: None,
-        detail: detail(rt, "name"),
-    };
-    Frame::reply(number(3), Party::Controller, Kind::CreateVolume, reply).expect(rt, "a reply")
-}
-
-fn publish(rt: &(impl Abort + AllocGlobal)) -> Frame {
-    let call = Call::NodePublishVolume {
-        id: volume_id(rt, 1),
-        target: target(rt, "/a"),
-        capability: block(Mode::SingleNodeWriter),
-        readonly: true,
-    };
-    call_frame(rt, Party::Node(node_id(rt, "n1")), 4, call)
 }
 
 // The bytes are read as this frame.
@@ -69,14 +17,6 @@ fn spell(rt: &(impl Abort + AllocGlobal), bytes: &[u8], frame: Frame) {
     let found = read(rt, bytes);
     assert!(rt; found == frame);
     drop((found, frame));
-}
-
-#[test]
-fn values_are_those_that_the_bytes_spell(rt: HostRuntime) {
-    spell(&rt, DELETE.as_slice(), delete(&rt));
-    spell(&rt, CREATE.as_slice(), create(&rt));
-    spell(&rt, REFUSAL.as_slice(), refusal(&rt));
-    spell(&rt, PUBLISH.as_slice(), publish(&rt));
 }
 
 // Eight mounts, each with an fs type of this text.
