@@ -73,6 +73,9 @@ fn a_length_that_differs(rt: HostRuntime) {
     assert!(rt; has_fault(alloc, &[], 1, 0), "no bytes");
     assert!(rt; has_fault(alloc, &DELETE[..10], 1, 10), "ten bytes");
     assert!(rt; has_fault(alloc, &[0, 0, 5, 1], 2, 0), "a length of 1281");
+    let short = changed(&rt, DELETE.as_slice(), 3, 0x1a);
+    let front = short.get(..30).unwrap_or(&[]);
+    assert!(rt; has_fault(alloc, front, 13, 23), "26 bytes of body");
     let longer = padded(&rt, DELETE.as_slice(), 3, 0x1c, 1);
     assert!(rt; has_fault(alloc, longer.as_slice(), 13, 31), "a byte more");
     let long = changed(&rt, CREATE.as_slice(), 2, 5);
@@ -81,5 +84,5 @@ fn a_length_that_differs(rt: HostRuntime) {
         has_fault(alloc, longest.as_slice(), 13, 44),
         "a length of 1280"
     );
-    drop((longer, long, longest));
+    drop((short, longer, long, longest));
 }
