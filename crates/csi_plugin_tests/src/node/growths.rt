@@ -126,6 +126,19 @@ fn a_node_record_is_made_in_want_of_memory(rt: HostRuntime) {
     drop((record, kept));
 }
 
+// It takes no memory.
+#[test]
+fn from_record_in_want_of_memory(rt: HostRuntime) {
+    let node = node_after(&rt, STEPS);
+    let record = record_of(&rt, &node);
+    drop(node);
+    let again = Node::from_record(rt.alloc(), record).expect(&rt, "a node");
+    let kept = record_of(&rt, &again);
+    drop(again);
+    assert!(rt; is_record(&kept));
+    drop(kept);
+}
+
 #[test]
 fn record_answers_in_the_end(rt: HostRuntime) {
     let node = node_after(&rt, STEPS);
