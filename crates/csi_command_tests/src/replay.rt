@@ -7,6 +7,7 @@ mod examples;
 mod files;
 mod listed;
 mod long;
+mod pictures;
 mod pieces;
 mod running;
 mod runs;
@@ -18,7 +19,7 @@ use csi_endings::Ending;
 
 // What a command is to give for the frames of a file, which are written in hexadecimal: for `answer` the replies, for `show`
 // the lines; and how it ends. For `run` the file is a schedule and its report is given, or bytes that get
-// nothing; for `frames` it is a schedule, and the frames that its run sends are given.
+// nothing; for `frames` it is a schedule, and the frames that its run sends are given; for `draw` its picture is.
 #[derive(Clone, Copy)]
 enum Case {
     Answers(&'static [&'static str], &'static [&'static str], Ending),
@@ -26,6 +27,7 @@ enum Case {
     Runs(&'static str, &'static str, Ending),
     RunsBytes(&'static [&'static str], Ending),
     Sends(&'static str, &'static [&'static str], Ending),
+    Draws(&'static str, &'static str, Ending),
 }
 
 // DeleteVolume of id 1 under (1, 2), and its reply.

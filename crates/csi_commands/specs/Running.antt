@@ -4,11 +4,13 @@ use Rattle.std.specs.List.{flat_map}
 use Rattle.std.specs.Str.{IsUtf8}
 use Rattle.csi_frames.specs.Spelling.{spelling}
 use Rattle.csi_schedules.specs.Schedule.{Schedule, text_schedule}
+use Rattle.csi_world.specs.declared.event.Event.{Event}
 use Rattle.csi_world.specs.After.{after}
 use Rattle.csi_world.specs.Simulated.{WorldParts, ShowsRun}
 use Rattle.csi_reports.specs.Report.{IsReport}
+use Rattle.csi_pictures.specs.Picture.{IsPicture}
 use Rattle.csi_endings.specs.declared.command.ScheduleCommand.{ScheduleCommand}
-use Rattle.csi_endings.specs.declared.command.ScheduleCommand.TheVariants.{Run, Frames}
+use Rattle.csi_endings.specs.declared.command.ScheduleCommand.TheVariants.{Run, Frames, Draw}
 use Rattle.csi_endings.specs.declared.ending.Ending.{Ending}
 use Rattle.csi_endings.specs.declared.ending.Ending.TheVariants as endings
 use Rattle.csi_json.specs.declared.fault.ScheduleFault.{ScheduleFault}
@@ -20,16 +22,17 @@ pub record IsReportLine (world : WorldParts) (bytes : List ℕ) : Type 0 where
   pub reported : IsReport world report
   pub line : bytes ≡ report ++ 10 ∷ []
 
--- what a command gives of a world: its report and a newline, or the spellings of all frames that were sent, in order
-abbrev pub IsGivenOf : ScheduleCommand → WorldParts → List ℕ → Type 0
-IsGivenOf Run world bytes = IsReportLine world bytes
-IsGivenOf Frames world bytes = bytes ≡ flat_map spelling world.frames
+-- what a command gives of a world, to which these events led: its report and a newline, the spellings of all frames that were sent, in order, or its picture
+abbrev pub IsGivenOf : ScheduleCommand → List Event → WorldParts → List ℕ → Type 0
+IsGivenOf Run events world bytes = IsReportLine world bytes
+IsGivenOf Frames events world bytes = bytes ≡ flat_map spelling world.frames
+IsGivenOf Draw events world bytes = IsPicture world events bytes
 
 -- the command gives this of the world to which the schedule's events lead from an empty one
 pub record IsGiven (command : ScheduleCommand) (schedule : Schedule) (bytes : List ℕ) : Type 0 where
   pub world : WorldParts
   pub shows : ShowsRun world (after schedule.config schedule.events)
-  pub given : IsGivenOf command world bytes
+  pub given : IsGivenOf command schedule.events world bytes
 
 -- the input is a schedule, and what the command gives of it was appended
 pub record Plays (command : ScheduleCommand) (input old new : List ℕ) : Type 0 where

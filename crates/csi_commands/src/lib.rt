@@ -1,5 +1,5 @@
 //! What `csi-replay` does with the bytes of a file or of a stream, without a process: frames are answered by a new controller, or
-//! shown in lines, and schedules are run to a report or to the frames that they send. This profile's own.
+//! shown in lines, and schedules are run to a report, to the frames that they send, or to a picture. This profile's own.
 #![tactic(auto)]
 
 mod commands;

@@ -1,4 +1,4 @@
-//! A schedule, run to its report or to the frames that it sends.
+//! A schedule, run to its report, to the frames that it sends, or to its picture.
 ghost use Rattle.std.specs.Prelude.{◌≡◌, IfOk, IfErr, OnOk, OnErr};
 ghost use Rattle.std.specs.List.{flat_map};
 ghost use Rattle.csi_frames.specs.Spelling.{spelling};
@@ -7,6 +7,7 @@ ghost use Rattle.csi_commands.specs.Running.{IsReportLine, IsGivenOf, IsGiven, P
 
 use csi_endings::{Ending, ScheduleCommand};
 use csi_frames::encode;
+use csi_pictures::draw;
 use csi_reports::report;
 use csi_schedules::{ScheduleFault, read_schedule};
 use csi_types::{Config, NoMemory};
@@ -58,13 +59,19 @@ fn frames_of(alloc: Global, world: &World) -> Result<Vec<u8>, NoMemory>
     Ok(bytes)
 }
 
-// What the command gives of a world.
-fn given_of(alloc: Global, command: ScheduleCommand, world: &World) -> Result<Vec<u8>, NoMemory>
-    ensures { IfOk result (λ given. IsGivenOf command world.now given.items) }
+// What the command gives of a world, to which these events led.
+fn given_of(
+    alloc: Global,
+    command: ScheduleCommand,
+    events: &[Event],
+    world: &World,
+) -> Result<Vec<u8>, NoMemory>
+    ensures { IfOk result (λ given. IsGivenOf command events.now world.now given.items) }
 {
     match command {
         ScheduleCommand::Run => line_of(alloc, world),
         ScheduleCommand::Frames => frames_of(alloc, world),
+        ScheduleCommand::Draw => draw(alloc, world, events),
     }
 }
 
@@ -78,12 +85,12 @@ fn given(
     ensures { IfOk result (λ given. IsGiven command (record { config = config.now; events = events.now }) given.items) }
 {
     let world = simulate(alloc, config, events)?;
-    given_of(alloc, command, &world)
+    given_of(alloc, command, events, &world)
 }
 
 /// Reads `input` as a schedule, lets its events happen one after another to an empty world, and appends to `out` what the
-/// command gives of the world: its report and a newline, or the spellings of all frames that were sent, in order. An
-/// `Err` appends nothing: `NotUtf8` and `ScheduleFault` say what is wrong with the input, in this order, and `Memory` that
+/// command gives of the world: its report and a newline, the spellings of all frames that were sent, in order,
+/// or its picture. An `Err` appends nothing: `NotUtf8` and `ScheduleFault` say what is wrong with the input, in this order, and `Memory` that
 /// an allocation was refused. The report is this profile's own.
 pub fn play(
     alloc: Global,

@@ -7,6 +7,8 @@ pub enum ScheduleCommand {
     Run,
     /// It is run, and the frames that were sent are given as bytes.
     Frames,
+    /// It is run, and its picture is given.
+    Draw,
 }
 
 /// What is done with the bytes of a file.

@@ -52,6 +52,10 @@ const NAMED: &[(&[&str], CommandLine<'static>)] = &[
         CommandLine::File(FileCommand::Schedule(ScheduleCommand::Frames), "a.file"),
     ),
     (
+        &["csi-replay", "draw", "a.file"],
+        CommandLine::File(FileCommand::Schedule(ScheduleCommand::Draw), "a.file"),
+    ),
+    (
         &["csi-replay", "controller", "a.db", "a.config"],
         CommandLine::Controller {
             store: "a.db",

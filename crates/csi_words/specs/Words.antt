@@ -5,7 +5,7 @@ use Rattle.clap.specs.declared.error.kind.ErrorKind.{ErrorKind}
 use Rattle.clap.specs.declared.error.kind.ErrorKind.TheVariants.{OutOfMemory}
 use Rattle.csi_endings.specs.declared.command.FileCommand.{FileCommand}
 use Rattle.csi_endings.specs.declared.command.FileCommand.TheVariants.{Answer, Show, Schedule}
-use Rattle.csi_endings.specs.declared.command.ScheduleCommand.TheVariants.{Run, Frames}
+use Rattle.csi_endings.specs.declared.command.ScheduleCommand.TheVariants.{Run, Frames, Draw}
 use Rattle.csi_endings.specs.declared.ending.Ending.{Ending}
 use Rattle.csi_endings.specs.declared.ending.Ending.TheVariants.{Usage, Memory}
 use Rattle.csi_words.specs.declared.command_line.CommandLine.{CommandLine}
@@ -41,7 +41,7 @@ bare = record (new_app (codes "csi-replay")) { top = record (new_app (codes "csi
 
 -- its commands on a file
 abbrev pub on_files : App
-on_files = with_file_command (with_file_command (with_file_command (with_file_command bare (codes "answer")) (codes "show")) (codes "run")) (codes "frames")
+on_files = with_file_command (with_file_command (with_file_command (with_file_command (with_file_command bare (codes "answer")) (codes "show")) (codes "run")) (codes "frames")) (codes "draw")
 
 abbrev pub program : App
 program = with_store_command (with_store_command on_files (codes "controller") (codes "CONFIG")) (codes "node") (codes "ID")
@@ -66,6 +66,7 @@ command_in name rows =
     else if bytes_eq name (codes "show") then on_file_in Show rows
     else if bytes_eq name (codes "run") then on_file_in (Schedule Run) rows
     else if bytes_eq name (codes "frames") then on_file_in (Schedule Frames) rows
+    else if bytes_eq name (codes "draw") then on_file_in (Schedule Draw) rows
     else if bytes_eq name (codes "controller") then controller_in rows
     else if bytes_eq name (codes "node") then node_in rows
     else None

@@ -12,7 +12,7 @@ use std::alloc::{AllocError, Global};
 /// What the words name: a command, with the texts behind it.
 #[derive(Clone, Copy, Debug, PartialEq, Eq)]
 pub enum CommandLine<'a> {
-    /// `answer FILE`, `show FILE`, `run FILE` and `frames FILE`: what is done, and the path of the file.
+    /// `answer FILE`, `show FILE`, `run FILE`, `frames FILE` and `draw FILE`: what is done, and the path of the file.
     File(FileCommand, &'a str),
     /// `controller DB CONFIG`: the paths of the store and of the file of the configuration.
     Controller { store: &'a str, config: &'a str },
@@ -57,7 +57,8 @@ fn with_file_commands<'a>(alloc: Global) -> Result<Command<'a>, AllocError>
     let one = with_file_command(alloc, bare, "answer")?;
     let two = with_file_command(alloc, one, "show")?;
     let three = with_file_command(alloc, two, "run")?;
-    with_file_command(alloc, three, "frames")
+    let four = with_file_command(alloc, three, "frames")?;
+    with_file_command(alloc, four, "draw")
 }
 
 // What the words mean to `clap`.
@@ -123,6 +124,7 @@ fn command_of<'a>(name: &str, matches: &ArgMatches<'a>) -> Option<CommandLine<'a
         "show" => on_file(matches, FileCommand::Show),
         "run" => on_file(matches, FileCommand::Schedule(ScheduleCommand::Run)),
         "frames" => on_file(matches, FileCommand::Schedule(ScheduleCommand::Frames)),
+        "draw" => on_file(matches, FileCommand::Schedule(ScheduleCommand::Draw)),
         "controller" => controller(matches),
         "node" => node(matches),
         _ => None,

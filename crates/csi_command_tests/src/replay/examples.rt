@@ -39,7 +39,7 @@ const LATE_PUBLISH: &str =
 const LATE_PUBLISH_REPORT: &str =
     "{\"attached\":[{\"id\":1,\"mode\":1,\"node\":\"n2\",\"readonly\":false}],\"events\":[\"sent 1\",\"answered 2\",\"taken\",\"sent 3\",\"sent 4\",\"answered 5\",\"taken, sent 6\",\"answered 7\",\"taken, sent 8\",\"answered 9\",\"taken\",\"sent 10\",\"answered 11\",\"taken, sent 12\",\"answered 13\",\"taken, sent 14\",\"answered 15\",\"taken\",\"sent 16\",\"answered 17\",\"taken, sent 18\",\"answered 19\",\"taken, sent 20\",\"answered 21\",\"taken\",\"answered 22\",\"ignored\"],\"frames\":22,\"known\":[{\"known\":\"yes\",\"name\":\"v\",\"thing\":\"exists\"},{\"known\":\"yes\",\"name\":\"v\",\"node\":\"n2\",\"thing\":\"attached\"},{\"known\":\"yes\",\"name\":\"v\",\"node\":\"n2\",\"thing\":\"staged\"},{\"known\":\"yes\",\"name\":\"v\",\"node\":\"n2\",\"target\":\"/a\",\"thing\":\"published\"}],\"published\":[{\"id\":1,\"node\":\"n2\",\"readonly\":false,\"target\":\"/a\"}],\"safe\":true,\"session\":1,\"staged\":[{\"id\":1,\"mode\":1,\"node\":\"n2\"}],\"volumes\":[{\"capacity\":10,\"id\":1,\"name\":\"v\"}]}\n";
 
-const LATE_DETACH: &str =
+pub(super) const LATE_DETACH: &str =
     "{\"config\":{\"greatest\":1000,\"nodes\":[{\"id\":\"n1\",\"slots\":4},{\"id\":\"n2\",\"slots\":4}]},
  \"events\":[
   {\"create\":{\"capabilities\":[{\"access\":\"block\",\"mode\":1}],\"limit\":0,\"name\":\"v\",\"required\":10}},

@@ -186,7 +186,7 @@ fn gives_front(rt: &(impl Abort + AllocGlobal), case: Case, ways: Ways, written:
             };
             is_given(rt.alloc(), asked, ways, &frames, written)
         }
-        Case::RunsBytes(..) => false,
+        Case::RunsBytes(..) | Case::Draws(..) => false,
     }
 }
 

@@ -138,6 +138,13 @@ fn run_case(rt: &(impl Abort + AllocGlobal), case: Case, index: usize) {
             );
             gives(rt, asked, b"", ending, index)
         }
+        Case::Draws(schedule, picture, ending) => {
+            let asked = (
+                FileCommand::Schedule(ScheduleCommand::Draw),
+                schedule.as_bytes(),
+            );
+            gives(rt, asked, picture.as_bytes(), ending, index)
+        }
         Case::Sends(schedule, frames, ending) => {
             let frames = bytes(rt, frames);
             let asked = (
