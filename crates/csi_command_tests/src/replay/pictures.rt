@@ -1,7 +1,7 @@
 //! Schedules that are drawn.
+use super::Case;
 use super::examples::LATE_DETACH;
 use super::running::run_all;
-use super::Case;
 use csi_endings::Ending;
 use csi_schedules::ScheduleFault;
 
