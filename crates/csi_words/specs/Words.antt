@@ -83,3 +83,9 @@ read words = command_entered (subcommand_of program words)
 abbrev pub ending_of : ErrorKind → Ending
 ending_of OutOfMemory = Memory
 ending_of _ = Usage
+
+-- how words end that name no command: as a wrong use, or where memory ran out
+abbrev pub EndsWords : Ending → Type 0
+EndsWords Usage = Unit {0}
+EndsWords Memory = Unit {0}
+EndsWords _ = ⊥

@@ -2,7 +2,7 @@
 ghost use Rattle.std.specs.Prelude.{◌≡◌, IfOk, IfErr, map, option_map, is_some, string_bytes, true};
 ghost use Rattle.clap.specs.Words.{app_of, first_of, found_of, kind_of, rows_of, subcommand_of, subcommand_rows_of, takes};
 ghost use Rattle.clap.specs.declared.error.kind.ErrorKind.TheVariants.{OutOfMemory};
-ghost use Rattle.csi_words.specs.Words.{command_entered, command_in as named_in, controller_in, node_in, on_file_in, ending_of as ending_by, named_by, on_files, read, program as all_words, with_file_command as with_one_more, with_store_command as with_two_more};
+ghost use Rattle.csi_words.specs.Words.{command_entered, command_in as named_in, controller_in, node_in, on_file_in, ending_of as ending_by, named_by, on_files, read, EndsWords, program as all_words, with_file_command as with_one_more, with_store_command as with_two_more};
 
 use clap::error::ErrorKind;
 use clap::{Arg, ArgMatches, Command, Error};
@@ -74,7 +74,8 @@ fn matches_of<'a>(alloc: Global, words: &'a [String]) -> Result<ArgMatches<'a>, 
 
 // The ending where words are refused so.
 fn ending_of(kind: ErrorKind) -> Ending
-    ensures { result ≡ ending_by kind }
+    ensures is { result ≡ ending_by kind }
+    ensures ends { EndsWords result }
 {
     match kind {
         ErrorKind::OutOfMemory => Ending::Memory,
@@ -145,6 +146,7 @@ pub fn parse<'a>(alloc: Global, words: &'a [String]) -> Result<CommandLine<'a>, 
     ensures read { IfOk result (λ line. read (map string_bytes words.entry.now) ≡ Some (named_by line)) }
     ensures refused { IfErr result (λ ending. is_some (read (map string_bytes words.entry.now)) ≡ true
         → takes all_words (map string_bytes words.entry.now) ≡ true → ending ≡ Ending.Memory) }
+    ensures ends { IfErr result EndsWords }
 {
     let matches = match matches_of(alloc, words) {
         Ok(matches) => matches,
