@@ -103,6 +103,22 @@ fn a_controller_goes_on_over_a_database(rt: HostRuntime) {
     assert!(&rt; goes_on(&rt, &mut keep));
 }
 
+// The table of a store, with a row whose key has one byte.
+const FOREIGN: &str =
+    "CREATE TABLE parts (key BLOB NOT NULL PRIMARY KEY, value BLOB NOT NULL); INSERT INTO parts VALUES (x'00', x'01')";
+
+#[test]
+fn a_row_that_is_no_part_ends_a_plugin(rt: HostRuntime) {
+    let mut connection = Connection::open_in_memory(rt.alloc()).expect(&rt, "a database");
+    connection.execute_batch(FOREIGN).expect(&rt, "a row");
+    let mut keep = SqliteKeep::new(rt.alloc(), connection)
+        .ok()
+        .expect(&rt, "a store");
+    let fault = Ending::RecordFault(0);
+    assert!(&rt; ends(&rt, &mut keep, (Controller, CALLS), fault, &[]));
+    assert!(&rt; ends(&rt, &mut keep, (Node("n1"), UNSTAGE), fault, &[]));
+}
+
 #[test]
 fn a_node_goes_on_and_another_one_is_refused(rt: HostRuntime) {
     let mut keep = MemoryKeep::new(rt.alloc(), 1000);

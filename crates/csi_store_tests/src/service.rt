@@ -1,5 +1,7 @@
 //! Records as bytes, and stores that plugins are opened from.
+mod damaged;
 mod devices;
+mod files;
 mod growths;
 mod pieces;
 mod playing;
@@ -142,6 +144,12 @@ const CHANGES: &[(usize, u8, u64)] = &[
     (40, 3, 1),
     (50, 0, 1),
     (53, 6, 1),
+    // no name, one that is no UTF-8, no capability, 65 nodes, and a detail that isn't there
+    (41, 0, 1),
+    (42, 255, 1),
+    (51, 0, 1),
+    (54, 65, 1),
+    (81, 1, 1),
 ];
 
 #[test]
@@ -173,6 +181,11 @@ const NODE_CHANGES: &[(usize, u8, u64)] = &[
     (59, 129, 1),
     (60, 17, 1),
     (68, 1, 1),
+    // an id that is no UTF-8, no target, one that is no UTF-8, and 17 of them
+    (20, 255, 0),
+    (39, 0, 1),
+    (41, 255, 1),
+    (38, 17, 1),
 ];
 
 #[test]

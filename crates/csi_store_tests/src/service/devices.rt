@@ -43,11 +43,12 @@ impl Read for Source<'_> {
     }
 }
 
-/// A writer that takes so many bytes a call at most, keeps them, and counts how often it is flushed.
+/// A writer that takes so many bytes a call at most, keeps them, and counts how often it is flushed, of which one may fail.
 #[derive(Drop)]
 pub(super) struct Sink {
     pub bytes: Vec<u8>,
     pub flushes: u64,
+    pub failing_flush: u64,
     size: usize,
     failing: u64,
     calls: u64,
@@ -58,6 +59,7 @@ impl Sink {
         Sink {
             bytes: Vec::new(alloc),
             flushes: 0,
+            failing_flush: 0,
             size,
             failing,
             calls: 0,
@@ -78,7 +80,9 @@ impl Write for Sink {
     }
 
     fn flush(&mut self) -> io::Result<()> {
-        self.flushes = self.flushes.saturating_add(1);
+        if count(&mut self.flushes, self.failing_flush) {
+            return Err(io::Error::from(ErrorKind::Other));
+        }
         Ok(())
     }
 }

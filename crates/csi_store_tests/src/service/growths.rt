@@ -133,6 +133,20 @@ fn a_controller_steps_and_commits_in_want_of_memory(rt: HostRuntime) {
     drop(keep);
 }
 
+// The script's fifth frame deletes the volume.
+#[test]
+fn a_head_that_did_not_change_is_not_put_in_again(rt: HostRuntime) {
+    let mut keep = MemoryKeep::new(rt.alloc(), 1000);
+    let mut service = opened(&rt, &mut keep);
+    drop(changes(&rt, &mut service, frame_of(&rt, CREATE)));
+    let delete = SCRIPT.get(152..183).expect(&rt, "a frame");
+    let parts = changes(&rt, &mut service, frame_of(&rt, delete));
+    drop(service);
+    drop(keep);
+    assert!(&rt; parts.len() == 1 && parts[0].key == 1);
+    drop(parts);
+}
+
 // Stages volume 1 at `n1`.
 const STAGE: &[u8] = &[
     0, 0, 0, 32, 1, 5, 0, 0, 0, 0, 0, 0, 0, 1, 0, 0, 0, 0, 0, 0, 0, 1, 1, 2, 110, 49, 0, 0, 0, 0,

@@ -131,11 +131,17 @@ fn is_written(sink: &Sink, size: usize) -> bool {
 
 // Whether a new controller is served so.
 fn comes_to(rt: &(impl Abort + AllocGlobal), given: &Given, wanted: &Outcome) -> bool {
+    let sink = Sink::new(rt.alloc(), given.2.0, given.2.1);
+    serves(rt, given, sink, wanted)
+}
+
+// Whether it is where the writer is this one.
+fn serves(rt: &(impl Abort + AllocGlobal), given: &Given, sink: Sink, wanted: &Outcome) -> bool {
     let mut inner = MemoryKeep::new(rt.alloc(), 1000);
     let service = controller(rt, &mut inner).expect(rt, "a controller");
     let mut keep = Device::new(inner, given.3.0, given.3.1);
     let mut reader = Counted::new(Source::new(given.0, given.1.0, given.1.1));
-    let mut writer = Counted::new(Sink::new(rt.alloc(), given.2.0, given.2.1));
+    let mut writer = Counted::new(sink);
     let ended = serve(rt.alloc(), service, &mut keep, &mut reader, &mut writer);
     is_end(&ended, wanted.0, wanted.1)
         && is_written(&writer.into_inner(), wanted.2)
@@ -232,6 +238,22 @@ const FAILING_WRITERS: &[(Given, Outcome)] = &[
 #[test]
 fn a_frame_whose_reply_is_not_written_is_committed(rt: HostRuntime) {
     all_come(&rt, FAILING_WRITERS);
+}
+
+// What comes of it where the flush after the first reply fails, after the second, and after the third.
+const FAILING_FLUSHES: &[(u64, Outcome)] = &[
+    (1, (1, OUTPUT, 33, Live, 1)),
+    (2, (2, OUTPUT, 66, Gone, 1)),
+    (3, (3, OUTPUT, 99, Gone, 1)),
+];
+
+#[test]
+fn a_reply_that_is_not_flushed_is_not_passed_over(rt: HostRuntime) {
+    for (failing, wanted) in FAILING_FLUSHES {
+        let mut sink = Sink::new(rt.alloc(), 4096, 0);
+        sink.failing_flush = *failing;
+        assert!(&rt; serves(&rt, &(STREAM, ALL, ALL, NONE_FAILS), sink, wanted));
+    }
 }
 
 const DEVICE: Option<ServeFaultKind> = Some(ServeFaultKind::Keep(KeepFault::Device));

@@ -103,8 +103,20 @@ fn opened(
     }
 }
 
-// Serves the script over new files that stop so, and what the files hold then.
-fn stopped(rt: &(impl Abort + AllocGlobal), stop: Stop) -> (End, Image) {
+// What a store leaves that is closed, whether its log could be put back or not.
+fn left_closed(
+    rt: &(impl Abort + AllocGlobal),
+    keep: SqliteKeep<Disks>,
+    power_fails: bool,
+) -> Image {
+    match keep.close_files() {
+        Ok(files) => image_of(rt, files, power_fails),
+        Err(store) => image_of(rt, store.close(), power_fails),
+    }
+}
+
+// Serves the script over new files that stop so, and what the files hold then, if the store is closed or isn't.
+fn stopped(rt: &(impl Abort + AllocGlobal), stop: Stop, is_closed: bool) -> (End, Image) {
     let new = Image {
         log: Vec::new(rt.alloc()),
         db: Vec::new(rt.alloc()),
@@ -118,6 +130,9 @@ fn stopped(rt: &(impl Abort + AllocGlobal), stop: Stop) -> (End, Image) {
     drop(written);
     drop(new);
     assert!(rt; (keep.faults() == 0) == is_end(end, 6));
+    if is_closed {
+        return (end, left_closed(rt, keep, stop.2));
+    }
     (end, left_by(rt, keep.into_connection(), stop.2))
 }
 
@@ -136,7 +151,12 @@ fn goes_on(rt: &(impl Abort + AllocGlobal), end: End, image: &Image) -> bool {
 
 // Whether the script, stopped so, goes on.
 fn goes_on_after(rt: &(impl Abort + AllocGlobal), stop: Stop) -> bool {
-    let (end, image) = stopped(rt, stop);
+    leaves_a_record(rt, stop, false) && leaves_a_record(rt, stop, true)
+}
+
+// Whether it does where the store is closed then, or isn't.
+fn leaves_a_record(rt: &(impl Abort + AllocGlobal), stop: Stop, is_closed: bool) -> bool {
+    let (end, image) = stopped(rt, stop, is_closed);
     let goes_on = goes_on(rt, end, &image);
     drop(image);
     goes_on
@@ -144,9 +164,22 @@ fn goes_on_after(rt: &(impl Abort + AllocGlobal), stop: Stop) -> bool {
 
 #[test]
 fn with_no_stop_the_script_is_served_to_its_end(rt: HostRuntime) {
-    let (end, image) = stopped(&rt, NO_STOP);
+    let (end, image) = stopped(&rt, NO_STOP, false);
     assert!(&rt; is_end(end, 6) && goes_on(&rt, end, &image));
     drop(image);
+}
+
+#[test]
+fn a_store_that_is_closed_needs_no_log(rt: HostRuntime) {
+    let (end, image) = stopped(&rt, NO_STOP, true);
+    let Image { log, db } = image;
+    drop(log);
+    let alone = Image {
+        log: Vec::new(rt.alloc()),
+        db,
+    };
+    assert!(&rt; is_end(end, 6) && goes_on(&rt, end, &alone));
+    drop(alone);
 }
 
 // How many calls of a file are answered before it stops: few are in the opening, most in commits or between.

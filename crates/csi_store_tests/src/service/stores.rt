@@ -1,5 +1,5 @@
 //! Stores in SQLite that something else wrote, and stores in memory at their limits.
-use super::{controller_fault, has_head, part};
+use super::{controller_fault, has_head, is_part, node_fault, part};
 use csi_service::{Keep, KeepFault, MemoryKeep, Part};
 use csi_sqlite::SqliteKeep;
 use sqlite::{Connection, MemStore};
@@ -43,8 +43,10 @@ const ROWS: &[(&str, u64)] = &[
 fn a_row_that_is_no_part_is_refused_at_its_place(rt: HostRuntime) {
     for (row, place) in ROWS {
         let mut keep = store(&rt, WITH_HEAD, row);
+        let fault = Some(KeepFault::BadRecord(*place));
         assert!(&rt; refused_at(&mut keep) == Some(*place));
-        assert!(&rt; keep.faults() == 0);
+        assert!(&rt; controller_fault(&rt, &mut keep) == fault);
+        assert!(&rt; node_fault(&rt, &mut keep, "n1") == fault && keep.faults() == 0);
         drop(keep);
     }
 }
@@ -54,6 +56,67 @@ fn another_table_of_that_name_is_refused_at_0(rt: HostRuntime) {
     let mut keep = store(&rt, "CREATE TABLE parts (name TEXT, size INTEGER)", "");
     assert!(&rt; refused_at(&mut keep) == Some(0));
     drop(keep);
+}
+
+// What a database may list beside nothing, or a table `parts` alone; and how often it lists such a table.
+const OTHERS: &[(&str, i64)] = &[
+    ("CREATE TABLE other (x)", 0),
+    ("CREATE TABLE other (x); CREATE INDEX more ON other (x)", 0),
+    ("CREATE VIEW seen AS SELECT 1", 0),
+    (
+        "CREATE TABLE parts (key BLOB NOT NULL PRIMARY KEY, value BLOB NOT NULL); CREATE TABLE other (x)",
+        1,
+    ),
+    (
+        "CREATE TABLE parts (key BLOB NOT NULL PRIMARY KEY, value BLOB NOT NULL); CREATE VIEW seen AS SELECT value FROM parts",
+        1,
+    ),
+    (
+        "CREATE TABLE parts (key BLOB NOT NULL PRIMARY KEY, value BLOB NOT NULL); CREATE INDEX more ON parts (value)",
+        1,
+    ),
+];
+
+// Whether the database is refused, and lists as many tables `parts` as before.
+fn is_other(rt: &(impl Abort + AllocGlobal), table: &str, count: i64) -> bool {
+    let mut connection = Connection::open_in_memory(rt.alloc()).expect(rt, "a database");
+    connection.execute_batch(table).expect(rt, "a table");
+    let Err((fault, mut back)) = SqliteKeep::new(rt.alloc(), connection) else {
+        return false;
+    };
+    let found = back
+        .query_row(
+            "SELECT count(*) FROM sqlite_schema WHERE name = 'parts'",
+            &[],
+        )
+        .expect(rt, "a row");
+    let found: i64 = found.get(0).expect(rt, "a number");
+    fault == KeepFault::Device && found == count
+}
+
+#[test]
+fn a_database_that_lists_something_else_is_refused_as_it_is(rt: HostRuntime) {
+    for (table, count) in OTHERS {
+        assert!(&rt; is_other(&rt, table, *count));
+    }
+}
+
+const LONG: &[u8] = &[9; 5000];
+
+#[test]
+fn a_long_value_goes_in_and_what_is_not_there_goes_out(rt: HostRuntime) {
+    let mut keep = store(&rt, WITH_HEAD, "");
+    let gone = Part {
+        key: 6,
+        value: None,
+    };
+    let changes = [part(&rt, 7, LONG), gone];
+    assert!(&rt; keep.commit(&changes).is_ok() && keep.faults() == 0);
+    drop(changes);
+    let parts = keep.load().expect(&rt, "parts");
+    drop(keep);
+    assert!(&rt; parts.len() == 2 && is_part(&parts[1], 7, LONG));
+    drop(parts);
 }
 
 #[test]
