@@ -11,7 +11,7 @@ use Rattle.csi_streams.specs.declared.output.WriteFailed.{WriteFailed}
 use Rattle.csi_streams.specs.declared.streaming.StreamFault.{StreamFault}
 use Rattle.csi_streams.specs.declared.streaming.StreamFault.TheVariants as stops
 use Rattle.csi_streams.specs.Replay.{Grows}
-use Rattle.csi_streams.specs.Streaming.{AreReplies, AreLines, GivesFront, StreamEnds, Streams, WritesFront}
+use Rattle.csi_streams.specs.Streaming.{AreReplies, AreLines, GivesFront, StreamEnds, Streams, Waits, WritesFront}
 use Rattle.csi_streams.proofs.Streams.{one_stream}
 use Rattle.csi_endings.specs.declared.command.FileCommand.TheVariants.{Answer, Show, Schedule}
 use Rattle.csi_endings.specs.declared.command.ScheduleCommand.{ScheduleCommand}
@@ -51,7 +51,7 @@ module _ (bytes rest : List ℕ) (frames : List Frame) (of : FramesOf bytes fram
   answer_ends at_end out (Err stops.NoMemory) ends = (tt, (for_all (λ fs more. EndsAs Answer fs more [] out endings.Memory) (record { count = ends.count; within = ends.within; appended = ends.given }), tt))
   answer_ends at_end out (Err stops.Input) ends = all_given out ends.1
   answer_ends at_end out (Err stops.Output) ends = record { all = ends.0; appended = for_all (λ fs more. GivesFront AreReplies fs ends.0) ends.2; grows = ends.1 }
-  answer_ends at_end out (Err stops.Endless) ends = (ends.0, all_given out ends.2)
+  answer_ends at_end out (Err stops.Endless) ends = (ends.0, for_all (λ fs more. Waits more × AreReplies fs out) (ends.1, ends.2))
 
   -- whatever was written of lines is a front of what the command may append
   shown : (out : List ℕ) → WasCut Show bytes out
@@ -64,7 +64,7 @@ module _ (bytes rest : List ℕ) (frames : List Frame) (of : FramesOf bytes fram
   show_ends at_end out (Err stops.NoMemory) ends = (tt, (for_all (λ fs more. EndsAs Show fs more [] out endings.Memory) (grows-all out), tt))
   show_ends at_end out (Err stops.Input) ends = shown out
   show_ends at_end out (Err stops.Output) ends = shown out
-  show_ends at_end out (Err stops.Endless) ends = (ends.0, shown out)
+  show_ends at_end out (Err stops.Endless) ends = (ends.0, for_all (λ fs more. Waits more) ends.1)
 
 -- where the frames of a reader were answered, the command ends as on its bytes; and below where they were shown
 pub answers_so : (left now had has : Option (List ℕ)) (result : Result ℕ StreamFault) → Streams AreReplies left now had has result → StreamsAs Answer left now had has (ending_of_stream result)

@@ -28,9 +28,10 @@ IsGivenOf Run events world bytes = IsReportLine world bytes
 IsGivenOf Frames events world bytes = bytes ≡ flat_map spelling world.frames
 IsGivenOf Draw events world bytes = IsPicture world events bytes
 
--- the command gives this of the world to which the schedule's events lead from an empty one
+-- the command gives this of the world, of the schedule's configuration, to which its events lead from an empty one
 pub record IsGiven (command : ScheduleCommand) (schedule : Schedule) (bytes : List ℕ) : Type 0 where
   pub world : WorldParts
+  pub config : world.config ≡ schedule.config
   pub shows : ShowsRun world (after schedule.config schedule.events)
   pub given : IsGivenOf command schedule.events world bytes
 
@@ -42,10 +43,10 @@ pub record Plays (command : ScheduleCommand) (input old new : List ℕ) : Type 0
   pub gives : IsGiven command schedule given
   pub appended : new ≡ old ++ given
 
--- The input is no UTF-8, or has this fault; or memory ran out.
+-- The input is no UTF-8, or is and has this fault; or memory ran out.
 abbrev pub IsRefused : List ℕ → Ending → Type 0
 IsRefused input endings.NotUtf8 = IsUtf8 input → ⊥
-IsRefused input (endings.ScheduleFault fault) = text_schedule input ≡ Err fault
+IsRefused input (endings.ScheduleFault fault) = IsUtf8 input × (text_schedule input ≡ Err fault)
 IsRefused input endings.Memory = Unit {0}
 IsRefused input _ = ⊥
 

@@ -8,7 +8,7 @@ use Rattle.csi_streams.specs.declared.output.WriteFailed.{WriteFailed}
 use Rattle.csi_streams.specs.declared.streaming.StreamFault.{StreamFault}
 use Rattle.csi_streams.specs.declared.streaming.StreamFault.TheVariants as stops
 use Rattle.csi_streams.specs.Replay.{Grows}
-use Rattle.csi_streams.specs.Streaming.{AreReplies, GivesFront}
+use Rattle.csi_streams.specs.Streaming.{AreReplies, GivesFront, Waits}
 use Rattle.csi_endings.specs.declared.command.FileCommand.{FileCommand}
 use Rattle.csi_endings.specs.declared.command.FileCommand.TheVariants.{Answer, Show, Schedule}
 use Rattle.csi_endings.specs.declared.ending.Ending.{Ending}
@@ -32,6 +32,12 @@ pub record WasCut (command : FileCommand) (bytes out : List ℕ) : Type 0 where
   pub appended : FileAppends command bytes all
   pub grows : Grows out all
 
+-- the reader gave no fault yet, and all that `file` appends for its frames was written
+abbrev pub WritesAll : FileCommand → List ℕ → List ℕ → Type 0
+WritesAll Answer bytes out = (frames : List Frame) (rest : List ℕ) → FramesOf bytes frames rest → Waits rest × AreReplies frames out
+WritesAll Show bytes out = (frames : List Frame) (rest : List ℕ) → FramesOf bytes frames rest → Waits rest
+WritesAll (Schedule command) bytes out = ⊥
+
 -- at these endings nothing is left unread
 abbrev pub ReadsAll : Type 0 → Ending → Type 0
 ReadsAll at_end endings.Done = at_end
@@ -40,10 +46,10 @@ ReadsAll at_end (endings.ScheduleFault fault) = at_end
 ReadsAll at_end endings.NotUtf8 = at_end
 ReadsAll at_end _ = Unit {0}
 
--- It ends as with the bytes of a file, or a device failed, or the reader gave 2^63 bytes.
+-- It ends as with the bytes of a file, or a device failed, or the reader of frames gave 2^63 bytes.
 abbrev pub StreamEndsAs : FileCommand → Type 0 → List ℕ → List ℕ → Ending → Type 0
 StreamEndsAs command at_end bytes out endings.Device = WasCut command bytes out
-StreamEndsAs command at_end bytes out endings.Endless = (2 ^ 63 ≤ length bytes) × WasCut command bytes out
+StreamEndsAs command at_end bytes out endings.Endless = (2 ^ 63 ≤ length bytes) × WritesAll command bytes out
 StreamEndsAs command at_end bytes out ending = ReadsAll at_end ending × FileEnds command bytes out ending
 
 -- some bytes were read, and some written, and so it ended

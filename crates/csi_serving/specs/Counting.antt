@@ -1,9 +1,6 @@
 -- What a counted reader or writer counts. This profile's own.
-use Rattle.std.specs.Prelude.{ℕ, ◌+◌, ◌-◌, ◌^◌, ◌==◌, ◌&&◌, not, min, Bool, true, false, if◌then◌else◌, List, length, Result, Ok, Err}
-
--- one more, up to 2^64 - 1
-abbrev pub one_more : ℕ → ℕ
-one_more count = min (count + 1) (2 ^ 64 - 1)
+use Rattle.std.specs.Prelude.{ℕ, ◌==◌, ◌&&◌, not, Bool, true, false, if◌then◌else◌, List, length, Result, Ok, Err}
+use Rattle.csi_stores.specs.Keeping.{one_more}
 
 -- the call was answered with an error
 abbrev pub is_error : {X E : Type 0} → Result X E → Bool
