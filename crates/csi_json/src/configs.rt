@@ -5,9 +5,9 @@ ghost use Rattle.csi_json.specs.Json.{Reads, all_of};
 ghost use Rattle.csi_json.specs.Configs.{node_of, config_of, config_in, text_config};
 ghost use Rattle.csi_json.specs.Faults.{IsFaultOf};
 
-use crate::texts::node_id;
 use crate::fault::ScheduleFault;
 use crate::lists::read_nodes;
+use crate::texts::node_id;
 use crate::values::{Flaw, list, member, number, sized_object};
 use csi_types::{Config, NodeSlots};
 use serde_json::Value;

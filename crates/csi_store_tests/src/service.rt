@@ -11,9 +11,11 @@ mod stores;
 
 use csi_controller::{Controller, ControllerRecord};
 use csi_frames::decode;
-use csi_node::NodeRecord;
 use csi_json::read_config;
-use csi_service::{ControllerService, Keep, KeepFault, MemoryKeep, NodeService, Part, read_record, write_record};
+use csi_node::NodeRecord;
+use csi_service::{
+    ControllerService, Keep, KeepFault, MemoryKeep, NodeService, Part, read_record, write_record,
+};
 use csi_sqlite::SqliteKeep;
 use csi_types::{Config, NodeId};
 use sqlite::Connection;

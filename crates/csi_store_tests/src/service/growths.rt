@@ -10,8 +10,8 @@ use super::{
 };
 use csi_controller::ControllerRecord;
 use csi_frames::decode;
-use csi_node::NodeRecord;
 use csi_json::{ScheduleFault, read_config};
+use csi_node::NodeRecord;
 use csi_service::{
     ControllerService, Core, Keep, KeepFault, MemoryKeep, NodeService, Part, Record, read_record,
     write_record,
