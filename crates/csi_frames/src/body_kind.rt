@@ -1,6 +1,7 @@
 //! The kind byte of a body.
 ghost use Rattle.std.specs.Prelude.{◌≡◌};
-ghost use Rattle.csi_frames.specs.Codes.{body_kind_from_number, is_create_call, kind_from_number, kind_in};
+ghost use Rattle.csi_frames.specs.Codes.{is_create_call, kind_in};
+ghost use Rattle.csi_frames.specs.Kinds.{body_kind_from_number, kind_from_number};
 ghost use Rattle.csi_frames.specs.Grammar.{party_number};
 ghost use Rattle.csi_types.specs.Same.{kind_number};
 

@@ -10,6 +10,7 @@ ghost use Rattle.csi_frames.specs.Appends.{Appends, HasRoom};
 ghost use Rattle.csi_frames.specs.Spelling.{word, text, flag, access, capability, party, reply_id, call_fields, reply_fields, body_fields, body_kind, head, frame_body, spelling, Spells};
 
 use crate::body_kind::kind_number;
+use crate::version::Version;
 use byteorder::{BigEndian, ByteOrder};
 use csi_types::{
     Access, Body, Call, Capability, Frame, Kind, NoMemory, Number, Party, Reply, VolumeId,
@@ -326,7 +327,7 @@ fn head_bytes(size: u32, kind: u8, number: Number) -> [u8; 22]
 {
     let mut head = [0; 22];
     BigEndian::write_u32(&mut head, size);
-    head[4] = 1;
+    head[4] = Version::One.number();
     head[5] = kind;
     BigEndian::write_u64(&mut head[6..], number.session);
     BigEndian::write_u64(&mut head[14..], number.call);

@@ -22,7 +22,7 @@ pub(crate) struct Fields<'a> {
 
 impl<'a> Fields<'a> {
     ghost use Rattle.csi_frames.specs.Gives.{Gives};
-    ghost use Rattle.csi_frames.specs.Grammar.{any, at_most};
+    ghost use Rattle.csi_frames.specs.Grammar.{any, at_most, from_to};
     ghost use Rattle.csi_frames.specs.Reading.{byte_at, word_at, text_at, id_at, flag_at};
 
     /// The fault of the field that begins here.
@@ -43,6 +43,21 @@ impl<'a> Fields<'a> {
         let [byte, rest @ ..] = self.bytes else {
             return Err(self.stop(FaultKind::LengthDiffers));
         };
+        self.bytes = rest;
+        Ok(*byte)
+    }
+
+    /// A byte of `least` to `most`.
+    #[tactic(auto, unfolding(crate::specs::Reading::byte_at))]
+    pub fn count(&mut self, least: u8, most: u8) -> Result<u8, Stop>
+        ensures { Gives (λ n. n) result self.new (byte_at (from_to least most) FaultKind.BadCount self.old.bytes.now) }
+    {
+        let [byte, rest @ ..] = self.bytes else {
+            return Err(self.stop(FaultKind::LengthDiffers));
+        };
+        if *byte < least || most < *byte {
+            return Err(self.stop(FaultKind::BadCount));
+        }
         self.bytes = rest;
         Ok(*byte)
     }

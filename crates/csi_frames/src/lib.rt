@@ -16,6 +16,7 @@ mod lending;
 mod owned;
 mod progress;
 mod splitter;
+mod version;
 
 pub use cutting::any_cutting;
 pub use decoding::{decode, one_reading};
@@ -23,3 +24,4 @@ pub use encoding::{encode, encode_reply};
 pub use fault::{FaultKind, FrameFault};
 pub use frame_ref::FrameRef;
 pub use splitter::Splitter;
+pub use version::Version;
