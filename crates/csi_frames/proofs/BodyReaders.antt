@@ -60,7 +60,7 @@ kind_agrees version next = code_agrees (HasKind version) (is_body_kind version) 
 -- ---- the number
 
 -- the session and the call, as bytes
-abbrev number : Number → List ℕ
+abbrev pub number : Number → List ℕ
 number n = spelling.word n.session ++ spelling.word n.call
 
 -- the bytes were read as a session and then a call
@@ -79,7 +79,7 @@ number-back value bytes s =
     record { before = value.session; fits = s.fits.session_fits; back = spelling.word value.call; parts = s.are; second = record { before = value.call; fits = s.fits.call_fits; same = refl; are = refl } }
 
 -- the reader of a number agrees with the grammar
-number_agrees : (next : Grammar) → Agrees number_at (Spelled IsNumber number) (Word any (λ _. Word any (λ _. next))) (λ _. next)
+pub number_agrees : (next : Grammar) → Agrees number_at (Spelled IsNumber number) (Word any (λ _. Word any (λ _. next))) (λ _. next)
 unfolding number_at
 number_agrees next =
     in_words (Spelled IsNumber number) number-there number-back
@@ -241,7 +241,7 @@ WasFrame =
 one_version : (version : Version) → version_number version ≡ spelling.version
 one_version One = refl
 
-has_every_mode : (mode : Mode) → HasMode One mode
+pub has_every_mode : (mode : Mode) → HasMode One mode
 has_every_mode SingleNodeWriter = refl
 has_every_mode SingleNodeReaderOnly = refl
 has_every_mode MultiNodeReaderOnly = refl

@@ -156,7 +156,7 @@ some_is : (a b : Kind) → Some b ≡ Some a → a ≡ b
 some_is a b e = cc
 
 -- a number at which a kind is found is that kind's
-kind-back : (n : ℕ) (kind : Kind) → kind_from_number n ≡ Some kind → kind_number kind ≡ n
+pub kind-back : (n : ℕ) (kind : Kind) → kind_from_number n ≡ Some kind → kind_number kind ≡ n
 kind-back zero kind e = absurd cc
 kind-back (suc zero) kind e = ap kind_number (some_is kind kinds.CreateVolume e)
 kind-back (suc (suc zero)) kind e = ap kind_number (some_is kind kinds.DeleteVolume e)

@@ -21,3 +21,7 @@ kind_from_number (suc (suc (suc (suc (suc (suc (suc (suc (suc n))))))))) = None
 -- a reply has its call's number and 128
 abbrev pub body_kind_from_number : ℕ → Option BodyKind
 body_kind_from_number n = if nat_lt n 128 then option_map Call (kind_from_number n) else option_map Reply (kind_from_number (n - 128))
+
+-- the kind of the call that a reply of this kind byte answers
+abbrev pub reply_kind_from : ℕ → Option Kind
+reply_kind_from n = if nat_lt n 128 then None else kind_from_number (n - 128)

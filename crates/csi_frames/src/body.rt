@@ -32,8 +32,9 @@ fn kind_at(fields: &mut Fields<'_>, version: Version) -> Result<BodyKind, Stop>
     version.kind(byte).ok_or(bad)
 }
 
+/// The number of a call. It takes no memory.
 #[tactic(auto, unfolding(crate::specs::Reading::number_at))]
-fn number_at(fields: &mut Fields<'_>) -> Result<Number, Stop>
+pub fn number_at(fields: &mut Fields<'_>) -> Result<Number, Stop>
     ensures { Gives (λ number. number) result fields.new (number_at fields.old.bytes.now) }
 {
     let session = fields.word()?;

@@ -38,9 +38,13 @@ pub(crate) fn mode_at(fields: &mut Fields<'_>, version: Version) -> Result<Mode,
     version.mode(byte).ok_or(bad)
 }
 
+/// A capability, in a mode that the version has. It takes no memory.
 #[inline(always)]
 #[tactic(auto, unfolding(crate::specs::Reading::capability_at))]
-fn capability_at<'a>(fields: &mut Fields<'a>, version: Version) -> Result<CapabilityRef<'a>, Stop>
+pub fn capability_at<'a>(
+    fields: &mut Fields<'a>,
+    version: Version,
+) -> Result<CapabilityRef<'a>, Stop>
     ensures { Gives lent_capability result fields.new (capability_at version fields.old.bytes.now) }
 {
     let access = access_at(fields)?;
@@ -115,10 +119,7 @@ fn controller_publish_at<'a>(
 
 #[inline(always)]
 #[tactic(auto, unfolding(crate::specs::Reading::call_at, crate::specs::Reading::publish_at))]
-fn node_publish_at<'a>(
-    fields: &mut Fields<'a>,
-    version: Version,
-) -> Result<BorrowedCall<'a>, Stop>
+fn node_publish_at<'a>(fields: &mut Fields<'a>, version: Version) -> Result<BorrowedCall<'a>, Stop>
     ensures { Gives owned_call result fields.new (call_at version Kind.NodePublishVolume fields.old.bytes.now) }
 {
     let id = fields.id()?;
@@ -173,8 +174,9 @@ pub(crate) fn call_at<'a>(
     }
 }
 
+/// A status. It takes no memory.
 #[tactic(auto, unfolding(crate::specs::Reading::byte_at, crate::specs::Reading::status_at))]
-fn status_at(fields: &mut Fields<'_>) -> Result<Status, Stop>
+pub fn status_at(fields: &mut Fields<'_>) -> Result<Status, Stop>
     ensures { Gives (λ status. status) result fields.new (status_at fields.old.bytes.now) }
 {
     let bad = fields.stop(FaultKind::BadStatus);
