@@ -1,9 +1,15 @@
 -- The reader of a body agrees with the grammar, and what it reads is spelled so.
-use Rattle.std.proofs.Common.{◌≡◌, ℕ, ◌+◌, ◌^◌, ◌<◌, Bool, true, false, cond, List, [], ◌∷◌, ◌++◌, refl, sym, ap, subst, ◌∙◌}
+use Rattle.std.proofs.Common.{◌≡◌, ℕ, ◌+◌, ◌^◌, ◌<◌, Bool, true, false, cond, List, [], ◌∷◌, ◌++◌, refl, sym, ap, subst, ◌∙◌, arith}
+use Rattle.std.specs.List.{AllByRecursion}
 use Rattle.std.specs.Prelude.{◌==◌, not}
 use Rattle.std.proofs.lemmas.Bool.{eqb-true}
 use Rattle.std.proofs.lemmas.List.{append-nil}
 use Rattle.csi_types.specs.declared.number.Number.{Number}
+use Rattle.csi_types.specs.declared.mode.Mode.{Mode}
+use Rattle.csi_types.specs.declared.mode.Mode.TheVariants.{SingleNodeWriter, SingleNodeReaderOnly, MultiNodeReaderOnly, MultiNodeSingleWriter, MultiNodeMultiWriter}
+use Rattle.csi_types.specs.declared.capability.Capability.{Capability}
+use Rattle.csi_types.specs.declared.call.Call.{Call}
+use Rattle.csi_types.specs.declared.call.Call.TheVariants as calls
 use Rattle.csi_types.specs.declared.call.Kind.{Kind}
 use Rattle.csi_types.specs.declared.call.Party.{Party}
 use Rattle.csi_types.specs.declared.call.Party.TheVariants.{Controller, Node}
@@ -17,53 +23,44 @@ use Rattle.csi_types.specs.Limits.{IsNumber, IsParty, IsBody, IsFrame}
 use Rattle.csi_frames.specs.declared.body_kind.BodyKind.{BodyKind}
 use Rattle.csi_frames.specs.declared.body_kind.BodyKind.TheVariants as body_kinds
 use Rattle.csi_frames.specs.declared.fault.FaultKind.TheVariants.{BadVersion, BadKind, BadParty}
-use Rattle.csi_frames.specs.Codes.{kind_in, is_body_kind, body_kind_of}
+use Rattle.csi_frames.specs.declared.version.Version.{Version}
+use Rattle.csi_frames.specs.declared.version.Version.TheVariants.{One}
+use Rattle.csi_frames.specs.Version.{version_number}
+use Rattle.csi_frames.specs.Codes.{is_version, version_of, kind_in, is_body_kind, body_kind_of}
 use Rattle.csi_frames.specs.Spelling as spelling
-use Rattle.csi_frames.specs.Grammar.{Grammar, End, Byte, Word, Text, any, is_party_number, party_number, fields_grammar, party_grammar, numbered_grammar, body_grammar}
-use Rattle.csi_frames.specs.Reading.{head_at, number_at, party_at, fields_at, frame_at}
+use Rattle.csi_frames.specs.Grammar.{Grammar, End, Byte, Word, Text, any, is_party_number, party_number, fields_grammar, party_grammar, numbered_grammar, kind_grammar, body_grammar}
+use Rattle.csi_frames.specs.Reading.{version_at, kind_at, number_at, party_at, fields_at, frame_at}
 use Rattle.csi_frames.proofs.Readers.{Agrees, Then, then, Given, gives, in_words, Either, either}
 use Rattle.csi_frames.proofs.FieldReaders.{IsByte, byte_agrees}
 use Rattle.csi_frames.proofs.Says.{Spelled, After, Made, after, makes, Always, code_agrees}
 use Rattle.csi_types.specs.Same.{kind_number}
-use Rattle.csi_frames.proofs.Codes.{body_kind_number, body_kind_code}
+use Rattle.csi_frames.proofs.Codes.{version_code, HasMode, HasKind, body_kind_number, body_kind_code}
 use Rattle.csi_frames.proofs.CapabilityReaders.{any_word_agrees, any_text_agrees}
-use Rattle.csi_frames.proofs.CallReaders.{SaysCall, call_agrees, join2}
+use Rattle.csi_frames.proofs.CallReaders.{SaysCall, IsCallOf, call_agrees, join2}
 use Rattle.csi_frames.proofs.ReplyReaders.{SaysReply, reply_agrees}
 
 -- ---- version and kind
 
--- the version and the kind's number, as bytes
-abbrev head : BodyKind → List ℕ
-head kind = 1 ∷ body_kind_number kind ∷ []
+-- the version, and below the kind, as a byte
+abbrev version_byte : Version → List ℕ
+version_byte version = version_number version ∷ []
 
--- the bytes were read as a version, 1, and then a kind
-abbrev WasHead : BodyKind → List ℕ → Type 0
-WasHead = Then (IsByte (λ b. b == 1)) (λ version. Spelled Always (λ kind. body_kind_number kind ∷ []))
+abbrev kind_byte : BodyKind → List ℕ
+kind_byte kind = body_kind_number kind ∷ []
 
--- a version and a kind that were read are spelled so
-head-there : (value : BodyKind) (bytes : List ℕ) → WasHead value bytes → Spelled Always head value bytes
-head-there value bytes s =
-    record {
-      fits = tt;
-      are = s.parts ∙ ap (λ (t : List ℕ). t ++ s.back) s.first.one ∙ ap (λ (n : ℕ). n ∷ s.back) (eqb-true _ _ s.first.is_allowed) ∙ ap (λ (t : List ℕ). 1 ∷ t) s.second.are;
-    }
+-- the reader of the version agrees with the grammar, and so does that of the kind
+version_agrees : (next : Version → Grammar) → Agrees version_at (Spelled Always version_byte) (Byte is_version BadVersion (λ b. next (version_of b))) next
+unfolding version_at
+version_agrees next = code_agrees Always is_version BadVersion version_of version_number next version_code
 
--- the spelling of a version and a kind is a version and then a kind
-head-back : (value : BodyKind) (bytes : List ℕ) → Spelled Always head value bytes → WasHead value bytes
-head-back value bytes s =
-    record { before = 1; front = 1 ∷ []; back = body_kind_number value ∷ []; parts = s.are; first = record { is_allowed = refl; one = refl }; second = record { fits = tt; are = refl } }
-
--- the reader of the version and the kind agrees with the grammar
-head_agrees : (next : BodyKind → Grammar) → Agrees head_at (Spelled Always head) (Byte (λ b. b == 1) BadVersion (λ _. Byte is_body_kind BadKind (λ b. next (body_kind_of b)))) next
-unfolding head_at
-head_agrees next =
-    in_words (Spelled Always head) head-there head-back
-    (then (byte_agrees (λ b. b == 1) BadVersion (λ _. Byte is_body_kind BadKind (λ b. next (body_kind_of b)))) (λ version. code_agrees is_body_kind BadKind body_kind_of body_kind_number next body_kind_code))
+kind_agrees : (version : Version) (next : BodyKind → Grammar) → Agrees (kind_at version) (Spelled (HasKind version) kind_byte) (Byte (is_body_kind version) BadKind (λ b. next (body_kind_of b))) next
+unfolding kind_at
+kind_agrees version next = code_agrees (HasKind version) (is_body_kind version) BadKind body_kind_of body_kind_number next (body_kind_code version)
 
 -- ---- the number
 
 -- the session and the call, as bytes
-abbrev number : Number → List ℕ
+abbrev pub number : Number → List ℕ
 number n = spelling.word n.session ++ spelling.word n.call
 
 -- the bytes were read as a session and then a call
@@ -82,7 +79,7 @@ number-back value bytes s =
     record { before = value.session; fits = s.fits.session_fits; back = spelling.word value.call; parts = s.are; second = record { before = value.call; fits = s.fits.call_fits; same = refl; are = refl } }
 
 -- the reader of a number agrees with the grammar
-number_agrees : (next : Grammar) → Agrees number_at (Spelled IsNumber number) (Word any (λ _. Word any (λ _. next))) (λ _. next)
+pub number_agrees : (next : Grammar) → Agrees number_at (Spelled IsNumber number) (Word any (λ _. Word any (λ _. next))) (λ _. next)
 unfolding number_at
 number_agrees next =
     in_words (Spelled IsNumber number) number-there number-back
@@ -164,10 +161,10 @@ party-back kind (Node id) bytes s =
     }
 
 -- the reader of the party agrees with the grammar
-party_agrees : (kind : BodyKind) → Agrees (party_at kind) (Spelled (IsPartyOf kind) spelling.party) (party_grammar kind) (λ _. fields_grammar kind)
+party_agrees : (version : Version) (kind : BodyKind) → Agrees (party_at kind) (Spelled (IsPartyOf kind) spelling.party) (party_grammar version kind) (λ _. fields_grammar version kind)
 unfolding party_at
-party_agrees kind =
-    let next : Grammar = fields_grammar kind in
+party_agrees version kind =
+    let next : Grammar = fields_grammar version kind in
     in_words (Spelled (IsPartyOf kind) spelling.party) (party-there kind) (party-back kind)
     (then (byte_agrees (is_party_number kind) BadParty (λ b. cond (b == 0) next (Text 1 255 (λ _. next))))
     (λ b. either (b == 0) (gives {next = λ _. next} Controller) (makes Node (λ _. next) (any_text_agrees 1 255 (λ _. next)))))
@@ -181,33 +178,39 @@ IsBodyOf (body_kinds.Call kind) (bodies.Reply k reply) = ⊥
 IsBodyOf (body_kinds.Reply kind) (bodies.Call call) = ⊥
 IsBodyOf (body_kinds.Reply kind) (bodies.Reply k reply) = (k ≡ kind) × (has_id_by_rule kind reply ≡ true)
 
--- the body is of this kind, and within its limits
-pub record FitsKind (kind : BodyKind) (body : Body) : Type 0 where
+-- the body is of this version
+abbrev pub IsBodyIn : Version → Body → Type 0
+IsBodyIn version (bodies.Call call) = IsCallOf version call
+IsBodyIn version (bodies.Reply kind reply) = Unit {0}
+
+-- the body is of this version and kind, and within its limits
+pub record FitsKind (version : Version) (kind : BodyKind) (body : Body) : Type 0 where
   pub of_kind : IsBodyOf kind body
   pub fits : IsBody body
+  pub of_version : IsBodyIn version body
 
 -- a body of this kind, and its fields
-abbrev SaysFields : BodyKind → Body → List ℕ → Type 0
-SaysFields kind = Spelled (FitsKind kind) spelling.body_fields
+abbrev SaysFields : Version → BodyKind → Body → List ℕ → Type 0
+SaysFields version kind = Spelled (FitsKind version kind) spelling.body_fields
 
 -- the call, or below the reply, that was read is a body of its kind, and is spelled so; and back
-call-there : (kind : Kind) (value : Body) (bytes : List ℕ) → Then (SaysCall kind) (λ call. Given (bodies.Call call)) value bytes → SaysFields (body_kinds.Call kind) value bytes
-call-there kind value bytes s =
-    subst (λ (v : Body). SaysFields (body_kinds.Call kind) v bytes) (sym s.second.same)
-    (record { fits = record { of_kind = s.first.of_kind; fits = s.first.fits }; are = s.parts ∙ ap (λ (t : List ℕ). s.front ++ t) s.second.none ∙ append-nil s.front ∙ s.first.are })
+call-there : (version : Version) (kind : Kind) (value : Body) (bytes : List ℕ) → Then (SaysCall version kind) (λ call. Given (bodies.Call call)) value bytes → SaysFields version (body_kinds.Call kind) value bytes
+call-there version kind value bytes s =
+    subst (λ (v : Body). SaysFields version (body_kinds.Call kind) v bytes) (sym s.second.same)
+    (record { fits = record { of_kind = s.first.of_kind; fits = s.first.fits; of_version = s.first.of_version }; are = s.parts ∙ ap (λ (t : List ℕ). s.front ++ t) s.second.none ∙ append-nil s.front ∙ s.first.are })
 
-call-back : (kind : Kind) (value : Body) (bytes : List ℕ) → SaysFields (body_kinds.Call kind) value bytes → Then (SaysCall kind) (λ call. Given (bodies.Call call)) value bytes
-call-back kind (bodies.Call call) bytes s =
-    record { before = call; front = bytes; back = []; parts = sym (append-nil bytes); first = record { of_kind = s.fits.of_kind; fits = s.fits.fits; are = s.are }; second = record { same = refl; none = refl } }
-call-back kind (bodies.Reply k reply) bytes s = absurd s.fits.of_kind
+call-back : (version : Version) (kind : Kind) (value : Body) (bytes : List ℕ) → SaysFields version (body_kinds.Call kind) value bytes → Then (SaysCall version kind) (λ call. Given (bodies.Call call)) value bytes
+call-back version kind (bodies.Call call) bytes s =
+    record { before = call; front = bytes; back = []; parts = sym (append-nil bytes); first = record { of_kind = s.fits.of_kind; fits = s.fits.fits; of_version = s.fits.of_version; are = s.are }; second = record { same = refl; none = refl } }
+call-back version kind (bodies.Reply k reply) bytes s = absurd s.fits.of_kind
 
-reply-there : (kind : Kind) (value : Body) (bytes : List ℕ) → Then (SaysReply kind) (λ reply. Given (bodies.Reply kind reply)) value bytes → SaysFields (body_kinds.Reply kind) value bytes
-reply-there kind value bytes s =
-    subst (λ (v : Body). SaysFields (body_kinds.Reply kind) v bytes) (sym s.second.same)
-    (record { fits = record { of_kind = (refl, s.first.rule); fits = s.first.fits }; are = s.parts ∙ ap (λ (t : List ℕ). s.front ++ t) s.second.none ∙ append-nil s.front ∙ s.first.are })
+reply-there : (version : Version) (kind : Kind) (value : Body) (bytes : List ℕ) → Then (SaysReply kind) (λ reply. Given (bodies.Reply kind reply)) value bytes → SaysFields version (body_kinds.Reply kind) value bytes
+reply-there version kind value bytes s =
+    subst (λ (v : Body). SaysFields version (body_kinds.Reply kind) v bytes) (sym s.second.same)
+    (record { fits = record { of_kind = (refl, s.first.rule); fits = s.first.fits; of_version = tt }; are = s.parts ∙ ap (λ (t : List ℕ). s.front ++ t) s.second.none ∙ append-nil s.front ∙ s.first.are })
 
-reply-back : (kind : Kind) (value : Body) (bytes : List ℕ) → SaysFields (body_kinds.Reply kind) value bytes → Then (SaysReply kind) (λ reply. Given (bodies.Reply kind reply)) value bytes
-reply-back kind (bodies.Reply k reply) bytes s =
+reply-back : (version : Version) (kind : Kind) (value : Body) (bytes : List ℕ) → SaysFields version (body_kinds.Reply kind) value bytes → Then (SaysReply kind) (λ reply. Given (bodies.Reply kind reply)) value bytes
+reply-back version kind (bodies.Reply k reply) bytes s =
     record {
       before = reply;
       front = bytes;
@@ -216,22 +219,52 @@ reply-back kind (bodies.Reply k reply) bytes s =
       first = record { fits = s.fits.fits; rule = s.fits.of_kind.1; are = s.are };
       second = record { same = ap (λ (k : Kind). bodies.Reply k reply) s.fits.of_kind.0; none = refl };
     }
-reply-back kind (bodies.Call call) bytes s = absurd s.fits.of_kind
+reply-back version kind (bodies.Call call) bytes s = absurd s.fits.of_kind
 
 -- the reader of the kind's fields agrees with the grammar
-fields_agree : (kind : BodyKind) → Agrees (fields_at kind) (SaysFields kind) (fields_grammar kind) (λ _. End)
+fields_agree : (version : Version) (kind : BodyKind) → Agrees (fields_at version kind) (SaysFields version kind) (fields_grammar version kind) (λ _. End)
 unfolding fields_at
-fields_agree (body_kinds.Call kind) =
-    in_words (SaysFields (body_kinds.Call kind)) (call-there kind) (call-back kind) (then (call_agrees kind) (λ call. gives {next = λ _. End} (bodies.Call call)))
-fields_agree (body_kinds.Reply kind) =
-    in_words (SaysFields (body_kinds.Reply kind)) (reply-there kind) (reply-back kind) (then (reply_agrees kind) (λ reply. gives {next = λ _. End} (bodies.Reply kind reply)))
+fields_agree version (body_kinds.Call kind) =
+    in_words (SaysFields version (body_kinds.Call kind)) (call-there version kind) (call-back version kind) (then (call_agrees version kind) (λ call. gives {next = λ _. End} (bodies.Call call)))
+fields_agree version (body_kinds.Reply kind) =
+    in_words (SaysFields version (body_kinds.Reply kind)) (reply-there version kind) (reply-back version kind) (then (reply_agrees kind) (λ reply. gives {next = λ _. End} (bodies.Reply kind reply)))
 
 -- ---- the whole body
 
--- the bytes were read as a head, a number, a party and the kind's fields
+-- the bytes were read as a version, a kind, a number, a party and the kind's fields
 abbrev WasFrame : Frame → List ℕ → Type 0
 WasFrame =
-    After Always head (λ kind. After IsNumber number (λ n. After (IsPartyOf kind) spelling.party (λ party. Made (FitsKind kind) spelling.body_fields (λ body. record { number = n; party = party; body = body }))))
+    After Always version_byte (λ version. After (HasKind version) kind_byte (λ kind. After IsNumber number (λ n. After (IsPartyOf kind) spelling.party (λ party.
+    Made (FitsKind version kind) spelling.body_fields (λ body. record { number = n; party = party; body = body })))))
+
+-- each version is the first one, which has all bodies and all kinds of them
+one_version : (version : Version) → version_number version ≡ spelling.version
+one_version One = refl
+
+pub has_every_mode : (mode : Mode) → HasMode One mode
+has_every_mode SingleNodeWriter = refl
+has_every_mode SingleNodeReaderOnly = refl
+has_every_mode MultiNodeReaderOnly = refl
+has_every_mode MultiNodeSingleWriter = refl
+has_every_mode MultiNodeMultiWriter = refl
+
+has_each_mode : (capabilities : List Capability) → AllByRecursion (λ c. HasMode One c.mode) capabilities
+has_each_mode [] = tt
+has_each_mode (c ∷ cs) = (has_every_mode c.mode, has_each_mode cs)
+
+has_every_call : (call : Call) → IsCallOf One call
+has_every_call (calls.CreateVolume name required limit capabilities) = (omega arith, has_each_mode capabilities)
+has_every_call (calls.DeleteVolume id) = tt
+has_every_call (calls.ControllerPublishVolume id node c readonly) = has_every_mode c.mode
+has_every_call (calls.ControllerUnpublishVolume id node) = tt
+has_every_call (calls.NodeStageVolume id c) = has_every_mode c.mode
+has_every_call (calls.NodeUnstageVolume id) = tt
+has_every_call (calls.NodePublishVolume id target c readonly) = has_every_mode c.mode
+has_every_call (calls.NodeUnpublishVolume id target) = tt
+
+has_every_body : (body : Body) → IsBodyIn One body
+has_every_body (bodies.Call call) = has_every_call call
+has_every_body (bodies.Reply kind reply) = tt
 
 -- a party to which such calls go, and a body of this kind, may stand together in a frame
 allowed-there : (kind : BodyKind) (party : Party) (body : Body) → is_party_of (kind_in kind) party ≡ true → IsBodyOf kind body → IsAllowed party body
@@ -251,13 +284,14 @@ number-there-of (body_kinds.Reply kind) (bodies.Reply k reply) e = ap (λ (k : K
 frame-there : (value : Frame) (bytes : List ℕ) → WasFrame value bytes → Spelled IsFrame spelling.frame_body value bytes
 unfolding spelling.frame_body
 frame-there value bytes s =
-    let s1 = s.second in let s2 = s1.second in let s3 = s2.second in
-    let kind = s.before in let n = s1.before in let party = s2.before in let body = s3.before in
+    let s0 = s.second in let s1 = s0.second in let s2 = s1.second in let s3 = s2.second in
+    let version = s.before in let kind = s0.before in let n = s1.before in let party = s2.before in let body = s3.before in
     subst (λ (v : Frame). Spelled IsFrame spelling.frame_body v bytes) (sym s3.same)
     (record {
       fits = record { number_fits = s1.fits; party_fits = s2.fits.fits; body_fits = s3.fits.fits; allowed = allowed-there kind party body s2.fits.of_kind s3.fits.of_kind };
-      are = s.parts ∙ ap (λ (t : List ℕ). head kind ++ t) (s1.parts ∙ ap (λ (t : List ℕ). number n ++ t) (s2.parts ∙ ap (λ (t : List ℕ). spelling.party party ++ t) s3.are))
-          ∙ ap (λ (k : ℕ). 1 ∷ k ∷ number n ++ (spelling.party party ++ spelling.body_fields body)) (number-there-of kind body s3.fits.of_kind);
+      are = s.parts ∙ ap (λ (t : List ℕ). version_byte version ++ t) (s0.parts ∙ ap (λ (t : List ℕ). kind_byte kind ++ t) (s1.parts ∙ ap (λ (t : List ℕ). number n ++ t) (s2.parts ∙ ap (λ (t : List ℕ). spelling.party party ++ t) s3.are)))
+          ∙ ap (λ (v : ℕ). v ∷ body_kind_number kind ∷ number n ++ (spelling.party party ++ spelling.body_fields body)) (one_version version)
+          ∙ ap (λ (k : ℕ). spelling.version ∷ k ∷ number n ++ (spelling.party party ++ spelling.body_fields body)) (number-there-of kind body s3.fits.of_kind);
     })
 
 -- a body is of its own kind
@@ -279,21 +313,27 @@ frame-back value bytes s =
     let o = of_itself value.party value.body s.fits.allowed in
     let rest : List ℕ = number value.number ++ (spelling.party value.party ++ spelling.body_fields value.body) in
     record {
-      before = o.kind;
+      before = One;
       fits = tt;
-      back = rest;
-      parts = s.are ∙ ap (λ (k : ℕ). 1 ∷ k ∷ rest) o.numbered;
+      back = spelling.body_kind value.body ∷ rest;
+      parts = s.are;
       second = record {
-        before = value.number;
-        fits = s.fits.number_fits;
-        back = spelling.party value.party ++ spelling.body_fields value.body;
-        parts = refl;
+        before = o.kind;
+        fits = refl;
+        back = rest;
+        parts = ap (λ (k : ℕ). k ∷ rest) o.numbered;
         second = record {
-          before = value.party;
-          fits = record { fits = s.fits.party_fits; of_kind = o.of_party };
-          back = spelling.body_fields value.body;
+          before = value.number;
+          fits = s.fits.number_fits;
+          back = spelling.party value.party ++ spelling.body_fields value.body;
           parts = refl;
-          second = record { before = value.body; fits = record { of_kind = o.of_body; fits = s.fits.body_fits }; same = refl; are = refl };
+          second = record {
+            before = value.party;
+            fits = record { fits = s.fits.party_fits; of_kind = o.of_party };
+            back = spelling.body_fields value.body;
+            parts = refl;
+            second = record { before = value.body; fits = record { of_kind = o.of_body; fits = s.fits.body_fits; of_version = has_every_body value.body }; same = refl; are = refl };
+          };
         };
       };
     }
@@ -303,7 +343,8 @@ pub frame_agrees : Agrees frame_at (Spelled IsFrame spelling.frame_body) body_gr
 unfolding frame_at body_grammar
 frame_agrees =
     in_words (Spelled IsFrame spelling.frame_body) frame-there frame-back
-    (after (head_agrees numbered_grammar)
-    (λ kind. after (number_agrees (party_grammar kind))
-    (λ n. after (party_agrees kind)
-    (λ party. makes (λ body. record { number = n; party = party; body = body }) (λ _. End) (fields_agree kind)))))
+    (after (version_agrees kind_grammar)
+    (λ version. after (kind_agrees version (numbered_grammar version))
+    (λ kind. after (number_agrees (party_grammar version kind))
+    (λ n. after (party_agrees version kind)
+    (λ party. makes (λ body. record { number = n; party = party; body = body }) (λ _. End) (fields_agree version kind))))))

@@ -1,6 +1,7 @@
 -- The readers of calls agree with the grammar, and what they read is spelled so.
-use Rattle.std.proofs.Common.{◌≡◌, ℕ, ◌≤◌, Bool, List, [], ◌∷◌, ◌++◌, length, refl, sym, ap, subst, ◌∙◌, append_assoc, arith}
-use Rattle.std.specs.List.{flat_map}
+use Rattle.std.proofs.Common.{◌≡◌, ℕ, ◌≤◌, Bool, true, false, List, [], ◌∷◌, ◌++◌, length, refl, sym, ap, subst, ◌∙◌, append_assoc, arith}
+use Rattle.std.specs.Prelude.{nat_le, ◌&&◌}
+use Rattle.std.specs.List.{flat_map, AllByRecursion}
 use Rattle.std.proofs.lemmas.Bool.{leb-true, le-leb}
 use Rattle.csi_types.specs.declared.capability.Capability.{Capability}
 use Rattle.csi_types.specs.declared.call.Kind.{Kind}
@@ -10,15 +11,29 @@ use Rattle.csi_types.specs.declared.call.Call.TheVariants as calls
 use Rattle.csi_types.specs.Text.{IsText, IsName}
 use Rattle.csi_types.specs.VolumeId.{IsVolumeId}
 use Rattle.csi_types.specs.Call.{kind_of}
-use Rattle.csi_types.specs.Limits.{IsWord, IsCapability, IsCall}
+use Rattle.csi_types.specs.Limits.{IsWord, IsCall}
 use Rattle.csi_frames.specs.declared.fault.FaultKind.TheVariants.{BadCount}
 use Rattle.csi_frames.specs.Spelling as spelling
-use Rattle.csi_frames.specs.Grammar.{End, Byte, Word, Text, any, at_most, capability_grammar, capabilities_grammar, flag_grammar, call_grammar}
+use Rattle.csi_frames.specs.declared.version.Version.{Version}
+use Rattle.csi_frames.specs.Version.{least_count}
+use Rattle.csi_frames.specs.Grammar.{End, Byte, Word, Text, any, is_count, capability_grammar, capabilities_grammar, flag_grammar, call_grammar}
 use Rattle.csi_frames.specs.Reading.{create_at, id_alone_at, id_and_text_at, stage_at, publish_at, call_at}
 use Rattle.csi_frames.proofs.Readers.{Agrees, Then, then, in_words}
 use Rattle.csi_frames.proofs.FieldReaders.{IsByte, byte_agrees}
 use Rattle.csi_frames.proofs.Says.{After, Made, after, makes, Always}
-use Rattle.csi_frames.proofs.CapabilityReaders.{any_word_agrees, id_agrees, any_text_agrees, flag_agrees, capability_agrees, AreCapabilities, capabilities_agree}
+use Rattle.csi_frames.proofs.Codes.{HasMode}
+use Rattle.csi_frames.proofs.CapabilityReaders.{any_word_agrees, id_agrees, any_text_agrees, flag_agrees, capability_agrees, IsCapabilityOf, AreCapabilities, capabilities_agree}
+
+-- ---- two tests
+
+-- where two tests hold together, each of them holds; and the other way round
+both : (a b : Bool) → (a && b) ≡ true → (a ≡ true) × (b ≡ true)
+both true true e = (refl, refl)
+both true false e = absurd cc
+both false b e = absurd cc
+
+both_true : {a b : Bool} → a ≡ true → b ≡ true → (a && b) ≡ true
+both_true first second = rw (first, second) refl
 
 -- ---- parts put together
 
@@ -42,21 +57,33 @@ cut4 x a b c d e = e ∙ append_assoc (a ++ b) c d ∙ append_assoc a b (c ++ d)
 
 -- ---- calls
 
--- a call of this kind, within its limits, and its fields
-pub record SaysCall (kind : Kind) (value : Call) (bytes : List ℕ) : Type 0 where
+-- its capabilities are in modes that the version has, and no fewer than it asks for
+abbrev pub IsCallOf : Version → Call → Type 0
+IsCallOf version (calls.CreateVolume name required limit capabilities) = (least_count version ≤ length capabilities) × AllByRecursion (λ c. HasMode version c.mode) capabilities
+IsCallOf version (calls.DeleteVolume id) = Unit {0}
+IsCallOf version (calls.ControllerPublishVolume id node c readonly) = HasMode version c.mode
+IsCallOf version (calls.ControllerUnpublishVolume id node) = Unit {0}
+IsCallOf version (calls.NodeStageVolume id c) = HasMode version c.mode
+IsCallOf version (calls.NodeUnstageVolume id) = Unit {0}
+IsCallOf version (calls.NodePublishVolume id target c readonly) = HasMode version c.mode
+IsCallOf version (calls.NodeUnpublishVolume id target) = Unit {0}
+
+-- a call of this kind and of this version, within its limits, and its fields
+pub record SaysCall (version : Version) (kind : Kind) (value : Call) (bytes : List ℕ) : Type 0 where
   pub of_kind : kind_of value ≡ kind
   pub fits : IsCall value
+  pub of_version : IsCallOf version value
   pub are : bytes ≡ spelling.call_fields value
 
 -- CreateVolume
 
--- the bytes were read as a count, of at most 8, and so many capabilities
-abbrev WasCounted : List ℕ → ℕ → ℕ → Call → List ℕ → Type 0
-WasCounted name required limit = Then (IsByte (at_most 8)) (λ count. Made (AreCapabilities count) (flat_map spelling.capability) (λ capabilities. calls.CreateVolume name required limit capabilities))
+-- the bytes were read as a count and so many capabilities
+abbrev WasCounted : Version → List ℕ → ℕ → ℕ → Call → List ℕ → Type 0
+WasCounted version name required limit = Then (IsByte (is_count version)) (λ count. Made (AreCapabilities version count) (flat_map spelling.capability) (λ capabilities. calls.CreateVolume name required limit capabilities))
 
 -- the bytes were read as the fields of a CreateVolume
-abbrev SaysCreate : Call → List ℕ → Type 0
-SaysCreate = After IsName spelling.text (λ name. After IsWord spelling.word (λ required. After IsWord spelling.word (λ limit. WasCounted name required limit)))
+abbrev SaysCreate : Version → Call → List ℕ → Type 0
+SaysCreate version = After IsName spelling.text (λ name. After IsWord spelling.word (λ required. After IsWord spelling.word (λ limit. WasCounted version name required limit)))
 
 -- a count and the capabilities that it counts are spelled as their length and then each of them
 counted : (bytes front back : List ℕ) (count : ℕ) (capabilities : List Capability) → bytes ≡ front ++ back → front ≡ count ∷ [] → back ≡ flat_map spelling.capability capabilities → length capabilities ≡ count
@@ -65,22 +92,25 @@ counted bytes front back count capabilities e f g h =
     e ∙ ap (λ (t : List ℕ). t ++ back) f ∙ ap (λ (t : List ℕ). count ∷ t) g ∙ ap (λ (n : ℕ). n ∷ flat_map spelling.capability capabilities) (sym h)
 
 -- the fields that were read are those of a CreateVolume within its limits
-create-there : (value : Call) (bytes : List ℕ) → SaysCreate value bytes → SaysCall kinds.CreateVolume value bytes
-create-there value bytes s =
+create-there : (version : Version) (value : Call) (bytes : List ℕ) → SaysCreate version value bytes → SaysCall version kinds.CreateVolume value bytes
+create-there version value bytes s =
     let name = s.before in let s1 = s.second in let required = s1.before in let s2 = s1.second in let limit = s2.before in let s3 = s2.second in
     let made = s3.second in let capabilities = made.before in
-    let few : length capabilities ≤ 8 = omega (arith, made.fits.counted, leb-true s3.before 8 s3.first.is_allowed) in
+    let within = both (nat_le (least_count version) s3.before) (nat_le s3.before 8) s3.first.is_allowed in
+    let enough : least_count version ≤ length capabilities = omega (arith, made.fits.counted, leb-true (least_count version) s3.before within.0) in
+    let few : length capabilities ≤ 8 = omega (arith, made.fits.counted, leb-true s3.before 8 within.1) in
     let last : s2.back ≡ length capabilities ∷ flat_map spelling.capability capabilities = counted s2.back s3.front s3.back s3.before capabilities s3.parts s3.first.one made.are made.fits.counted in
-    subst (λ (v : Call). SaysCall kinds.CreateVolume v bytes) (sym made.same)
+    subst (λ (v : Call). SaysCall version kinds.CreateVolume v bytes) (sym made.same)
     (record {
       of_kind = refl;
       fits = (s.fits, s1.fits, s2.fits, (few, made.fits.each));
+      of_version = (enough, made.fits.in_modes);
       are = join4 bytes (spelling.text name) (spelling.word required) (spelling.word limit) (length capabilities ∷ flat_map spelling.capability capabilities) s.back s1.back s2.back s.parts s1.parts s2.parts last;
     })
 
 -- the spelling of a CreateVolume's fields is a name, two numbers, a count and the capabilities
-create-back : (value : Call) (bytes : List ℕ) → SaysCall kinds.CreateVolume value bytes → SaysCreate value bytes
-create-back (calls.CreateVolume name required limit capabilities) bytes s =
+create-back : (version : Version) (value : Call) (bytes : List ℕ) → SaysCall version kinds.CreateVolume value bytes → SaysCreate version value bytes
+create-back version (calls.CreateVolume name required limit capabilities) bytes s =
     let last : List ℕ = length capabilities ∷ flat_map spelling.capability capabilities in
     record {
       before = name;
@@ -102,41 +132,41 @@ create-back (calls.CreateVolume name required limit capabilities) bytes s =
             front = length capabilities ∷ [];
             back = flat_map spelling.capability capabilities;
             parts = refl;
-            first = record { is_allowed = le-leb _ _ s.fits.3.0; one = refl };
-            second = record { before = capabilities; fits = record { counted = refl; each = s.fits.3.1 }; same = refl; are = refl };
+            first = record { is_allowed = both_true (le-leb _ _ s.of_version.0) (le-leb _ _ s.fits.3.0); one = refl };
+            second = record { before = capabilities; fits = record { counted = refl; each = s.fits.3.1; in_modes = s.of_version.1 }; same = refl; are = refl };
           };
         };
       };
     }
-create-back _ bytes s = absurd (cc s.of_kind)
+create-back version _ bytes s = absurd (cc s.of_kind)
 
 -- the reader of a CreateVolume agrees with the grammar
-create_agrees : Agrees create_at (SaysCall kinds.CreateVolume) (call_grammar kinds.CreateVolume) (λ _. End)
+create_agrees : (version : Version) → Agrees (create_at version) (SaysCall version kinds.CreateVolume) (call_grammar version kinds.CreateVolume) (λ _. End)
 unfolding create_at call_grammar
-create_agrees =
-    in_words (SaysCall kinds.CreateVolume) create-there create-back
-    (after (any_text_agrees 1 128 (λ _. Word any (λ _. Word any (λ _. Byte (at_most 8) BadCount capabilities_grammar))))
-    (λ name. after (any_word_agrees (λ _. Word any (λ _. Byte (at_most 8) BadCount capabilities_grammar)))
-    (λ required. after (any_word_agrees (λ _. Byte (at_most 8) BadCount capabilities_grammar))
-    (λ limit. then (byte_agrees (at_most 8) BadCount capabilities_grammar)
-    (λ count. makes (λ capabilities. calls.CreateVolume name required limit capabilities) (λ _. End) (capabilities_agree count))))))
+create_agrees version =
+    in_words (SaysCall version kinds.CreateVolume) (create-there version) (create-back version)
+    (after (any_text_agrees 1 128 (λ _. Word any (λ _. Word any (λ _. Byte (is_count version) BadCount (capabilities_grammar version)))))
+    (λ name. after (any_word_agrees (λ _. Word any (λ _. Byte (is_count version) BadCount (capabilities_grammar version))))
+    (λ required. after (any_word_agrees (λ _. Byte (is_count version) BadCount (capabilities_grammar version)))
+    (λ limit. then (byte_agrees (is_count version) BadCount (capabilities_grammar version))
+    (λ count. makes (λ capabilities. calls.CreateVolume name required limit capabilities) (λ _. End) (capabilities_agree version count))))))
 
 -- calls with an id alone
 
 -- what was read is such a call within its limits and is spelled so, and back: of each call below
-delete-there : (value : Call) (bytes : List ℕ) → Made IsVolumeId spelling.word (λ id. calls.DeleteVolume id) value bytes → SaysCall kinds.DeleteVolume value bytes
-delete-there value bytes s = subst (λ (v : Call). SaysCall kinds.DeleteVolume v bytes) (sym s.same) (record { of_kind = refl; fits = s.fits; are = s.are })
+delete-there : (version : Version) (value : Call) (bytes : List ℕ) → Made IsVolumeId spelling.word (λ id. calls.DeleteVolume id) value bytes → SaysCall version kinds.DeleteVolume value bytes
+delete-there version value bytes s = subst (λ (v : Call). SaysCall version kinds.DeleteVolume v bytes) (sym s.same) (record { of_kind = refl; fits = s.fits; of_version = tt; are = s.are })
 
-delete-back : (value : Call) (bytes : List ℕ) → SaysCall kinds.DeleteVolume value bytes → Made IsVolumeId spelling.word (λ id. calls.DeleteVolume id) value bytes
-delete-back (calls.DeleteVolume id) bytes s = record { before = id; fits = s.fits; same = refl; are = s.are }
-delete-back _ bytes s = absurd (cc s.of_kind)
+delete-back : (version : Version) (value : Call) (bytes : List ℕ) → SaysCall version kinds.DeleteVolume value bytes → Made IsVolumeId spelling.word (λ id. calls.DeleteVolume id) value bytes
+delete-back version (calls.DeleteVolume id) bytes s = record { before = id; fits = s.fits; same = refl; are = s.are }
+delete-back version _ bytes s = absurd (cc s.of_kind)
 
-unstage-there : (value : Call) (bytes : List ℕ) → Made IsVolumeId spelling.word (λ id. calls.NodeUnstageVolume id) value bytes → SaysCall kinds.NodeUnstageVolume value bytes
-unstage-there value bytes s = subst (λ (v : Call). SaysCall kinds.NodeUnstageVolume v bytes) (sym s.same) (record { of_kind = refl; fits = s.fits; are = s.are })
+unstage-there : (version : Version) (value : Call) (bytes : List ℕ) → Made IsVolumeId spelling.word (λ id. calls.NodeUnstageVolume id) value bytes → SaysCall version kinds.NodeUnstageVolume value bytes
+unstage-there version value bytes s = subst (λ (v : Call). SaysCall version kinds.NodeUnstageVolume v bytes) (sym s.same) (record { of_kind = refl; fits = s.fits; of_version = tt; are = s.are })
 
-unstage-back : (value : Call) (bytes : List ℕ) → SaysCall kinds.NodeUnstageVolume value bytes → Made IsVolumeId spelling.word (λ id. calls.NodeUnstageVolume id) value bytes
-unstage-back (calls.NodeUnstageVolume id) bytes s = record { before = id; fits = s.fits; same = refl; are = s.are }
-unstage-back _ bytes s = absurd (cc s.of_kind)
+unstage-back : (version : Version) (value : Call) (bytes : List ℕ) → SaysCall version kinds.NodeUnstageVolume value bytes → Made IsVolumeId spelling.word (λ id. calls.NodeUnstageVolume id) value bytes
+unstage-back version (calls.NodeUnstageVolume id) bytes s = record { before = id; fits = s.fits; same = refl; are = s.are }
+unstage-back version _ bytes s = absurd (cc s.of_kind)
 
 -- calls with an id and a text
 
@@ -144,56 +174,56 @@ unstage-back _ bytes s = absurd (cc s.of_kind)
 abbrev SaysIdText : (ℕ → List ℕ → Call) → Call → List ℕ → Type 0
 SaysIdText make = After IsVolumeId spelling.word (λ id. Made (IsText 1 255) spelling.text (make id))
 
-unpublish-there : (value : Call) (bytes : List ℕ) → SaysIdText (λ id node. calls.ControllerUnpublishVolume id node) value bytes → SaysCall kinds.ControllerUnpublishVolume value bytes
-unpublish-there value bytes s =
-    subst (λ (v : Call). SaysCall kinds.ControllerUnpublishVolume v bytes) (sym s.second.same)
-    (record { of_kind = refl; fits = (s.fits, s.second.fits); are = join2 bytes (spelling.word s.before) (spelling.text s.second.before) s.back s.parts s.second.are })
+unpublish-there : (version : Version) (value : Call) (bytes : List ℕ) → SaysIdText (λ id node. calls.ControllerUnpublishVolume id node) value bytes → SaysCall version kinds.ControllerUnpublishVolume value bytes
+unpublish-there version value bytes s =
+    subst (λ (v : Call). SaysCall version kinds.ControllerUnpublishVolume v bytes) (sym s.second.same)
+    (record { of_kind = refl; fits = (s.fits, s.second.fits); of_version = tt; are = join2 bytes (spelling.word s.before) (spelling.text s.second.before) s.back s.parts s.second.are })
 
-unpublish-back : (value : Call) (bytes : List ℕ) → SaysCall kinds.ControllerUnpublishVolume value bytes → SaysIdText (λ id node. calls.ControllerUnpublishVolume id node) value bytes
-unpublish-back (calls.ControllerUnpublishVolume id node) bytes s =
+unpublish-back : (version : Version) (value : Call) (bytes : List ℕ) → SaysCall version kinds.ControllerUnpublishVolume value bytes → SaysIdText (λ id node. calls.ControllerUnpublishVolume id node) value bytes
+unpublish-back version (calls.ControllerUnpublishVolume id node) bytes s =
     record { before = id; fits = s.fits.0; back = spelling.text node; parts = s.are; second = record { before = node; fits = s.fits.1; same = refl; are = refl } }
-unpublish-back _ bytes s = absurd (cc s.of_kind)
+unpublish-back version _ bytes s = absurd (cc s.of_kind)
 
-node_unpublish-there : (value : Call) (bytes : List ℕ) → SaysIdText (λ id target. calls.NodeUnpublishVolume id target) value bytes → SaysCall kinds.NodeUnpublishVolume value bytes
-node_unpublish-there value bytes s =
-    subst (λ (v : Call). SaysCall kinds.NodeUnpublishVolume v bytes) (sym s.second.same)
-    (record { of_kind = refl; fits = (s.fits, s.second.fits); are = join2 bytes (spelling.word s.before) (spelling.text s.second.before) s.back s.parts s.second.are })
+node_unpublish-there : (version : Version) (value : Call) (bytes : List ℕ) → SaysIdText (λ id target. calls.NodeUnpublishVolume id target) value bytes → SaysCall version kinds.NodeUnpublishVolume value bytes
+node_unpublish-there version value bytes s =
+    subst (λ (v : Call). SaysCall version kinds.NodeUnpublishVolume v bytes) (sym s.second.same)
+    (record { of_kind = refl; fits = (s.fits, s.second.fits); of_version = tt; are = join2 bytes (spelling.word s.before) (spelling.text s.second.before) s.back s.parts s.second.are })
 
-node_unpublish-back : (value : Call) (bytes : List ℕ) → SaysCall kinds.NodeUnpublishVolume value bytes → SaysIdText (λ id target. calls.NodeUnpublishVolume id target) value bytes
-node_unpublish-back (calls.NodeUnpublishVolume id target) bytes s =
+node_unpublish-back : (version : Version) (value : Call) (bytes : List ℕ) → SaysCall version kinds.NodeUnpublishVolume value bytes → SaysIdText (λ id target. calls.NodeUnpublishVolume id target) value bytes
+node_unpublish-back version (calls.NodeUnpublishVolume id target) bytes s =
     record { before = id; fits = s.fits.0; back = spelling.text target; parts = s.are; second = record { before = target; fits = s.fits.1; same = refl; are = refl } }
-node_unpublish-back _ bytes s = absurd (cc s.of_kind)
+node_unpublish-back version _ bytes s = absurd (cc s.of_kind)
 
 -- NodeStageVolume
 
 -- the bytes were read as an id and a capability
-abbrev SaysStage : Call → List ℕ → Type 0
-SaysStage = After IsVolumeId spelling.word (λ id. Made IsCapability spelling.capability (λ c. calls.NodeStageVolume id c))
+abbrev SaysStage : Version → Call → List ℕ → Type 0
+SaysStage version = After IsVolumeId spelling.word (λ id. Made (IsCapabilityOf version) spelling.capability (λ c. calls.NodeStageVolume id c))
 
-stage-there : (value : Call) (bytes : List ℕ) → SaysStage value bytes → SaysCall kinds.NodeStageVolume value bytes
-stage-there value bytes s =
-    subst (λ (v : Call). SaysCall kinds.NodeStageVolume v bytes) (sym s.second.same)
-    (record { of_kind = refl; fits = (s.fits, s.second.fits); are = join2 bytes (spelling.word s.before) (spelling.capability s.second.before) s.back s.parts s.second.are })
+stage-there : (version : Version) (value : Call) (bytes : List ℕ) → SaysStage version value bytes → SaysCall version kinds.NodeStageVolume value bytes
+stage-there version value bytes s =
+    subst (λ (v : Call). SaysCall version kinds.NodeStageVolume v bytes) (sym s.second.same)
+    (record { of_kind = refl; fits = (s.fits, s.second.fits.fits); of_version = s.second.fits.in_mode; are = join2 bytes (spelling.word s.before) (spelling.capability s.second.before) s.back s.parts s.second.are })
 
-stage-back : (value : Call) (bytes : List ℕ) → SaysCall kinds.NodeStageVolume value bytes → SaysStage value bytes
-stage-back (calls.NodeStageVolume id c) bytes s =
-    record { before = id; fits = s.fits.0; back = spelling.capability c; parts = s.are; second = record { before = c; fits = s.fits.1; same = refl; are = refl } }
-stage-back _ bytes s = absurd (cc s.of_kind)
+stage-back : (version : Version) (value : Call) (bytes : List ℕ) → SaysCall version kinds.NodeStageVolume value bytes → SaysStage version value bytes
+stage-back version (calls.NodeStageVolume id c) bytes s =
+    record { before = id; fits = s.fits.0; back = spelling.capability c; parts = s.are; second = record { before = c; fits = record { fits = s.fits.1; in_mode = s.of_version }; same = refl; are = refl } }
+stage-back version _ bytes s = absurd (cc s.of_kind)
 
 -- calls with an id, a text, a capability and a flag
 
 -- the bytes were read as an id, a text, a capability and a flag
-abbrev SaysPublish : (ℕ → List ℕ → Capability → Bool → Call) → Call → List ℕ → Type 0
-SaysPublish make = After IsVolumeId spelling.word (λ id. After (IsText 1 255) spelling.text (λ place. After IsCapability spelling.capability (λ c. Made Always spelling.flag (make id place c))))
+abbrev SaysPublish : Version → (ℕ → List ℕ → Capability → Bool → Call) → Call → List ℕ → Type 0
+SaysPublish version make = After IsVolumeId spelling.word (λ id. After (IsText 1 255) spelling.text (λ place. After (IsCapabilityOf version) spelling.capability (λ c. Made Always spelling.flag (make id place c))))
 
-publish-there : (value : Call) (bytes : List ℕ) → SaysPublish (λ id node c readonly. calls.ControllerPublishVolume id node c readonly) value bytes → SaysCall kinds.ControllerPublishVolume value bytes
-publish-there value bytes s =
+publish-there : (version : Version) (value : Call) (bytes : List ℕ) → SaysPublish version (λ id node c readonly. calls.ControllerPublishVolume id node c readonly) value bytes → SaysCall version kinds.ControllerPublishVolume value bytes
+publish-there version value bytes s =
     let s1 = s.second in let s2 = s1.second in let s3 = s2.second in
-    subst (λ (v : Call). SaysCall kinds.ControllerPublishVolume v bytes) (sym s3.same)
-    (record { of_kind = refl; fits = (s.fits, s1.fits, s2.fits); are = join4 bytes (spelling.word s.before) (spelling.text s1.before) (spelling.capability s2.before) (spelling.flag s3.before) s.back s1.back s2.back s.parts s1.parts s2.parts s3.are })
+    subst (λ (v : Call). SaysCall version kinds.ControllerPublishVolume v bytes) (sym s3.same)
+    (record { of_kind = refl; fits = (s.fits, s1.fits, s2.fits.fits); of_version = s2.fits.in_mode; are = join4 bytes (spelling.word s.before) (spelling.text s1.before) (spelling.capability s2.before) (spelling.flag s3.before) s.back s1.back s2.back s.parts s1.parts s2.parts s3.are })
 
-publish-back : (value : Call) (bytes : List ℕ) → SaysCall kinds.ControllerPublishVolume value bytes → SaysPublish (λ id node c readonly. calls.ControllerPublishVolume id node c readonly) value bytes
-publish-back (calls.ControllerPublishVolume id node c readonly) bytes s =
+publish-back : (version : Version) (value : Call) (bytes : List ℕ) → SaysCall version kinds.ControllerPublishVolume value bytes → SaysPublish version (λ id node c readonly. calls.ControllerPublishVolume id node c readonly) value bytes
+publish-back version (calls.ControllerPublishVolume id node c readonly) bytes s =
     record {
       before = id;
       fits = s.fits.0;
@@ -204,19 +234,19 @@ publish-back (calls.ControllerPublishVolume id node c readonly) bytes s =
         fits = s.fits.1;
         back = spelling.capability c ++ spelling.flag readonly;
         parts = refl;
-        second = record { before = c; fits = s.fits.2; back = spelling.flag readonly; parts = refl; second = record { before = readonly; fits = tt; same = refl; are = refl } };
+        second = record { before = c; fits = record { fits = s.fits.2; in_mode = s.of_version }; back = spelling.flag readonly; parts = refl; second = record { before = readonly; fits = tt; same = refl; are = refl } };
       };
     }
-publish-back _ bytes s = absurd (cc s.of_kind)
+publish-back version _ bytes s = absurd (cc s.of_kind)
 
-node_publish-there : (value : Call) (bytes : List ℕ) → SaysPublish (λ id target c readonly. calls.NodePublishVolume id target c readonly) value bytes → SaysCall kinds.NodePublishVolume value bytes
-node_publish-there value bytes s =
+node_publish-there : (version : Version) (value : Call) (bytes : List ℕ) → SaysPublish version (λ id target c readonly. calls.NodePublishVolume id target c readonly) value bytes → SaysCall version kinds.NodePublishVolume value bytes
+node_publish-there version value bytes s =
     let s1 = s.second in let s2 = s1.second in let s3 = s2.second in
-    subst (λ (v : Call). SaysCall kinds.NodePublishVolume v bytes) (sym s3.same)
-    (record { of_kind = refl; fits = (s.fits, s1.fits, s2.fits); are = join4 bytes (spelling.word s.before) (spelling.text s1.before) (spelling.capability s2.before) (spelling.flag s3.before) s.back s1.back s2.back s.parts s1.parts s2.parts s3.are })
+    subst (λ (v : Call). SaysCall version kinds.NodePublishVolume v bytes) (sym s3.same)
+    (record { of_kind = refl; fits = (s.fits, s1.fits, s2.fits.fits); of_version = s2.fits.in_mode; are = join4 bytes (spelling.word s.before) (spelling.text s1.before) (spelling.capability s2.before) (spelling.flag s3.before) s.back s1.back s2.back s.parts s1.parts s2.parts s3.are })
 
-node_publish-back : (value : Call) (bytes : List ℕ) → SaysCall kinds.NodePublishVolume value bytes → SaysPublish (λ id target c readonly. calls.NodePublishVolume id target c readonly) value bytes
-node_publish-back (calls.NodePublishVolume id target c readonly) bytes s =
+node_publish-back : (version : Version) (value : Call) (bytes : List ℕ) → SaysCall version kinds.NodePublishVolume value bytes → SaysPublish version (λ id target c readonly. calls.NodePublishVolume id target c readonly) value bytes
+node_publish-back version (calls.NodePublishVolume id target c readonly) bytes s =
     record {
       before = id;
       fits = s.fits.0;
@@ -227,39 +257,39 @@ node_publish-back (calls.NodePublishVolume id target c readonly) bytes s =
         fits = s.fits.1;
         back = spelling.capability c ++ spelling.flag readonly;
         parts = refl;
-        second = record { before = c; fits = s.fits.2; back = spelling.flag readonly; parts = refl; second = record { before = readonly; fits = tt; same = refl; are = refl } };
+        second = record { before = c; fits = record { fits = s.fits.2; in_mode = s.of_version }; back = spelling.flag readonly; parts = refl; second = record { before = readonly; fits = tt; same = refl; are = refl } };
       };
     }
-node_publish-back _ bytes s = absurd (cc s.of_kind)
+node_publish-back version _ bytes s = absurd (cc s.of_kind)
 
 -- each kind
 
 -- the reader of a call agrees with the grammar of its kind
-pub call_agrees : (kind : Kind) → Agrees (call_at kind) (SaysCall kind) (call_grammar kind) (λ _. End)
+pub call_agrees : (version : Version) (kind : Kind) → Agrees (call_at version kind) (SaysCall version kind) (call_grammar version kind) (λ _. End)
 unfolding call_at id_alone_at id_and_text_at stage_at publish_at call_grammar
-call_agrees kinds.CreateVolume = create_agrees
-call_agrees kinds.DeleteVolume =
-    in_words (SaysCall kinds.DeleteVolume) delete-there delete-back (makes (λ id. calls.DeleteVolume id) (λ _. End) (id_agrees (λ _. End)))
-call_agrees kinds.ControllerPublishVolume =
-    in_words (SaysCall kinds.ControllerPublishVolume) publish-there publish-back
-    (after (id_agrees (λ _. Text 1 255 (λ _. capability_grammar flag_grammar)))
-    (λ id. after (any_text_agrees 1 255 (λ _. capability_grammar flag_grammar))
-    (λ node. after (capability_agrees flag_grammar)
+call_agrees version kinds.CreateVolume = create_agrees version
+call_agrees version kinds.DeleteVolume =
+    in_words (SaysCall version kinds.DeleteVolume) (delete-there version) (delete-back version) (makes (λ id. calls.DeleteVolume id) (λ _. End) (id_agrees (λ _. End)))
+call_agrees version kinds.ControllerPublishVolume =
+    in_words (SaysCall version kinds.ControllerPublishVolume) (publish-there version) (publish-back version)
+    (after (id_agrees (λ _. Text 1 255 (λ _. capability_grammar version flag_grammar)))
+    (λ id. after (any_text_agrees 1 255 (λ _. capability_grammar version flag_grammar))
+    (λ node. after (capability_agrees version flag_grammar)
     (λ c. makes (λ readonly. calls.ControllerPublishVolume id node c readonly) (λ _. End) (flag_agrees (λ _. End))))))
-call_agrees kinds.ControllerUnpublishVolume =
-    in_words (SaysCall kinds.ControllerUnpublishVolume) unpublish-there unpublish-back
+call_agrees version kinds.ControllerUnpublishVolume =
+    in_words (SaysCall version kinds.ControllerUnpublishVolume) (unpublish-there version) (unpublish-back version)
     (after (id_agrees (λ _. Text 1 255 (λ _. End))) (λ id. makes (λ node. calls.ControllerUnpublishVolume id node) (λ _. End) (any_text_agrees 1 255 (λ _. End))))
-call_agrees kinds.NodeStageVolume =
-    in_words (SaysCall kinds.NodeStageVolume) stage-there stage-back
-    (after (id_agrees (λ _. capability_grammar End)) (λ id. makes (λ c. calls.NodeStageVolume id c) (λ _. End) (capability_agrees End)))
-call_agrees kinds.NodeUnstageVolume =
-    in_words (SaysCall kinds.NodeUnstageVolume) unstage-there unstage-back (makes (λ id. calls.NodeUnstageVolume id) (λ _. End) (id_agrees (λ _. End)))
-call_agrees kinds.NodePublishVolume =
-    in_words (SaysCall kinds.NodePublishVolume) node_publish-there node_publish-back
-    (after (id_agrees (λ _. Text 1 255 (λ _. capability_grammar flag_grammar)))
-    (λ id. after (any_text_agrees 1 255 (λ _. capability_grammar flag_grammar))
-    (λ target. after (capability_agrees flag_grammar)
+call_agrees version kinds.NodeStageVolume =
+    in_words (SaysCall version kinds.NodeStageVolume) (stage-there version) (stage-back version)
+    (after (id_agrees (λ _. capability_grammar version End)) (λ id. makes (λ c. calls.NodeStageVolume id c) (λ _. End) (capability_agrees version End)))
+call_agrees version kinds.NodeUnstageVolume =
+    in_words (SaysCall version kinds.NodeUnstageVolume) (unstage-there version) (unstage-back version) (makes (λ id. calls.NodeUnstageVolume id) (λ _. End) (id_agrees (λ _. End)))
+call_agrees version kinds.NodePublishVolume =
+    in_words (SaysCall version kinds.NodePublishVolume) (node_publish-there version) (node_publish-back version)
+    (after (id_agrees (λ _. Text 1 255 (λ _. capability_grammar version flag_grammar)))
+    (λ id. after (any_text_agrees 1 255 (λ _. capability_grammar version flag_grammar))
+    (λ target. after (capability_agrees version flag_grammar)
     (λ c. makes (λ readonly. calls.NodePublishVolume id target c readonly) (λ _. End) (flag_agrees (λ _. End))))))
-call_agrees kinds.NodeUnpublishVolume =
-    in_words (SaysCall kinds.NodeUnpublishVolume) node_unpublish-there node_unpublish-back
+call_agrees version kinds.NodeUnpublishVolume =
+    in_words (SaysCall version kinds.NodeUnpublishVolume) (node_unpublish-there version) (node_unpublish-back version)
     (after (id_agrees (λ _. Text 1 255 (λ _. End))) (λ id. makes (λ target. calls.NodeUnpublishVolume id target) (λ _. End) (any_text_agrees 1 255 (λ _. End))))

@@ -20,7 +20,8 @@ use Rattle.csi_frames.specs.Reading.{word_at, text_at, id_at, flag_at, access_at
 use Rattle.csi_frames.proofs.Readers.{Agrees, Then, then, Given, gives, in_words, Either, either}
 use Rattle.csi_frames.proofs.FieldReaders.{IsByte, byte_agrees, word_agrees, text_agrees}
 use Rattle.csi_frames.proofs.Says.{Spelled, After, Made, after, makes, Always, code_agrees}
-use Rattle.csi_frames.proofs.Codes.{mode_code, flag_code, flag_number}
+use Rattle.csi_frames.specs.declared.version.Version.{Version}
+use Rattle.csi_frames.proofs.Codes.{HasMode, mode_code, flag_code, flag_number}
 
 -- ---- words, texts, flags
 
@@ -43,11 +44,11 @@ any_text_agrees least most next =
 
 pub flag_agrees : (next : Bool → Grammar) → Agrees flag_at (Spelled Always spelling.flag) (Byte (at_most 1) BadFlag (λ b. next (b == 1))) next
 unfolding flag_at
-flag_agrees next = code_agrees (at_most 1) BadFlag (λ b. b == 1) flag_number next flag_code
+flag_agrees next = code_agrees Always (at_most 1) BadFlag (λ b. b == 1) flag_number next flag_code
 
-pub mode_agrees : (next : Mode → Grammar) → Agrees mode_at (Spelled Always (λ mode. mode_number mode ∷ [])) (Byte is_mode BadMode (λ b. next (mode_of b))) next
+pub mode_agrees : (version : Version) (next : Mode → Grammar) → Agrees (mode_at version) (Spelled (HasMode version) (λ mode. mode_number mode ∷ [])) (Byte (is_mode version) BadMode (λ b. next (mode_of b))) next
 unfolding mode_at
-mode_agrees next = code_agrees is_mode BadMode mode_of mode_number next mode_code
+mode_agrees version next = code_agrees (HasMode version) (is_mode version) BadMode mode_of mode_number next (mode_code version)
 
 -- ---- capabilities
 
@@ -88,76 +89,82 @@ access_agrees next =
     (then (byte_agrees (at_most 1) BadAccess (λ b. cond (b == 0) next (Text 0 128 (λ _. next))))
     (λ b. either (b == 0) (gives {next = λ _. next} Block) (makes Mount (λ _. next) (any_text_agrees 0 128 (λ _. next)))))
 
+-- a capability within its limits, in a mode that the version has
+pub record IsCapabilityOf (version : Version) (capability : Capability) : Type 0 where
+  pub fits : IsCapability capability
+  pub in_mode : HasMode version capability.mode
+
 -- the bytes were read as an access and then a mode
-abbrev SaysCapability : Capability → List ℕ → Type 0
-SaysCapability = After IsAccess spelling.access (λ access. Made Always (λ mode. mode_number mode ∷ []) (λ mode. record { access = access; mode = mode }))
+abbrev SaysCapability : Version → Capability → List ℕ → Type 0
+SaysCapability version = After IsAccess spelling.access (λ access. Made (HasMode version) (λ mode. mode_number mode ∷ []) (λ mode. record { access = access; mode = mode }))
 
 -- an access and then a mode are the spelling of the capability that was made of them
-capability-there : (value : Capability) (bytes : List ℕ) → SaysCapability value bytes → Spelled IsCapability spelling.capability value bytes
-capability-there value bytes s =
-    subst (λ (v : Capability). Spelled IsCapability spelling.capability v bytes) (sym s.second.same)
-    (record { fits = s.fits; are = s.parts ∙ ap (λ (t : List ℕ). spelling.access s.before ++ t) s.second.are })
+capability-there : (version : Version) (value : Capability) (bytes : List ℕ) → SaysCapability version value bytes → Spelled (IsCapabilityOf version) spelling.capability value bytes
+capability-there version value bytes s =
+    subst (λ (v : Capability). Spelled (IsCapabilityOf version) spelling.capability v bytes) (sym s.second.same)
+    (record { fits = record { fits = s.fits; in_mode = s.second.fits }; are = s.parts ∙ ap (λ (t : List ℕ). spelling.access s.before ++ t) s.second.are })
 
 -- the spelling of a capability is that of its access and then that of its mode
-capability-back : (value : Capability) (bytes : List ℕ) → Spelled IsCapability spelling.capability value bytes → SaysCapability value bytes
-capability-back value bytes s =
-    record { before = value.access; fits = s.fits; back = mode_number value.mode ∷ []; parts = s.are; second = record { before = value.mode; fits = tt; same = refl; are = refl } }
+capability-back : (version : Version) (value : Capability) (bytes : List ℕ) → Spelled (IsCapabilityOf version) spelling.capability value bytes → SaysCapability version value bytes
+capability-back version value bytes s =
+    record { before = value.access; fits = s.fits.fits; back = mode_number value.mode ∷ []; parts = s.are; second = record { before = value.mode; fits = s.fits.in_mode; same = refl; are = refl } }
 
 -- the reader of a capability agrees with the grammar
-pub capability_agrees : (next : Grammar) → Agrees capability_at (Spelled IsCapability spelling.capability) (capability_grammar next) (λ _. next)
+pub capability_agrees : (version : Version) (next : Grammar) → Agrees (capability_at version) (Spelled (IsCapabilityOf version) spelling.capability) (capability_grammar version next) (λ _. next)
 unfolding capability_at
-capability_agrees next =
-    in_words (Spelled IsCapability spelling.capability) capability-there capability-back
-    (after (access_agrees (mode_grammar next)) (λ access. makes (λ mode. record { access = access; mode = mode }) (λ _. next) (mode_agrees (λ _. next))))
+capability_agrees version next =
+    in_words (Spelled (IsCapabilityOf version) spelling.capability) (capability-there version) (capability-back version)
+    (after (access_agrees (mode_grammar version next)) (λ access. makes (λ mode. record { access = access; mode = mode }) (λ _. next) (mode_agrees version (λ _. next))))
 
--- so many capabilities
-pub record AreCapabilities (count : ℕ) (capabilities : List Capability) : Type 0 where
+-- so many capabilities, each in a mode that the version has
+pub record AreCapabilities (version : Version) (count : ℕ) (capabilities : List Capability) : Type 0 where
   pub counted : length capabilities ≡ count
   pub each : AllByRecursion IsCapability capabilities
+  pub in_modes : AllByRecursion (λ c. HasMode version c.mode) capabilities
 
 -- the bytes were read as a capability, and then so many more
-abbrev SaysMore : ℕ → List Capability → List ℕ → Type 0
-SaysMore n = After IsCapability spelling.capability (λ first. Made (AreCapabilities n) (flat_map spelling.capability) (λ others. first ∷ others))
+abbrev SaysMore : Version → ℕ → List Capability → List ℕ → Type 0
+SaysMore version n = After (IsCapabilityOf version) spelling.capability (λ first. Made (AreCapabilities version n) (flat_map spelling.capability) (λ others. first ∷ others))
 
 -- so many capabilities, each within its limits, and their spellings one after another
-abbrev SaysCapabilities : ℕ → List Capability → List ℕ → Type 0
-SaysCapabilities n = Spelled (AreCapabilities n) (flat_map spelling.capability)
+abbrev SaysCapabilities : Version → ℕ → List Capability → List ℕ → Type 0
+SaysCapabilities version n = Spelled (AreCapabilities version n) (flat_map spelling.capability)
 
 -- a capability and then so many more that were read are one more than these, and are spelled so
-more-there : (n : ℕ) (value : List Capability) (bytes : List ℕ) → SaysMore n value bytes → SaysCapabilities (suc n) value bytes
-more-there n value bytes s =
-    subst (λ (v : List Capability). SaysCapabilities (suc n) v bytes) (sym s.second.same)
+more-there : (version : Version) (n : ℕ) (value : List Capability) (bytes : List ℕ) → SaysMore version n value bytes → SaysCapabilities version (suc n) value bytes
+more-there version n value bytes s =
+    subst (λ (v : List Capability). SaysCapabilities version (suc n) v bytes) (sym s.second.same)
     (record {
-      fits = record { counted = ap suc s.second.fits.counted; each = (s.fits, s.second.fits.each) };
+      fits = record { counted = ap suc s.second.fits.counted; each = (s.fits.fits, s.second.fits.each); in_modes = (s.fits.in_mode, s.second.fits.in_modes) };
       are = s.parts ∙ ap (λ (t : List ℕ). spelling.capability s.before ++ t) s.second.are ∙ sym (flat_map-cons spelling.capability s.before s.second.before);
     })
 
 -- the spelling of one more than so many capabilities is a capability's and then that of so many
-more-back : (n : ℕ) (value : List Capability) (bytes : List ℕ) → SaysCapabilities (suc n) value bytes → SaysMore n value bytes
-more-back n [] bytes s = absurd (cc s.fits.counted)
-more-back n (first ∷ others) bytes s =
+more-back : (version : Version) (n : ℕ) (value : List Capability) (bytes : List ℕ) → SaysCapabilities version (suc n) value bytes → SaysMore version n value bytes
+more-back version n [] bytes s = absurd (cc s.fits.counted)
+more-back version n (first ∷ others) bytes s =
     record {
       before = first;
-      fits = s.fits.each.0;
+      fits = record { fits = s.fits.each.0; in_mode = s.fits.in_modes.0 };
       back = flat_map spelling.capability others;
       parts = s.are ∙ flat_map-cons spelling.capability first others;
-      second = record { before = others; fits = record { counted = omega (arith, s.fits.counted); each = s.fits.each.1 }; same = refl; are = refl };
+      second = record { before = others; fits = record { counted = omega (arith, s.fits.counted); each = s.fits.each.1; in_modes = s.fits.in_modes.1 }; same = refl; are = refl };
     }
 
 -- no capabilities are spelled by no bytes
-nil-there : (value : List Capability) (bytes : List ℕ) → Given [] value bytes → SaysCapabilities 0 value bytes
-nil-there value bytes s =
-    subst (λ (v : List Capability). SaysCapabilities 0 v bytes) (sym s.same) (record { fits = record { counted = refl; each = tt }; are = s.none })
+nil-there : (version : Version) (value : List Capability) (bytes : List ℕ) → Given [] value bytes → SaysCapabilities version 0 value bytes
+nil-there version value bytes s =
+    subst (λ (v : List Capability). SaysCapabilities version 0 v bytes) (sym s.same) (record { fits = record { counted = refl; each = tt; in_modes = tt }; are = s.none })
 
 -- no bytes spell no capabilities
-nil-back : (value : List Capability) (bytes : List ℕ) → SaysCapabilities 0 value bytes → Given [] value bytes
-nil-back [] bytes s = record { same = refl; none = s.are }
-nil-back (first ∷ others) bytes s = absurd (cc s.fits.counted)
+nil-back : (version : Version) (value : List Capability) (bytes : List ℕ) → SaysCapabilities version 0 value bytes → Given [] value bytes
+nil-back version [] bytes s = record { same = refl; none = s.are }
+nil-back version (first ∷ others) bytes s = absurd (cc s.fits.counted)
 
 -- the reader of so many capabilities agrees with the grammar
-pub capabilities_agree : (n : ℕ) → Agrees (capabilities_at n) (SaysCapabilities n) (capabilities_grammar n) (λ _. End)
+pub capabilities_agree : (version : Version) (n : ℕ) → Agrees (capabilities_at version n) (SaysCapabilities version n) (capabilities_grammar version n) (λ _. End)
 unfolding capabilities_at
-capabilities_agree zero = in_words (SaysCapabilities 0) nil-there nil-back (gives {next = λ _. End} [])
-capabilities_agree (suc n) =
-    in_words (SaysCapabilities (suc n)) (more-there n) (more-back n)
-    (after (capability_agrees (capabilities_grammar n)) (λ first. makes (λ others. first ∷ others) (λ _. End) (capabilities_agree n)))
+capabilities_agree version zero = in_words (SaysCapabilities version 0) (nil-there version) (nil-back version) (gives {next = λ _. End} [])
+capabilities_agree version (suc n) =
+    in_words (SaysCapabilities version (suc n)) (more-there version n) (more-back version n)
+    (after (capability_agrees version (capabilities_grammar version n)) (λ first. makes (λ others. first ∷ others) (λ _. End) (capabilities_agree version n)))

@@ -8,17 +8,58 @@ use Rattle.csi_types.specs.declared.status.Status.{Status}
 use Rattle.csi_types.specs.declared.status.Status.TheVariants as statuses
 use Rattle.csi_types.specs.declared.call.Kind.{Kind}
 use Rattle.csi_types.specs.declared.call.Kind.TheVariants as kinds
-use Rattle.csi_types.specs.Mode.{mode_number}
+use Rattle.csi_types.specs.Mode.{mode_number, mode_from_number}
 use Rattle.csi_types.specs.Status.{status_code}
 use Rattle.csi_frames.specs.declared.body_kind.BodyKind.{BodyKind}
 use Rattle.csi_frames.specs.declared.body_kind.BodyKind.TheVariants.{Call, Reply}
-use Rattle.csi_frames.specs.Codes.{is_mode, mode_of, is_status, status_of, kind_from_number, is_body_kind, body_kind_of}
+use Rattle.csi_frames.specs.declared.version.Version.{Version}
+use Rattle.csi_frames.specs.declared.version.Version.TheVariants.{One}
+use Rattle.csi_frames.specs.Codes.{is_version, version_of, is_mode, mode_of, is_status, status_of, is_body_kind, body_kind_of}
+use Rattle.csi_frames.specs.Kinds.{kind_from_number, body_kind_from_number}
+use Rattle.csi_frames.specs.Version.{version_number, has_mode, has_kind, only}
 use Rattle.csi_frames.specs.Grammar.{at_most}
 use Rattle.csi_types.specs.Same.{kind_number}
-use Rattle.csi_frames.proofs.Says.{IsCode}
+use Rattle.csi_frames.proofs.Says.{IsCode, Always}
 
--- an allowed byte is the number of its mode; each mode's number is allowed; and that number stands for the mode
-mode-back : (b : ℕ) → is_mode b ≡ true → mode_number (mode_of b) ≡ b
+-- ---- what passes a test
+
+-- where a value is left by a test, it was there and passes the test; and the other way round
+kept-passes : {A : Type 0} (t : Bool) (x : A) → is_some (cond t (Some x) None) ≡ true → t ≡ true
+kept-passes true x e = refl
+kept-passes false x e = absurd cc
+
+only-passes : {A : Type 0} (test : A → Bool) (o : Option A) (other : A) → is_some (only test o) ≡ true → (is_some o ≡ true) × (test (unwrap_or o other) ≡ true)
+only-passes test None other e = absurd cc
+only-passes test (Some x) other e = (refl, kept-passes (test x) x e)
+
+passes-only : {A : Type 0} (test : A → Bool) (o : Option A) (x : A) → o ≡ Some x → test x ≡ true → is_some (only test o) ≡ true
+passes-only test o x there passes = rw (there, passes) refl
+
+-- ---- versions
+
+version-back : (b : ℕ) → is_version b ≡ true → version_number (version_of b) ≡ b
+version-back zero e = absurd cc
+version-back (suc zero) e = refl
+version-back (suc (suc n)) e = absurd cc
+
+version-allowed : (version : Version) → Always version → is_version (version_number version) ≡ true
+version-allowed One fits = refl
+
+version-again : (version : Version) → version_of (version_number version) ≡ version
+version-again One = refl
+
+-- each allowed byte stands for one version, and each version has one; below the same of modes, statuses, the kinds of bodies, and flags
+pub version_code : IsCode Always is_version version_of version_number
+version_code = record { back = version-back; fits = λ b e. tt; is_allowed = version-allowed; again = version-again }
+
+-- ---- modes
+
+-- the version has the mode
+abbrev pub HasMode : Version → Mode → Type 0
+HasMode version mode = has_mode version mode ≡ true
+
+-- a byte at which a mode is found is the mode's number; each mode is found at its number, and that number stands for the mode
+mode-back : (b : ℕ) → is_some (mode_from_number b) ≡ true → mode_number (mode_of b) ≡ b
 mode-back zero e = absurd cc
 mode-back (suc zero) e = refl
 mode-back (suc (suc zero)) e = refl
@@ -27,23 +68,23 @@ mode-back (suc (suc (suc (suc zero)))) e = refl
 mode-back (suc (suc (suc (suc (suc zero))))) e = refl
 mode-back (suc (suc (suc (suc (suc (suc n)))))) e = absurd cc
 
-mode-allowed : (mode : Mode) → is_mode (mode_number mode) ≡ true
-mode-allowed SingleNodeWriter = refl
-mode-allowed SingleNodeReaderOnly = refl
-mode-allowed MultiNodeReaderOnly = refl
-mode-allowed MultiNodeSingleWriter = refl
-mode-allowed MultiNodeMultiWriter = refl
+mode-found : (mode : Mode) → mode_from_number (mode_number mode) ≡ Some mode
+mode-found SingleNodeWriter = refl
+mode-found SingleNodeReaderOnly = refl
+mode-found MultiNodeReaderOnly = refl
+mode-found MultiNodeSingleWriter = refl
+mode-found MultiNodeMultiWriter = refl
 
 mode-again : (mode : Mode) → mode_of (mode_number mode) ≡ mode
-mode-again SingleNodeWriter = refl
-mode-again SingleNodeReaderOnly = refl
-mode-again MultiNodeReaderOnly = refl
-mode-again MultiNodeSingleWriter = refl
-mode-again MultiNodeMultiWriter = refl
+mode-again mode = ap (λ (o : Option Mode). unwrap_or o SingleNodeWriter) (mode-found mode)
 
--- each allowed byte stands for one mode, and each mode has one; below the same of statuses, of the kinds of bodies, and of flags
-pub mode_code : IsCode is_mode mode_of mode_number
-mode_code = record { back = mode-back; is_allowed = mode-allowed; again = mode-again }
+pub mode_code : (version : Version) → IsCode (HasMode version) (is_mode version) mode_of mode_number
+mode_code version = record {
+  back = λ b e. mode-back b (only-passes (has_mode version) (mode_from_number b) SingleNodeWriter e).0;
+  fits = λ b e. (only-passes (has_mode version) (mode_from_number b) SingleNodeWriter e).1;
+  is_allowed = λ mode fits. passes-only (has_mode version) (mode_from_number (mode_number mode)) mode (mode-found mode) fits;
+  again = mode-again;
+}
 
 -- ---- statuses
 
@@ -68,24 +109,24 @@ status-back (suc (suc (suc (suc (suc (suc (suc (suc (suc (suc (suc (suc (suc (su
 status-back (suc (suc (suc (suc (suc (suc (suc (suc (suc (suc (suc (suc (suc (suc (suc (suc zero)))))))))))))))) e = refl
 status-back (suc (suc (suc (suc (suc (suc (suc (suc (suc (suc (suc (suc (suc (suc (suc (suc (suc n))))))))))))))))) e = absurd cc
 
-status-allowed : (status : Status) → is_status (status_code status) ≡ true
-status-allowed statuses.Ok = refl
-status-allowed statuses.Cancelled = refl
-status-allowed statuses.Unknown = refl
-status-allowed statuses.InvalidArgument = refl
-status-allowed statuses.DeadlineExceeded = refl
-status-allowed statuses.NotFound = refl
-status-allowed statuses.AlreadyExists = refl
-status-allowed statuses.PermissionDenied = refl
-status-allowed statuses.ResourceExhausted = refl
-status-allowed statuses.FailedPrecondition = refl
-status-allowed statuses.Aborted = refl
-status-allowed statuses.OutOfRange = refl
-status-allowed statuses.Unimplemented = refl
-status-allowed statuses.Internal = refl
-status-allowed statuses.Unavailable = refl
-status-allowed statuses.DataLoss = refl
-status-allowed statuses.Unauthenticated = refl
+status-allowed : (status : Status) → Always status → is_status (status_code status) ≡ true
+status-allowed statuses.Ok fits = refl
+status-allowed statuses.Cancelled fits = refl
+status-allowed statuses.Unknown fits = refl
+status-allowed statuses.InvalidArgument fits = refl
+status-allowed statuses.DeadlineExceeded fits = refl
+status-allowed statuses.NotFound fits = refl
+status-allowed statuses.AlreadyExists fits = refl
+status-allowed statuses.PermissionDenied fits = refl
+status-allowed statuses.ResourceExhausted fits = refl
+status-allowed statuses.FailedPrecondition fits = refl
+status-allowed statuses.Aborted fits = refl
+status-allowed statuses.OutOfRange fits = refl
+status-allowed statuses.Unimplemented fits = refl
+status-allowed statuses.Internal fits = refl
+status-allowed statuses.Unavailable fits = refl
+status-allowed statuses.DataLoss fits = refl
+status-allowed statuses.Unauthenticated fits = refl
 
 status-again : (status : Status) → status_of (status_code status) ≡ status
 status-again statuses.Ok = refl
@@ -106,8 +147,8 @@ status-again statuses.Unavailable = refl
 status-again statuses.DataLoss = refl
 status-again statuses.Unauthenticated = refl
 
-pub status_codes : IsCode is_status status_of status_code
-status_codes = record { back = status-back; is_allowed = status-allowed; again = status-again }
+pub status_codes : IsCode Always is_status status_of status_code
+status_codes = record { back = status-back; fits = λ b e. tt; is_allowed = status-allowed; again = status-again }
 
 -- ---- kinds
 
@@ -115,7 +156,7 @@ some_is : (a b : Kind) → Some b ≡ Some a → a ≡ b
 some_is a b e = cc
 
 -- a number at which a kind is found is that kind's
-kind-back : (n : ℕ) (kind : Kind) → kind_from_number n ≡ Some kind → kind_number kind ≡ n
+pub kind-back : (n : ℕ) (kind : Kind) → kind_from_number n ≡ Some kind → kind_number kind ≡ n
 kind-back zero kind e = absurd cc
 kind-back (suc zero) kind e = ap kind_number (some_is kind kinds.CreateVolume e)
 kind-back (suc (suc zero)) kind e = ap kind_number (some_is kind kinds.DeleteVolume e)
@@ -148,48 +189,42 @@ either-back : (n : ℕ) (b : Bool) → ltb n 128 ≡ b → is_some (cond b (opti
 either-back n true low yes_it = call-back n (kind_from_number n) refl yes_it
 either-back n false high yes_it = reply-back n (kind_from_number (n - 128)) (ltb-false _ _ high) refl yes_it
 
--- an allowed byte is the number of its kind of body; each such number is allowed; and it stands for that kind
-body_kind-back : (n : ℕ) → is_body_kind n ≡ true → body_kind_number (body_kind_of n) ≡ n
+-- a byte at which a kind of body is found is its number; each is found at its number, which stands for it
+body_kind-back : (n : ℕ) → is_some (body_kind_from_number n) ≡ true → body_kind_number (body_kind_of n) ≡ n
 body_kind-back n yes_it = either-back n (ltb n 128) refl yes_it
 
-body_kind-allowed : (kind : BodyKind) → is_body_kind (body_kind_number kind) ≡ true
-body_kind-allowed (Call kinds.CreateVolume) = refl
-body_kind-allowed (Call kinds.DeleteVolume) = refl
-body_kind-allowed (Call kinds.ControllerPublishVolume) = refl
-body_kind-allowed (Call kinds.ControllerUnpublishVolume) = refl
-body_kind-allowed (Call kinds.NodeStageVolume) = refl
-body_kind-allowed (Call kinds.NodeUnstageVolume) = refl
-body_kind-allowed (Call kinds.NodePublishVolume) = refl
-body_kind-allowed (Call kinds.NodeUnpublishVolume) = refl
-body_kind-allowed (Reply kinds.CreateVolume) = refl
-body_kind-allowed (Reply kinds.DeleteVolume) = refl
-body_kind-allowed (Reply kinds.ControllerPublishVolume) = refl
-body_kind-allowed (Reply kinds.ControllerUnpublishVolume) = refl
-body_kind-allowed (Reply kinds.NodeStageVolume) = refl
-body_kind-allowed (Reply kinds.NodeUnstageVolume) = refl
-body_kind-allowed (Reply kinds.NodePublishVolume) = refl
-body_kind-allowed (Reply kinds.NodeUnpublishVolume) = refl
+body_kind-found : (kind : BodyKind) → body_kind_from_number (body_kind_number kind) ≡ Some kind
+body_kind-found (Call kinds.CreateVolume) = refl
+body_kind-found (Call kinds.DeleteVolume) = refl
+body_kind-found (Call kinds.ControllerPublishVolume) = refl
+body_kind-found (Call kinds.ControllerUnpublishVolume) = refl
+body_kind-found (Call kinds.NodeStageVolume) = refl
+body_kind-found (Call kinds.NodeUnstageVolume) = refl
+body_kind-found (Call kinds.NodePublishVolume) = refl
+body_kind-found (Call kinds.NodeUnpublishVolume) = refl
+body_kind-found (Reply kinds.CreateVolume) = refl
+body_kind-found (Reply kinds.DeleteVolume) = refl
+body_kind-found (Reply kinds.ControllerPublishVolume) = refl
+body_kind-found (Reply kinds.ControllerUnpublishVolume) = refl
+body_kind-found (Reply kinds.NodeStageVolume) = refl
+body_kind-found (Reply kinds.NodeUnstageVolume) = refl
+body_kind-found (Reply kinds.NodePublishVolume) = refl
+body_kind-found (Reply kinds.NodeUnpublishVolume) = refl
 
 body_kind-again : (kind : BodyKind) → body_kind_of (body_kind_number kind) ≡ kind
-body_kind-again (Call kinds.CreateVolume) = refl
-body_kind-again (Call kinds.DeleteVolume) = refl
-body_kind-again (Call kinds.ControllerPublishVolume) = refl
-body_kind-again (Call kinds.ControllerUnpublishVolume) = refl
-body_kind-again (Call kinds.NodeStageVolume) = refl
-body_kind-again (Call kinds.NodeUnstageVolume) = refl
-body_kind-again (Call kinds.NodePublishVolume) = refl
-body_kind-again (Call kinds.NodeUnpublishVolume) = refl
-body_kind-again (Reply kinds.CreateVolume) = refl
-body_kind-again (Reply kinds.DeleteVolume) = refl
-body_kind-again (Reply kinds.ControllerPublishVolume) = refl
-body_kind-again (Reply kinds.ControllerUnpublishVolume) = refl
-body_kind-again (Reply kinds.NodeStageVolume) = refl
-body_kind-again (Reply kinds.NodeUnstageVolume) = refl
-body_kind-again (Reply kinds.NodePublishVolume) = refl
-body_kind-again (Reply kinds.NodeUnpublishVolume) = refl
+body_kind-again kind = ap (λ (o : Option BodyKind). unwrap_or o (Call kinds.CreateVolume)) (body_kind-found kind)
 
-pub body_kind_code : IsCode is_body_kind body_kind_of body_kind_number
-body_kind_code = record { back = body_kind-back; is_allowed = body_kind-allowed; again = body_kind-again }
+-- the version has bodies of this kind
+abbrev pub HasKind : Version → BodyKind → Type 0
+HasKind version kind = has_kind version kind ≡ true
+
+pub body_kind_code : (version : Version) → IsCode (HasKind version) (is_body_kind version) body_kind_of body_kind_number
+body_kind_code version = record {
+  back = λ b e. body_kind-back b (only-passes (has_kind version) (body_kind_from_number b) (Call kinds.CreateVolume) e).0;
+  fits = λ b e. (only-passes (has_kind version) (body_kind_from_number b) (Call kinds.CreateVolume) e).1;
+  is_allowed = λ kind fits. passes-only (has_kind version) (body_kind_from_number (body_kind_number kind)) kind (body_kind-found kind) fits;
+  again = body_kind-again;
+}
 
 -- ---- flags
 
@@ -203,13 +238,13 @@ flag-back (suc (suc n)) e = absurd (omega (arith, leb-true (suc (suc n)) 1 e))
 abbrev pub flag_number : Bool → ℕ
 flag_number b = if b then 1 else 0
 
-flag-allowed : (b : Bool) → at_most 1 (flag_number b) ≡ true
-flag-allowed true = refl
-flag-allowed false = refl
+flag-allowed : (b : Bool) → Always b → at_most 1 (flag_number b) ≡ true
+flag-allowed true fits = refl
+flag-allowed false fits = refl
 
 flag-again : (b : Bool) → (flag_number b == 1) ≡ b
 flag-again true = refl
 flag-again false = refl
 
-pub flag_code : IsCode (at_most 1) (λ b. b == 1) flag_number
-flag_code = record { back = flag-back; is_allowed = flag-allowed; again = flag-again }
+pub flag_code : IsCode Always (at_most 1) (λ b. b == 1) flag_number
+flag_code = record { back = flag-back; fits = λ b e. tt; is_allowed = flag-allowed; again = flag-again }

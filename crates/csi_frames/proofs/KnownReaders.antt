@@ -13,6 +13,7 @@ use Rattle.csi_types.specs.declared.frame.Body.TheVariants as bodies
 use Rattle.csi_frames.specs.declared.body_kind.BodyKind.TheVariants as body_kinds
 use Rattle.csi_frames.specs.declared.fields.Stop.{Stop}
 use Rattle.csi_frames.specs.declared.fields.Fields.{Fields}
+use Rattle.csi_frames.specs.declared.version.Version.{Version}
 use Rattle.csi_frames.specs.Borrowed.{body_in, list_in}
 use Rattle.csi_frames.specs.Gives.{Gives, GivesAgain}
 use Rattle.csi_frames.specs.Reading.{Reader, go_on, give, text_at, call_at, fields_at}
@@ -60,14 +61,14 @@ known least most (n ∷ rest) ok =
 -- ---- a call
 
 -- the fields of a call that were read are the call's
-pub call_ok : (kind : Kind) (bytes : List ℕ) → is_ok (fields_at (body_kinds.Call kind) bytes) ≡ true → is_ok (call_at kind bytes) ≡ true
+pub call_ok : (version : Version) (kind : Kind) (bytes : List ℕ) → is_ok (fields_at version (body_kinds.Call kind) bytes) ≡ true → is_ok (call_at version kind bytes) ≡ true
 unfolding fields_at
-call_ok kind bytes ok = first_ok (call_at kind bytes) (λ call. give (bodies.Call call)) ok
+call_ok version kind bytes ok = first_ok (call_at version kind bytes) (λ call. give (bodies.Call call)) ok
 
 -- and the body is that call
-pub call_is : (kind : Kind) (bytes left : List ℕ) (call : Call) → call_at kind bytes ≡ Ok (call, left) → bodies.Call call ≡ body_in (fields_at (body_kinds.Call kind) bytes)
+pub call_is : (version : Version) (kind : Kind) (bytes left : List ℕ) (call : Call) → call_at version kind bytes ≡ Ok (call, left) → bodies.Call call ≡ body_in (fields_at version (body_kinds.Call kind) bytes)
 unfolding fields_at
-call_is kind bytes left call e = sym (ap (λ (read : Result (Call × List ℕ) Stop). body_in (go_on read (λ call. give (bodies.Call call)))) e)
+call_is version kind bytes left call e = sym (ap (λ (read : Result (Call × List ℕ) Stop). body_in (go_on read (λ call. give (bodies.Call call)))) e)
 
 -- what is read is read whatever is behind it
 pub again : {X Y : Type 0} (view : X → Y) (result : Result X Stop) (left : Fields) (read : Result (Y × List ℕ) Stop) → Gives view result left read → GivesAgain view result read

@@ -8,7 +8,8 @@ use Rattle.csi_frames.specs.declared.body_kind.BodyKind.{BodyKind}
 use Rattle.csi_frames.specs.declared.body_kind.BodyKind.TheVariants.{Call, Reply}
 use Rattle.csi_frames.specs.declared.fault.FaultKind.{FaultKind}
 use Rattle.csi_frames.specs.declared.fault.FaultKind.TheVariants.{Short, BadText, BadId, LengthDiffers}
-use Rattle.csi_frames.specs.Codes.{body_kind_of}
+use Rattle.csi_frames.specs.declared.version.Version.{Version}
+use Rattle.csi_frames.specs.Codes.{version_of, body_kind_of}
 use Rattle.csi_frames.specs.Grammar.{Grammar, End, Byte, Word, Text, Leads, nothing, byte, word, text, refusal, mode_grammar, capability_grammar, capabilities_grammar, flag_grammar, call_grammar, reply_grammar, fields_grammar, party_grammar, body_grammar}
 use Rattle.csi_frames.specs.Fault.{IsStuck, IsFaulty, no_length, too_long, short, in_body}
 
@@ -27,44 +28,46 @@ choice true g h first second = first
 choice false g h first second = second
 
 -- down to `body`: the grammar of each part of a body has no Short, where what follows the part has none
-mode : (next : Grammar) → NeverShort next → NeverShort (mode_grammar next)
-mode next never = (λ e. cc, λ m. never)
+mode : (version : Version) (next : Grammar) → NeverShort next → NeverShort (mode_grammar version next)
+mode version next never = (λ e. cc, λ m. never)
 
-capability : (next : Grammar) → NeverShort next → NeverShort (capability_grammar next)
-capability next never = (λ e. cc, λ access. choice (access == 0) (mode_grammar next) (Text 0 128 (λ _. mode_grammar next)) (mode next never) (λ fs. mode next never))
+capability : (version : Version) (next : Grammar) → NeverShort next → NeverShort (capability_grammar version next)
+capability version next never =
+    (λ e. cc, λ access. choice (access == 0) (mode_grammar version next) (Text 0 128 (λ _. mode_grammar version next)) (mode version next never) (λ fs. mode version next never))
 
-capabilities : (n : ℕ) → NeverShort (capabilities_grammar n)
-capabilities zero = tt
-capabilities (suc n) = capability (capabilities_grammar n) (capabilities n)
+capabilities : (version : Version) (n : ℕ) → NeverShort (capabilities_grammar version n)
+capabilities version zero = tt
+capabilities version (suc n) = capability version (capabilities_grammar version n) (capabilities version n)
 
 flag : NeverShort flag_grammar
 flag = (λ e. cc, λ b. tt)
 
-call : (kind : Kind) → NeverShort (call_grammar kind)
+call : (version : Version) (kind : Kind) → NeverShort (call_grammar version kind)
 unfolding call_grammar
-call kinds.CreateVolume = λ name required limit. (λ e. cc, capabilities)
-call kinds.DeleteVolume = λ id. tt
-call kinds.ControllerPublishVolume = λ id node. capability flag_grammar flag
-call kinds.ControllerUnpublishVolume = λ id node. tt
-call kinds.NodeStageVolume = λ id. capability End tt
-call kinds.NodeUnstageVolume = λ id. tt
-call kinds.NodePublishVolume = λ id target. capability flag_grammar flag
-call kinds.NodeUnpublishVolume = λ id target. tt
+call version kinds.CreateVolume = λ name required limit. (λ e. cc, capabilities version)
+call version kinds.DeleteVolume = λ id. tt
+call version kinds.ControllerPublishVolume = λ id node. capability version flag_grammar flag
+call version kinds.ControllerUnpublishVolume = λ id node. tt
+call version kinds.NodeStageVolume = λ id. capability version End tt
+call version kinds.NodeUnstageVolume = λ id. tt
+call version kinds.NodePublishVolume = λ id target. capability version flag_grammar flag
+call version kinds.NodeUnpublishVolume = λ id target. tt
 
 reply : (kind : Kind) → NeverShort (reply_grammar kind)
 unfolding reply_grammar
 reply kind = (λ e. cc, λ status id detail. tt)
 
-fields : (kind : BodyKind) → NeverShort (fields_grammar kind)
-fields (Call kind) = call kind
-fields (Reply kind) = reply kind
+fields : (version : Version) (kind : BodyKind) → NeverShort (fields_grammar version kind)
+fields version (Call kind) = call version kind
+fields version (Reply kind) = reply kind
 
-party : (kind : BodyKind) → NeverShort (party_grammar kind)
-party kind = (λ e. cc, λ n. choice (n == 0) (fields_grammar kind) (Text 1 255 (λ _. fields_grammar kind)) (fields kind) (λ id. fields kind))
+party : (version : Version) (kind : BodyKind) → NeverShort (party_grammar version kind)
+party version kind =
+    (λ e. cc, λ n. choice (n == 0) (fields_grammar version kind) (Text 1 255 (λ _. fields_grammar version kind)) (fields version kind) (λ id. fields version kind))
 
 body : NeverShort body_grammar
 unfolding body_grammar
-body = (λ e. cc, λ version. (λ e. cc, λ kind session number. party (body_kind_of kind)))
+body = (λ e. cc, λ version. (λ e. cc, λ kind session number. party (version_of version) (body_kind_of kind)))
 
 -- ---- so nothing in it is refused with Short
 

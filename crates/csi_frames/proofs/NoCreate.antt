@@ -9,6 +9,7 @@ use Rattle.csi_types.specs.declared.reply.Reply.{Reply}
 use Rattle.csi_frames.specs.declared.body_kind.BodyKind.{BodyKind}
 use Rattle.csi_frames.specs.declared.body_kind.BodyKind.TheVariants as body_kinds
 use Rattle.csi_frames.specs.declared.fields.Stop.{Stop}
+use Rattle.csi_frames.specs.declared.version.Version.{Version}
 use Rattle.csi_frames.specs.Borrowed.{body_in}
 use Rattle.csi_frames.specs.Codes.{is_create_call}
 use Rattle.csi_frames.specs.Lent.{capabilities_in, capabilities_in_body}
@@ -32,14 +33,14 @@ with_text : (make : ℕ → List ℕ → Call) (bytes : List ℕ) → ((id : ℕ
 unfolding id_and_text_at
 with_text make bytes none = after (id_at bytes) _ (λ id b. after (text_at 1 255 b) _ (λ text _. none id text))
 
-staged : (bytes : List ℕ) → of_read (stage_at bytes) ≡ []
+staged : (version : Version) (bytes : List ℕ) → of_read (stage_at version bytes) ≡ []
 unfolding stage_at
-staged bytes = after (id_at bytes) _ (λ id b. after (capability_at b) _ (λ c _. refl))
+staged version bytes = after (id_at bytes) _ (λ id b. after (capability_at version b) _ (λ c _. refl))
 
-published : (make : ℕ → List ℕ → Capability → Bool → Call) (bytes : List ℕ) → ((id : ℕ) (text : List ℕ) (c : Capability) (readonly : Bool) → capabilities_in (make id text c readonly) ≡ []) → of_read (publish_at make bytes) ≡ []
+published : (version : Version) (make : ℕ → List ℕ → Capability → Bool → Call) (bytes : List ℕ) → ((id : ℕ) (text : List ℕ) (c : Capability) (readonly : Bool) → capabilities_in (make id text c readonly) ≡ []) → of_read (publish_at version make bytes) ≡ []
 unfolding publish_at
-published make bytes none =
-    after (id_at bytes) _ (λ id b. after (text_at 1 255 b) _ (λ text d. after (capability_at d) _ (λ c e. after (flag_at e) _ (λ readonly _. none id text c readonly))))
+published version make bytes none =
+    after (id_at bytes) _ (λ id b. after (text_at 1 255 b) _ (λ text d. after (capability_at version d) _ (λ c e. after (flag_at e) _ (λ readonly _. none id text c readonly))))
 
 -- the body has the capabilities of its call
 of_call : (read : Result (Call × List ℕ) Stop) → of_read read ≡ [] → capabilities_in_body (body_in (go_on read (λ call. give (bodies.Call call)))) ≡ []
@@ -50,14 +51,14 @@ of_reply : (read : Result (Reply × List ℕ) Stop) (kind : Kind) → capabiliti
 of_reply (Ok read) kind = refl
 of_reply (Err stop) kind = refl
 
-pub none-read : (kind : BodyKind) (bytes : List ℕ) → is_create_call kind ≡ false → capabilities_in_body (body_in (fields_at kind bytes)) ≡ []
+pub none-read : (version : Version) (kind : BodyKind) (bytes : List ℕ) → is_create_call kind ≡ false → capabilities_in_body (body_in (fields_at version kind bytes)) ≡ []
 unfolding fields_at call_at
-none-read (body_kinds.Call kinds.CreateVolume) bytes other = absurd cc
-none-read (body_kinds.Call kinds.DeleteVolume) bytes other = of_call (call_at kinds.DeleteVolume bytes) (alone _ bytes (λ id. refl))
-none-read (body_kinds.Call kinds.ControllerPublishVolume) bytes other = of_call (call_at kinds.ControllerPublishVolume bytes) (published _ bytes (λ id text c readonly. refl))
-none-read (body_kinds.Call kinds.ControllerUnpublishVolume) bytes other = of_call (call_at kinds.ControllerUnpublishVolume bytes) (with_text _ bytes (λ id text. refl))
-none-read (body_kinds.Call kinds.NodeStageVolume) bytes other = of_call (call_at kinds.NodeStageVolume bytes) (staged bytes)
-none-read (body_kinds.Call kinds.NodeUnstageVolume) bytes other = of_call (call_at kinds.NodeUnstageVolume bytes) (alone _ bytes (λ id. refl))
-none-read (body_kinds.Call kinds.NodePublishVolume) bytes other = of_call (call_at kinds.NodePublishVolume bytes) (published _ bytes (λ id text c readonly. refl))
-none-read (body_kinds.Call kinds.NodeUnpublishVolume) bytes other = of_call (call_at kinds.NodeUnpublishVolume bytes) (with_text _ bytes (λ id text. refl))
-none-read (body_kinds.Reply kind) bytes other = of_reply (reply_at kind bytes) kind
+none-read version (body_kinds.Call kinds.CreateVolume) bytes other = absurd cc
+none-read version (body_kinds.Call kinds.DeleteVolume) bytes other = of_call (call_at version kinds.DeleteVolume bytes) (alone _ bytes (λ id. refl))
+none-read version (body_kinds.Call kinds.ControllerPublishVolume) bytes other = of_call (call_at version kinds.ControllerPublishVolume bytes) (published version _ bytes (λ id text c readonly. refl))
+none-read version (body_kinds.Call kinds.ControllerUnpublishVolume) bytes other = of_call (call_at version kinds.ControllerUnpublishVolume bytes) (with_text _ bytes (λ id text. refl))
+none-read version (body_kinds.Call kinds.NodeStageVolume) bytes other = of_call (call_at version kinds.NodeStageVolume bytes) (staged version bytes)
+none-read version (body_kinds.Call kinds.NodeUnstageVolume) bytes other = of_call (call_at version kinds.NodeUnstageVolume bytes) (alone _ bytes (λ id. refl))
+none-read version (body_kinds.Call kinds.NodePublishVolume) bytes other = of_call (call_at version kinds.NodePublishVolume bytes) (published version _ bytes (λ id text c readonly. refl))
+none-read version (body_kinds.Call kinds.NodeUnpublishVolume) bytes other = of_call (call_at version kinds.NodeUnpublishVolume bytes) (with_text _ bytes (λ id text. refl))
+none-read version (body_kinds.Reply kind) bytes other = of_reply (reply_at kind bytes) kind

@@ -27,7 +27,7 @@ use Rattle.csi_frames.proofs.CallReaders.{join3}
 -- the reader of a status agrees with the grammar
 pub status_agrees : (next : Status → Grammar) → Agrees status_at (Spelled Always (λ status. status_code status ∷ [])) (Byte is_status BadStatus (λ b. next (status_of b))) next
 unfolding status_at
-status_agrees next = code_agrees is_status BadStatus status_of status_code next status_codes
+status_agrees next = code_agrees Always is_status BadStatus status_of status_code next status_codes
 
 -- ---- the id
 

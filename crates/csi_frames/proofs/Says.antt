@@ -1,5 +1,5 @@
 -- Readers whose values have one spelling each.
-use Rattle.std.proofs.Common.{◌≡◌, ℕ, Bool, true, List, [], ◌∷◌, ◌++◌, refl, sym, ap, ◌∙◌}
+use Rattle.std.proofs.Common.{◌≡◌, ℕ, Bool, true, List, [], ◌∷◌, ◌++◌, refl, sym, ap, subst, ◌∙◌}
 use Rattle.std.proofs.lemmas.List.{append-nil}
 use Rattle.csi_frames.specs.declared.fault.FaultKind.{FaultKind}
 use Rattle.csi_frames.specs.Grammar.{Grammar, Byte}
@@ -49,19 +49,20 @@ makes {A} {B} {r} {Fits} {spell} make next one =
 abbrev pub Always : {A : Type 0} → A → Type 0
 Always a = Unit {0}
 
--- each allowed byte is the number of the value that it stands for, and each value has one byte, an allowed one
-pub record IsCode {A : Type 0} (allowed : ℕ → Bool) (value_of : ℕ → A) (number : A → ℕ) : Type 0 where
+-- each allowed byte is the number of the value that it stands for, which fits; each value has one byte, which is allowed where the value fits
+pub record IsCode {A : Type 0} (Fits : A → Type 0) (allowed : ℕ → Bool) (value_of : ℕ → A) (number : A → ℕ) : Type 0 where
   pub back : (b : ℕ) → allowed b ≡ true → number (value_of b) ≡ b
-  pub is_allowed : (a : A) → allowed (number a) ≡ true
+  pub fits : (b : ℕ) → allowed b ≡ true → Fits (value_of b)
+  pub is_allowed : (a : A) → Fits a → allowed (number a) ≡ true
   pub again : (a : A) → value_of (number a) ≡ a
 
 -- a reader of a byte that stands for a value agrees with the grammar, and each value is spelled as its byte
-pub code_agrees : {A : Type 0} (allowed : ℕ → Bool) (fault : FaultKind) (value_of : ℕ → A) (number : A → ℕ) (next : A → Grammar) → IsCode allowed value_of number
-    → Agrees (byte_at allowed fault >>= λ b. give (value_of b)) (Spelled Always (λ a. number a ∷ [])) (Byte allowed fault (λ b. next (value_of b))) next
-code_agrees {A} allowed fault value_of number next code =
-    in_words (Spelled Always (λ (a : A). number a ∷ []))
+pub code_agrees : {A : Type 0} (Fits : A → Type 0) (allowed : ℕ → Bool) (fault : FaultKind) (value_of : ℕ → A) (number : A → ℕ) (next : A → Grammar) → IsCode Fits allowed value_of number
+    → Agrees (byte_at allowed fault >>= λ b. give (value_of b)) (Spelled Fits (λ a. number a ∷ [])) (Byte allowed fault (λ b. next (value_of b))) next
+code_agrees {A} Fits allowed fault value_of number next code =
+    in_words (Spelled Fits (λ (a : A). number a ∷ []))
     (λ value bytes s. record {
-      fits = tt;
+      fits = subst Fits (sym s.second.same) (code.fits s.before s.first.is_allowed);
       are = s.parts ∙ ap (λ (t : List ℕ). s.front ++ t) s.second.none ∙ append-nil s.front ∙ s.first.one
           ∙ ap (λ (n : ℕ). n ∷ []) (sym (code.back s.before s.first.is_allowed)) ∙ ap (λ (a : A). number a ∷ []) (sym s.second.same);
     })
@@ -70,7 +71,7 @@ code_agrees {A} allowed fault value_of number next code =
       front = bytes;
       back = [];
       parts = sym (append-nil bytes);
-      first = record { is_allowed = code.is_allowed value; one = s.are };
+      first = record { is_allowed = code.is_allowed value s.fits; one = s.are };
       second = record { same = sym (code.again value); none = refl };
     })
     (then (byte_agrees allowed fault (λ b. next (value_of b))) (λ b. gives {next = next} (value_of b)))

@@ -29,7 +29,7 @@ list_in (Ok read) = read.0
 list_in (Err stop) = []
 
 abbrev pub owned_capabilities : CapabilitiesRef → List Capability
-owned_capabilities cs = list_in (capabilities_at cs.count cs.bytes.now)
+owned_capabilities cs = list_in (capabilities_at cs.version cs.count cs.bytes.now)
 
 abbrev pub owned_party : PartyRef → Party
 owned_party Controller = parties.Controller
@@ -58,7 +58,7 @@ body_in (Ok read) = read.0
 body_in (Err stop) = bodies.Call (calls.DeleteVolume 0)
 
 abbrev pub owned_fields : FieldsRef → Body
-owned_fields fields = body_in (fields_at fields.kind fields.bytes.now)
+owned_fields fields = body_in (fields_at fields.version fields.kind fields.bytes.now)
 
 abbrev pub owned : BorrowedFrame → Frame
 owned frame = record { number = frame.number; party = owned_party frame.party; body = owned_fields frame.fields }

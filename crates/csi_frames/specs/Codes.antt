@@ -1,5 +1,5 @@
 -- What the bytes that stand for one of a few values stand for. This profile's own.
-use Rattle.std.specs.Prelude.{ℕ, zero, suc, ◌-◌, nat_lt, Bool, false, if◌then◌else◌, Option, Some, None, is_some, unwrap_or, option_map}
+use Rattle.std.specs.Prelude.{ℕ, Bool, false, is_some, unwrap_or}
 use Rattle.csi_types.specs.declared.mode.Mode.{Mode}
 use Rattle.csi_types.specs.declared.mode.Mode.TheVariants.{SingleNodeWriter}
 use Rattle.csi_types.specs.declared.status.Status.{Status}
@@ -11,10 +11,20 @@ use Rattle.csi_frames.specs.declared.body_kind.BodyKind.TheVariants.{Call, Reply
 use Rattle.csi_types.specs.Mode.{mode_from_number}
 use Rattle.csi_types.specs.Reply.{is_create}
 use Rattle.csi_types.specs.Status.{status_from_code}
+use Rattle.csi_frames.specs.declared.version.Version.{Version}
+use Rattle.csi_frames.specs.declared.version.Version.TheVariants.{One}
+use Rattle.csi_frames.specs.Kinds.{body_kind_from_number}
+use Rattle.csi_frames.specs.Version.{version_from_number, mode_in, kind_in_version}
 
 -- A byte that isn't allowed is nobody's number: what it stands for is any value.
-abbrev pub is_mode : ℕ → Bool
-is_mode n = is_some (mode_from_number n)
+abbrev pub is_version : ℕ → Bool
+is_version n = is_some (version_from_number n)
+
+abbrev pub version_of : ℕ → Version
+version_of n = unwrap_or (version_from_number n) One
+
+abbrev pub is_mode : Version → ℕ → Bool
+is_mode version n = is_some (mode_in version n)
 
 abbrev pub mode_of : ℕ → Mode
 mode_of n = unwrap_or (mode_from_number n) SingleNodeWriter
@@ -34,25 +44,8 @@ abbrev pub is_create_call : BodyKind → Bool
 is_create_call (Call kind) = is_create kind
 is_create_call (Reply kind) = false
 
--- the kinds from 1 on
-abbrev pub kind_from_number : ℕ → Option Kind
-kind_from_number zero = None
-kind_from_number (suc zero) = Some kinds.CreateVolume
-kind_from_number (suc (suc zero)) = Some kinds.DeleteVolume
-kind_from_number (suc (suc (suc zero))) = Some kinds.ControllerPublishVolume
-kind_from_number (suc (suc (suc (suc zero)))) = Some kinds.ControllerUnpublishVolume
-kind_from_number (suc (suc (suc (suc (suc zero))))) = Some kinds.NodeStageVolume
-kind_from_number (suc (suc (suc (suc (suc (suc zero)))))) = Some kinds.NodeUnstageVolume
-kind_from_number (suc (suc (suc (suc (suc (suc (suc zero))))))) = Some kinds.NodePublishVolume
-kind_from_number (suc (suc (suc (suc (suc (suc (suc (suc zero)))))))) = Some kinds.NodeUnpublishVolume
-kind_from_number (suc (suc (suc (suc (suc (suc (suc (suc (suc n))))))))) = None
-
--- a reply has its call's number and 128
-abbrev pub body_kind_from_number : ℕ → Option BodyKind
-body_kind_from_number n = if nat_lt n 128 then option_map Call (kind_from_number n) else option_map Reply (kind_from_number (n - 128))
-
-abbrev pub is_body_kind : ℕ → Bool
-is_body_kind n = is_some (body_kind_from_number n)
+abbrev pub is_body_kind : Version → ℕ → Bool
+is_body_kind version n = is_some (kind_in_version version n)
 
 abbrev pub body_kind_of : ℕ → BodyKind
 body_kind_of n = unwrap_or (body_kind_from_number n) (Call kinds.CreateVolume)

@@ -8,7 +8,9 @@ use Rattle.csi_types.specs.declared.call.Kind.{Kind}
 use Rattle.csi_types.specs.declared.call.Kind.TheVariants as kinds
 use Rattle.csi_types.specs.Call.{is_node_kind}
 use Rattle.csi_types.specs.Reply.{is_create, is_ok_status}
-use Rattle.csi_frames.specs.Codes.{is_mode, is_status, status_of, kind_in, is_body_kind, body_kind_of}
+use Rattle.csi_frames.specs.declared.version.Version.{Version}
+use Rattle.csi_frames.specs.Version.{least_count}
+use Rattle.csi_frames.specs.Codes.{is_version, version_of, is_mode, is_status, status_of, kind_in, is_body_kind, body_kind_of}
 use Rattle.csi_frames.specs.declared.body_kind.BodyKind.{BodyKind}
 use Rattle.csi_frames.specs.declared.body_kind.BodyKind.TheVariants.{Call, Reply}
 use Rattle.csi_frames.specs.declared.fault.FaultKind.{FaultKind}
@@ -29,18 +31,21 @@ any n = true
 abbrev pub at_most : ℕ → ℕ → Bool
 at_most most n = nat_le n most
 
+abbrev pub from_to : ℕ → ℕ → ℕ → Bool
+from_to least most n = nat_le least n && nat_le n most
+
 -- ---- capabilities: 0 for block, or 1 for mount and the fs type; and the mode
 
-abbrev pub mode_grammar : Grammar → Grammar
-mode_grammar next = Byte is_mode BadMode (λ _. next)
+abbrev pub mode_grammar : Version → Grammar → Grammar
+mode_grammar version next = Byte (is_mode version) BadMode (λ _. next)
 
-abbrev pub capability_grammar : Grammar → Grammar
-capability_grammar next =
-    Byte (at_most 1) BadAccess (λ access. if access == 0 then mode_grammar next else Text 0 128 (λ _. mode_grammar next))
+abbrev pub capability_grammar : Version → Grammar → Grammar
+capability_grammar version next =
+    Byte (at_most 1) BadAccess (λ access. if access == 0 then mode_grammar version next else Text 0 128 (λ _. mode_grammar version next))
 
-abbrev pub capabilities_grammar : ℕ → Grammar
-capabilities_grammar zero = End
-capabilities_grammar (suc n) = capability_grammar (capabilities_grammar n)
+abbrev pub capabilities_grammar : Version → ℕ → Grammar
+capabilities_grammar version zero = End
+capabilities_grammar version (suc n) = capability_grammar version (capabilities_grammar version n)
 
 -- ---- calls and replies
 
@@ -51,15 +56,19 @@ id_grammar next = Word (nat_lt 0) (λ _. next)
 abbrev pub flag_grammar : Grammar
 flag_grammar = Byte (at_most 1) BadFlag (λ _. End)
 
-unfoldable pub call_grammar : Kind → Grammar
-call_grammar kinds.CreateVolume = Text 1 128 (λ _. Word any (λ _. Word any (λ _. Byte (at_most 8) BadCount capabilities_grammar)))
-call_grammar kinds.DeleteVolume = id_grammar End
-call_grammar kinds.ControllerPublishVolume = id_grammar (Text 1 255 (λ _. capability_grammar flag_grammar))
-call_grammar kinds.ControllerUnpublishVolume = id_grammar (Text 1 255 (λ _. End))
-call_grammar kinds.NodeStageVolume = id_grammar (capability_grammar End)
-call_grammar kinds.NodeUnstageVolume = id_grammar End
-call_grammar kinds.NodePublishVolume = id_grammar (Text 1 255 (λ _. capability_grammar flag_grammar))
-call_grammar kinds.NodeUnpublishVolume = id_grammar (Text 1 255 (λ _. End))
+-- the count of a CreateVolume's capabilities
+abbrev pub is_count : Version → ℕ → Bool
+is_count version n = from_to (least_count version) 8 n
+
+unfoldable pub call_grammar : Version → Kind → Grammar
+call_grammar version kinds.CreateVolume = Text 1 128 (λ _. Word any (λ _. Word any (λ _. Byte (is_count version) BadCount (capabilities_grammar version))))
+call_grammar version kinds.DeleteVolume = id_grammar End
+call_grammar version kinds.ControllerPublishVolume = id_grammar (Text 1 255 (λ _. capability_grammar version flag_grammar))
+call_grammar version kinds.ControllerUnpublishVolume = id_grammar (Text 1 255 (λ _. End))
+call_grammar version kinds.NodeStageVolume = id_grammar (capability_grammar version End)
+call_grammar version kinds.NodeUnstageVolume = id_grammar End
+call_grammar version kinds.NodePublishVolume = id_grammar (Text 1 255 (λ _. capability_grammar version flag_grammar))
+call_grammar version kinds.NodeUnpublishVolume = id_grammar (Text 1 255 (λ _. End))
 
 -- in a reply the id isn't 0 exactly where the kind is CreateVolume and the status is Ok
 abbrev pub is_reply_id : Kind → Status → ℕ → Bool
@@ -69,9 +78,9 @@ unfoldable pub reply_grammar : Kind → Grammar
 reply_grammar kind =
     Byte is_status BadStatus (λ status. Word (is_reply_id kind (status_of status)) (λ _. Text 0 255 (λ _. End)))
 
-abbrev pub fields_grammar : BodyKind → Grammar
-fields_grammar (Call kind) = call_grammar kind
-fields_grammar (Reply kind) = reply_grammar kind
+abbrev pub fields_grammar : Version → BodyKind → Grammar
+fields_grammar version (Call kind) = call_grammar version kind
+fields_grammar version (Reply kind) = reply_grammar kind
 
 -- ---- the party: 0 for the controller's kinds, and 1 and the node's id for a node's
 
@@ -81,18 +90,20 @@ party_number kind = if is_node_kind kind then 1 else 0
 abbrev pub is_party_number : BodyKind → ℕ → Bool
 is_party_number kind n = n == party_number (kind_in kind)
 
-abbrev pub party_grammar : BodyKind → Grammar
-party_grammar kind =
-    Byte (is_party_number kind) BadParty (λ n. if n == 0 then fields_grammar kind else Text 1 255 (λ _. fields_grammar kind))
+abbrev pub party_grammar : Version → BodyKind → Grammar
+party_grammar version kind =
+    Byte (is_party_number kind) BadParty (λ n. if n == 0 then fields_grammar version kind else Text 1 255 (λ _. fields_grammar version kind))
 
--- ---- a body: version 1, the kind, the session and the call, the party, and the kind's fields
+-- ---- a body: the version, the kind, the session and the call, the party, and the kind's fields
 
-abbrev pub numbered_grammar : BodyKind → Grammar
-numbered_grammar kind = Word any (λ _. Word any (λ _. party_grammar kind))
+abbrev pub numbered_grammar : Version → BodyKind → Grammar
+numbered_grammar version kind = Word any (λ _. Word any (λ _. party_grammar version kind))
+
+abbrev pub kind_grammar : Version → Grammar
+kind_grammar version = Byte (is_body_kind version) BadKind (λ kind. numbered_grammar version (body_kind_of kind))
 
 unfoldable pub body_grammar : Grammar
-body_grammar =
-    Byte (λ version. version == 1) BadVersion (λ _. Byte is_body_kind BadKind (λ kind. numbered_grammar (body_kind_of kind)))
+body_grammar = Byte is_version BadVersion (λ version. kind_grammar (version_of version))
 
 -- ---- what bytes do in a grammar
 

@@ -1,5 +1,7 @@
 pub mod Spelling
 pub mod FaultKind
+pub mod Kinds
+pub mod Version
 pub mod Codes
 pub mod Grammar
 pub mod Fault

@@ -25,8 +25,9 @@ use Rattle.csi_frames.specs.declared.fault.FrameFault.{FrameFault}
 use Rattle.csi_frames.specs.declared.body_kind.BodyKind.{BodyKind}
 use Rattle.csi_frames.specs.declared.body_kind.BodyKind.TheVariants as body_kinds
 use Rattle.csi_frames.specs.declared.fields.Stop.{Stop}
-use Rattle.csi_frames.specs.Codes.{is_mode, mode_of, is_status, status_of, is_body_kind, body_kind_of}
-use Rattle.csi_frames.specs.Grammar.{any, at_most, is_reply_id, is_party_number}
+use Rattle.csi_frames.specs.declared.version.Version.{Version}
+use Rattle.csi_frames.specs.Codes.{is_version, version_of, is_mode, mode_of, is_status, status_of, is_body_kind, body_kind_of}
+use Rattle.csi_frames.specs.Grammar.{any, at_most, is_count, is_reply_id, is_party_number}
 
 -- a value and the bytes after it, or where reading stopped
 abbrev pub Reader : Type 0 → Type 0
@@ -82,33 +83,33 @@ access_at = do
     fs_type ← text_at 0 128
     give (Mount fs_type)
 
-unfoldable pub mode_at : Reader Mode
-mode_at = do
-  b ← byte_at is_mode BadMode
+unfoldable pub mode_at : Version → Reader Mode
+mode_at version = do
+  b ← byte_at (is_mode version) BadMode
   give (mode_of b)
 
-unfoldable pub capability_at : Reader Capability
-capability_at = do
+unfoldable pub capability_at : Version → Reader Capability
+capability_at version = do
   access ← access_at
-  mode ← mode_at
+  mode ← mode_at version
   give (record { access = access; mode = mode })
 
-unfoldable pub capabilities_at : ℕ → Reader (List Capability)
-capabilities_at zero = give []
-capabilities_at (suc n) = do
-  first ← capability_at
-  others ← capabilities_at n
+unfoldable pub capabilities_at : Version → ℕ → Reader (List Capability)
+capabilities_at version zero = give []
+capabilities_at version (suc n) = do
+  first ← capability_at version
+  others ← capabilities_at version n
   give (first ∷ others)
 
 -- ---- calls and replies
 
-unfoldable pub create_at : Reader Call
-create_at = do
+unfoldable pub create_at : Version → Reader Call
+create_at version = do
   name ← text_at 1 128
   required ← word_at any
   limit ← word_at any
-  count ← byte_at (at_most 8) BadCount
-  capabilities ← capabilities_at count
+  count ← byte_at (is_count version) BadCount
+  capabilities ← capabilities_at version count
   give (calls.CreateVolume name required limit capabilities)
 
 -- the fields of the other calls: an id; an id and a text, of a node or a target; an id and how the volume is to be used;
@@ -124,29 +125,29 @@ id_and_text_at make = do
   text ← text_at 1 255
   give (make id text)
 
-unfoldable pub stage_at : Reader Call
-stage_at = do
+unfoldable pub stage_at : Version → Reader Call
+stage_at version = do
   id ← id_at
-  capability ← capability_at
+  capability ← capability_at version
   give (calls.NodeStageVolume id capability)
 
-unfoldable pub publish_at : (ℕ → List ℕ → Capability → Bool → Call) → Reader Call
-publish_at make = do
+unfoldable pub publish_at : Version → (ℕ → List ℕ → Capability → Bool → Call) → Reader Call
+publish_at version make = do
   id ← id_at
   text ← text_at 1 255
-  capability ← capability_at
+  capability ← capability_at version
   readonly ← flag_at
   give (make id text capability readonly)
 
-unfoldable pub call_at : Kind → Reader Call
-call_at kinds.CreateVolume = create_at
-call_at kinds.DeleteVolume = id_alone_at (λ id. calls.DeleteVolume id)
-call_at kinds.ControllerPublishVolume = publish_at (λ id node capability readonly. calls.ControllerPublishVolume id node capability readonly)
-call_at kinds.ControllerUnpublishVolume = id_and_text_at (λ id node. calls.ControllerUnpublishVolume id node)
-call_at kinds.NodeStageVolume = stage_at
-call_at kinds.NodeUnstageVolume = id_alone_at (λ id. calls.NodeUnstageVolume id)
-call_at kinds.NodePublishVolume = publish_at (λ id target capability readonly. calls.NodePublishVolume id target capability readonly)
-call_at kinds.NodeUnpublishVolume = id_and_text_at (λ id target. calls.NodeUnpublishVolume id target)
+unfoldable pub call_at : Version → Kind → Reader Call
+call_at version kinds.CreateVolume = create_at version
+call_at version kinds.DeleteVolume = id_alone_at (λ id. calls.DeleteVolume id)
+call_at version kinds.ControllerPublishVolume = publish_at version (λ id node capability readonly. calls.ControllerPublishVolume id node capability readonly)
+call_at version kinds.ControllerUnpublishVolume = id_and_text_at (λ id node. calls.ControllerUnpublishVolume id node)
+call_at version kinds.NodeStageVolume = stage_at version
+call_at version kinds.NodeUnstageVolume = id_alone_at (λ id. calls.NodeUnstageVolume id)
+call_at version kinds.NodePublishVolume = publish_at version (λ id target capability readonly. calls.NodePublishVolume id target capability readonly)
+call_at version kinds.NodeUnpublishVolume = id_and_text_at (λ id target. calls.NodeUnpublishVolume id target)
 
 -- 0 stands for no id
 abbrev pub reply_id_of : ℕ → Option ℕ
@@ -169,11 +170,11 @@ reply_at kind = do
   detail ← text_at 0 255
   give (record { status = status; id = id; detail = detail })
 
-unfoldable pub fields_at : BodyKind → Reader Body
-fields_at (body_kinds.Call kind) = do
-  call ← call_at kind
+unfoldable pub fields_at : Version → BodyKind → Reader Body
+fields_at version (body_kinds.Call kind) = do
+  call ← call_at version kind
   give (bodies.Call call)
-fields_at (body_kinds.Reply kind) = do
+fields_at version (body_kinds.Reply kind) = do
   reply ← reply_at kind
   give (bodies.Reply kind reply)
 
@@ -192,18 +193,23 @@ number_at = do
   call ← word_at any
   give (record { session = session; call = call })
 
-unfoldable pub head_at : Reader BodyKind
-head_at = do
-  version ← byte_at (λ b. b == 1) BadVersion
-  kind ← byte_at is_body_kind BadKind
-  give (body_kind_of kind)
+unfoldable pub version_at : Reader Version
+version_at = do
+  b ← byte_at is_version BadVersion
+  give (version_of b)
+
+unfoldable pub kind_at : Version → Reader BodyKind
+kind_at version = do
+  b ← byte_at (is_body_kind version) BadKind
+  give (body_kind_of b)
 
 unfoldable pub frame_at : Reader Frame
 frame_at = do
-  kind ← head_at
+  version ← version_at
+  kind ← kind_at version
   number ← number_at
   party ← party_at kind
-  body ← fields_at kind
+  body ← fields_at version kind
   give (record { number = number; party = party; body = body })
 
 -- all of the bytes

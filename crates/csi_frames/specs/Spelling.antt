@@ -20,6 +20,8 @@ use Rattle.csi_types.specs.Call.{kind_of}
 use Rattle.csi_types.specs.Same.{kind_number}
 use Rattle.csi_types.specs.Frame.{Frame}
 use Rattle.csi_types.specs.Limits.{IsFrame}
+use Rattle.csi_frames.specs.declared.version.Version.TheVariants.{One}
+use Rattle.csi_frames.specs.Version.{version_number}
 
 -- a number of 64 bits
 abbrev pub word : ℕ → List ℕ
@@ -71,13 +73,17 @@ abbrev pub body_fields : Body → List ℕ
 body_fields (bodies.Call call) = call_fields call
 body_fields (bodies.Reply kind reply) = reply_fields reply
 
+-- the version of each frame
+abbrev pub version : ℕ
+version = version_number One
+
 -- what stands before a frame's party, by the count of its body's bytes and its kind byte
 abbrev pub head : ℕ → ℕ → Number → List ℕ
-head size kind number = big_bytes 4 size ++ 1 ∷ kind ∷ word number.session ++ word number.call
+head size kind number = big_bytes 4 size ++ version ∷ kind ∷ word number.session ++ word number.call
 
--- the version, 1, the kind, the number, the party, and the kind's fields
+-- the version, the kind, the number, the party, and the kind's fields
 unfoldable pub frame_body : Frame → List ℕ
-frame_body frame = 1 ∷ body_kind frame.body ∷ word frame.number.session ++ word frame.number.call ++ party frame.party ++ body_fields frame.body
+frame_body frame = version ∷ body_kind frame.body ∷ word frame.number.session ++ word frame.number.call ++ party frame.party ++ body_fields frame.body
 
 unfoldable pub spelling : Frame → List ℕ
 spelling frame = big_bytes 4 (length (frame_body frame)) ++ frame_body frame

@@ -2,7 +2,7 @@
 ghost use Rattle.std.specs.Prelude.{◌≡◌, ◌≤◌, IfErr, length};
 ghost use Rattle.csi_frames.specs.Borrowed.{owned, owned_party, owned_body, owned_fields};
 ghost use Rattle.csi_frames.specs.Gives.{Gives, Answers};
-ghost use Rattle.csi_frames.specs.Reading.{party_at, number_at, head_at, fields_at, frame_at, all_of, first_frame};
+ghost use Rattle.csi_frames.specs.Reading.{party_at, number_at, version_at, kind_at, fields_at, frame_at, all_of, first_frame};
 
 use crate::body_kind::BodyKind;
 use crate::borrowed::{BodyRef, BorrowedFrame, FieldsRef, PartyRef};
@@ -10,25 +10,31 @@ use crate::calls::{call_at, reply_at};
 use crate::fault::{FaultKind, FrameFault};
 use crate::fields::{Fields, Stop};
 use crate::known::known_call;
+use crate::version::Version;
 use byteorder::{BigEndian, ByteOrder};
 use csi_types::{NodeId, Number};
 
-// The version, which is 1, and the kind.
-#[tactic(auto, unfolding(crate::specs::Reading::byte_at, crate::specs::Reading::head_at))]
-fn head_at(fields: &mut Fields<'_>) -> Result<BodyKind, Stop>
-    ensures { Gives (λ kind. kind) result fields.new (head_at fields.old.bytes.now) }
+#[tactic(auto, unfolding(crate::specs::Reading::byte_at, crate::specs::Reading::version_at))]
+fn version_at(fields: &mut Fields<'_>) -> Result<Version, Stop>
+    ensures { Gives (λ version. version) result fields.new (version_at fields.old.bytes.now) }
 {
-    let bad_version = fields.stop(FaultKind::BadVersion);
-    if fields.any_byte()? != 1 {
-        return Err(bad_version);
-    }
-    let bad_kind = fields.stop(FaultKind::BadKind);
+    let bad = fields.stop(FaultKind::BadVersion);
     let byte = fields.any_byte()?;
-    BodyKind::from_number(byte).ok_or(bad_kind)
+    Version::from_number(byte).ok_or(bad)
 }
 
+#[tactic(auto, unfolding(crate::specs::Reading::byte_at, crate::specs::Reading::kind_at))]
+fn kind_at(fields: &mut Fields<'_>, version: Version) -> Result<BodyKind, Stop>
+    ensures { Gives (λ kind. kind) result fields.new (kind_at version fields.old.bytes.now) }
+{
+    let bad = fields.stop(FaultKind::BadKind);
+    let byte = fields.any_byte()?;
+    version.kind(byte).ok_or(bad)
+}
+
+/// The number of a call. It takes no memory.
 #[tactic(auto, unfolding(crate::specs::Reading::number_at))]
-fn number_at(fields: &mut Fields<'_>) -> Result<Number, Stop>
+pub fn number_at(fields: &mut Fields<'_>) -> Result<Number, Stop>
     ensures { Gives (λ number. number) result fields.new (number_at fields.old.bytes.now) }
 {
     let session = fields.word()?;
@@ -56,11 +62,15 @@ fn party_at<'a>(fields: &mut Fields<'a>, kind: BodyKind) -> Result<PartyRef<'a>,
 // It is inlined, so that where the body is dropped none is made.
 #[inline(always)]
 #[tactic(auto, unfolding(crate::specs::Reading::fields_at))]
-fn fields_at<'a>(fields: &mut Fields<'a>, kind: BodyKind) -> Result<BodyRef<'a>, Stop>
-    ensures { Gives owned_body result fields.new (fields_at kind fields.old.bytes.now) }
+fn fields_at<'a>(
+    fields: &mut Fields<'a>,
+    version: Version,
+    kind: BodyKind,
+) -> Result<BodyRef<'a>, Stop>
+    ensures { Gives owned_body result fields.new (fields_at version kind fields.old.bytes.now) }
 {
     match kind {
-        BodyKind::Call(kind) => match call_at(fields, kind) {
+        BodyKind::Call(kind) => match call_at(fields, version, kind) {
             Ok(call) => Ok(BodyRef::Call(call)),
             Err(stop) => Err(stop),
         },
@@ -72,12 +82,20 @@ fn fields_at<'a>(fields: &mut Fields<'a>, kind: BodyKind) -> Result<BodyRef<'a>,
 }
 
 // The same, kept as the bytes that they are read from.
-fn kept_fields_at<'a>(fields: &mut Fields<'a>, kind: BodyKind) -> Result<FieldsRef<'a>, Stop>
-    ensures { Gives owned_fields result fields.new (fields_at kind fields.old.bytes.now) }
+fn kept_fields_at<'a>(
+    fields: &mut Fields<'a>,
+    version: Version,
+    kind: BodyKind,
+) -> Result<FieldsRef<'a>, Stop>
+    ensures { Gives owned_fields result fields.new (fields_at version kind fields.old.bytes.now) }
 {
     let bytes = fields.bytes;
-    match fields_at(fields, kind) {
-        Ok(_) => Ok(FieldsRef { kind, bytes }),
+    match fields_at(fields, version, kind) {
+        Ok(_) => Ok(FieldsRef {
+            version,
+            kind,
+            bytes,
+        }),
         Err(stop) => Err(stop),
     }
 }
@@ -89,12 +107,12 @@ pub(crate) fn body_of(from: FieldsRef<'_>) -> BodyRef<'_>
 {
     let mut fields = Fields { bytes: from.bytes };
     if let BodyKind::Call(kind) = from.kind {
-        return match known_call(&mut fields, kind) {
+        return match known_call(&mut fields, from.version, kind) {
             Ok(call) => BodyRef::Call(call),
             Err(_) => unreachable!(),
         };
     }
-    match fields_at(&mut fields, from.kind) {
+    match fields_at(&mut fields, from.version, from.kind) {
         Ok(body) => body,
         Err(_) => unreachable!(),
     }
@@ -104,10 +122,11 @@ pub(crate) fn body_of(from: FieldsRef<'_>) -> BodyRef<'_>
 fn frame_at<'a>(fields: &mut Fields<'a>) -> Result<BorrowedFrame<'a>, Stop>
     ensures { Gives owned result fields.new (frame_at fields.old.bytes.now) }
 {
-    let kind = head_at(fields)?;
+    let version = version_at(fields)?;
+    let kind = kind_at(fields, version)?;
     let number = number_at(fields)?;
     let party = party_at(fields, kind)?;
-    let fields = kept_fields_at(fields, kind)?;
+    let fields = kept_fields_at(fields, version, kind)?;
     Ok(BorrowedFrame {
         number,
         party,

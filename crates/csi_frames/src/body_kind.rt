@@ -1,6 +1,7 @@
 //! The kind byte of a body.
-ghost use Rattle.std.specs.Prelude.{◌≡◌};
-ghost use Rattle.csi_frames.specs.Codes.{body_kind_from_number, is_create_call, kind_from_number, kind_in};
+ghost use Rattle.std.specs.Prelude.{◌≡◌, ◌+◌};
+ghost use Rattle.csi_frames.specs.Codes.{is_create_call, kind_in};
+ghost use Rattle.csi_frames.specs.Kinds.{body_kind_from_number, kind_from_number, reply_kind_from};
 ghost use Rattle.csi_frames.specs.Grammar.{party_number};
 ghost use Rattle.csi_types.specs.Same.{kind_number};
 
@@ -83,5 +84,23 @@ pub(crate) fn kind_number(kind: Kind) -> u8
         Kind::NodeUnstageVolume => 6,
         Kind::NodePublishVolume => 7,
         Kind::NodeUnpublishVolume => 8,
+    }
+}
+
+/// The kind byte of a reply: its call's number and 128. It takes no memory.
+pub fn reply_kind_number(kind: Kind) -> u8
+    ensures { result ≡ 128 + kind_number kind }
+{
+    128 + kind_number(kind)
+}
+
+/// The kind of the call that a reply of this kind byte answers, if it is one. It takes no memory.
+pub fn reply_kind(number: u8) -> Option<Kind>
+    ensures { result ≡ reply_kind_from number }
+{
+    if number < 128 {
+        None
+    } else {
+        kind_from_number(number - 128)
     }
 }

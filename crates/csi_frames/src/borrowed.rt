@@ -4,14 +4,16 @@ ghost use Rattle.std.specs.Prelude.{◌≡◌, true, is_ok};
 ghost use Rattle.csi_frames.specs.Reading.{capabilities_at, fields_at};
 
 use crate::body_kind::BodyKind;
+use crate::version::Version;
 use csi_types::{CapabilityRef, Kind, Number, Status};
 
 /// Capabilities one after another, at the front of these bytes.
 #[derive(Clone, Copy)]
 pub(crate) struct CapabilitiesRef<'a> {
+    pub version: Version,
     pub bytes: &'a [u8],
     pub count: u8,
-    ghost read: { is_ok (capabilities_at count bytes.now) ≡ true },
+    ghost read: { is_ok (capabilities_at version count bytes.now) ≡ true },
 }
 
 #[derive(Clone, Copy)]
@@ -76,9 +78,10 @@ pub(crate) enum BodyRef<'a> {
 /// The fields of a call or of a reply, at the front of these bytes.
 #[derive(Clone, Copy)]
 pub(crate) struct FieldsRef<'a> {
+    pub version: Version,
     pub kind: BodyKind,
     pub bytes: &'a [u8],
-    ghost read: { is_ok (fields_at kind bytes.now) ≡ true },
+    ghost read: { is_ok (fields_at version kind bytes.now) ≡ true },
 }
 
 /// A frame whose texts are slices of the bytes that it was read from. Its fields are kept as bytes, from which they are read

@@ -4,11 +4,13 @@ ghost use Rattle.csi_types.specs.Lent.{lent_access, lent_capability};
 ghost use Rattle.csi_types.specs.Reply.{is_create, is_ok_status};
 ghost use Rattle.csi_frames.specs.Borrowed.{owned_capabilities, owned_call, owned_reply};
 ghost use Rattle.csi_frames.specs.Gives.{Gives};
-ghost use Rattle.csi_frames.specs.Reading.{access_at, mode_at, capability_at, capabilities_at, create_at, call_at, status_at, reply_id_at, reply_at};
+ghost use Rattle.csi_frames.specs.Grammar.{is_count};
+ghost use Rattle.csi_frames.specs.Reading.{byte_at, access_at, mode_at, capability_at, capabilities_at, create_at, call_at, status_at, reply_id_at, reply_at};
 
 use crate::borrowed::{BorrowedCall, CapabilitiesRef, ReplyRef};
 use crate::fault::FaultKind;
 use crate::fields::{Fields, Stop};
+use crate::version::Version;
 use csi_types::{
     AccessRef, CapabilityRef, Detail, FsType, Kind, Mode, Name, NodeId, Status, Target,
 };
@@ -28,45 +30,65 @@ fn access_at<'a>(fields: &mut Fields<'a>) -> Result<AccessRef<'a>, Stop>
 
 #[inline(always)]
 #[tactic(auto, unfolding(crate::specs::Reading::byte_at, crate::specs::Reading::mode_at))]
-pub(crate) fn mode_at(fields: &mut Fields<'_>) -> Result<Mode, Stop>
-    ensures { Gives (λ mode. mode) result fields.new (mode_at fields.old.bytes.now) }
+pub(crate) fn mode_at(fields: &mut Fields<'_>, version: Version) -> Result<Mode, Stop>
+    ensures { Gives (λ mode. mode) result fields.new (mode_at version fields.old.bytes.now) }
 {
     let bad = fields.stop(FaultKind::BadMode);
     let byte = fields.any_byte()?;
-    Mode::from_number(byte).ok_or(bad)
+    version.mode(byte).ok_or(bad)
 }
 
+/// A capability, in a mode that the version has. It takes no memory.
 #[inline(always)]
 #[tactic(auto, unfolding(crate::specs::Reading::capability_at))]
-fn capability_at<'a>(fields: &mut Fields<'a>) -> Result<CapabilityRef<'a>, Stop>
-    ensures { Gives lent_capability result fields.new (capability_at fields.old.bytes.now) }
+pub fn capability_at<'a>(
+    fields: &mut Fields<'a>,
+    version: Version,
+) -> Result<CapabilityRef<'a>, Stop>
+    ensures { Gives lent_capability result fields.new (capability_at version fields.old.bytes.now) }
 {
     let access = access_at(fields)?;
-    let mode = mode_at(fields)?;
+    let mode = mode_at(fields, version)?;
     Ok(CapabilityRef { access, mode })
 }
 
 // As many capabilities as `count` says.
-fn capabilities_at<'a>(fields: &mut Fields<'a>, count: u8) -> Result<CapabilitiesRef<'a>, Stop>
-    ensures { Gives owned_capabilities result fields.new (capabilities_at count fields.old.bytes.now) }
+fn capabilities_at<'a>(
+    fields: &mut Fields<'a>,
+    version: Version,
+    count: u8,
+) -> Result<CapabilitiesRef<'a>, Stop>
+    ensures { Gives owned_capabilities result fields.new (capabilities_at version count fields.old.bytes.now) }
 {
     let bytes = fields.bytes;
     for _ in 0..count {
-        capability_at(fields)?;
+        capability_at(fields, version)?;
     }
-    Ok(CapabilitiesRef { bytes, count })
+    Ok(CapabilitiesRef {
+        version,
+        bytes,
+        count,
+    })
+}
+
+// The count of a CreateVolume's capabilities.
+#[inline(always)]
+pub(crate) fn count_at(fields: &mut Fields<'_>, version: Version) -> Result<u8, Stop>
+    ensures { Gives (λ n. n) result fields.new (byte_at (is_count version) FaultKind.BadCount fields.old.bytes.now) }
+{
+    fields.count(version.least_count(), 8)
 }
 
 #[inline(always)]
 #[tactic(auto, unfolding(crate::specs::Reading::create_at))]
-fn create_at<'a>(fields: &mut Fields<'a>) -> Result<BorrowedCall<'a>, Stop>
-    ensures { Gives owned_call result fields.new (create_at fields.old.bytes.now) }
+fn create_at<'a>(fields: &mut Fields<'a>, version: Version) -> Result<BorrowedCall<'a>, Stop>
+    ensures { Gives owned_call result fields.new (create_at version fields.old.bytes.now) }
 {
     let name = fields.text(1, Name::MAX_LEN)?;
     let required = fields.word()?;
     let limit = fields.word()?;
-    let count = fields.byte(8, FaultKind::BadCount)?;
-    let capabilities = capabilities_at(fields, count)?;
+    let count = count_at(fields, version)?;
+    let capabilities = capabilities_at(fields, version, count)?;
     Ok(BorrowedCall::CreateVolume {
         name,
         required,
@@ -77,12 +99,15 @@ fn create_at<'a>(fields: &mut Fields<'a>) -> Result<BorrowedCall<'a>, Stop>
 
 #[inline(always)]
 #[tactic(auto, unfolding(crate::specs::Reading::call_at, crate::specs::Reading::publish_at))]
-fn controller_publish_at<'a>(fields: &mut Fields<'a>) -> Result<BorrowedCall<'a>, Stop>
-    ensures { Gives owned_call result fields.new (call_at Kind.ControllerPublishVolume fields.old.bytes.now) }
+fn controller_publish_at<'a>(
+    fields: &mut Fields<'a>,
+    version: Version,
+) -> Result<BorrowedCall<'a>, Stop>
+    ensures { Gives owned_call result fields.new (call_at version Kind.ControllerPublishVolume fields.old.bytes.now) }
 {
     let id = fields.id()?;
     let node = fields.text(1, NodeId::MAX_LEN)?;
-    let capability = capability_at(fields)?;
+    let capability = capability_at(fields, version)?;
     let readonly = fields.flag()?;
     Ok(BorrowedCall::ControllerPublishVolume {
         id,
@@ -94,12 +119,12 @@ fn controller_publish_at<'a>(fields: &mut Fields<'a>) -> Result<BorrowedCall<'a>
 
 #[inline(always)]
 #[tactic(auto, unfolding(crate::specs::Reading::call_at, crate::specs::Reading::publish_at))]
-fn node_publish_at<'a>(fields: &mut Fields<'a>) -> Result<BorrowedCall<'a>, Stop>
-    ensures { Gives owned_call result fields.new (call_at Kind.NodePublishVolume fields.old.bytes.now) }
+fn node_publish_at<'a>(fields: &mut Fields<'a>, version: Version) -> Result<BorrowedCall<'a>, Stop>
+    ensures { Gives owned_call result fields.new (call_at version Kind.NodePublishVolume fields.old.bytes.now) }
 {
     let id = fields.id()?;
     let target = fields.text(1, Target::MAX_LEN)?;
-    let capability = capability_at(fields)?;
+    let capability = capability_at(fields, version)?;
     let readonly = fields.flag()?;
     Ok(BorrowedCall::NodePublishVolume {
         id,
@@ -112,16 +137,20 @@ fn node_publish_at<'a>(fields: &mut Fields<'a>) -> Result<BorrowedCall<'a>, Stop
 // It is inlined, so that where the call is dropped none is made.
 #[inline(always)]
 #[tactic(auto, unfolding(crate::specs::Reading::call_at, crate::specs::Reading::id_alone_at, crate::specs::Reading::id_and_text_at, crate::specs::Reading::stage_at))]
-pub(crate) fn call_at<'a>(fields: &mut Fields<'a>, kind: Kind) -> Result<BorrowedCall<'a>, Stop>
-    ensures { Gives owned_call result fields.new (call_at kind fields.old.bytes.now) }
+pub(crate) fn call_at<'a>(
+    fields: &mut Fields<'a>,
+    version: Version,
+    kind: Kind,
+) -> Result<BorrowedCall<'a>, Stop>
+    ensures { Gives owned_call result fields.new (call_at version kind fields.old.bytes.now) }
 {
     match kind {
-        Kind::CreateVolume => create_at(fields),
+        Kind::CreateVolume => create_at(fields, version),
         Kind::DeleteVolume => {
             let id = fields.id()?;
             Ok(BorrowedCall::DeleteVolume { id })
         }
-        Kind::ControllerPublishVolume => controller_publish_at(fields),
+        Kind::ControllerPublishVolume => controller_publish_at(fields, version),
         Kind::ControllerUnpublishVolume => {
             let id = fields.id()?;
             let node = fields.text(1, NodeId::MAX_LEN)?;
@@ -129,14 +158,14 @@ pub(crate) fn call_at<'a>(fields: &mut Fields<'a>, kind: Kind) -> Result<Borrowe
         }
         Kind::NodeStageVolume => {
             let id = fields.id()?;
-            let capability = capability_at(fields)?;
+            let capability = capability_at(fields, version)?;
             Ok(BorrowedCall::NodeStageVolume { id, capability })
         }
         Kind::NodeUnstageVolume => {
             let id = fields.id()?;
             Ok(BorrowedCall::NodeUnstageVolume { id })
         }
-        Kind::NodePublishVolume => node_publish_at(fields),
+        Kind::NodePublishVolume => node_publish_at(fields, version),
         Kind::NodeUnpublishVolume => {
             let id = fields.id()?;
             let target = fields.text(1, Target::MAX_LEN)?;
@@ -145,8 +174,9 @@ pub(crate) fn call_at<'a>(fields: &mut Fields<'a>, kind: Kind) -> Result<Borrowe
     }
 }
 
+/// A status. It takes no memory.
 #[tactic(auto, unfolding(crate::specs::Reading::byte_at, crate::specs::Reading::status_at))]
-fn status_at(fields: &mut Fields<'_>) -> Result<Status, Stop>
+pub fn status_at(fields: &mut Fields<'_>) -> Result<Status, Stop>
     ensures { Gives (λ status. status) result fields.new (status_at fields.old.bytes.now) }
 {
     let bad = fields.stop(FaultKind::BadStatus);

@@ -9,89 +9,19 @@ ghost use Rattle.csi_types.specs.Status.{status_code};
 ghost use Rattle.csi_frames.specs.Appends.{Appends, HasRoom};
 ghost use Rattle.csi_frames.specs.Spelling.{word, text, flag, access, capability, party, reply_id, call_fields, reply_fields, body_fields, body_kind, head, frame_body, spelling, Spells};
 
-use crate::body_kind::kind_number;
-use byteorder::{BigEndian, ByteOrder};
-use csi_types::{
-    Access, Body, Call, Capability, Frame, Kind, NoMemory, Number, Party, Reply, VolumeId,
+use crate::body_kind::{kind_number, reply_kind_number};
+use crate::version::Version;
+use crate::writing::{
+    capabilities_len, capability_len, put, put_byte, put_capabilities, put_capability, put_flag,
+    put_id, put_reply, put_text, put_word, reply_len, text_len,
 };
+use byteorder::{BigEndian, ByteOrder};
+use csi_types::{Body, Call, Capability, Frame, Kind, NoMemory, Number, Party, Reply, VolumeId};
 
 /// A body's version, kind and the two parts of its number, which stand before the party.
 const HEAD: usize = 1 + 1 + 8 + 8;
 
-/// Bytes behind what a vector has, which must have room for them.
-fn put(out: &mut Vec<u8>, bytes: &[u8])
-    requires { HasRoom out.old (length bytes.now) }
-    ensures { Appends out.old out.new bytes.now }
-{
-    if !bytes.is_empty() {
-        out.extend_from_slice(bytes).unwrap();
-    }
-}
-
-fn put_byte(out: &mut Vec<u8>, byte: u8)
-    requires { HasRoom out.old 1 }
-    ensures { Appends out.old out.new (byte ∷ []) }
-{
-    out.push(byte).unwrap();
-}
-
-fn put_word(out: &mut Vec<u8>, number: u64)
-    requires { HasRoom out.old 8 }
-    ensures { Appends out.old out.new (word number) }
-{
-    let mut eight = [0; 8];
-    BigEndian::write_u64(&mut eight, number);
-    put(out, &eight);
-}
-
-// A text of at most 255 bytes.
-fn put_text(out: &mut Vec<u8>, from: &str)
-    requires short { length from.now ≤ 255 }
-    requires room { HasRoom out.old (length (text from.now)) }
-    ensures { Appends out.old out.new (text from.now) }
-{
-    put_byte(out, from.len() as u8);
-    put(out, from.as_bytes());
-}
-
 // ---- how many bytes there are to be: 8 for each number, 1 for each byte
-
-fn text_len(from: &str) -> usize
-    requires { length from.now ≤ 255 }
-    ensures len { result ≡ length (text from.now) }
-    ensures small { result ≤ 256 }
-{
-    1 + from.len()
-}
-
-fn access_len(from: &Access) -> usize
-    ensures len { result ≡ length (access from.now) }
-    ensures small { result ≤ 130 }
-{
-    match from {
-        Access::Block => 1,
-        Access::Mount(fs_type) => 1 + text_len(fs_type.as_str()),
-    }
-}
-
-fn capability_len(from: &Capability) -> usize
-    ensures len { result ≡ length (capability from.now) }
-    ensures small { result ≤ 131 }
-{
-    access_len(&from.access) + 1
-}
-
-fn capabilities_len(from: &[Capability]) -> usize
-    requires { length from.now ≤ 8 }
-    ensures len { result ≡ length (flat_map capability from.now) }
-    ensures small { result ≤ 1048 }
-{
-    let mut total = 0;
-    for one in from {
-        total += capability_len(one);
-    }
-    total
-}
 
 fn call_len(from: &Call) -> usize
     ensures len { result ≡ length (call_fields from.now) }
@@ -120,13 +50,6 @@ fn call_len(from: &Call) -> usize
     }
 }
 
-fn reply_len(from: &Reply) -> usize
-    ensures len { result ≡ length (reply_fields from.now) }
-    ensures small { result ≤ 265 }
-{
-    1 + 8 + text_len(from.detail.as_str())
-}
-
 fn body_len(from: &Body) -> usize
     ensures len { result ≡ length (body_fields from.now) }
     ensures small { result ≤ 1194 }
@@ -149,54 +72,6 @@ fn party_len(from: &Party) -> usize
 
 // ---- the bytes themselves. Each function has room for what it writes, and so takes no memory. Reading a
 // value shows that it is within its limits.
-
-fn put_access(out: &mut Vec<u8>, from: &Access)
-    requires { HasRoom out.old (length (access from.now)) }
-    ensures appends { Appends out.old out.new (access from.now) }
-    ensures fits { IsAccess from.now }
-{
-    match from {
-        Access::Block => put_byte(out, 0),
-        Access::Mount(fs_type) => {
-            put_byte(out, 1);
-            put_text(out, fs_type.as_str());
-        }
-    }
-}
-
-fn put_capability(out: &mut Vec<u8>, from: &Capability)
-    requires { HasRoom out.old (length (capability from.now)) }
-    ensures appends { Appends out.old out.new (capability from.now) }
-    ensures fits { IsCapability from.now }
-{
-    put_access(out, &from.access);
-    put_byte(out, from.mode.number());
-}
-
-fn put_capabilities(out: &mut Vec<u8>, from: &[Capability])
-    requires { HasRoom out.old (length (flat_map capability from.now)) }
-    ensures appends { Appends out.old out.new (flat_map capability from.now) }
-    ensures fits { AllByRecursion IsCapability from.now }
-{
-    for one in from {
-        put_capability(out, one);
-    }
-}
-
-fn put_flag(out: &mut Vec<u8>, readonly: bool)
-    requires { HasRoom out.old 1 }
-    ensures { Appends out.old out.new (flag readonly) }
-{
-    put_byte(out, if readonly { 1 } else { 0 });
-}
-
-fn put_id(out: &mut Vec<u8>, id: VolumeId)
-    requires { HasRoom out.old 8 }
-    ensures appends { Appends out.old out.new (word id) }
-    ensures fits { IsVolumeId id }
-{
-    put_word(out, id.number());
-}
 
 // A volume, the node or the target that it goes to, and how it is to be used there.
 fn put_publish(out: &mut Vec<u8>, id: VolumeId, to: &str, usage: &Capability, readonly: bool)
@@ -259,31 +134,6 @@ fn put_call(out: &mut Vec<u8>, from: &Call)
     }
 }
 
-// A reply without the bytes of its detail.
-fn reply_bytes(from: &Reply) -> [u8; 10]
-    ensures value { result ≡ status_code from.now.status ∷ reply_id from.now.id ++ length from.now.detail ∷ [] }
-    ensures fits { IsReply from.now }
-{
-    let detail = from.detail.as_str();
-    let mut bytes = [0; 10];
-    bytes[0] = from.status.code();
-    if let Some(id) = from.id {
-        BigEndian::write_u64(&mut bytes[1..], id.number());
-    }
-    bytes[9] = detail.len() as u8;
-    bytes
-}
-
-#[inline(always)]
-fn put_reply(out: &mut Vec<u8>, from: &Reply)
-    requires { HasRoom out.old (length (reply_fields from.now)) }
-    ensures appends { Appends out.old out.new (reply_fields from.now) }
-    ensures fits { IsReply from.now }
-{
-    put(out, &reply_bytes(from));
-    put(out, from.detail.as_str().as_bytes());
-}
-
 #[inline(always)]
 fn put_party(out: &mut Vec<u8>, from: &Party)
     requires { HasRoom out.old (length (party from.now)) }
@@ -316,7 +166,7 @@ fn kind_byte(from: &Body) -> u8
 {
     match from {
         Body::Call(call) => kind_number(call.kind()),
-        Body::Reply(kind, _) => 128 + kind_number(*kind),
+        Body::Reply(kind, _) => reply_kind_number(*kind),
     }
 }
 
@@ -326,7 +176,7 @@ fn head_bytes(size: u32, kind: u8, number: Number) -> [u8; 22]
 {
     let mut head = [0; 22];
     BigEndian::write_u32(&mut head, size);
-    head[4] = 1;
+    head[4] = Version::One.number();
     head[5] = kind;
     BigEndian::write_u64(&mut head[6..], number.session);
     BigEndian::write_u64(&mut head[14..], number.call);
@@ -394,7 +244,7 @@ pub fn encode_reply(
 {
     let size = HEAD + party_len(party) + reply_len(reply);
     out.reserve(4 + size)?;
-    put_head(out, size as u32, 128 + kind_number(kind), number, party);
+    put_head(out, size as u32, reply_kind_number(kind), number, party);
     put_reply(out, reply);
     Ok(())
 }

@@ -1,4 +1,4 @@
-//! The bytes of a body, from which its fields are read one after another.
+//! The bytes of a body, or of a part of a record, from which its fields are read one after another.
 ghost use Rattle.std.specs.Prelude.{◌≡◌, true, false, MatchOption, Ok, is_ok, length};
 ghost use Rattle.std.specs.Str.{is_utf8};
 
@@ -6,23 +6,23 @@ use crate::fault::FaultKind;
 use byteorder::{BigEndian, ByteOrder};
 use std::str;
 
-/// Where reading stopped: the fault, and how many bytes were left from the field at fault on.
+/// Where reading stopped: the fault, and how many bytes were left from the field at fault on. This profile's own.
 #[derive(Clone, Copy)]
-pub(crate) struct Stop {
+pub struct Stop {
     pub kind: FaultKind,
     pub left: usize,
 }
 
-/// The bytes of a body that are left. Each method reads a field from their front; where it answers where
-/// it stopped, the body is at fault and the rest isn't read.
+/// The bytes of a body, or of a part of a record, that are left. Each method reads a field from their front and takes no memory;
+/// where it answers where it stopped, the bytes are at fault and the rest isn't read. This profile's own.
 #[derive(Drop)]
-pub(crate) struct Fields<'a> {
+pub struct Fields<'a> {
     pub bytes: &'a [u8],
 }
 
 impl<'a> Fields<'a> {
     ghost use Rattle.csi_frames.specs.Gives.{Gives};
-    ghost use Rattle.csi_frames.specs.Grammar.{any, at_most};
+    ghost use Rattle.csi_frames.specs.Grammar.{any, at_most, from_to};
     ghost use Rattle.csi_frames.specs.Reading.{byte_at, word_at, text_at, id_at, flag_at};
 
     /// The fault of the field that begins here.
@@ -43,6 +43,21 @@ impl<'a> Fields<'a> {
         let [byte, rest @ ..] = self.bytes else {
             return Err(self.stop(FaultKind::LengthDiffers));
         };
+        self.bytes = rest;
+        Ok(*byte)
+    }
+
+    /// A byte of `least` to `most`.
+    #[tactic(auto, unfolding(crate::specs::Reading::byte_at))]
+    pub fn count(&mut self, least: u8, most: u8) -> Result<u8, Stop>
+        ensures { Gives (λ n. n) result self.new (byte_at (from_to least most) FaultKind.BadCount self.old.bytes.now) }
+    {
+        let [byte, rest @ ..] = self.bytes else {
+            return Err(self.stop(FaultKind::LengthDiffers));
+        };
+        if *byte < least || most < *byte {
+            return Err(self.stop(FaultKind::BadCount));
+        }
         self.bytes = rest;
         Ok(*byte)
     }
@@ -124,7 +139,7 @@ impl<'a> Fields<'a> {
 
     /// A text of `least` to `most` bytes that was read before, so that reading it again stops nowhere. It isn't judged again.
     #[inline(always)]
-    pub fn known_text(&mut self, least: usize, most: usize) -> &'a str
+    pub(crate) fn known_text(&mut self, least: usize, most: usize) -> &'a str
         requires { is_ok (text_at least most self.old.bytes.now) ≡ true }
         ensures { text_at least most self.old.bytes.now ≡ Ok (result.now, self.new.bytes.now) }
     {

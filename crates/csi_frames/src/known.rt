@@ -7,9 +7,10 @@ ghost use Rattle.csi_frames.specs.Gives.{Gives, GivesAgain};
 ghost use Rattle.csi_frames.specs.Reading.{access_at, capability_at, create_at, call_at};
 
 use crate::borrowed::{BorrowedCall, CapabilitiesRef};
-use crate::calls::{call_at, mode_at};
+use crate::calls::{call_at, count_at, mode_at};
 use crate::fault::FaultKind;
 use crate::fields::{Fields, Stop};
+use crate::version::Version;
 use csi_types::{AccessRef, CapabilityRef, FsType, Kind, Name, NodeId};
 
 #[inline(always)]
@@ -29,26 +30,30 @@ fn access<'a>(fields: &mut Fields<'a>) -> Result<AccessRef<'a>, Stop>
 /// A capability that was read before.
 #[inline(always)]
 #[tactic(auto, unfolding(crate::specs::Reading::capability_at))]
-pub(crate) fn known_capability<'a>(fields: &mut Fields<'a>) -> Result<CapabilityRef<'a>, Stop>
-    requires { is_ok (capability_at fields.old.bytes.now) ≡ true }
-    ensures { Gives lent_capability result fields.new (capability_at fields.old.bytes.now) }
+pub(crate) fn known_capability<'a>(
+    fields: &mut Fields<'a>,
+    version: Version,
+) -> Result<CapabilityRef<'a>, Stop>
+    requires { is_ok (capability_at version fields.old.bytes.now) ≡ true }
+    ensures { Gives lent_capability result fields.new (capability_at version fields.old.bytes.now) }
 {
     let access = access(fields)?;
-    let mode = mode_at(fields)?;
+    let mode = mode_at(fields, version)?;
     Ok(CapabilityRef { access, mode })
 }
 
 #[inline(always)]
 #[tactic(auto, unfolding(crate::specs::Reading::create_at))]
-fn create<'a>(fields: &mut Fields<'a>) -> Result<BorrowedCall<'a>, Stop>
-    requires { is_ok (create_at fields.old.bytes.now) ≡ true }
-    ensures { GivesAgain owned_call result (create_at fields.old.bytes.now) }
+fn create<'a>(fields: &mut Fields<'a>, version: Version) -> Result<BorrowedCall<'a>, Stop>
+    requires { is_ok (create_at version fields.old.bytes.now) ≡ true }
+    ensures { GivesAgain owned_call result (create_at version fields.old.bytes.now) }
 {
     let name = fields.known_text(1, Name::MAX_LEN);
     let required = fields.word()?;
     let limit = fields.word()?;
-    let count = fields.byte(8, FaultKind::BadCount)?;
+    let count = count_at(fields, version)?;
     let capabilities = CapabilitiesRef {
+        version,
         bytes: fields.bytes,
         count,
     };
@@ -62,13 +67,16 @@ fn create<'a>(fields: &mut Fields<'a>) -> Result<BorrowedCall<'a>, Stop>
 
 #[inline(always)]
 #[tactic(auto, unfolding(crate::specs::Reading::call_at, crate::specs::Reading::publish_at))]
-fn controller_publish<'a>(fields: &mut Fields<'a>) -> Result<BorrowedCall<'a>, Stop>
-    requires { is_ok (call_at Kind.ControllerPublishVolume fields.old.bytes.now) ≡ true }
-    ensures { Gives owned_call result fields.new (call_at Kind.ControllerPublishVolume fields.old.bytes.now) }
+fn controller_publish<'a>(
+    fields: &mut Fields<'a>,
+    version: Version,
+) -> Result<BorrowedCall<'a>, Stop>
+    requires { is_ok (call_at version Kind.ControllerPublishVolume fields.old.bytes.now) ≡ true }
+    ensures { Gives owned_call result fields.new (call_at version Kind.ControllerPublishVolume fields.old.bytes.now) }
 {
     let id = fields.id()?;
     let node = fields.known_text(1, NodeId::MAX_LEN);
-    let capability = known_capability(fields)?;
+    let capability = known_capability(fields, version)?;
     let readonly = fields.flag()?;
     Ok(BorrowedCall::ControllerPublishVolume {
         id,
@@ -80,9 +88,12 @@ fn controller_publish<'a>(fields: &mut Fields<'a>) -> Result<BorrowedCall<'a>, S
 
 #[inline(always)]
 #[tactic(auto, unfolding(crate::specs::Reading::call_at, crate::specs::Reading::id_and_text_at))]
-fn controller_unpublish<'a>(fields: &mut Fields<'a>) -> Result<BorrowedCall<'a>, Stop>
-    requires { is_ok (call_at Kind.ControllerUnpublishVolume fields.old.bytes.now) ≡ true }
-    ensures { Gives owned_call result fields.new (call_at Kind.ControllerUnpublishVolume fields.old.bytes.now) }
+fn controller_unpublish<'a>(
+    fields: &mut Fields<'a>,
+    version: Version,
+) -> Result<BorrowedCall<'a>, Stop>
+    requires { is_ok (call_at version Kind.ControllerUnpublishVolume fields.old.bytes.now) ≡ true }
+    ensures { Gives owned_call result fields.new (call_at version Kind.ControllerUnpublishVolume fields.old.bytes.now) }
 {
     let id = fields.id()?;
     let node = fields.known_text(1, NodeId::MAX_LEN);
@@ -92,14 +103,18 @@ fn controller_unpublish<'a>(fields: &mut Fields<'a>) -> Result<BorrowedCall<'a>,
 /// A call that was read before.
 #[inline(always)]
 #[tactic(auto, unfolding(crate::specs::Reading::call_at), using(crate::proofs::KnownReaders::again))]
-pub(crate) fn known_call<'a>(fields: &mut Fields<'a>, kind: Kind) -> Result<BorrowedCall<'a>, Stop>
-    requires { is_ok (call_at kind fields.old.bytes.now) ≡ true }
-    ensures { GivesAgain owned_call result (call_at kind fields.old.bytes.now) }
+pub(crate) fn known_call<'a>(
+    fields: &mut Fields<'a>,
+    version: Version,
+    kind: Kind,
+) -> Result<BorrowedCall<'a>, Stop>
+    requires { is_ok (call_at version kind fields.old.bytes.now) ≡ true }
+    ensures { GivesAgain owned_call result (call_at version kind fields.old.bytes.now) }
 {
     match kind {
-        Kind::CreateVolume => create(fields),
-        Kind::ControllerPublishVolume => controller_publish(fields),
-        Kind::ControllerUnpublishVolume => controller_unpublish(fields),
-        _ => call_at(fields, kind),
+        Kind::CreateVolume => create(fields, version),
+        Kind::ControllerPublishVolume => controller_publish(fields, version),
+        Kind::ControllerUnpublishVolume => controller_unpublish(fields, version),
+        _ => call_at(fields, version, kind),
     }
 }

@@ -16,10 +16,21 @@ mod lending;
 mod owned;
 mod progress;
 mod splitter;
+mod version;
+mod writing;
 
+pub use body::number_at;
+pub use body_kind::{reply_kind, reply_kind_number};
+pub use calls::{capability_at, status_at};
 pub use cutting::any_cutting;
 pub use decoding::{decode, one_reading};
 pub use encoding::{encode, encode_reply};
 pub use fault::{FaultKind, FrameFault};
+pub use fields::{Fields, Stop};
 pub use frame_ref::FrameRef;
 pub use splitter::Splitter;
+pub use version::Version;
+pub use writing::{
+    append_byte, append_capability, append_flag, append_name, append_node_id, append_reply,
+    append_target, append_word,
+};

@@ -113,7 +113,7 @@ fn capabilities(alloc: Global, from: &CapabilitiesRef<'_>) -> Result<CapabilityL
     let mut items = Vec::with_capacity(alloc, from.count as usize)?;
     let mut fields = Fields { bytes: from.bytes };
     for _ in 0..from.count {
-        let Ok(one) = known_capability(&mut fields) else {
+        let Ok(one) = known_capability(&mut fields, from.version) else {
             unreachable!();
         };
         items.push(capability(alloc, &one)?)?;

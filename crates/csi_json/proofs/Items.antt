@@ -19,8 +19,8 @@ items_in_view (v ∷ vs) = ap (λ (ds : List Data). view v ∷ ds) (items_in_vie
 pub members_in_view : (es : List Entry) → members_len (members_view es) ≡ length es
 members_in_view es = members_len-members_view es
 
--- no number above 5 is a mode's
-pub no_mode : (n : ℕ) → 5 < n → mode_from_number n ≡ None
+-- no number above a byte's is a mode's
+pub no_mode : (n : ℕ) → 255 < n → mode_from_number n ≡ None
 no_mode zero h = absurd (omega arith)
 no_mode (suc zero) h = absurd (omega arith)
 no_mode (suc (suc zero)) h = absurd (omega arith)

@@ -17,7 +17,7 @@ fn mode(value: &Value) -> Result<Mode, Flaw>
     ensures { Reads (λ mode. mode) result (mode_of (view value.now)) }
 {
     let number = number(value)?;
-    if number > 5 {
+    if number > u8::MAX as u64 {
         return Err(Flaw::Bad);
     }
     Mode::from_number(number as u8).ok_or(Flaw::Bad)

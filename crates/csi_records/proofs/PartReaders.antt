@@ -18,11 +18,12 @@ use Rattle.std.specs.Global.{Vec}
 use Rattle.csi_stores.specs.declared.part.Part.{Part}
 use Rattle.csi_stores.specs.Part.{StoredPart, stored_in, value_in}
 use Rattle.csi_records.specs.Reading.{Reader, go_on, ended, whole, IsReadWhole, byte_in, tag_in, volume_in, answered_in, controller_head_in, node_head_in}
-use Rattle.csi_records.specs.Spelling.{VolumeRow, state_byte, counted, holding_bytes, target_bytes, kept_bytes, staged_bytes, volume_part, answered_part, controller_head, node_head}
+use Rattle.csi_frames.specs.Reading.{byte_at}
+use Rattle.csi_records.specs.Spelling.{version_byte, VolumeRow, state_byte, counted, holding_bytes, target_bytes, kept_bytes, staged_bytes, volume_part, answered_part, controller_head, node_head}
 use Rattle.csi_records.specs.Records.{IsKept, IsHolding, IsVolumeRow, IsTargetRow, IsStagedSo, IsAnsweredRow}
 use Rattle.csi_records.proofs.Readers.{Reads, then, in_words, Spelled, After, Made, after, makes, Always}
-use Rattle.csi_records.proofs.FieldReaders.{live_reads, word_reads, text_reads, tag_reads}
-use Rattle.csi_records.proofs.ValueReaders.{capability_reads, AreFew, counted_reads, holding_reads, target_reads, kept_reads, staged_reads}
+use Rattle.csi_records.proofs.FieldReaders.{live_reads, word_reads, text_reads, tag_reads, capability_reads}
+use Rattle.csi_records.proofs.ValueReaders.{AreFew, counted_reads, holding_reads, target_reads, kept_reads, staged_reads}
 
 -- ---- a volume's row, behind the version
 
@@ -227,22 +228,22 @@ ended-more value (b ∷ bytes) some = refl
 
 -- a whole value that is read is within its limits, and the bytes are the version and its spelling
 whole-takes : {A : Type 0} {read : Reader A} (Fits : A → Type 0) (spell : A → List ℕ) → Reads read (Spelled Fits spell) → (bytes : List ℕ) → AreBytes bytes → (value : A) → whole read bytes ≡ Some value
-    → Fits value × (bytes ≡ 1 ∷ spell value)
+    → Fits value × (bytes ≡ version_byte ∷ spell value)
 unfolding whole
 whole-takes {A} {read} Fits spell one bytes fits value e =
-    let took = (tagged 1 Fits spell one).takes bytes fits (value, []) (ended-some (go_on (tag_in 1 bytes) (λ _. read)) value e) in
+    let took = (tagged version_byte Fits spell one).takes bytes fits (value, []) (ended-some (go_on (tag_in version_byte bytes) (λ _. read)) value e) in
     (took.says.fits, took.parts ∙ append-nil took.front ∙ took.says.are)
 
 -- a value within its limits is read from the version and its spelling
-whole-again : {A : Type 0} {read : Reader A} (Fits : A → Type 0) (spell : A → List ℕ) → Reads read (Spelled Fits spell) → (value : A) → Fits value → whole read (1 ∷ spell value) ≡ Some value
+whole-again : {A : Type 0} {read : Reader A} (Fits : A → Type 0) (spell : A → List ℕ) → Reads read (Spelled Fits spell) → (value : A) → Fits value → whole read (version_byte ∷ spell value) ≡ Some value
 unfolding whole
 whole-again {A} {read} Fits spell one value fits =
-    let again : go_on (tag_in 1 (1 ∷ spell value ++ [])) (λ _. read) ≡ Some (value, []) = (tagged 1 Fits spell one).again value (1 ∷ spell value) [] (record { fits = fits; are = refl }) in
-    ap (λ (t : List ℕ). ended (go_on (tag_in 1 (1 ∷ t)) (λ _. read))) (sym (append-nil (spell value))) ∙ ap ended again
+    let again : go_on (tag_in version_byte (version_byte ∷ spell value ++ [])) (λ _. read) ≡ Some (value, []) = (tagged version_byte Fits spell one).again value (version_byte ∷ spell value) [] (record { fits = fits; are = refl }) in
+    ap (λ (t : List ℕ). ended (go_on (tag_in version_byte (version_byte ∷ t)) (λ _. read))) (sym (append-nil (spell value))) ∙ ap ended again
 
 -- no byte is no value
 pub nothing_read : {A : Type 0} (read : Reader A) → whole read [] ≡ None
-unfolding whole tag_in byte_in
+unfolding whole tag_in byte_in byte_at
 nothing_read read = refl
 
 -- ---- the rows and heads of parts
@@ -253,11 +254,11 @@ make_part key value = record { key = key; value = value }
 
 -- rows that are read behind the version, under their ids, are read as what spells them
 row_read : {R : Type 0} {row_in : ℕ → Reader R} (IsRow : R → Type 0) (id_of : R → ℕ) (body : R → List ℕ) → ((id : ℕ) → IsVolumeId id → Reads (row_in id) (Spelled (IsRowOf IsRow id_of id) body))
-    → ((row : R) → IsRow row → IsVolumeId (id_of row)) → IsReadWhole row_in IsVolumeId IsRow (λ row. make_part (id_of row) (1 ∷ body row))
+    → ((row : R) → IsRow row → IsVolumeId (id_of row)) → IsReadWhole row_in IsVolumeId IsRow (λ row. make_part (id_of row) (version_byte ∷ body row))
 row_read IsRow id_of body reads ids = record {
   takes = λ id value row is_id fits e.
       let read = whole-takes (IsRowOf IsRow id_of id) body (reads id is_id) value fits row e in
-      (read.0.fits, ap (λ k. make_part k (1 ∷ body row)) read.0.has_id ∙ ap (make_part id) (sym read.1));
+      (read.0.fits, ap (λ k. make_part k (version_byte ∷ body row)) read.0.has_id ∙ ap (make_part id) (sym read.1));
   has_key = ids;
   again = λ row fits. whole-again (IsRowOf IsRow id_of (id_of row)) body (reads (id_of row) (ids row fits)) row (record { has_id = refl; fits = fits });
 }
@@ -273,7 +274,7 @@ abbrev pub IsHeadKey : ℕ → Type 0
 IsHeadKey key = 0 ≡ key
 
 -- heads that are read behind the version are read as what spells them
-head_read : {H : Type 0} {read : Reader H} (IsHead : H → Type 0) (body : H → List ℕ) → Reads read (Spelled IsHead body) → IsReadWhole (λ key. read) IsHeadKey IsHead (λ first. make_part 0 (1 ∷ body first))
+head_read : {H : Type 0} {read : Reader H} (IsHead : H → Type 0) (body : H → List ℕ) → Reads read (Spelled IsHead body) → IsReadWhole (λ key. read) IsHeadKey IsHead (λ first. make_part 0 (version_byte ∷ body first))
 head_read IsHead body reads = record {
   takes = λ key value first is fits e.
       let read = whole-takes IsHead body reads value fits first e in

@@ -1,10 +1,12 @@
 -- A reader reads what is spelled: what it takes from the front of bytes is spelled there, and what is spelled there is read again.
 use Rattle.std.proofs.Common.{◌≡◌, ℕ, Bool, true, false, cond, List, [], ◌++◌, Some, None, refl, sym, ap, subst, ◌∙◌, append_assoc}
-use Rattle.std.specs.Prelude.{Option, MatchBool}
+use Rattle.std.specs.Prelude.{Option}
 use Rattle.std.proofs.lemmas.List.{append-nil}
 use Rattle.csi_lists.proofs.Options.{some_is_not_none}
 use Rattle.csi_frames.specs.Bytes.{AreBytes}
 use Rattle.csi_frames.proofs.Bytes.{AreBytes-back}
+pub use Rattle.csi_frames.proofs.Readers.{Then, Given, Either}
+pub use Rattle.csi_frames.proofs.Says.{Spelled, After, Made, Always}
 use Rattle.csi_records.specs.Reading.{Reader, go_on, ◌>>=◌, give}
 
 -- a value, with what spells it
@@ -25,15 +27,6 @@ pub go_on-some : {A B : Type 0} (r : Option (A × List ℕ)) (k : A → Reader B
 go_on-some (Some x) k y e = (x, refl, e)
 go_on-some None k y e = absurd cc
 
--- what spells a value that a second reader made after a first
-pub record Then {A B : Type 0} (First : A → List ℕ → Type 0) (Second : A → B → List ℕ → Type 0) (value : B) (bytes : List ℕ) : Type 0 where
-  pub before : A
-  pub front : List ℕ
-  pub back : List ℕ
-  pub parts : bytes ≡ front ++ back
-  pub first : First before front
-  pub second : Second before value back
-
 -- two readers one after another read what the first and then the second reads
 pub then : {A B : Type 0} {r : Reader A} {k : A → Reader B} {First : A → List ℕ → Type 0} {Second : A → B → List ℕ → Type 0}
     → Reads r First → ((a : A) → Reads (k a) (Second a)) → Reads (r >>= k) (Then First Second)
@@ -52,11 +45,6 @@ then {A} {B} {r} {k} {First} {Second} one two = record {
       let first : r (s.front ++ (s.back ++ rest)) ≡ Some (s.before, s.back ++ rest) = one.again s.before s.front (s.back ++ rest) s.first in
       ap (λ (t : List ℕ). go_on (r t) k) all ∙ (ap (λ (x : Option (A × List ℕ)). go_on x k) first ∙ (two s.before).again value s.back rest s.second);
 }
-
--- a value with no bytes of its own
-pub record Given {A : Type 0} (made value : A) (bytes : List ℕ) : Type 0 where
-  pub same : value ≡ made
-  pub none : bytes ≡ []
 
 -- a value that is read, and the bytes behind it
 abbrev pub done : {A : Type 0} → A → List ℕ → Option (A × List ℕ)
@@ -83,21 +71,12 @@ in_words Other there back one = record {
   again = λ value front rest s. one.again value front rest (back value front s);
 }
 
--- what spells a value, as a test says
-abbrev pub Either : {A : Type 0} → Bool → (A → List ℕ → Type 0) → (A → List ℕ → Type 0) → A → List ℕ → Type 0
-Either b First Second value bytes = MatchBool b (First value bytes) (Second value bytes)
-
 -- a choice of two readers by a test reads what the chosen one reads
 pub either : {A : Type 0} {r k : Reader A} {First Second : A → List ℕ → Type 0} (b : Bool) → Reads r First → Reads k Second → Reads (cond b r k) (Either b First Second)
 either true one two = one
 either false one two = two
 
 -- ---- values with one spelling each
-
--- the value is within its limits, and this is its spelling
-pub record Spelled {A : Type 0} (Fits : A → Type 0) (spell : A → List ℕ) (value : A) (bytes : List ℕ) : Type 0 where
-  pub fits : Fits value
-  pub are : bytes ≡ spell value
 
 -- equal answers have equal values and equal rests
 same_answer : {A : Type 0} (x y : A) (xs ys : List ℕ) → done x xs ≡ done y ys → (x ≡ y) × (xs ≡ ys)
@@ -115,21 +94,6 @@ pub spelled-none : {A : Type 0} {read : Reader A} {Fits : A → Type 0} {spell :
 spelled-none {read = read} {spell = spell} reads bytes none a rest fits are =
     some_is_not_none (a, rest) (sym (reads.again a (spell a) rest (record { fits = fits; are = refl })) ∙ ap read (sym are) ∙ none)
 
--- a field with one spelling, and then what a second reader made
-pub record After {A B : Type 0} (Fits : A → Type 0) (spell : A → List ℕ) (Second : A → B → List ℕ → Type 0) (value : B) (bytes : List ℕ) : Type 0 where
-  pub before : A
-  pub fits : Fits before
-  pub back : List ℕ
-  pub parts : bytes ≡ spell before ++ back
-  pub second : Second before value back
-
--- made of a field with one spelling, the last one
-pub record Made {A B : Type 0} (Fits : A → Type 0) (spell : A → List ℕ) (make : A → B) (value : B) (bytes : List ℕ) : Type 0 where
-  pub before : A
-  pub fits : Fits before
-  pub same : value ≡ make before
-  pub are : bytes ≡ spell before
-
 -- a reader of a field with one spelling, and one behind it, read that spelling and then what the second reads
 pub after : {A B : Type 0} {r : Reader A} {k : A → Reader B} {Fits : A → Type 0} {spell : A → List ℕ} {Second : A → B → List ℕ → Type 0}
     → Reads r (Spelled Fits spell) → ((a : A) → Reads (k a) (Second a)) → Reads (r >>= k) (After Fits spell Second)
@@ -146,7 +110,3 @@ makes {A} {B} {r} {Fits} {spell} make one =
     (λ value bytes s. record { before = s.before; fits = s.first.fits; same = s.second.same; are = s.parts ∙ ap (λ (t : List ℕ). s.front ++ t) s.second.none ∙ append-nil s.front ∙ s.first.are })
     (λ value bytes s. record { before = s.before; front = bytes; back = []; parts = sym (append-nil bytes); first = record { fits = s.fits; are = s.are }; second = record { same = s.same; none = refl } })
     (then one (λ a. gives (make a)))
-
--- no limits
-abbrev pub Always : {A : Type 0} → A → Type 0
-Always a = Unit {0}

@@ -13,7 +13,7 @@ use Rattle.csi_frames.specs.Spelling as spelling
 use Rattle.csi_frames.proofs.Bytes.{AreBytes-take, AreBytes-back, four-back, four-again, four-front}
 use Rattle.csi_lists.proofs.Each.{each-append_one}
 use Rattle.csi_stores.specs.Part.{StoredPart, IsPart}
-use Rattle.csi_records.specs.Spelling.{part_bytes, record_head, record_bytes}
+use Rattle.csi_records.specs.Spelling.{version_byte, part_bytes, record_head, record_bytes}
 use Rattle.csi_records.specs.Records.{Begins, IsRefusedAt}
 use Rattle.csi_records.specs.declared.fault.RecordStop.{RecordStop}
 use Rattle.csi_records.specs.declared.fault.RecordStop.TheVariants.{BadRecord, NoMemory}
@@ -149,9 +149,9 @@ pub record_head_reads : Reads record_head_in (Spelled IsLong record_head)
 unfolding record_head_in
 record_head_reads =
     in_words (Spelled IsLong record_head)
-    (λ value bytes s. record { fits = s.second.fits; are = s.parts ∙ ap (λ (t : List ℕ). t ++ s.back) s.first.one ∙ ap (λ (t : List ℕ). 1 ∷ t) s.second.are })
-    (λ value bytes s. record { before = tt; front = 1 ∷ []; back = long value; parts = s.are; first = record { one = refl }; second = record { fits = s.fits; are = refl } })
-    (then (tag_reads 1) (λ _. long_reads))
+    (λ value bytes s. record { fits = s.second.fits; are = s.parts ∙ ap (λ (t : List ℕ). t ++ s.back) s.first.one ∙ ap (λ (t : List ℕ). version_byte ∷ t) s.second.are })
+    (λ value bytes s. record { before = tt; front = version_byte ∷ []; back = long value; parts = s.are; first = record { one = refl }; second = record { fits = s.fits; are = refl } })
+    (then (tag_reads version_byte) (λ _. long_reads))
 
 -- where no version and number of parts are read, none stand in front
 pub no-head : (bytes : List ℕ) → record_head_in bytes ≡ None → HasNoHead bytes

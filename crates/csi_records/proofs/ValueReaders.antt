@@ -3,82 +3,28 @@ use Rattle.std.proofs.Common.{◌≡◌, ℕ, zero, suc, ◌+◌, ◌≤◌, Boo
 use Rattle.std.specs.Prelude.{Option, IfSome}
 use Rattle.std.specs.List.{flat_map, AllByRecursion}
 use Rattle.std.proofs.lemmas.List.Concat.{flat_map-cons}
-use Rattle.csi_types.specs.declared.capability.Access.{Access}
-use Rattle.csi_types.specs.declared.capability.Access.TheVariants.{Block, Mount}
 use Rattle.csi_types.specs.declared.capability.Capability.{Capability}
-use Rattle.csi_types.specs.declared.number.Number.{Number}
 use Rattle.csi_types.specs.declared.reply.Reply.{Reply}
 use Rattle.csi_types.specs.Fence.{Kept}
-use Rattle.csi_types.specs.Mode.{mode_number}
 use Rattle.csi_types.specs.Status.{status_code}
 use Rattle.csi_types.specs.Same.{kind_number}
 use Rattle.csi_types.specs.Text.{IsText, IsNodeId, IsTarget}
 use Rattle.csi_types.specs.VolumeId.{IsVolumeId}
-use Rattle.csi_types.specs.Limits.{IsWord, IsNumber, IsAccess, IsCapability, IsReply}
+use Rattle.csi_types.specs.Limits.{IsWord, IsNumber, IsCapability, IsReply}
 use Rattle.csi_frames.specs.Spelling as spelling
 use Rattle.csi_controller.specs.declared.row.NodeHolding.{NodeHolding}
 use Rattle.csi_node.specs.declared.row.NodeTarget.{NodeTarget}
-use Rattle.csi_records.specs.Reading.{Reader, access_in, capability_in, items_in, counted_in, holding_in, target_in, number_in, reply_id_in, reply_in, kept_in, staged_in, id_from}
+use Rattle.csi_records.specs.Reading.{Reader, items_in, counted_in, holding_in, target_in, reply_id_in, reply_in, kept_in, staged_in, id_from}
 use Rattle.csi_records.specs.Spelling.{counted, holding_bytes, target_bytes, kept_bytes, staged_bytes}
 use Rattle.csi_records.specs.Records.{IsKept, IsHolding, IsTargetRow, IsStagedSo}
 use Rattle.csi_records.proofs.Readers.{Reads, Given, gives, in_words, Either, either, Spelled, After, Made, after, makes, Always}
-use Rattle.csi_records.proofs.FieldReaders.{flag_reads, mode_reads, status_reads, kind_reads, count_reads, word_reads, text_reads, IsCount, one_byte}
+use Rattle.csi_records.proofs.FieldReaders.{flag_reads, capability_reads, number_bytes, number_reads, status_reads, kind_reads, count_reads, word_reads, text_reads, IsCount, one_byte}
 
 -- ---- what is made of fields one after another, as one list
 
 -- what is one piece and then a middle, which is two more, is the three pieces
 pub join3 : (whole a b c mid : List ℕ) → whole ≡ a ++ mid → mid ≡ b ++ c → whole ≡ a ++ b ++ c
 join3 whole a b c mid one two = one ∙ ap (λ (t : List ℕ). a ++ t) two ∙ sym (append_assoc a b c)
-
--- ---- capabilities
-
--- what stands behind an access's flag, by the flag
-abbrev WasAccess : Bool → Access → List ℕ → Type 0
-WasAccess b = Either b (Made (IsText 0 128) spelling.text Mount) (Given Block)
-
--- the fields of each value, one after another: here a flag and what it asks for
-abbrev SaysAccess : Access → List ℕ → Type 0
-SaysAccess = After Always spelling.flag WasAccess
-
--- a flag and what it asks for behind it are the spelling of an access
-access-by : (b : Bool) (value : Access) (bytes back : List ℕ) → bytes ≡ spelling.flag b ++ back → WasAccess b value back → Spelled IsAccess spelling.access value bytes
-access-by true value bytes back parts s =
-    subst (λ (v : Access). Spelled IsAccess spelling.access v bytes) (sym s.same) (record { fits = s.fits; are = parts ∙ ap (λ (t : List ℕ). 1 ∷ t) s.are })
-access-by false value bytes back parts s =
-    subst (λ (v : Access). Spelled IsAccess spelling.access v bytes) (sym s.same) (record { fits = tt; are = parts ∙ ap (λ (t : List ℕ). 0 ∷ t) s.none })
-
--- the spelling of an access is a flag and what the flag asks for
-access-back : (value : Access) (bytes : List ℕ) → Spelled IsAccess spelling.access value bytes → SaysAccess value bytes
-access-back Block bytes s = record { before = false; fits = tt; back = []; parts = s.are; second = record { same = refl; none = refl } }
-access-back (Mount fs_type) bytes s = record { before = true; fits = tt; back = spelling.text fs_type; parts = s.are; second = record { before = fs_type; fits = s.fits; same = refl; are = refl } }
-
--- the reader of an access reads what spells one
-access_reads : Reads access_in (Spelled IsAccess spelling.access)
-unfolding access_in
-access_reads =
-    in_words (Spelled IsAccess spelling.access) (λ value bytes s. access-by s.before value bytes s.back s.parts s.second) access-back
-    (after flag_reads (λ b. either b (makes Mount (text_reads 0 128)) (gives Block)))
-
-abbrev SaysCapability : Capability → List ℕ → Type 0
-SaysCapability = After IsAccess spelling.access (λ access. Made Always (λ mode. mode_number mode ∷ []) (λ mode. record { access = access; mode = mode }))
-
--- an access and then a mode are the spelling of a capability
-capability-there : (value : Capability) (bytes : List ℕ) → SaysCapability value bytes → Spelled IsCapability spelling.capability value bytes
-capability-there value bytes s =
-    subst (λ (v : Capability). Spelled IsCapability spelling.capability v bytes) (sym s.second.same)
-    (record { fits = s.fits; are = s.parts ∙ ap (λ (t : List ℕ). spelling.access s.before ++ t) s.second.are })
-
--- the spelling of a capability is an access and then a mode
-capability-back : (value : Capability) (bytes : List ℕ) → Spelled IsCapability spelling.capability value bytes → SaysCapability value bytes
-capability-back value bytes s =
-    record { before = value.access; fits = s.fits; back = mode_number value.mode ∷ []; parts = s.are; second = record { before = value.mode; fits = tt; same = refl; are = refl } }
-
--- the reader of a capability reads what spells one
-pub capability_reads : Reads capability_in (Spelled IsCapability spelling.capability)
-unfolding capability_in
-capability_reads =
-    in_words (Spelled IsCapability spelling.capability) capability-there capability-back
-    (after access_reads (λ access. makes (λ mode. record { access = access; mode = mode }) mode_reads))
 
 -- ---- so many
 
@@ -229,31 +175,7 @@ target_reads =
     in_words (Spelled IsTargetRow target_bytes) target-there target-back
     (after (text_reads 1 255) (λ target. makes (λ readonly. record { target = target; readonly = readonly }) flag_reads))
 
--- ---- the number of a call, and a reply
-
-abbrev number_bytes : Number → List ℕ
-number_bytes number = spelling.word number.session ++ spelling.word number.call
-
-abbrev SaysNumber : Number → List ℕ → Type 0
-SaysNumber = After IsWord spelling.word (λ session. Made IsWord spelling.word (λ call. record { session = session; call = call }))
-
--- a session and a count are the spelling of a call's number
-number-there : (value : Number) (bytes : List ℕ) → SaysNumber value bytes → Spelled IsNumber number_bytes value bytes
-number-there value bytes s =
-    subst (λ (v : Number). Spelled IsNumber number_bytes v bytes) (sym s.second.same)
-    (record { fits = record { session_fits = s.fits; call_fits = s.second.fits }; are = s.parts ∙ ap (λ (t : List ℕ). spelling.word s.before ++ t) s.second.are })
-
--- the spelling of a call's number is a session and a count
-number-back : (value : Number) (bytes : List ℕ) → Spelled IsNumber number_bytes value bytes → SaysNumber value bytes
-number-back value bytes s =
-    record { before = value.session; fits = s.fits.session_fits; back = spelling.word value.call; parts = s.are; second = record { before = value.call; fits = s.fits.call_fits; same = refl; are = refl } }
-
--- the reader of a call's number reads what spells one
-number_reads : Reads number_in (Spelled IsNumber number_bytes)
-unfolding number_in
-number_reads =
-    in_words (Spelled IsNumber number_bytes) number-there number-back
-    (after word_reads (λ session. makes (λ call. record { session = session; call = call }) word_reads))
+-- ---- a reply
 
 abbrev IsReplyId : Option ℕ → Type 0
 IsReplyId id = IfSome id IsVolumeId

@@ -15,7 +15,7 @@ use Rattle.csi_frames.specs.Spelling as spelling
 use Rattle.csi_controller.specs.declared.row.NodeHolding.{NodeHolding}
 use Rattle.csi_node.specs.declared.row.NodeTarget.{NodeTarget}
 use Rattle.csi_node.specs.OneRow.{RowShown}
-use Rattle.csi_records.specs.Spelling.{VolumeRow, state_byte, counted, holding_bytes, target_bytes, kept_bytes, staged_bytes, volume_bytes, answered_bytes}
+use Rattle.csi_records.specs.Spelling.{version_byte, VolumeRow, state_byte, counted, holding_bytes, target_bytes, kept_bytes, staged_bytes, volume_bytes, answered_bytes}
 use Rattle.csi_records.specs.Records.{IsHolding, IsTargetRow, IsStagedSo, IsKept, IsVolumeRow, IsAnsweredRow}
 
 -- how long the spelling of each value is at most
@@ -75,7 +75,7 @@ small n a b c d e f is ha hb hc hd he hf = omega arith
 -- the value of a volume's part, and below of a node's row, is shorter than 2^32 bytes
 pub volume_size : (row : VolumeRow) → IsVolumeRow row → length (volume_bytes row) < 2 ^ 32
 volume_size row fits =
-    let a : List ℕ = 1 ∷ state_byte row.volume.is_live ∷ [] in
+    let a : List ℕ = version_byte ∷ state_byte row.volume.is_live ∷ [] in
     let b : List ℕ = spelling.text row.volume.name in
     let c : List ℕ = spelling.word row.volume.capacity in
     let d : List ℕ = counted spelling.capability row.volume.capabilities in
@@ -89,7 +89,7 @@ volume_size row fits =
 
 pub answered_size : (row : RowShown) → IsAnsweredRow row → length (answered_bytes row) < 2 ^ 32
 answered_size row fits =
-    let a : List ℕ = 1 ∷ staged_bytes row.staged in
+    let a : List ℕ = version_byte ∷ staged_bytes row.staged in
     let b : List ℕ = counted target_bytes row.targets in
     small (length (answered_bytes row)) (length a) 0 0 0 (length b) (length (kept_bytes row.kept)) (ordered (length a) (length b) (length (kept_bytes row.kept)) (length3 a b (kept_bytes row.kept)))
     (omega (arith, staged-size row.staged fits.staged)) (omega arith) (omega arith) (omega arith)

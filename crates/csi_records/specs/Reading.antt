@@ -1,24 +1,23 @@
--- How a value is read, from left to right: what the private functions that read answer. Who reads the public contracts need not
--- read this; it is joined to the spelling in proofs/.
-use Rattle.std.specs.Prelude.{◌≡◌, ℕ, zero, suc, ◌-◌, ◌==◌, ◌&&◌, nat_lt, nat_le, Bool, true, false, not, if◌then◌else◌, List, [], ◌∷◌, length, take, drop, Option, Some, None}
-use Rattle.std.specs.Str.{is_utf8}
+-- How a value is read, from left to right, its fields as in frames: what the private functions that read answer. Who reads the
+-- public contracts need not read this; it is joined to the spelling in proofs/.
+use Rattle.std.specs.Prelude.{◌≡◌, ℕ, zero, suc, ◌==◌, nat_lt, Bool, true, false, if◌then◌else◌, List, [], ◌∷◌, length, take, drop, Option, Some, None, Result, Ok, Err}
 use Rattle.byteorder.specs.Endian.{big_number}
 use Rattle.csi_types.specs.declared.number.Number.{Number}
-use Rattle.csi_types.specs.declared.capability.Access.{Access}
-use Rattle.csi_types.specs.declared.capability.Access.TheVariants.{Block, Mount}
 use Rattle.csi_types.specs.declared.capability.Capability.{Capability}
-use Rattle.csi_types.specs.declared.call.Kind.{Kind}
+use Rattle.csi_types.specs.declared.status.Status.{Status}
 use Rattle.csi_types.specs.declared.reply.Reply.{Reply}
 use Rattle.csi_types.specs.Fence.{Kept}
-use Rattle.csi_types.specs.Mode.{mode_from_number}
-use Rattle.csi_types.specs.Status.{status_from_code}
 use Rattle.csi_frames.specs.Bytes.{AreBytes}
-use Rattle.csi_frames.specs.Codes.{kind_from_number}
+use Rattle.csi_frames.specs.declared.fault.FaultKind.TheVariants.{LengthDiffers, BadCount}
+use Rattle.csi_frames.specs.declared.fields.Stop.{Stop}
+use Rattle.csi_frames.specs.Grammar.{any, at_most}
+use Rattle.csi_frames.specs.Kinds.{reply_kind_from}
+use Rattle.csi_frames.specs.Reading as frames
 use Rattle.csi_controller.specs.declared.row.NodeHolding.{NodeHolding}
 use Rattle.csi_node.specs.declared.row.NodeTarget.{NodeTarget}
 use Rattle.csi_node.specs.OneRow.{RowShown}
 use Rattle.csi_stores.specs.Part.{StoredPart}
-use Rattle.csi_records.specs.Spelling.{VolumeRow}
+use Rattle.csi_records.specs.Spelling.{version, version_byte, VolumeRow}
 
 -- a value and the bytes after it, if one stands there
 abbrev pub Reader : Type 0 → Type 0
@@ -43,39 +42,46 @@ or_none None bytes = None
 abbrev pub nothing : {A : Type 0} → Reader A
 nothing bytes = None
 
--- ---- fields
+-- what a reader of frames takes, if it takes anything
+abbrev pub taken : {A : Type 0} → Result (A × List ℕ) Stop → Option (A × List ℕ)
+taken (Ok read) = Some read
+taken (Err stop) = None
+
+abbrev pub as_in_frames : {A : Type 0} → frames.Reader A → Reader A
+as_in_frames read bytes = taken (read bytes)
+
+-- ---- fields, as in frames
 
 unfoldable pub byte_in : Reader ℕ
-byte_in [] = None
-byte_in (b ∷ bytes) = Some (b, bytes)
+byte_in = as_in_frames (frames.byte_at any LengthDiffers)
+
+-- a byte of at most so much
+unfoldable pub count_in : ℕ → Reader ℕ
+count_in most = as_in_frames (frames.byte_at (at_most most) BadCount)
+
+unfoldable pub word_in : Reader ℕ
+word_in = as_in_frames (frames.word_at any)
+
+unfoldable pub text_in : ℕ → ℕ → Reader (List ℕ)
+text_in least most = as_in_frames (frames.text_at least most)
+
+unfoldable pub flag_in : Reader Bool
+flag_in = as_in_frames frames.flag_at
+
+unfoldable pub capability_in : Reader Capability
+capability_in = as_in_frames (frames.capability_at version)
+
+unfoldable pub status_in : Reader Status
+status_in = as_in_frames frames.status_at
+
+unfoldable pub number_in : Reader Number
+number_in = as_in_frames frames.number_at
 
 -- a byte that stands for a value
 unfoldable pub code_in : {A : Type 0} → (ℕ → Option A) → Reader A
 code_in value_of = do
   b ← byte_in
   or_none (value_of b)
-
--- a byte of at most so much
-unfoldable pub count_in : ℕ → Reader ℕ
-count_in most = do
-  b ← byte_in
-  if nat_le b most then give b else nothing
-
-unfoldable pub word_in : Reader ℕ
-word_in bytes = if nat_lt (length bytes) 8 then None else Some (big_number 8 bytes, drop 8 bytes)
-
-unfoldable pub text_in : ℕ → ℕ → Reader (List ℕ)
-text_in least most [] = None
-text_in least most (n ∷ bytes) =
-    if not (nat_le least n && nat_le n most) then None
-    else if nat_lt (length bytes) n then None
-    else if is_utf8 (take n bytes) then Some (take n bytes, drop n bytes)
-    else None
-
-abbrev pub flag_from : ℕ → Option Bool
-flag_from zero = Some false
-flag_from (suc zero) = Some true
-flag_from (suc (suc n)) = None
 
 -- 1 is live, 2 deleted
 abbrev pub live_from : ℕ → Option Bool
@@ -84,29 +90,12 @@ live_from (suc zero) = Some true
 live_from (suc (suc zero)) = Some false
 live_from (suc (suc (suc n))) = None
 
--- a reply's kind byte is its call's and 128
-abbrev pub kind_from : ℕ → Option Kind
-kind_from n = if nat_lt n 128 then None else kind_from_number (n - 128)
-
 -- 0 stands for no id
 abbrev pub id_from : ℕ → Option ℕ
 id_from zero = None
 id_from (suc n) = Some (suc n)
 
 -- ---- values
-
-unfoldable pub access_in : Reader Access
-access_in = do
-  is_mount ← code_in flag_from
-  if is_mount then (do
-    fs_type ← text_in 0 128
-    give (Mount fs_type)) else give Block
-
-unfoldable pub capability_in : Reader Capability
-capability_in = do
-  access ← access_in
-  mode ← code_in mode_from_number
-  give (record { access = access; mode = mode })
 
 -- so many
 unfoldable pub items_in : {A : Type 0} → Reader A → ℕ → Reader (List A)
@@ -126,20 +115,14 @@ unfoldable pub holding_in : Reader NodeHolding
 holding_in = do
   node ← text_in 1 255
   capability ← capability_in
-  readonly ← code_in flag_from
+  readonly ← flag_in
   give (record { node = node; capability = capability; readonly = readonly })
 
 unfoldable pub target_in : Reader NodeTarget
 target_in = do
   target ← text_in 1 255
-  readonly ← code_in flag_from
+  readonly ← flag_in
   give (record { target = target; readonly = readonly })
-
-unfoldable pub number_in : Reader Number
-number_in = do
-  session ← word_in
-  call ← word_in
-  give (record { session = session; call = call })
 
 unfoldable pub reply_id_in : Reader (Option ℕ)
 reply_id_in = do
@@ -148,7 +131,7 @@ reply_id_in = do
 
 unfoldable pub reply_in : Reader Reply
 reply_in = do
-  status ← code_in status_from_code
+  status ← status_in
   id ← reply_id_in
   detail ← text_in 0 255
   give (record { status = status; id = id; detail = detail })
@@ -156,13 +139,13 @@ reply_in = do
 unfoldable pub kept_in : Reader Kept
 kept_in = do
   number ← number_in
-  kind ← code_in kind_from
+  kind ← code_in reply_kind_from
   reply ← reply_in
   give (record { number = number; kind = kind; reply = reply })
 
 unfoldable pub staged_in : Reader (Option Capability)
 staged_in = do
-  is_staged ← code_in flag_from
+  is_staged ← flag_in
   if is_staged then (do
     capability ← capability_in
     give (Some capability)) else give None
@@ -221,7 +204,7 @@ part_in = do
 -- the version and the number of parts
 unfoldable pub record_head_in : Reader ℕ
 record_head_in = do
-  there ← tag_in 1
+  there ← tag_in version_byte
   long_in
 
 -- ---- a whole value: the version, what stands behind it, and no byte more
@@ -232,7 +215,7 @@ ended (Some (value, b ∷ bytes)) = None
 ended None = None
 
 unfoldable pub whole : {A : Type 0} → Reader A → List ℕ → Option A
-whole read bytes = ended (go_on (tag_in 1 bytes) (λ _. read))
+whole read bytes = ended (go_on (tag_in version_byte bytes) (λ _. read))
 
 -- The values of parts under such keys are read as what spells them: what is read of bytes is within its limits and has that part,
 -- and what is within its limits has such a key and is read of its part.

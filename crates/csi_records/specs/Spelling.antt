@@ -7,6 +7,9 @@ use Rattle.csi_types.specs.declared.capability.Capability.{Capability}
 use Rattle.csi_types.specs.declared.holding.Holding.{Holding}
 use Rattle.csi_types.specs.Fence.{Kept}
 use Rattle.csi_types.specs.Same.{kind_number}
+use Rattle.csi_frames.specs.declared.version.Version.{Version}
+use Rattle.csi_frames.specs.declared.version.Version.TheVariants.{One}
+use Rattle.csi_frames.specs.Version.{version_number}
 use Rattle.csi_frames.specs.Spelling.{word, text, flag, capability, reply_fields}
 use Rattle.csi_controller.specs.declared.row.ControllerRow.{ControllerRow}
 use Rattle.csi_controller.specs.declared.row.NodeHolding.{NodeHolding}
@@ -17,8 +20,11 @@ use Rattle.csi_node.specs.OneRow.{RowShown}
 use Rattle.csi_stores.specs.Part.{StoredPart}
 
 -- every value begins with its version
-abbrev pub version : ℕ
-version = 1
+abbrev pub version : Version
+version = One
+
+abbrev pub version_byte : ℕ
+version_byte = version_number version
 
 -- so many, and each in its spelling
 abbrev pub counted : {A : Type 0} → (A → List ℕ) → List A → List ℕ
@@ -40,7 +46,7 @@ pub record VolumeRow : Type 0 where
   pub holdings : List NodeHolding
 
 abbrev pub controller_head : ℕ → StoredPart
-controller_head next_id = record { key = 0; value = version ∷ 0 ∷ word next_id }
+controller_head next_id = record { key = 0; value = version_byte ∷ 0 ∷ word next_id }
 
 -- 1 where it is live, 2 where it was deleted
 abbrev pub state_byte : Bool → ℕ
@@ -51,7 +57,7 @@ holding_bytes holding = text holding.node ++ capability holding.capability ++ fl
 
 abbrev pub volume_bytes : VolumeRow → List ℕ
 volume_bytes row =
-    version ∷ state_byte row.volume.is_live ∷ text row.volume.name ++ word row.volume.capacity ++ counted capability row.volume.capabilities
+    version_byte ∷ state_byte row.volume.is_live ∷ text row.volume.name ++ word row.volume.capacity ++ counted capability row.volume.capabilities
     ++ counted holding_bytes row.holdings ++ kept_bytes row.volume.kept
 
 abbrev pub volume_part : VolumeRow → StoredPart
@@ -74,7 +80,7 @@ rows_of state = map (λ volume. record { volume = volume; holdings = map node_ho
 -- ---- the node's parts: a head with its id, and a row for each volume, under the volume's id
 
 abbrev pub node_head : List ℕ → StoredPart
-node_head node = record { key = 0; value = version ∷ 1 ∷ text node }
+node_head node = record { key = 0; value = version_byte ∷ 1 ∷ text node }
 
 -- 0, or 1 and how it is staged
 abbrev pub staged_bytes : Option Capability → List ℕ
@@ -85,7 +91,7 @@ abbrev pub target_bytes : NodeTarget → List ℕ
 target_bytes target = text target.target ++ flag target.readonly
 
 abbrev pub answered_bytes : RowShown → List ℕ
-answered_bytes row = version ∷ staged_bytes row.staged ++ counted target_bytes row.targets ++ kept_bytes row.kept
+answered_bytes row = version_byte ∷ staged_bytes row.staged ++ counted target_bytes row.targets ++ kept_bytes row.kept
 
 abbrev pub answered_part : RowShown → StoredPart
 answered_part row = record { key = row.id; value = answered_bytes row }
@@ -100,7 +106,7 @@ part_bytes part = word part.key ++ big_bytes 4 (length part.value) ++ part.value
 
 -- what stands before so many parts
 abbrev pub record_head : ℕ → List ℕ
-record_head count = version ∷ big_bytes 4 count
+record_head count = version_byte ∷ big_bytes 4 count
 
 abbrev pub record_bytes : List StoredPart → List ℕ
 record_bytes parts = record_head (length parts) ++ flat_map part_bytes parts

@@ -7,13 +7,14 @@ ghost use Rattle.csi_records.specs.Spelling.{node_head};
 ghost use Rattle.csi_records.specs.Reading.{node_head_in, whole};
 
 use crate::fault::Stop;
-use crate::fields::Fields;
+use crate::fields::{kind, number, tag, version};
 use crate::items::list;
 use crate::plugin_rows::Row;
 use crate::row_values::answered_value;
 use crate::texts::node_id;
 use crate::values::{reply, staged};
 use crate::writing::put_part;
+use csi_frames::Fields;
 use csi_node::NodeRow;
 use csi_stores::Part;
 use csi_types::{NoMemory, NodeId, VolumeId};
@@ -42,8 +43,8 @@ impl Row for NodeRow {
     fn read(fields: &mut Fields<'_>, alloc: Global, id: VolumeId) -> Result<NodeRow, Stop> {
         let staged = staged(fields, alloc)?;
         let targets = list(fields, alloc, 16)?;
-        let last = fields.number()?;
-        let kind = fields.kind()?;
+        let last = number(fields)?;
+        let kind = kind(fields)?;
         let reply = reply(fields, alloc)?;
         Ok(NodeRow {
             id,
@@ -72,8 +73,8 @@ fn node_in(alloc: Global, value: &[u8]) -> Result<NodeId, Stop>
     ensures bytes { AreBytes value.now }
 {
     let mut fields = Fields { bytes: value };
-    fields.tag(1)?;
-    fields.tag(1)?;
+    version(&mut fields)?;
+    tag(&mut fields, 1)?;
     let node = node_id(&mut fields, alloc)?;
     if fields.bytes.is_empty() {
         Ok(node)

@@ -5,11 +5,12 @@ ghost use Rattle.csi_records.specs.Reading.{Reader, capability_in, items_in, cou
 ghost use Rattle.csi_records.specs.Spelling.{counted};
 
 use crate::fault::Stop;
-use crate::fields::Fields;
+use crate::fields::{capability, count, flag};
 use crate::texts::{node_id, target};
-use crate::values::access;
-use crate::writing::{put_access, put_byte, put_flag, put_text};
 use csi_controller::NodeHolding;
+use csi_frames::{
+    Fields, append_byte, append_capability, append_flag, append_node_id, append_target,
+};
 use csi_node::NodeTarget;
 use csi_types::{Capability, CapabilityList, NoMemory};
 use std::alloc::Global;
@@ -45,16 +46,16 @@ impl Item for Capability {
 
     ghost is_item = { IsCapability };
 
-    #[tactic(auto, unfolding(crate::specs::Reading::capability_in))]
     fn read(fields: &mut Fields<'_>, alloc: Global) -> Result<Capability, Stop> {
-        let access = access(fields, alloc)?;
-        let mode = fields.mode()?;
-        Ok(Capability { access, mode })
+        let lent = capability(fields)?;
+        match lent.to_capability(alloc) {
+            Ok(capability) => Ok(capability),
+            Err(_) => Err(Stop::NoMemory),
+        }
     }
 
     fn put(&self, out: &mut Vec<u8>) -> Result<(), NoMemory> {
-        put_access(out, &self.access)?;
-        put_byte(out, self.mode.number())
+        append_capability(out, self)
     }
 }
 
@@ -73,7 +74,7 @@ impl Item for NodeHolding {
     fn read(fields: &mut Fields<'_>, alloc: Global) -> Result<NodeHolding, Stop> {
         let node = node_id(fields, alloc)?;
         let capability = Capability::read(fields, alloc)?;
-        let readonly = fields.flag()?;
+        let readonly = flag(fields)?;
         Ok(NodeHolding {
             node,
             capability,
@@ -82,9 +83,9 @@ impl Item for NodeHolding {
     }
 
     fn put(&self, out: &mut Vec<u8>) -> Result<(), NoMemory> {
-        put_text(out, self.node.as_str())?;
+        append_node_id(out, &self.node)?;
         self.capability.put(out)?;
-        put_flag(out, self.readonly)
+        append_flag(out, self.readonly)
     }
 }
 
@@ -102,13 +103,13 @@ impl Item for NodeTarget {
     #[tactic(auto, unfolding(crate::specs::Reading::target_in))]
     fn read(fields: &mut Fields<'_>, alloc: Global) -> Result<NodeTarget, Stop> {
         let target = target(fields, alloc)?;
-        let readonly = fields.flag()?;
+        let readonly = flag(fields)?;
         Ok(NodeTarget { target, readonly })
     }
 
     fn put(&self, out: &mut Vec<u8>) -> Result<(), NoMemory> {
-        put_text(out, self.target.as_str())?;
-        put_flag(out, self.readonly)
+        append_target(out, &self.target)?;
+        append_flag(out, self.readonly)
     }
 }
 
@@ -137,7 +138,7 @@ pub(crate) fn list<T: Item>(
     ensures within { IfOk result (λ list. length list.items ≤ most) }
     ensures bad { IsErrOf result Stop.Bad → counted_in most T.item_in fields.old.bytes.now ≡ None }
 {
-    let count = fields.count(most)?;
+    let count = count(fields, most)?;
     items(fields, alloc, count)
 }
 
@@ -156,7 +157,7 @@ pub(crate) fn put_list<T: Item>(out: &mut Vec<u8>, from: &[T]) -> Result<(), NoM
     ensures written { OnOk result (out.new.items ≡ out.old.items ++ counted T.item_bytes from.now) }
     ensures fits { OnOk result (AllByRecursion T.is_item from.now) }
 {
-    put_byte(out, from.len() as u8)?;
+    append_byte(out, from.len() as u8)?;
     for one in from {
         one.put(out)?;
     }

@@ -9,8 +9,9 @@ ghost use Rattle.csi_records.specs.Spelling.{part_bytes, record_bytes};
 ghost use Rattle.csi_records.specs.Stopping.{AreRead};
 
 use crate::fault::Stop;
-use crate::fields::Fields;
-use crate::writing::{put_byte, put_count, put_part};
+use crate::fields::{VERSION, version};
+use crate::writing::{put_count, put_part};
+use csi_frames::{Fields, append_byte};
 use csi_stores::Part;
 use csi_types::{NoMemory, VolumeId};
 use std::alloc::Global;
@@ -60,7 +61,7 @@ fn row_in<T: Row>(alloc: Global, id: VolumeId, value: &[u8]) -> Result<T, Stop>
 {
     let _number = id.number();
     let mut fields = Fields { bytes: value };
-    fields.tag(1)?;
+    version(&mut fields)?;
     let row = T::read(&mut fields, alloc, id)?;
     if fields.bytes.is_empty() {
         Ok(row)
@@ -115,7 +116,7 @@ pub(crate) fn bytes_of<T: Row>(alloc: Global, head: &[u8], rows: &[T]) -> Result
     ensures fit { IfOk result (λ bytes. AllByRecursion T.is_row (map T.shown rows.now)) }
 {
     let mut out = Vec::new(alloc);
-    put_byte(&mut out, 1)?;
+    append_byte(&mut out, VERSION.number())?;
     put_count(&mut out, rows.len() as u32 + 1)?;
     put_part(&mut out, 0, head)?;
     for row in rows {

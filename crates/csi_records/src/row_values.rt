@@ -6,9 +6,11 @@ ghost use Rattle.csi_records.specs.Spelling.{volume_row, staged_bytes, volume_by
 ghost use Rattle.csi_records.specs.Writing.{AreHeldFew, ArePublishedFew};
 ghost use Rattle.csi_records.specs.Records.{IsVolumeRow, IsStagedSo, IsAnsweredRow};
 
+use crate::fields::VERSION;
 use crate::items::{Item, put_list};
-use crate::writing::{put_byte, put_kept, put_text, put_word};
+use crate::writing::put_kept;
 use csi_controller::ControllerRow;
+use csi_frames::{append_byte, append_name, append_node_id, append_word};
 use csi_node::NodeRow;
 use csi_types::{Capability, NoMemory, NodeId};
 use std::alloc::Global;
@@ -18,9 +20,9 @@ fn put_staged(out: &mut Vec<u8>, from: &Option<Capability>) -> Result<(), NoMemo
     ensures fits { OnOk result (IsStagedSo from.now) }
 {
     match from {
-        None => put_byte(out, 0),
+        None => append_byte(out, 0),
         Some(capability) => {
-            put_byte(out, 1)?;
+            append_byte(out, 1)?;
             capability.put(out)
         }
     }
@@ -35,10 +37,10 @@ pub fn volume_value(alloc: Global, row: &ControllerRow) -> Result<Vec<u8>, NoMem
 {
     let _id = row.id.number();
     let mut out = Vec::new(alloc);
-    put_byte(&mut out, 1)?;
-    put_byte(&mut out, if row.live { 1 } else { 2 })?;
-    put_text(&mut out, row.name.as_str())?;
-    put_word(&mut out, row.capacity)?;
+    append_byte(&mut out, VERSION.number())?;
+    append_byte(&mut out, if row.live { 1 } else { 2 })?;
+    append_name(&mut out, &row.name)?;
+    append_word(&mut out, row.capacity)?;
     put_list(&mut out, row.capabilities.as_slice())?;
     put_list(&mut out, &row.holdings)?;
     put_kept(&mut out, row.last, row.kind, &row.reply)?;
@@ -54,7 +56,7 @@ pub fn answered_value(alloc: Global, row: &NodeRow) -> Result<Vec<u8>, NoMemory>
 {
     let _id = row.id.number();
     let mut out = Vec::new(alloc);
-    put_byte(&mut out, 1)?;
+    append_byte(&mut out, VERSION.number())?;
     put_staged(&mut out, &row.staged)?;
     put_list(&mut out, &row.targets)?;
     put_kept(&mut out, row.last, row.kind, &row.reply)?;
@@ -66,9 +68,9 @@ pub fn controller_head_value(alloc: Global, next_id: u64) -> Result<Vec<u8>, NoM
     ensures { IfOk result (λ value. value.items ≡ (controller_head next_id).value) }
 {
     let mut out = Vec::new(alloc);
-    put_byte(&mut out, 1)?;
-    put_byte(&mut out, 0)?;
-    put_word(&mut out, next_id)?;
+    append_byte(&mut out, VERSION.number())?;
+    append_byte(&mut out, 0)?;
+    append_word(&mut out, next_id)?;
     Ok(out)
 }
 
@@ -78,8 +80,8 @@ pub fn node_head_value(alloc: Global, node: &NodeId) -> Result<Vec<u8>, NoMemory
     ensures fits { IfOk result (λ value. IsNodeId node.now) }
 {
     let mut out = Vec::new(alloc);
-    put_byte(&mut out, 1)?;
-    put_byte(&mut out, 1)?;
-    put_text(&mut out, node.as_str())?;
+    append_byte(&mut out, VERSION.number())?;
+    append_byte(&mut out, 1)?;
+    append_node_id(&mut out, node)?;
     Ok(out)
 }

@@ -5,8 +5,9 @@ ghost use Rattle.csi_records.specs.Reading.{long_in, bytes_in, part_in, record_h
 ghost use Rattle.csi_records.specs.Stopping.{AreSplit, HasNoHead};
 
 use crate::fault::Stop;
-use crate::fields::Fields;
+use crate::fields::{version, word};
 use byteorder::{BigEndian, ByteOrder};
+use csi_frames::Fields;
 use csi_stores::Part;
 use csi_types::NoMemory;
 use std::alloc::Global;
@@ -52,7 +53,7 @@ fn part(fields: &mut Fields<'_>, alloc: Global) -> Result<Part, Stop>
     ensures read { IfOk result (λ part. part_in fields.old.bytes.now ≡ Some (stored_in part, fields.new.bytes.now)) }
     ensures bad { IsErrOf result Stop.Bad → part_in fields.old.bytes.now ≡ None }
 {
-    let key = fields.word()?;
+    let key = word(fields)?;
     let count = long(fields)?;
     let value = bytes(fields, count as usize)?;
     let value = Vec::from_slice(alloc, value)?;
@@ -68,7 +69,7 @@ fn count_of(fields: &mut Fields<'_>) -> Result<u32, Stop>
     ensures read { IfOk result (λ count. record_head_in fields.old.bytes.now ≡ Some (count, fields.new.bytes.now)) }
     ensures bad { OnErr result (record_head_in fields.old.bytes.now ≡ None) }
 {
-    fields.tag(1)?;
+    version(fields)?;
     long(fields)
 }
 

@@ -1,25 +1,14 @@
-//! Accesses, replies and how a volume is staged, read from the bytes of a value.
+//! Replies and how a volume is staged, read from the bytes of a value.
 ghost use Rattle.std.specs.Prelude.{◌≡◌, Some, None, IfOk, OnErr, IsErrOf};
-ghost use Rattle.csi_records.specs.Reading.{access_in, reply_id_in, reply_in, staged_in, id_from};
+ghost use Rattle.csi_records.specs.Reading.{reply_id_in, reply_in, staged_in, id_from};
 
 use crate::fault::Stop;
-use crate::fields::Fields;
+use crate::fields::{flag, status, word};
 use crate::items::Item;
-use crate::texts::{detail, fs_type};
-use csi_types::{Access, Capability, Reply, VolumeId};
+use crate::texts::detail;
+use csi_frames::Fields;
+use csi_types::{Capability, Reply, VolumeId};
 use std::alloc::Global;
-
-#[tactic(auto, unfolding(crate::specs::Reading::access_in))]
-pub(crate) fn access(fields: &mut Fields<'_>, alloc: Global) -> Result<Access, Stop>
-    ensures read { IfOk result (λ access. access_in fields.old.bytes.now ≡ Some (access, fields.new.bytes.now)) }
-    ensures bad { IsErrOf result Stop.Bad → access_in fields.old.bytes.now ≡ None }
-{
-    if !fields.flag()? {
-        return Ok(Access::Block);
-    }
-    let fs_type = fs_type(fields, alloc)?;
-    Ok(Access::Mount(fs_type))
-}
 
 /// How a volume is staged, if it is.
 #[tactic(auto, unfolding(crate::specs::Reading::staged_in))]
@@ -27,7 +16,7 @@ pub(crate) fn staged(fields: &mut Fields<'_>, alloc: Global) -> Result<Option<Ca
     ensures read { IfOk result (λ staged. staged_in fields.old.bytes.now ≡ Some (staged, fields.new.bytes.now)) }
     ensures bad { IsErrOf result Stop.Bad → staged_in fields.old.bytes.now ≡ None }
 {
-    if !fields.flag()? {
+    if !flag(fields)? {
         return Ok(None);
     }
     let capability = Capability::read(fields, alloc)?;
@@ -46,7 +35,7 @@ fn reply_id(fields: &mut Fields<'_>) -> Result<Option<VolumeId>, Stop>
     ensures read { IfOk result (λ id. reply_id_in fields.old.bytes.now ≡ Some (id, fields.new.bytes.now)) }
     ensures bad { OnErr result (reply_id_in fields.old.bytes.now ≡ None) }
 {
-    let number = fields.word()?;
+    let number = word(fields)?;
     Ok(id_of(number))
 }
 
@@ -56,7 +45,7 @@ pub(crate) fn reply(fields: &mut Fields<'_>, alloc: Global) -> Result<Reply, Sto
     ensures read { IfOk result (λ reply. reply_in fields.old.bytes.now ≡ Some (reply, fields.new.bytes.now)) }
     ensures bad { IsErrOf result Stop.Bad → reply_in fields.old.bytes.now ≡ None }
 {
-    let status = fields.status()?;
+    let status = status(fields)?;
     let id = reply_id(fields)?;
     let detail = detail(fields, alloc)?;
     Ok(Reply { status, id, detail })

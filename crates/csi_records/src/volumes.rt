@@ -7,7 +7,7 @@ ghost use Rattle.csi_records.specs.Spelling.{controller_head};
 ghost use Rattle.csi_records.specs.Reading.{controller_head_in, whole};
 
 use crate::fault::Stop;
-use crate::fields::Fields;
+use crate::fields::{kind, live, number, tag, version, word};
 use crate::items::{capabilities, list};
 use crate::plugin_rows::Row;
 use crate::row_values::volume_value;
@@ -15,6 +15,7 @@ use crate::texts::name;
 use crate::values::reply;
 use crate::writing::put_part;
 use csi_controller::ControllerRow;
+use csi_frames::Fields;
 use csi_stores::Part;
 use csi_types::{NoMemory, VolumeId};
 use std::alloc::Global;
@@ -39,13 +40,13 @@ impl Row for ControllerRow {
 
     #[tactic(auto, unfolding(crate::specs::Reading::volume_in, crate::specs::Reading::kept_in))]
     fn read(fields: &mut Fields<'_>, alloc: Global, id: VolumeId) -> Result<ControllerRow, Stop> {
-        let live = fields.live()?;
+        let live = live(fields)?;
         let name = name(fields, alloc)?;
-        let capacity = fields.word()?;
+        let capacity = word(fields)?;
         let capabilities = capabilities(fields, alloc)?;
         let holdings = list(fields, alloc, 64)?;
-        let last = fields.number()?;
-        let kind = fields.kind()?;
+        let last = number(fields)?;
+        let kind = kind(fields)?;
         let reply = reply(fields, alloc)?;
         Ok(ControllerRow {
             id,
@@ -77,9 +78,9 @@ fn next_id_in(value: &[u8]) -> Result<u64, Stop>
     ensures bytes { AreBytes value.now }
 {
     let mut fields = Fields { bytes: value };
-    fields.tag(1)?;
-    fields.tag(0)?;
-    let next_id = fields.word()?;
+    version(&mut fields)?;
+    tag(&mut fields, 0)?;
+    let next_id = word(&mut fields)?;
     if fields.bytes.is_empty() {
         Ok(next_id)
     } else {

@@ -43,4 +43,8 @@ are_two_writers mode readonly other other_readonly =
 
 -- a volume in this mode is published at one target of a node at a time
 abbrev pub allows_one_target : Mode → Bool
-allows_one_target mode = is_single_node mode
+allows_one_target SingleNodeWriter = true
+allows_one_target SingleNodeReaderOnly = true
+allows_one_target MultiNodeReaderOnly = false
+allows_one_target MultiNodeSingleWriter = false
+allows_one_target MultiNodeMultiWriter = false

@@ -48,7 +48,12 @@ pub fn writes(mode: Mode, readonly: bool) -> bool
 pub fn allows_one_target(mode: Mode) -> bool
     ensures { result ≡ allows_one mode }
 {
-    single_node(mode)
+    match mode {
+        Mode::SingleNodeReaderOnly | Mode::SingleNodeWriter => true,
+        Mode::MultiNodeMultiWriter | Mode::MultiNodeSingleWriter | Mode::MultiNodeReaderOnly => {
+            false
+        }
+    }
 }
 
 /// Whether two holders, each in its mode and readonly or not, both write, and one of the two modes has a

@@ -7,4 +7,4 @@ use Rattle.csi_frames.proofs.calls.capabilities_at.Given as goal
 -- those that were read, and with those still to be read they are what reading gives
 abbrev pub invariant-loop : goal.invariant-loop
 invariant-loop l =
-    (front : List Capability) × (with_front front (capabilities_at (l.count - l.counter) l.fields.bytes.now) ≡ capabilities_at l.count l.initial.fields.bytes.now)
+    (front : List Capability) × (with_front front (capabilities_at l.version (l.count - l.counter) l.fields.bytes.now) ≡ capabilities_at l.version l.count l.initial.fields.bytes.now)

@@ -7,8 +7,8 @@ use Rattle.csi_records.proofs.writing.put_kept.Goals as goal
 
 pub returns-clause-written : goal.returns-clause-written
 returns-clause-written c =
-    let kind : c.put_byte.new.out.items ≡ c.put_word-2.new.out.items ++ (128 + kind_number c.args.kind) ∷ [] = c.in_ok-put_byte.ensures ∙ ap (λ (n : ℕ). c.put_word-2.new.out.items ++ n ∷ []) c.kind_byte.ensures in
-    on_ok_weaker c.put_reply.result
-    (written4 c.args.out.now.items c.put_word.new.out.items c.put_word-2.new.out.items c.put_byte.new.out.items c.put_reply.new.out.items (word c.args.last.session) (word c.args.last.call) ((128 + kind_number c.args.kind) ∷ []) (reply_fields c.args.reply.now)
-    c.in_ok-put_word.ensures c.in_ok-put_word-2.ensures kind)
-    c.put_reply.ensures.written
+    let kind : c.append_byte.new.out.items ≡ c.append_word-2.new.out.items ++ (128 + kind_number c.args.kind) ∷ [] = c.in_ok-append_byte.ensures.appends ∙ ap (λ (n : ℕ). c.append_word-2.new.out.items ++ n ∷ []) c.reply_kind_number.ensures in
+    on_ok_weaker c.append_reply.result
+    (written4 c.args.out.now.items c.append_word.new.out.items c.append_word-2.new.out.items c.append_byte.new.out.items c.append_reply.new.out.items (word c.args.last.session) (word c.args.last.call) ((128 + kind_number c.args.kind) ∷ []) (reply_fields c.args.reply.now)
+    c.in_ok-append_word.ensures.appends c.in_ok-append_word-2.ensures.appends kind)
+    c.append_reply.ensures.appends

@@ -8,5 +8,5 @@ use Rattle.csi_records.proofs.writing.put_part.Goals as goal
 pub returns : goal.returns
 returns c =
     on_ok_weaker c.put.result
-    (written3 c.args.out.now.items c.put_word.new.out.items c.put_count.new.out.items c.put.new.out.items (word c.args.key) (big_bytes 4 (length c.args.value.now)) c.args.value.now c.in_ok-put_word.ensures c.in_ok-put_count.ensures)
+    (written3 c.args.out.now.items c.append_word.new.out.items c.put_count.new.out.items c.put.new.out.items (word c.args.key) (big_bytes 4 (length c.args.value.now)) c.args.value.now c.in_ok-append_word.ensures.appends c.in_ok-put_count.ensures)
     c.put.ensures

@@ -10,4 +10,4 @@ capabilities_in-requires c = subst IsBody (sym c.body_of-body.ensures) (read-fit
 
 pub returns-then-not-is_create-clause-value : goal.returns-then-not-is_create-clause-value
 returns-then-not-is_create-clause-value c =
-    (rw c.unwrap.ensures at c.try_new.ensures.value) ∙ c.new.ensures.items ∙ sym (none-read c.args.self.now.frame.fields.kind c.args.self.now.frame.fields.bytes.now (sym c.if-not-is_create.ensures))
+    (rw c.unwrap.ensures at c.try_new.ensures.value) ∙ c.new.ensures.items ∙ sym (none-read c.args.self.now.frame.fields.version c.args.self.now.frame.fields.kind c.args.self.now.frame.fields.bytes.now (sym c.if-not-is_create.ensures))

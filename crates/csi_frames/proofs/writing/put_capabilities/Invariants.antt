@@ -3,7 +3,7 @@ use Rattle.std.specs.List.{flat_map, AllByRecursion}
 use Rattle.csi_types.specs.Limits.{IsCapability}
 use Rattle.csi_frames.specs.Appends.{Appends}
 use Rattle.csi_frames.specs.Spelling.{capability}
-use Rattle.csi_frames.proofs.encoding.put_capabilities.Given as goal
+use Rattle.csi_frames.proofs.writing.put_capabilities.Given as goal
 
 abbrev pub invariant-loop-one : goal.invariant-loop-one
 invariant-loop-one l =

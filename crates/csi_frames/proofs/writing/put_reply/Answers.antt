@@ -3,7 +3,7 @@ use Rattle.csi_types.specs.Status.{status_code}
 use Rattle.csi_frames.specs.Appends.{Appends}
 use Rattle.csi_frames.specs.Spelling.{reply_id}
 use Rattle.csi_frames.proofs.Written.{Appends-then}
-use Rattle.csi_frames.proofs.encoding.put_reply.Goals as goal
+use Rattle.csi_frames.proofs.writing.put_reply.Goals as goal
 
 pub returns-clause-appends : goal.returns-clause-appends
 returns-clause-appends c =

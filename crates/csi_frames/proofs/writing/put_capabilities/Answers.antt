@@ -2,7 +2,7 @@ use Rattle.std.proofs.Common.{◌+◌, ◌≤◌, length, take, arith}
 use Rattle.std.specs.List.{flat_map}
 use Rattle.csi_frames.specs.Spelling.{capability}
 use Rattle.std.proofs.lemmas.List.Folds.{length-flat_map-take}
-use Rattle.csi_frames.proofs.encoding.put_capabilities.Goals as goal
+use Rattle.csi_frames.proofs.writing.put_capabilities.Goals as goal
 
 pub put_capability-requires : goal.put_capability-requires
 put_capability-requires c =
