@@ -7,7 +7,7 @@ use Rattle.csi_types.specs.declared.call.Kind.TheVariants as kinds
 use Rattle.csi_frames.specs.declared.body_kind.BodyKind.{BodyKind}
 use Rattle.csi_frames.specs.declared.body_kind.BodyKind.TheVariants.{Call, Reply}
 use Rattle.csi_frames.specs.declared.fault.FaultKind.{FaultKind}
-use Rattle.csi_frames.specs.declared.fault.FaultKind.TheVariants.{Short, BadText, BadId, LengthDiffers}
+use Rattle.csi_frames.specs.declared.fault.FaultKind.TheVariants.{Short, BadText, BadId, LengthDiffers, NoMemory}
 use Rattle.csi_frames.specs.declared.version.Version.{Version}
 use Rattle.csi_frames.specs.Codes.{version_of, body_kind_of}
 use Rattle.csi_frames.specs.Grammar.{Grammar, End, Byte, Word, Text, Leads, nothing, byte, word, text, refusal, mode_grammar, capability_grammar, capabilities_grammar, flag_grammar, call_grammar, reply_grammar, fields_grammar, party_grammar, body_grammar}
@@ -128,3 +128,10 @@ waiting bytes kind place (no_length few) is_short = (omega arith, refl)
 waiting bytes kind place (too_long long much) is_short = absurd cc
 waiting bytes kind place (short long few less) is_short = (omega arith, refl)
 waiting bytes kind place (in_body k p whole few s) is_short = absurd (stuck (take (big_number 4 bytes) (drop 4 bytes)) k p s is_short)
+
+-- want of memory is no fault of bytes: its place is 0, which in them is the length's alone
+pub never-memory : (bytes : List ℕ) (kind : FaultKind) (place : ℕ) → IsFaulty bytes kind place → kind ≡ NoMemory → place ≡ 0 → ⊥
+never-memory bytes kind place (no_length few) is at = absurd cc
+never-memory bytes kind place (too_long long much) is at = absurd cc
+never-memory bytes kind place (short long few less) is at = absurd cc
+never-memory bytes kind place (in_body k p whole few s) is at = omega (arith, at)

@@ -16,6 +16,10 @@ GivesUnlessMemory result value = (result ≡ Ok value) ⊎ (result ≡ Err no_me
 
 -- ---- what bytes may be
 
+-- a frame begins the bytes
+abbrev pub BeginsWithFrame : List ℕ → Type 0
+BeginsWithFrame bytes = (frame : Frame) × (n : ℕ) × BeginsWith bytes frame n
+
 -- one frame begins the bytes, no other does, and they have no fault
 pub record HasOneFrame (bytes : List ℕ) : Type 0 where
   pub frame : Frame

@@ -34,6 +34,11 @@ abbrev pub capabilities_in : Call → List Capability
 capabilities_in (calls.CreateVolume name required limit capabilities) = capabilities
 capabilities_in _ = []
 
+-- the call with these capabilities, if it is a CreateVolume
+abbrev pub with_capabilities : List Capability → Call → Call
+with_capabilities given (calls.CreateVolume name required limit capabilities) = calls.CreateVolume name required limit given
+with_capabilities given call = call
+
 abbrev pub capabilities_in_body : Body → List Capability
 capabilities_in_body (bodies.Call call) = capabilities_in call
 capabilities_in_body (bodies.Reply kind reply) = []

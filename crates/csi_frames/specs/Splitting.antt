@@ -1,5 +1,5 @@
 -- A splitter, by what it shows: what its calls answer, and what they make of it. This profile's own.
-use Rattle.std.specs.Prelude.{◌≡◌, ◌≢◌, ℕ, ◌+◌, ◌-◌, ◌^◌, min, List, [], ◌∷◌, ◌++◌, length, drop, Option, Some, None, Result, Ok, Err}
+use Rattle.std.specs.Prelude.{◌≡◌, ◌≢◌, ℕ, ◌+◌, ◌-◌, ◌*◌, ◌^◌, ◌≤◌, min, List, [], ◌∷◌, ◌++◌, length, drop, Option, Some, None, Result, Ok, Err}
 use Rattle.csi_types.specs.Frame.{Frame}
 use Rattle.csi_frames.specs.declared.fault.FaultKind.TheVariants.{Short}
 use Rattle.csi_frames.specs.declared.fault.FrameFault.{FrameFault}
@@ -15,6 +15,18 @@ pub record Splitting : Type 0 where
 
 abbrev pub new_splitting : Splitting
 new_splitting = record { kept = []; taken = 0; fault = None }
+
+-- ---- its buffer
+
+-- the most bytes that the buffer holds where so many are kept: twice as many, and those of two frames, none of which has more
+-- than a length of four bytes and a body of 1280
+abbrev pub most_held : ℕ → ℕ
+most_held kept = 2 * kept + 2568
+
+-- The buffer holds so many bytes, of which those from the start on are kept: the start lies in it, and what it holds is few.
+pub record IsHeldInFew (start held : ℕ) : Type 0 where
+  pub within : start ≤ held
+  pub few : held ≤ most_held (held - start)
 
 -- ---- a piece is fed
 

@@ -1,9 +1,9 @@
 //! Frames read from bytes.
-ghost use Rattle.std.specs.Prelude.{◌≡◌, ℕ, ◌⊎◌, List, IfOk, IfErr, IsOk, Err};
+ghost use Rattle.std.specs.Prelude.{◌≡◌, ℕ, ◌⊎◌, List, IfOk, IfErr, IsOk, IsErrOf, Err};
 ghost use Rattle.csi_types.specs.Frame.{Frame as Parts};
 ghost use Rattle.csi_frames.specs.declared.fault.FaultKind.{FaultKind as Kind};
 ghost use Rattle.csi_frames.specs.Bytes.{AreBytes};
-ghost use Rattle.csi_frames.specs.Decoding.{no_memory, GivesUnlessMemory, HasOneFrame, HasOneFault};
+ghost use Rattle.csi_frames.specs.Decoding.{no_memory, GivesUnlessMemory, BeginsWithFrame, HasOneFrame, HasOneFault};
 ghost use Rattle.csi_frames.specs.Fault.{IsFaulty};
 ghost use Rattle.csi_frames.specs.Spelling.{BeginsWith};
 ghost use Rattle.csi_frames.specs.Texts.{IsTextless};
@@ -26,6 +26,7 @@ pub fn decode(alloc: Global, bytes: &[u8]) -> Result<(Frame, usize), FrameFault>
     // A frame that stands there is read, and the first fault is answered.
     ensures every_frame { (frame : Parts) (n : ℕ) → BeginsWith bytes.now frame n → GivesUnlessMemory result (frame, n) }
     ensures every_fault { (kind : Kind) (place : ℕ) → IsFaulty bytes.now kind place → result ≡ Err (record { kind = kind; place = place }) }
+    ensures memory { IsErrOf result no_memory → BeginsWithFrame bytes.now }
     ensures textless { (frame : Parts) (n : ℕ) → BeginsWith bytes.now frame n → IsTextless frame → IsOk result }
 {
     match first_frame(bytes) {

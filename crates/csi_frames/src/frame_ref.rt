@@ -27,7 +27,7 @@ impl<'a> FrameRef<'a> {
     ghost use Rattle.csi_types.specs.Limits.{IsFrame};
     ghost use Rattle.csi_frames.specs.Borrowed.{owned};
     ghost use Rattle.csi_frames.specs.Bytes.{AreBytes};
-    ghost use Rattle.csi_frames.specs.Lent.{lent, call_of, capabilities_of, IsNoCreate};
+    ghost use Rattle.csi_frames.specs.Lent.{lent, call_of, capabilities_of, with_capabilities, IsNoCreate};
     ghost use Rattle.csi_frames.specs.Spelling.{spelling};
     ghost use Rattle.csi_frames.specs.Texts.{IsTextless};
 
@@ -75,7 +75,9 @@ impl<'a> FrameRef<'a> {
     /// capabilities that are given, and is the frame's own with those of `capabilities`. `None` for a reply. It takes no memory.
     #[inline]
     pub fn call<'b>(&'b self, capabilities: &'b CapabilityList) -> Option<CallRef<'b>>
+        ensures given { option_map lent_call result ≡ option_map (with_capabilities capabilities.now) (call_of (lent self.now)) }
         ensures value { capabilities.now ≡ capabilities_of (lent self.now) → option_map lent_call result ≡ call_of (lent self.now) }
+        ensures others { IsNoCreate (lent self.now).body → option_map lent_call result ≡ call_of (lent self.now) }
         ensures texts { IfSome result (λ call. HasFitTexts (lent_call call)) }
         ensures limits { IsFrame (lent self.now) }
     {

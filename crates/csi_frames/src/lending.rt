@@ -3,7 +3,7 @@ ghost use Rattle.std.specs.Prelude.{◌≡◌};
 ghost use Rattle.csi_types.specs.Lent.{lent_call, HasFitTexts};
 ghost use Rattle.csi_types.specs.Limits.{IsCall};
 ghost use Rattle.csi_frames.specs.Borrowed.{owned_call};
-ghost use Rattle.csi_frames.specs.Lent.{capabilities_in};
+ghost use Rattle.csi_frames.specs.Lent.{with_capabilities};
 
 use crate::borrowed::BorrowedCall;
 use crate::owned::volume_id;
@@ -13,7 +13,7 @@ use csi_types::{CallRef, CapabilityList};
 #[inline(always)]
 pub(crate) fn call<'a>(from: BorrowedCall<'a>, capabilities: &'a CapabilityList) -> CallRef<'a>
     requires { IsCall (owned_call from) }
-    ensures value { capabilities.now ≡ capabilities_in (owned_call from.entry) → lent_call result ≡ owned_call from.entry }
+    ensures value { lent_call result ≡ with_capabilities capabilities.now (owned_call from.entry) }
     ensures texts { HasFitTexts (lent_call result) }
 {
     match from {

@@ -1,5 +1,5 @@
 //! How far a splitter has come in its buffer.
-ghost use Rattle.std.specs.Prelude.{◌≡◌, ◌≤◌, ℕ, Option, Result, length, drop, IfOk, IfNone};
+ghost use Rattle.std.specs.Prelude.{◌≡◌, ◌≤◌, ◌+◌, ℕ, Option, Result, length, drop, IfOk, IfNone};
 ghost use Rattle.csi_types.specs.Frame.{Frame as Parts};
 ghost use Rattle.csi_frames.specs.declared.fault.FrameFault.{FrameFault as Fault};
 ghost use Rattle.csi_frames.specs.Progress.{is_short};
@@ -36,6 +36,7 @@ impl Progress {
     pub fn next<'a>(&mut self, buffer: &'a [u8]) -> Result<Option<FrameRef<'a>>, FrameFault>
         requires { self.old.start ≤ length buffer.now }
         ensures start { self.new.start ≤ length buffer.now }
+        ensures step { self.new.start ≤ self.old.start + 1284 }
         ensures after { shown self.new buffer.now ≡ after_next (shown self.old buffer.now) (lent_in result) }
         ensures next { IsNext self.old.fault (drop self.old.start buffer.now) (lent_in result) }
         ensures only { (other : Result (Option Parts) Fault) → IsNext self.old.fault (drop self.old.start buffer.now) other → lent_in result ≡ other }

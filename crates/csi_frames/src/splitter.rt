@@ -1,10 +1,11 @@
 //! A stream that comes in pieces, split into its frames.
-ghost use Rattle.std.specs.Prelude.{◌≡◌, ◌≤◌, Option, Result, length, drop, IfOk, IfNone, OnOk, OnErr, IsOk, IsSome, vec_len};
+ghost use Rattle.std.specs.Prelude.{◌≡◌, ◌≤◌, ◌*◌, Option, Result, length, drop, IfOk, IfNone, OnOk, OnErr, IsOk, IsSome, vec_len};
 ghost use Rattle.std.specs.Borrow.{sem};
 ghost use Rattle.std.specs.Io.BufRead.{Rests};
 ghost use Rattle.csi_types.specs.Frame.{Frame as Parts};
 ghost use Rattle.csi_frames.specs.declared.fault.FrameFault.{FrameFault as Fault};
-ghost use Rattle.csi_frames.specs.Splitting.{new_splitting, after_feed, after_next, end_of, IsNext};
+ghost use Rattle.csi_frames.specs.Progress.{shown};
+ghost use Rattle.csi_frames.specs.Splitting.{new_splitting, after_feed, after_next, end_of, most_held, IsNext};
 
 use crate::fault::{FaultKind, FrameFault};
 use crate::frame_ref::FrameRef;
@@ -14,8 +15,8 @@ use std::alloc::Global;
 use std::marker::Model;
 
 /// The frames of a stream that comes in pieces: fed any pieces, it gives the frames of all of them together, wherever they
-/// were cut. A contract sees the bytes that it keeps, the count of those that frames took, and the fault that it answered.
-/// This profile's own.
+/// were cut. A contract sees the bytes that it keeps, the count of those that frames took, and the fault that it answered. Its
+/// buffer never holds more than twice the bytes that it keeps, and 2,568. This profile's own.
 #[derive(Drop)]
 pub struct Splitter {
     buffer: Vec<u8>,
@@ -23,15 +24,15 @@ pub struct Splitter {
 }
 
 impl Model for Splitter {
-    ghost use Rattle.std.specs.Prelude.{◌≤◌, vec_len};
-    ghost use Rattle.csi_frames.specs.Splitting.{Splitting};
+    ghost use Rattle.std.specs.Prelude.{vec_len};
+    ghost use Rattle.csi_frames.specs.Splitting.{Splitting, IsHeldInFew};
     ghost use Rattle.csi_frames.specs.Progress.{shown};
 
     ghost Value = { Splitting };
 
     ghost view = { λ splitter. shown splitter.progress splitter.buffer.items };
 
-    ghost invariant = { λ splitter. splitter.progress.start ≤ vec_len splitter.buffer };
+    ghost invariant = { λ splitter. IsHeldInFew splitter.progress.start (vec_len splitter.buffer) };
 }
 
 // Takes the first bytes off, and moves those behind them to the front.
@@ -42,6 +43,20 @@ fn take_off(buffer: &mut Vec<u8>, count: usize)
     let left = buffer.len() - count;
     buffer.copy_within(count.., 0);
     buffer.truncate(left);
+}
+
+// Moves what is kept to the front once the frames before it took no fewer bytes. So all moves together move no more bytes
+// than frames took.
+fn compact(buffer: &mut Vec<u8>, progress: &mut Progress)
+    requires { progress.old.start ≤ vec_len buffer.old }
+    ensures same { shown progress.new buffer.new.items ≡ shown progress.old buffer.old.items }
+    ensures few { 2 * progress.new.start ≤ vec_len buffer.new }
+{
+    let start = progress.start;
+    if buffer.len() - start <= start {
+        take_off(buffer, start);
+        progress.start = 0;
+    }
 }
 
 impl Splitter {
@@ -62,18 +77,6 @@ impl Splitter {
         }
     }
 
-    // Moves what is kept to the front once the frames before it took no fewer bytes. So all moves together move no more
-    // bytes than frames took.
-    fn compact(&mut self)
-        ensures { self.new ≡ self.old }
-    {
-        let start = self.progress.start;
-        if self.buffer.len() - start <= start {
-            take_off(&mut self.buffer, start);
-            self.progress.start = 0;
-        }
-    }
-
     /// Puts a piece of the stream, of any length, behind the bytes that are kept. Once `next` answered a fault it succeeds, keeps
     /// nothing of the piece and takes no memory. A refusal leaves the splitter as it was.
     pub fn feed(&mut self, piece: &[u8]) -> Result<(), NoMemory>
@@ -84,7 +87,6 @@ impl Splitter {
         if self.progress.fault.is_some() {
             return Ok(());
         }
-        self.compact();
         self.buffer.extend_from_slice(piece)?;
         Ok(())
     }
@@ -99,6 +101,7 @@ impl Splitter {
         ensures only { (other : Result (Option Parts) Fault) → IsNext self.old.fault self.old.kept other → lent_in result ≡ other }
         ensures few { IfOk result (λ next. IfNone next (length self.old.kept ≤ 1283)) }
     {
+        compact(&mut self.buffer, &mut self.progress);
         let buffer = self.buffer.as_slice();
         self.progress.next(buffer)
     }
@@ -130,5 +133,14 @@ impl Splitter {
         ensures { result ≡ length self.now.kept }
     {
         self.buffer.len() - self.progress.start
+    }
+
+    /// How many bytes its buffer holds: those that are kept, and those of frames that were given, which aren't moved away at once. It
+    /// takes no memory.
+    pub fn held(&self) -> usize
+        ensures held { length self.now.kept ≤ result }
+        ensures few { result ≤ most_held (length self.now.kept) }
+    {
+        self.buffer.len()
     }
 }

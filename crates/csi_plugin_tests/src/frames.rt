@@ -2,6 +2,7 @@
 mod damage;
 mod faults;
 mod growths;
+mod held;
 mod pieces;
 mod plain;
 mod round_trips;

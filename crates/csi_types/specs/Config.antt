@@ -4,7 +4,7 @@ use Rattle.std.specs.Prelude.{ℕ, ◌==◌, List, [], ◌∷◌, length, Bool, 
 use Rattle.std.specs.List.{list_any}
 use Rattle.csi_types.specs.declared.config.NodeSlots.{NodeSlots}
 use Rattle.csi_types.specs.declared.config.ConfigFault.{ConfigFault}
-use Rattle.csi_types.specs.declared.config.ConfigFault.TheVariants.{BadGreatest, TooManyNodes, SameNode, BadSlots}
+use Rattle.csi_types.specs.declared.config.ConfigFault.TheVariants.{BadGreatest, TooManyNodes, SameNode, BadSlots, NoMemory}
 use Rattle.csi_types.specs.Same.{same_text}
 
 -- the greatest capacity in bytes that a volume gets, and the nodes at which volumes can be published,
@@ -38,3 +38,11 @@ config_fault greatest nodes =
     else if has_same_node nodes then Some SameNode
     else if has_bad_slots nodes then Some BadSlots
     else None
+
+-- the numbers of the faults
+abbrev pub config_fault_number : ConfigFault → ℕ
+config_fault_number BadGreatest = 1
+config_fault_number TooManyNodes = 2
+config_fault_number SameNode = 3
+config_fault_number BadSlots = 4
+config_fault_number NoMemory = 5

@@ -1,5 +1,5 @@
 -- What a lent call stands for: the call that has copies of its texts.
-use Rattle.std.specs.Prelude.{◌<◌, length}
+use Rattle.std.specs.Prelude.{◌≡◌, ◌<◌, [], length}
 use Rattle.csi_types.specs.declared.capability.Access.{Access}
 use Rattle.csi_types.specs.declared.capability.Access.TheVariants as accesses
 use Rattle.csi_types.specs.declared.capability.Capability.{Capability}
@@ -34,6 +34,11 @@ lent_call (NodeUnpublishVolume id target) = calls.NodeUnpublishVolume id target.
 abbrev pub IsTooLong : AccessRef → Type 0
 IsTooLong Block = ⊥
 IsTooLong (Mount fs_type) = 128 < length fs_type.now
+
+-- it has no text, or an empty one
+abbrev pub HasNoText : AccessRef → Type 0
+HasNoText Block = Unit {0}
+HasNoText (Mount fs_type) = fs_type.now ≡ []
 
 -- its texts are within their limits, as all of them are that have a type
 abbrev pub HasFitTexts : Call → Type 0

@@ -1,4 +1,5 @@
 pub mod Text
+pub mod TextFault
 pub mod Detail
 pub mod Mode
 pub mod VolumeId

@@ -1,6 +1,6 @@
 //! A controller's configuration.
-ghost use Rattle.std.specs.Prelude.{◌≡◌, ◌↔◌, IsOk, IfOk, IfErr, Some, None};
-ghost use Rattle.csi_types.specs.Config.{config_fault, has_node as node_listed, has_same_node as node_repeated, has_bad_slots as slots_exceeded};
+ghost use Rattle.std.specs.Prelude.{◌≡◌, ◌↔◌, IsOk, IfOk, IfErr, IsErrOf, Some, None};
+ghost use Rattle.csi_types.specs.Config.{config_fault, config_fault_number, has_node as node_listed, has_same_node as node_repeated, has_bad_slots as slots_exceeded};
 
 use crate::text::NodeId;
 use std::alloc::Global;
@@ -14,24 +14,33 @@ pub struct NodeSlots {
     pub slots: u64,
 }
 
-/// What is wrong with a configuration: the first of these that holds (this profile's own).
+/// What is wrong with a configuration: the first of these that holds, by its number (this profile's own).
 #[derive(Clone, Copy, Debug, PartialEq, Eq, Error)]
 pub enum ConfigFault {
     /// The greatest capacity is 0 or above 2^63 - 1.
     #[error("the greatest capacity is out of range")]
-    BadGreatest,
+    BadGreatest = 1,
     /// There are more than 64 nodes.
     #[error("too many nodes")]
-    TooManyNodes,
+    TooManyNodes = 2,
     /// Two nodes have one id.
     #[error("two nodes have one id")]
-    SameNode,
+    SameNode = 3,
     /// A node has more than 4,096 slots.
     #[error("a node has too many slots")]
-    BadSlots,
+    BadSlots = 4,
     /// An allocation was refused.
     #[error("out of memory")]
-    NoMemory,
+    NoMemory = 5,
+}
+
+impl ConfigFault {
+    /// The fault's number.
+    pub fn number(self) -> u8
+        ensures { result ≡ config_fault_number self }
+    {
+        self as u8
+    }
 }
 
 /// What a controller can give (this profile's own): the greatest capacity of a volume, and up to 64 nodes,
@@ -70,6 +79,7 @@ impl Config {
         ensures ok { IsOk result ↔ (config_fault greatest nodes.items ≡ None) }
         ensures value { IfOk result (λ config. config ≡ record { greatest = greatest; nodes = nodes.items }) }
         ensures fault { IfErr result (λ fault. config_fault greatest nodes.items ≡ Some fault) }
+        ensures memory { IsErrOf result ConfigFault.NoMemory → ⊥ }
     {
         if greatest == 0 || greatest > crate::capacity::MAX_CAPACITY {
             return Err(ConfigFault::BadGreatest);

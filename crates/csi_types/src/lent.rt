@@ -1,7 +1,7 @@
 //! Calls that lend their texts: whoever keeps a part of one makes a copy of that part, and nobody else does.
-ghost use Rattle.std.specs.Prelude.{◌≡◌, ◌≤◌, ◌↔◌, ◌&&◌, IfOk, IsErrOf, IsTrue, length};
+ghost use Rattle.std.specs.Prelude.{◌≡◌, ◌≤◌, ◌↔◌, ◌&&◌, IfOk, IsOk, IsErrOf, IsTrue, length};
 ghost use Rattle.csi_types.specs.Call.{kind_of};
-ghost use Rattle.csi_types.specs.Lent.{lent_access, lent_capability, lent_call, HasFitTexts, IsTooLong};
+ghost use Rattle.csi_types.specs.Lent.{lent_access, lent_capability, lent_call, HasFitTexts, IsTooLong, HasNoText};
 ghost use Rattle.csi_types.specs.Limits.{IsAccess};
 ghost use Rattle.csi_types.specs.Text.{IsText};
 
@@ -154,6 +154,8 @@ impl AccessRef<'_> {
         ensures ok { IfOk result (λ access. access ≡ lent_access self.entry) }
         ensures never_empty { IsErrOf result TextFault.Empty → ⊥ }
         ensures too_long { IsErrOf result TextFault.TooLong ↔ IsTooLong self.entry }
+        ensures memory { IsErrOf result TextFault.NoMemory → IsAccess (lent_access self.entry) }
+        ensures textless { HasNoText self.entry → IsOk result }
     {
         match self {
             AccessRef::Block => Ok(Access::Block),
@@ -172,6 +174,8 @@ impl CapabilityRef<'_> {
         ensures ok { IfOk result (λ capability. capability ≡ lent_capability self.entry) }
         ensures never_empty { IsErrOf result TextFault.Empty → ⊥ }
         ensures too_long { IsErrOf result TextFault.TooLong ↔ IsTooLong self.entry.access }
+        ensures memory { IsErrOf result TextFault.NoMemory → IsAccess (lent_access self.entry.access) }
+        ensures textless { HasNoText self.entry.access → IsOk result }
     {
         let mode = self.mode;
         match self.access.to_access(alloc) {

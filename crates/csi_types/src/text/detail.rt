@@ -61,6 +61,7 @@ impl Detail {
         ensures ok { IfOk result (λ detail. detail ≡ text.now) }
         ensures never_empty { IsErrOf result TextFault.Empty → ⊥ }
         ensures too_long { IsErrOf result TextFault.TooLong ↔ (255 < length text.now) }
+        ensures memory { IsErrOf result TextFault.NoMemory → IsDetail text.now }
         ensures short_succeeds { length text.now ≤ 23 → IsOk result }
     {
         if let Ok(text) = ArrayString::from(text) {

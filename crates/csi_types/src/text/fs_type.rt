@@ -37,6 +37,7 @@ impl FsType {
         ensures ok { IfOk result (λ fs_type. fs_type ≡ text.now) }
         ensures never_empty { IsErrOf result TextFault.Empty → ⊥ }
         ensures too_long { IsErrOf result TextFault.TooLong ↔ (128 < length text.now) }
+        ensures memory { IsErrOf result TextFault.NoMemory → IsFsType text.now }
         ensures empty_succeeds { text.now ≡ [] → IsOk result }
     {
         let text = copied(alloc, text, FsType::MAX_LEN)?;

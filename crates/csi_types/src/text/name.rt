@@ -41,6 +41,7 @@ impl Name {
         ensures ok { IfOk result (λ name. name ≡ text.now) }
         ensures empty { IsErrOf result TextFault.Empty ↔ (text.now ≡ []) }
         ensures too_long { IsErrOf result TextFault.TooLong ↔ (128 < length text.now) }
+        ensures memory { IsErrOf result TextFault.NoMemory → IsName text.now }
     {
         if text.is_empty() {
             return Err(TextFault::Empty);

@@ -37,6 +37,7 @@ impl NodeId {
         ensures ok { IfOk result (λ node_id. node_id ≡ text.now) }
         ensures empty { IsErrOf result TextFault.Empty ↔ (text.now ≡ []) }
         ensures too_long { IsErrOf result TextFault.TooLong ↔ (255 < length text.now) }
+        ensures memory { IsErrOf result TextFault.NoMemory → IsNodeId text.now }
     {
         if text.is_empty() {
             return Err(TextFault::Empty);

@@ -37,6 +37,7 @@ impl Target {
         ensures ok { IfOk result (λ target. target ≡ text.now) }
         ensures empty { IsErrOf result TextFault.Empty ↔ (text.now ≡ []) }
         ensures too_long { IsErrOf result TextFault.TooLong ↔ (255 < length text.now) }
+        ensures memory { IsErrOf result TextFault.NoMemory → IsTarget text.now }
     {
         if text.is_empty() {
             return Err(TextFault::Empty);

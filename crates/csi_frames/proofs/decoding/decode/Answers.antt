@@ -1,9 +1,12 @@
-use Rattle.std.proofs.Common.{inl, sym, ap, subst, ◌∙◌, arith}
+use Rattle.std.proofs.Common.{◌≡◌, inl, sym, ap, subst, ◌∙◌, arith}
 use Rattle.csi_types.specs.Frame.{Frame}
+use Rattle.csi_frames.specs.declared.fault.FrameFault.{FrameFault}
 use Rattle.csi_frames.specs.Borrowed.{owned}
+use Rattle.csi_frames.specs.Decoding.{no_memory}
 use Rattle.csi_frames.specs.Spelling.{BeginsWith}
 use Rattle.csi_frames.specs.Texts.{IsTextless}
 use Rattle.csi_frames.proofs.Front.{first_frame-begins, first_frame-faulty}
+use Rattle.csi_frames.proofs.NeverShort.{never-memory}
 use Rattle.csi_frames.proofs.Verdicts.{found, same_frame, no_both, reads_frame, reads_fault, is_that_frame}
 use Rattle.csi_frames.proofs.decoding.decode.Goals as goal
 
@@ -28,6 +31,10 @@ pub returns-in-Err-frame-clause-every_fault : goal.returns-in-Err-frame-clause-e
 returns-in-Err-frame-clause-every_fault c = λ kind place f.
     absurd (no_both (owned c.in-Ok.borrowed) c.in-Ok.size kind place (sym c.in-Ok.ensures ∙ first_frame-faulty c.args.bytes.now kind place (λ i. omega (arith, c.type_inv.bytes i)) f))
 
+pub returns-in-Err-frame-clause-memory : goal.returns-in-Err-frame-clause-memory
+returns-in-Err-frame-clause-memory c = λ refused.
+    (owned c.in-Ok.borrowed, c.in-Ok.size, reads_frame c.args.bytes.now (owned c.in-Ok.borrowed) c.in-Ok.size (λ i. omega (arith, c.type_inv.bytes i)) c.in-Ok.ensures)
+
 pub returns-in-Err-frame-clause-textless : goal.returns-in-Err-frame-clause-textless
 returns-in-Err-frame-clause-textless c = λ frame n b empty.
     let same = same_frame (owned c.in-Ok.borrowed) frame c.in-Ok.size n (is_that_frame c.args.bytes.now (owned c.in-Ok.borrowed) frame c.in-Ok.size n c.in-Ok.ensures b) in
@@ -43,6 +50,11 @@ returns-in-Err-clause-every_frame c = λ frame n b.
 pub returns-in-Err-clause-every_fault : goal.returns-in-Err-clause-every_fault
 returns-in-Err-clause-every_fault c = λ kind place f.
     let e = sym c.in-Err.ensures ∙ first_frame-faulty c.args.bytes.now kind place (λ i. omega (arith, c.type_inv.bytes i)) f in cc e
+
+pub returns-in-Err-clause-memory : goal.returns-in-Err-clause-memory
+returns-in-Err-clause-memory c = λ is.
+    let fault : c.in-Err.fault ≡ no_memory = cc is in
+    absurd (never-memory c.args.bytes.now c.in-Err.fault.kind c.in-Err.fault.place (reads_fault c.args.bytes.now c.in-Err.fault (λ i. omega (arith, c.type_inv.bytes i)) c.in-Err.ensures) (ap (λ (f : FrameFault). f.kind) fault) (ap (λ (f : FrameFault). f.place) fault))
 
 pub returns-in-Err-clause-textless : goal.returns-in-Err-clause-textless
 returns-in-Err-clause-textless c = λ frame n b empty.

@@ -3,6 +3,7 @@ use Rattle.csi_types.specs.Frame.{Frame}
 use Rattle.csi_frames.specs.Borrowed.{owned}
 use Rattle.csi_frames.specs.Lent.{lent}
 use Rattle.csi_frames.proofs.Bytes.{AreBytes-drop}
+use Rattle.csi_frames.proofs.Lengths.{length-spelling}
 use Rattle.csi_frames.proofs.Splitting.{IsNext-found, IsNext-only, AreBytes-spelling, behind-frame, behind-none, behind-fault, shown-frame}
 use Rattle.csi_frames.proofs.progress.Progress.next.Goals as goal
 
@@ -25,6 +26,11 @@ pub returns-in-Ok-clause-start : goal.returns-in-Ok-clause-start
 returns-in-Ok-clause-start c =
     let found = behind-frame c.args.self.now.start c.args.buffer.now (owned c.in-Ok.frame) c.in-Ok.size (λ i. omega (arith, c.type_inv.buffer i)) c.in-Ok.ensures in
     omega (arith, found.0.within, found.1, length-drop c.args.self.now.start c.args.buffer.now)
+
+pub returns-in-Ok-clause-step : goal.returns-in-Ok-clause-step
+returns-in-Ok-clause-step c =
+    let found = behind-frame c.args.self.now.start c.args.buffer.now (owned c.in-Ok.frame) c.in-Ok.size (λ i. omega (arith, c.type_inv.buffer i)) c.in-Ok.ensures in
+    omega (arith, found.1, length-spelling (owned c.in-Ok.frame) found.0.spelled.fits)
 
 pub returns-in-Ok-clause-after : goal.returns-in-Ok-clause-after
 returns-in-Ok-clause-after c =
