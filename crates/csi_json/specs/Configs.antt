@@ -8,7 +8,7 @@ use Rattle.csi_types.specs.declared.config.ConfigFault.{ConfigFault}
 use Rattle.csi_types.specs.Config.{Config, config_fault}
 use Rattle.csi_json.specs.declared.fault.ScheduleFault.{ScheduleFault}
 use Rattle.csi_json.specs.declared.fault.ScheduleFault.TheVariants.{NotJson, BadSchedule}
-use Rattle.csi_json.specs.Json.{◌>>=◌, number_of, node_id_of, sized_object, all_of}
+use Rattle.csi_json.specs.Json.{◌>>=◌, number_of, node_id_of, sized_object, list_of, all_of}
 
 unfoldable pub node_of : Data → Option NodeSlots
 node_of d = do
@@ -28,6 +28,13 @@ config_of d = do
   greatest ← get (codes "greatest") object >>= number_of
   nodes ← get (codes "nodes") object >>= all_of node_of
   faultless (record { greatest = greatest; nodes = nodes }) (config_fault greatest nodes)
+
+-- an object with two members, of which `greatest` is a number and `nodes` has nodes: those alone take memory
+unfoldable pub nodes_in : Data → Option (List Data)
+nodes_in d = do
+  object ← sized_object 2 d
+  greatest ← get (codes "greatest") object >>= number_of
+  get (codes "nodes") object >>= list_of
 
 -- ---- a configuration alone
 

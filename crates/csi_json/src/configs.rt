@@ -1,8 +1,8 @@
 //! A configuration, in JSON.
 ghost use Rattle.std.specs.Prelude.{◌≡◌, IfOk, IfErr};
 ghost use Rattle.serde_json.specs.View.{view};
-ghost use Rattle.csi_json.specs.Json.{Reads, all_of};
-ghost use Rattle.csi_json.specs.Configs.{node_of, config_of, config_in, text_config};
+ghost use Rattle.csi_json.specs.Json.{Reads, WantsOnly, HasItems, list_of, all_of};
+ghost use Rattle.csi_json.specs.Configs.{node_of, nodes_in, config_of, config_in, text_config};
 ghost use Rattle.csi_json.specs.Faults.{IsFaultOf};
 
 use crate::fault::ScheduleFault;
@@ -26,16 +26,18 @@ pub fn node(alloc: Global, value: &Value) -> Result<NodeSlots, Flaw>
 
 #[tactic(auto, unfolding(crate::specs::Json::all_of))]
 fn nodes(alloc: Global, value: &Value) -> Result<Vec<NodeSlots>, Flaw>
-    ensures { Reads (λ nodes. nodes.items) result (all_of node_of (view value.now)) }
+    ensures read { Reads (λ nodes. nodes.items) result (all_of node_of (view value.now)) }
+    ensures memory { WantsOnly result (HasItems (list_of (view value.now))) }
 {
     let items = list(value)?;
     read_nodes(alloc, items)
 }
 
-/// A configuration that has no fault.
-#[tactic(auto, unfolding(crate::specs::Configs::config_of))]
+/// A configuration that has no fault. `NoMemory` only where it has nodes, and a greatest capacity before them that is a number.
+#[tactic(auto, unfolding(crate::specs::Configs::config_of, crate::specs::Configs::nodes_in))]
 pub fn config(alloc: Global, value: &Value) -> Result<Config, Flaw>
-    ensures { Reads (λ config. config) result (config_of (view value.now)) }
+    ensures read { Reads (λ config. config) result (config_of (view value.now)) }
+    ensures memory { WantsOnly result (HasItems (nodes_in (view value.now))) }
 {
     let object = sized_object(value, 2)?;
     let greatest = number(member(object, "greatest")?)?;

@@ -1,7 +1,7 @@
 //! Lists in JSON, read item by item.
 ghost use Rattle.std.specs.Prelude.{◌≡◌, ◌∷◌, [], ◌++◌, option_map, map};
 ghost use Rattle.serde_json.specs.View.{view};
-ghost use Rattle.csi_json.specs.Json.{Reads, read_all, unless_bad};
+ghost use Rattle.csi_json.specs.Json.{Reads, WantsOnly, HasItems, read_all, unless_bad};
 ghost use Rattle.csi_json.specs.Capabilities.{capability_of};
 ghost use Rattle.csi_json.specs.Configs.{node_of};
 
@@ -43,7 +43,8 @@ fn push_node(alloc: Global, value: &Value, list: &mut Vec<NodeSlots>) -> Result<
 
 /// The nodes that the items are read as, where each is.
 pub fn read_nodes(alloc: Global, items: &[Value]) -> Result<Vec<NodeSlots>, Flaw>
-    ensures { Reads (λ list. list.items) result (unless_bad (read_all node_of 1 (map view items.now))) }
+    ensures read { Reads (λ list. list.items) result (unless_bad (read_all node_of 1 (map view items.now))) }
+    ensures memory { WantsOnly result (HasItems (Some (map view items.now))) }
 {
     let mut list = Vec::new(alloc);
     for item in items {

@@ -2,7 +2,7 @@
 ghost use Rattle.std.specs.Prelude.{◌≡◌, option_map, map};
 ghost use Rattle.serde_json.specs.Find.{get, as_str, as_bool};
 ghost use Rattle.serde_json.specs.View.{view};
-ghost use Rattle.csi_json.specs.Json.{Reads, number_of, list_of, only_member as sole, sized_object as object_of};
+ghost use Rattle.csi_json.specs.Json.{Reads, WantsOnly, number_of, list_of, only_member as sole, sized_object as object_of};
 
 use serde_json::Value;
 use std::alloc::{AllocError, AllocFailed};
@@ -29,7 +29,8 @@ impl<T: Drop> From<AllocFailed<T>> for Flaw {
 
 /// The value at a key of an object.
 pub fn member<'a>(object: &'a Value, key: &str) -> Result<&'a Value, Flaw>
-    ensures { Reads (λ value. view value.now) result (get key.now (view object.now)) }
+    ensures read { Reads (λ value. view value.now) result (get key.now (view object.now)) }
+    ensures memory { WantsOnly result ⊥ }
 {
     object.get(key).ok_or(Flaw::Bad)
 }
@@ -37,21 +38,24 @@ pub fn member<'a>(object: &'a Value, key: &str) -> Result<&'a Value, Flaw>
 /// A whole number of 64 bits.
 #[tactic(auto, unfolding(crate::specs::Json::number_of))]
 pub fn number(value: &Value) -> Result<u64, Flaw>
-    ensures { Reads (λ number. number) result (number_of (view value.now)) }
+    ensures read { Reads (λ number. number) result (number_of (view value.now)) }
+    ensures memory { WantsOnly result ⊥ }
 {
     value.as_u64().ok_or(Flaw::Bad)
 }
 
 /// A text of any length.
 pub fn text(value: &Value) -> Result<&str, Flaw>
-    ensures { Reads (λ text. text.now) result (as_str (view value.now)) }
+    ensures read { Reads (λ text. text.now) result (as_str (view value.now)) }
+    ensures memory { WantsOnly result ⊥ }
 {
     value.as_str().ok_or(Flaw::Bad)
 }
 
 /// `true` or `false`.
 pub fn flag(value: &Value) -> Result<bool, Flaw>
-    ensures { Reads (λ flag. flag) result (as_bool (view value.now)) }
+    ensures read { Reads (λ flag. flag) result (as_bool (view value.now)) }
+    ensures memory { WantsOnly result ⊥ }
 {
     value.as_bool().ok_or(Flaw::Bad)
 }
@@ -59,7 +63,8 @@ pub fn flag(value: &Value) -> Result<bool, Flaw>
 /// The items of an array.
 #[tactic(auto, using(crate::proofs::Items::items_in_view), unfolding(crate::specs::Json::list_of))]
 pub fn list(value: &Value) -> Result<&[Value], Flaw>
-    ensures { Reads (λ items. map view items.now) result (list_of (view value.now)) }
+    ensures read { Reads (λ items. map view items.now) result (list_of (view value.now)) }
+    ensures memory { WantsOnly result ⊥ }
 {
     match value.as_array() {
         Some(items) => Ok(items.as_slice()),
@@ -70,7 +75,8 @@ pub fn list(value: &Value) -> Result<&[Value], Flaw>
 /// The value itself, where it is an object with this many members.
 #[tactic(auto, using(crate::proofs::Items::members_in_view), unfolding(crate::specs::Json::sized_object))]
 pub fn sized_object(value: &Value, size: usize) -> Result<&Value, Flaw>
-    ensures { Reads (λ object. view object.now) result (object_of size (view value.now)) }
+    ensures read { Reads (λ object. view object.now) result (object_of size (view value.now)) }
+    ensures memory { WantsOnly result ⊥ }
 {
     match value.as_object() {
         Some(members) if members.len() == size => Ok(value),

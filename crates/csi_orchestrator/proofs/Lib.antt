@@ -13,6 +13,7 @@ pub mod RestartAgrees
 pub mod DueCalls
 pub mod EntryRules
 pub mod RulesStay
+pub mod BoundsStay
 pub mod StepsSound
 pub mod RowRules
 pub mod UseRules

@@ -217,6 +217,7 @@ emptied-indexed rows now then closed names same empty room =
         room = room;
       };
       free = λ some. let least = room some in let none = ap length empty in omega (arith, least, none);
+      few = let none = ap length empty in omega (arith, none);
     }
   where
     none-open : (place : ℕ) (row : Row) (number : Number) (rs : List Row) → IsAt (map without_call rs) place row → row.open_number ≡ Some number → ⊥

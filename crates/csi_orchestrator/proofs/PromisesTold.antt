@@ -13,6 +13,7 @@ use Rattle.csi_orchestrator.specs.Promises.{IsDone, IsAnsweredAs}
 use Rattle.csi_orchestrator.proofs.AddedItems.{moves-add, stays-formed}
 use Rattle.csi_orchestrator.proofs.SendingAgrees.{Tells}
 use Rattle.csi_orchestrator.proofs.RulesStay.{rows-stay-sound}
+use Rattle.csi_orchestrator.proofs.BoundsStay.{rows-stay-within}
 use Rattle.csi_orchestrator.proofs.RepliesAgree.{all-tell}
 
 -- where the rows tell what the history tells, what is told is done
@@ -78,6 +79,7 @@ kept-promised {old = old} {new = new} {input = input} {says = says} {result = Ok
     let after = sound-promised {input = input} {says = says} {result = Ok r} kept.sound told in
     record {
       sound = after.0;
+      within = rows-stay-within old input (record { answer = says r; parts = new }) kept.sound kept.within told.ok;
       told =
           told-on old new kept.told input (says r) after.1 _ refl
           (is-done old kept.told.history input (record { answer = says r; parts = new }) kept.sound kept.told.form kept.told.agrees told.ok);

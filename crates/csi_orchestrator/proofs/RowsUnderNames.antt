@@ -17,7 +17,7 @@ use Rattle.csi_types.specs.declared.number.Number.{Number}
 use Rattle.csi_orchestrator.specs.declared.sending.Outgoing.{Outgoing}
 use Rattle.csi_orchestrator.specs.declared.row.Row.{Row}
 use Rattle.csi_orchestrator.specs.declared.catalog.Catalog.{Catalog}
-use Rattle.csi_orchestrator.specs.Catalog.{rows_of, by_name, place_noted, HasRoom, IsIndexed, IsReady, IsNextFor, IsClosedAt, AreUpTo, AreNotedBefore, call_in, IsAfter}
+use Rattle.csi_orchestrator.specs.Catalog.{rows_of, by_name, place_noted, HasRoom, HasFewNotes, IsIndexed, IsReady, IsNextFor, IsClosedAt, AreUpTo, AreNotedBefore, call_in, IsAfter}
 use Rattle.csi_orchestrator.specs.Shown.{RowShown, Parts, row_shown, without_call}
 use Rattle.csi_orchestrator.proofs.ListPlaces.{at-of_get, at-within, at-set, at-set_same, at-set_other, at-push}
 use Rattle.csi_orchestrator.proofs.TextLists.{same_text-flip}
@@ -101,6 +101,12 @@ room-set catalog place new room =
     let long : length (rows_of (catalog_with catalog place new)) ≡ length (rows_of catalog) = ap length (rows-set catalog place new) ∙ length-set (rows_of catalog) place new in
     λ some. let least = room (omega (arith, long, some)) in omega (arith, long, least)
 
+-- and few calls are noted still
+few-set : (catalog : Catalog) (place : ℕ) (new : Row) → HasFewNotes catalog → HasFewNotes (catalog_with catalog place new)
+few-set catalog place new few =
+    let long : length (rows_of (catalog_with catalog place new)) ≡ length (rows_of catalog) = ap length (rows-set catalog place new) ∙ length-set (rows_of catalog) place new in
+    omega (arith, long, few)
+
 -- the row's open call, if it has one, is the one that was open or the next one
 abbrev pub IsOpened : Option Number → Option Outgoing → Option Number → Type 0
 IsOpened old next new = (number : Number) → new ≡ Some number → (old ≡ Some number) ⊎ (call_in next ≡ Some number.call)
@@ -124,6 +130,7 @@ ready-set catalog last place row new next indexed known at name opened after =
       new = λ call is. next-unnoted catalog last call known (after call is);
       room = room-set catalog place new indexed.noted.room;
       free = indexed.free (omega (arith, inside));
+      few = few-set catalog place new indexed.few;
     }
   where
     own : (number : Number) → (row.open_number ≡ Some number) ⊎ (call_in next ≡ Some number.call) → (place_noted catalog number.call ≡ Some place) ⊎ ((place ≡ place) × (call_in next ≡ Some number.call))
@@ -144,6 +151,7 @@ ready-none catalog place ready =
       rows = ready.rows;
       noted = record { found = λ other row number at is_open. by other number (ready.found other row number at is_open); room = ready.room };
       free = λ some. ready.free;
+      few = ready.few;
     }
   where
     none_is : (call : ℕ) → ◌≡◌ {A = Option ℕ} None (Some call) → ⊥
@@ -194,6 +202,7 @@ ready-added old made new row next indexed same kept roomy rows calls is =
       new = λ call next_is. ap (λ (m : IndexMap ℕ ℕ _). get nat_eq m call) calls ∙ unnoted call (is.new call next_is) (place_noted made call) refl;
       room = subst (λ (m : IndexMap ℕ ℕ _). 0 < length (rows_of new) → length (rows_of new) < index_map_len m + spare m) (sym calls) (λ some. omega (arith, long, before, roomy));
       free = subst (λ (m : IndexMap ℕ ℕ _). 0 < spare m) (sym calls) (omega (arith, roomy));
+      few = let noted = ap (λ (m : IndexMap ℕ ℕ _). index_map_len m) calls in let few = indexed.few in omega (arith, long, noted, few);
     }
   where
     unnoted : (call : ℕ) → place_noted old call ≡ None → (o : Option ℕ) → place_noted made call ≡ o → o ≡ None

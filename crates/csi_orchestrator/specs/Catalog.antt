@@ -7,6 +7,7 @@ use Rattle.csi_orchestrator.specs.declared.sending.Outgoing.{Outgoing}
 use Rattle.csi_orchestrator.specs.declared.row.Row.{Row}
 use Rattle.csi_orchestrator.specs.declared.catalog.Catalog.{Catalog}
 use Rattle.csi_orchestrator.specs.Shown.{without_call}
+use Rattle.csi_orchestrator.specs.Bounds.{AreFew}
 
 -- the rows in order
 abbrev pub rows_of : Catalog → List Row
@@ -29,11 +30,16 @@ pub record IsNoted (catalog : Catalog) : Type 0 where
   pub found : (place : ℕ) (row : Row) (number : Number) → IsAt (rows_of catalog) place row → row.open_number ≡ Some number → place_noted catalog number.call ≡ Some place
   pub room : HasRoom catalog
 
--- each row stands under its own name, its open call is noted, and there is room for another call
+-- few calls are noted for so many rows
+abbrev pub HasFewNotes : Catalog → Type 0
+HasFewNotes catalog = AreFew (index_map_len catalog.calls) (length (rows_of catalog))
+
+-- each row stands under its own name, its open call is noted, there is room for another call, and few calls are noted
 pub record IsIndexed (catalog : Catalog) : Type 0 where
   pub rows : catalog.rows.entries ≡ map by_name (rows_of catalog)
   pub noted : IsNoted catalog
   pub free : 0 < length (rows_of catalog) → 0 < spare catalog.calls
+  pub few : HasFewNotes catalog
 
 -- the same, but that this call of the row at this place isn't noted yet
 pub record IsReady (catalog : Catalog) (place : ℕ) (next : Option ℕ) : Type 0 where
@@ -43,6 +49,7 @@ pub record IsReady (catalog : Catalog) (place : ℕ) (next : Option ℕ) : Type 
   pub new : (call : ℕ) → next ≡ Some call → place_noted catalog call ≡ None
   pub room : HasRoom catalog
   pub free : 0 < spare catalog.calls
+  pub few : HasFewNotes catalog
 
 -- no call after this one is noted
 abbrev pub AreUpTo : ℕ → Catalog → Type 0

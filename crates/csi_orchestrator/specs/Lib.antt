@@ -13,6 +13,7 @@ pub mod Keyed
 pub mod RowChanges
 pub mod RowMoves
 pub mod RowRefusals
+pub mod Bounds
 pub mod Sound
 pub mod Steps
 pub mod Listing

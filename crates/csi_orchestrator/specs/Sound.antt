@@ -18,6 +18,7 @@ use Rattle.csi_orchestrator.specs.RowRefusals.{has_elsewhere}
 use Rattle.csi_orchestrator.specs.RowMoves.{MovedRows, row_moves}
 use Rattle.csi_orchestrator.specs.Steps.{IsReached}
 use Rattle.csi_orchestrator.specs.WellFormed.{IsWellFormed}
+use Rattle.csi_orchestrator.specs.Bounds.{IsWithin}
 
 -- a node has one entry
 abbrev pub AreNodesApart : List NodeEntryShown → Type 0
@@ -79,6 +80,7 @@ pub record HasHistory (parts : Parts) : Type 0 where
 -- what an orchestrator's type keeps of what it shows
 pub record IsKept (parts : Parts) : Type 0 where
   pub sound : IsSound parts.rows
+  pub within : IsWithin parts
   pub told : HasHistory parts
 
 -- the two answers are one, and what is shown agrees with the history that goes on so

@@ -4,7 +4,7 @@ ghost use Rattle.std.specs.Option.{option_copied};
 ghost use Rattle.indexmap.specs.IndexMap.{values, spare, index_map_len};
 ghost use Rattle.csi_lists.specs.Places.{IsAt};
 ghost use Rattle.csi_types.specs.Same.{same_text};
-ghost use Rattle.csi_orchestrator.specs.Catalog.{rows_of, by_name, place_noted, IsNoted, IsNotedWith, IsIndexed, IsNextFor, IsReady, IsClosedAt, AreUpTo, AreNotedBefore};
+ghost use Rattle.csi_orchestrator.specs.Catalog.{rows_of, by_name, place_noted, IsNoted, IsNotedWith, IsIndexed, IsNextFor, IsReady, IsClosedAt, AreUpTo, AreNotedBefore, HasFewNotes};
 ghost use Rattle.csi_orchestrator.specs.Shown.{row_shown, row_of, without_call};
 
 use crate::fault::OrchFault;
@@ -14,8 +14,8 @@ use indexmap::IndexMap;
 use std::alloc::{AllocError, Global};
 
 /// The rows, each under its name, in the order of the first creates; and where the row of each open call is, by the call's
-/// number in the session. A call that isn't open any more stays noted until room is wanted: what closes it needn't look for it,
-/// and the room that a row brought for its calls stays. A restart forgets all.
+/// number in the session. A call that isn't open any more stays noted until room is wanted, or the notes are more than twice as many
+/// as the rows: what closes it needn't look for it, and the room that a row brought for its calls stays. A restart forgets all.
 #[derive(Drop)]
 pub(crate) struct Catalog {
     pub rows: IndexMap<Name, Row>,
@@ -95,6 +95,7 @@ impl Catalog {
         ensures noted { IsNoted self.new }
         ensures spare { 0 < length (rows_of self.old) → 0 < spare self.new.calls }
         ensures kept { AreNotedBefore self.old self.new }
+        ensures few { index_map_len self.new.calls ≤ length (rows_of self.old) }
     {
         self.calls.clear();
         for index in 0..self.rows.len() {
@@ -102,14 +103,16 @@ impl Catalog {
         }
     }
 
-    // Whether no other call can be noted without memory.
+    // Whether no other call can be noted without memory, or more than half of the notes are of calls that aren't open any more.
     fn is_full(&self) -> bool
-        ensures { result ≡ false → 0 < spare self.now.calls }
+        ensures spare { result ≡ false → 0 < spare self.now.calls }
+        ensures few { result ≡ false → HasFewNotes self.now }
     {
-        self.calls.capacity() <= self.calls.len()
+        self.calls.capacity() <= self.calls.len() || self.calls.len() / 2 > self.rows.len()
     }
 
-    /// Notes a call of the row at this index. It takes no memory.
+    /// Notes a call of the row at this index. It takes no memory. Notes are renewed seldom: after one for each row, or for each that
+    /// there was room for.
     pub fn note(&mut self, call: u64, index: usize)
         requires ready { IsReady self.old index (Some call) }
         requires within { index < index_map_len self.old.rows }

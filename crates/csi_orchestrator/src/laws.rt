@@ -4,6 +4,7 @@ ghost use Rattle.csi_orchestrator.specs.Following.{ViewFollows};
 ghost use Rattle.csi_orchestrator.specs.Shown.{DueIsTold};
 ghost use Rattle.csi_orchestrator.specs.Steps.{MovesLaw};
 ghost use Rattle.std.specs.List.{AllByRecursion};
+ghost use Rattle.csi_orchestrator.specs.Bounds.{IsBounded};
 ghost use Rattle.csi_orchestrator.specs.Sound.{RowsTell, RowsStaySound, MovesAreGuarded, HasHistory, KeepsWhatIsNeeded};
 
 use crate::orchestrator::Orchestrator;
@@ -45,6 +46,14 @@ pub fn showing_law(orchestrator: &Orchestrator)
 /// attached, staged or published, and the targets at which it may be published. This profile's own.
 pub fn entries_law(orchestrator: &Orchestrator)
     ensures { AllByRecursion KeepsWhatIsNeeded orchestrator.now.rows }
+{
+    orchestrator.assert_kept();
+}
+
+/// A law, and nothing that runs: every orchestrator keeps at most 4,096 names, for each of them at most as many entries as there are
+/// nodes, and for each entry at most 16 targets, however many it was asked for. This profile's own.
+pub fn bounds_law(orchestrator: &Orchestrator)
+    ensures { IsBounded orchestrator.now }
 {
     orchestrator.assert_kept();
 }

@@ -1,5 +1,5 @@
 //! The orchestrator.
-ghost use Rattle.std.specs.Prelude.{◌≡◌, None, IfOk, OnErr, IfErr, IsOk};
+ghost use Rattle.std.specs.Prelude.{◌≡◌, length, None, IfOk, OnErr, IfErr, IsOk};
 ghost use Rattle.csi_orchestrator.specs.declared.fault.OrchFault.{OrchFault as Fault};
 ghost use Rattle.csi_orchestrator.specs.declared.fault.Heard.{Heard as HeardShown};
 ghost use Rattle.csi_orchestrator.specs.declared.thing.Known.TheVariants.{No};
@@ -46,6 +46,7 @@ impl Orchestrator {
     ghost use Rattle.csi_orchestrator.specs.Promises.{IsDone, IsAnsweredAs, IsHeardAs};
     ghost use Rattle.csi_orchestrator.specs.Listing.{ListsKnown, IsInOrder};
     ghost use Rattle.csi_orchestrator.specs.Sound.{IsKept};
+    ghost use Rattle.csi_orchestrator.specs.Bounds.{AreFew};
 
     // What its type keeps of what it shows. It does nothing.
     pub(crate) fn assert_kept(&self)
@@ -98,6 +99,14 @@ impl Orchestrator {
         ensures marks { result ≡ (view_of self.now).marks thing.now }
     {
         known_in(&self.core.catalog, thing)
+    }
+
+    /// How many calls it has noted by their numbers: the open ones, and some that aren't open any more. They are few for the volumes
+    /// that it knows, however many were sent. It takes no memory.
+    pub fn noted_calls(&self) -> usize
+        ensures { AreFew result (length self.now.rows) }
+    {
+        self.core.catalog.calls.len()
     }
 
     /// Requests creation of a volume of this name, with a capacity in bytes of at least `required` and, unless `limit` is 0, at

@@ -3,10 +3,10 @@ use Rattle.std.specs.Prelude.{◌≡◌, ◌≤◌, ◌^◌, ℕ, List, length, 
 use Rattle.std.specs.Io.KnownBytes.{Consumes, IsAtEnd}
 use Rattle.csi_types.specs.Frame.{Frame}
 use Rattle.csi_stores.specs.Part.{StoredPart}
-use Rattle.csi_serving.specs.declared.counted.Counted.{Counted}
+use Rattle.csi_counted.specs.declared.counted.Counted.{Counted}
 use Rattle.csi_serving.specs.declared.serving.fault.Served.{Served}
 use Rattle.csi_serving.specs.declared.serving.fault.ServeFault.{ServeFault}
-use Rattle.csi_stores.specs.Keeping.{HasRisen}
+use Rattle.csi_counted.specs.Counting.{HasRisen}
 use Rattle.csi_stores.specs.Stores.{Store}
 use Rattle.csi_serving.specs.Serving.{Setting, Serves}
 use Rattle.csi_endings.specs.declared.ending.Ending.{Ending}

@@ -5,7 +5,7 @@ use Rattle.csi_stores.specs.Part.{all_stored_in, StoredPart}
 use Rattle.std.specs.Global.{Vec}
 use Rattle.csi_stores.specs.declared.keep.KeepFault.{KeepFault}
 use Rattle.csi_stores.specs.declared.keep.KeepFault.TheVariants.{Device, NoMemory, BadRecord, Full}
-use Rattle.csi_stores.specs.Keeping.{HasRisen}
+use Rattle.csi_counted.specs.Counting.{HasRisen}
 use Rattle.csi_stores.specs.Stores.{Store, IsOnly}
 
 -- a head, by its value

@@ -1,14 +1,11 @@
 -- Counts of failures that stay, from one call to the next.
-use Rattle.std.proofs.Common.{◌≡◌, ◌∙◌, ℕ, List, ◌≤◌, Bool, false, not, Result, Ok, Err, length, ap, arith}
-use Rattle.std.proofs.lemmas.Bool.Decides.{nat_tests}
-use Rattle.std.specs.Prelude.{◌==◌, ◌&&◌}
+use Rattle.std.proofs.Common.{◌≡◌, ◌∙◌, ℕ, Result, Ok, Err}
 use Rattle.csi_serving.specs.declared.serving.fault.Served.{Served}
 use Rattle.csi_serving.specs.declared.serving.fault.ServeFault.{ServeFault}
 use Rattle.csi_serving.specs.declared.serving.fault.ServeFaultKind.{ServeFaultKind}
 use Rattle.csi_serving.specs.declared.serving.fault.ServeFaultKind.TheVariants as kinds
 use Rattle.csi_serving.specs.declared.serving.answering.FrameStop.{FrameStop}
 use Rattle.csi_serving.specs.declared.serving.answering.FrameStop.TheVariants as stops
-use Rattle.csi_serving.specs.Counting.{counted}
 use Rattle.csi_serving.specs.Stopping.{kind_of_stop, stopped_by}
 use Rattle.csi_serving.specs.Failing.{ReaderStays, WriterStays, ReaderStaysAt, WriterStaysAt, Stays, FrameStays}
 
@@ -45,12 +42,6 @@ writer-more b mid a (kinds.Frame kind place) frames was now = now ∙ was
 writer-more b mid a (kinds.Keep fault) frames was now = now ∙ was
 writer-more b mid a kinds.NoMemory frames was now = now ∙ was
 writer-more b mid a kinds.Endless frames was now = now ∙ was
-
--- where some bytes were taken no failure is counted
-pub taken-stays : (n : ℕ) (bytes : List ℕ) (old new : ℕ) → 1 ≤ n → new ≡ counted ((n == 0) && not (length bytes == 0)) old → new ≡ old
-taken-stays n bytes old new some is =
-    let taken : (n == 0) ≡ false = grind (arith, nat_tests) in
-    is ∙ ap (λ (b : Bool). counted (b && not (length bytes == 0)) old) taken
 
 -- why a frame stopped is why serving stops
 pub writer-of : (b a : ℕ) (stop : FrameStop) → FrameStays b a stop → WriterStays b a (kind_of_stop stop)

@@ -22,7 +22,7 @@ use Rattle.csi_serving.specs.declared.serving.fault.ServeFaultKind.{ServeFaultKi
 use Rattle.csi_serving.specs.declared.serving.fault.ServeFaultKind.TheVariants as kinds
 use Rattle.csi_stores.specs.declared.keep.KeepFault.{KeepFault}
 use Rattle.csi_stores.specs.Part.{StoredPart}
-use Rattle.csi_stores.specs.Keeping.{HasRisen}
+use Rattle.csi_counted.specs.Counting.{HasRisen}
 use Rattle.csi_stores.specs.Stores.{Store, Follows}
 use Rattle.csi_serving.specs.Serving.{Setting, Runs, reply_bytes, output_of, AllDone, LastUnwritten, NextRefused, Waits, Serves}
 use Rattle.csi_serving.specs.Reading.{IsPiece, IsPieceStop, ReadsPiece}

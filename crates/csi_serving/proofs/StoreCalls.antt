@@ -4,7 +4,8 @@ use Rattle.std.specs.Prelude.{◌⊎◌}
 use Rattle.csi_stores.specs.declared.keep.KeepFault.{KeepFault}
 use Rattle.csi_stores.specs.declared.keep.KeepFault.TheVariants.{Device, NoMemory, BadRecord, Full}
 use Rattle.csi_stores.specs.Part.{StoredPart}
-use Rattle.csi_stores.specs.Keeping.{HasRisen, IsCommitFault}
+use Rattle.csi_counted.specs.Counting.{HasRisen}
+use Rattle.csi_stores.specs.Keeping.{IsCommitFault}
 use Rattle.csi_stores.specs.Stores.{Store, Follows, Rests, LeavesEither, IsRefusal}
 
 -- ---- a commit that was refused

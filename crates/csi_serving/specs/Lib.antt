@@ -1,6 +1,4 @@
-pub mod Counting
 pub mod Reading
-pub mod Writing
 pub mod Serving
 pub mod Answering
 pub mod Stopping

@@ -6,7 +6,7 @@ use Rattle.csi_frames.specs.Bytes.{AreBytes}
 use Rattle.csi_frames.specs.Splitting.{Splitting, IsNext, after_feed, after_next}
 use Rattle.csi_serving.specs.declared.serving.fault.ServeFaultKind.{ServeFaultKind}
 use Rattle.csi_serving.specs.declared.serving.fault.ServeFaultKind.TheVariants as kinds
-use Rattle.csi_stores.specs.Keeping.{HasRisen}
+use Rattle.csi_counted.specs.Counting.{HasRisen}
 
 -- ---- the next frame
 

@@ -1,10 +1,8 @@
 //! Serving a plugin over a store: each frame is answered, what it changed is committed, and only then the reply is written.
 #![tactic(auto)]
 
-mod counted;
 mod plugin_core;
 mod serving;
 
-pub use counted::Counted;
 pub use plugin_core::Core;
 pub use serving::{ServeFault, ServeFaultKind, Served, serve};

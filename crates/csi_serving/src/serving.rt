@@ -1,7 +1,7 @@
 //! Serving: each frame of the input is answered, what it changed is committed, and then its reply is written.
 ghost use Rattle.std.specs.Prelude.{◌≡◌, ◌≤◌, ◌+◌, ◌<◌, ◌^◌, ℕ, List, length};
 ghost use Rattle.std.specs.Io.KnownBytes.{Consumes, IsAtEnd};
-ghost use Rattle.csi_stores.specs.Keeping.{HasRisen};
+ghost use Rattle.csi_counted.specs.Counting.{HasRisen};
 ghost use Rattle.csi_serving.specs.Failing.{Stays, ReaderStaysAt, WriterStaysAt};
 ghost use Rattle.csi_stores.specs.Stores.{store, Follows};
 ghost use Rattle.csi_serving.specs.Serving.{Serves};
@@ -11,11 +11,10 @@ mod answering;
 mod fault;
 mod frames;
 mod input;
-mod output;
 mod reading;
 
-use crate::counted::Counted;
 use crate::plugin_core::Core;
+use csi_counted::Counted;
 use csi_frames::Splitter;
 use csi_stores::Keep;
 pub use fault::{ServeFault, ServeFaultKind, Served};

@@ -9,7 +9,7 @@ use Rattle.csi_stores.specs.declared.keep.KeepFault.{KeepFault}
 use Rattle.csi_stores.specs.declared.keep.KeepFault.TheVariants.{Device, NoMemory, BadRecord, Full}
 use Rattle.csi_stores.specs.Part.{StoredPart}
 use Rattle.csi_stores.specs.Content.{IsRising}
-use Rattle.csi_stores.specs.Keeping.{HasRisen, one_more}
+use Rattle.csi_counted.specs.Counting.{HasRisen, one_more}
 
 -- a part as a row: its key in eight bytes, the greatest first
 abbrev pub row_of : StoredPart → KeyedRow

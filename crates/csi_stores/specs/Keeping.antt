@@ -1,16 +1,9 @@
--- Why a store refuses, and what a count of faults says. This profile's own.
-use Rattle.std.specs.Prelude.{◌≡◌, ◌⊎◌, ℕ, ◌+◌, ◌<◌, ◌-◌, ◌^◌, List, min, Result, Ok, Err}
+-- Why a store refuses. This profile's own.
+use Rattle.std.specs.Prelude.{◌≡◌, ℕ, List, Result, Ok, Err}
+use Rattle.csi_counted.specs.Counting.{HasRisen}
 use Rattle.csi_stores.specs.declared.keep.KeepFault.{KeepFault}
 use Rattle.csi_stores.specs.declared.keep.KeepFault.TheVariants.{Device, NoMemory, BadRecord, Full}
 use Rattle.csi_stores.specs.Part.{StoredPart}
-
--- one more fault, up to 2^64 - 1
-abbrev pub one_more : ℕ → ℕ
-one_more count = min (count + 1) (2 ^ 64 - 1)
-
--- a count of faults has risen, or stands at its end, where each further fault leaves it
-abbrev pub HasRisen : ℕ → ℕ → Type 0
-HasRisen before after = (before < after) ⊎ (after ≡ 2 ^ 64 - 1)
 
 -- Why loading was refused: the device only where it failed in this call, and BadRecord only where there are no parts to be read. Want of
 -- memory may come at any time, and loading finds room for what is there.

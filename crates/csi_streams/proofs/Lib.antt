@@ -5,3 +5,4 @@ pub mod Progress
 pub mod Whole
 pub mod ShownLines
 pub mod Passing
+pub mod Failures

@@ -16,7 +16,8 @@ use Rattle.csi_streams.specs.Handling.{HandlesAll, StopsIn, StopsBy}
 use Rattle.csi_streams.specs.Passing.{stream_fault, Passes, StopsWritten, StopsUnwritten, PassesOn, EndsStream}
 use Rattle.csi_streams.specs.Progress.{Progress, Rests}
 use Rattle.csi_streams.specs.Replay.{IsFaultOf, Grows}
-use Rattle.csi_streams.specs.Streaming.{WritesFront, Streams}
+use Rattle.csi_counted.specs.Writing.{WritesFront}
+use Rattle.csi_streams.specs.Streaming.{Streams}
 use Rattle.csi_streams.proofs.Progress.{stopped_early}
 use Rattle.csi_streams.proofs.Streams.{frames_of}
 use Rattle.csi_streams.proofs.Whole.{gave_all, ended, ended_short, waiting_rest}
@@ -34,6 +35,10 @@ fresh before after more bytes none appended is = is ∙ appended ∙ ap (λ (fro
 -- bytes that begin with others still do so once the same bytes stand before both
 grows-behind : (given front all : List ℕ) → Grows front all → Grows (given ++ front) (given ++ all)
 grows-behind given front all grows = record { more = grows.more; appended = ap (λ (bytes : List ℕ). given ++ bytes) grows.appended ∙ sym (append_assoc given front grows.more) }
+
+-- a front of bytes
+front-of : (had has : Option (List ℕ)) (bytes : List ℕ) (written : WritesFront had has bytes) → Grows written.front bytes
+front-of had has bytes written = record { more = written.more; appended = written.parts }
 
 -- a read that gave nothing
 pub nothing_read : (left now : Option (List ℕ)) (fed bytes : List ℕ) (n : ℕ) → n ≡ 0 → Consumes left now (fed ++ take n bytes) → Consumes left now fed
@@ -76,14 +81,14 @@ module _ {H : Type 0} (has_handled : H → List Frame → Type 0) (gives : List 
     more = written.front;
     written = written.appended;
     all = on.0.more;
-    grows = subst (Grows written.front) (fresh before after on.0.more bytes none on.0.appended is) written.grows;
+    grows = subst (Grows written.front) (fresh before after on.0.more bytes none on.0.appended is) (front-of had has bytes written);
     stops = stopped_early has_handled gives fed (given ++ on.0.more) splitter count handler on.0.progress;
   }
   not_passed fed given before after bytes splitter count handler had has (Err fault) stop none is written = record {
     more = written.front;
     written = written.appended;
     all = stop.0;
-    grows = subst (Grows written.front) (fresh before after stop.0 bytes none stop.1 is) written.grows;
+    grows = subst (Grows written.front) (fresh before after stop.0 bytes none stop.1 is) (front-of had has bytes written);
     stops = early gives fed (given ++ stop.0) fault stop.2;
   }
 

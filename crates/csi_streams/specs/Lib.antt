@@ -1,5 +1,6 @@
 pub mod Replay
 pub mod Streaming
+pub mod Failing
 pub mod Answering
 pub mod Showing
 pub mod Progress

@@ -17,12 +17,6 @@ AreReplies frames bytes = bytes ≡ answered frames
 abbrev pub AreLines : List Frame → List ℕ → Type 0
 AreLines frames bytes = Unit {0}
 
--- a front of these bytes was written
-pub record WritesFront (before after : Option (List ℕ)) (bytes : List ℕ) : Type 0 where
-  pub front : List ℕ
-  pub appended : Appends before after front
-  pub grows : Grows front bytes
-
 -- the bytes wait for more: they are fewer than a length and its body take, or none
 abbrev pub Waits : List ℕ → Type 0
 Waits bytes = IsFaulty bytes Short (length bytes)

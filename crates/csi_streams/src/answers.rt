@@ -13,6 +13,7 @@ ghost use Rattle.csi_controller.specs.Core.{Shows};
 ghost use Rattle.csi_controller.specs.Step.{answer_frame};
 ghost use Rattle.csi_streams.specs.Replay.{replay_config, AnswersAll, Fails};
 ghost use Rattle.csi_streams.specs.Answering.{HasAnswered};
+ghost use Rattle.csi_streams.specs.Failing.{TellsReader, TellsWriter};
 ghost use Rattle.csi_streams.specs.Streaming.{AreReplies, Streams};
 ghost use Rattle.csi_streams.specs.Handling.{Handles};
 
@@ -20,6 +21,7 @@ use crate::handler::Handler;
 use crate::slices::handle_slice;
 use crate::streaming::{StreamFault, handle_stream};
 use csi_controller::{Controller, CoreFault};
+use csi_counted::Counted;
 use csi_frames::{FaultKind, FrameRef, encode_reply};
 use csi_types::{Body, CallRef, Config, Kind, MAX_CAPACITY, NoMemory, Number, Party, Reply};
 use std::alloc::{AllocError, Global};
@@ -152,13 +154,16 @@ pub fn answer(alloc: Global, input: &[u8], out: &mut Vec<u8>) -> Result<u64, Ans
 /// The same of the frames that `reader` has: reads at most 65,536 bytes at a time, and writes and flushes the replies to the frames
 /// that are there before it reads on, so that it takes no more memory however long the stream. What was given before an `Err`
 /// is written: at `Frame` and `Input` all replies to the frames that were read, at `NoMemory` those to some of the first, at
-/// `Output` a front of them. Of a reader or a writer that doesn't tell its bytes nothing is said.
+/// `Output` a front of them. The reader failed at `Input` and at no other end, the writer at `Output`. Of a reader or a writer that doesn't tell its bytes nothing is said.
 pub fn answer_from<R: Read, W: Write>(
     alloc: Global,
-    reader: &mut R,
-    writer: &mut W,
+    reader: &mut Counted<R>,
+    writer: &mut Counted<W>,
 ) -> Result<u64, StreamFault>
-    ensures { Streams AreReplies (R.remaining reader.old) (R.remaining reader.new) (W.contents writer.old) (W.contents writer.new) result }
+    ensures streams { Streams AreReplies (R.remaining reader.old.inner) (R.remaining reader.new.inner) (W.contents writer.old.inner) (W.contents writer.new.inner) result }
+    // A device that failed is told, and no other: the reader failed at `Input` and at no other end, the writer at `Output`.
+    ensures reader { TellsReader reader.old.faults reader.new.faults result }
+    ensures writer { TellsWriter writer.old.faults writer.new.faults result }
 {
     let mut controller = new_controller(alloc);
     handle_stream(alloc, &mut controller, reader, writer)

@@ -5,12 +5,10 @@ mod answers;
 mod frames;
 mod handler;
 mod lines;
-mod output;
 mod shown;
 mod slices;
 mod streaming;
 
 pub use answers::{AnswerFault, answer, answer_from};
 pub use lines::{show, show_from};
-pub use output::{WriteFailed, write_out};
 pub use streaming::StreamFault;

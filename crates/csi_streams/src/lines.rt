@@ -4,6 +4,7 @@ ghost use Rattle.csi_types.specs.Frame.{Frame as FrameParts};
 ghost use Rattle.csi_frames.specs.Stream.{FramesOf};
 ghost use Rattle.csi_streams.specs.Replay.{Grows, Stops};
 ghost use Rattle.csi_streams.specs.Showing.{HasShown};
+ghost use Rattle.csi_streams.specs.Failing.{TellsReader, TellsWriter};
 ghost use Rattle.csi_streams.specs.Streaming.{AreLines, Streams};
 
 use crate::answers::AnswerFault;
@@ -11,6 +12,7 @@ use crate::handler::Handler;
 use crate::shown::ShownFrame;
 use crate::slices::handle_slice;
 use crate::streaming::{StreamFault, handle_stream};
+use csi_counted::Counted;
 use csi_frames::FrameRef;
 use csi_types::Frame;
 use std::alloc::Global;
@@ -82,14 +84,18 @@ pub fn show(alloc: Global, input: &[u8], out: &mut Vec<u8>) -> Result<(), Answer
 
 /// The same of the frames that `reader` has, and gives the count of the frames: reads at most 65,536 bytes at a time, and writes
 /// and flushes the lines of the frames that are there before it reads on, so that it takes no more memory however long the
-/// stream. The lines of the frames before an `Err` are written, at `Output` a front of them. Of a reader or a writer that
+/// stream. The lines of the frames before an `Err` are written, at `Output` a front of them. The reader failed at `Input` and at no other
+/// end, the writer at `Output`. Of a reader or a writer that
 /// doesn't tell its bytes nothing is said.
 pub fn show_from<R: Read, W: Write>(
     alloc: Global,
-    reader: &mut R,
-    writer: &mut W,
+    reader: &mut Counted<R>,
+    writer: &mut Counted<W>,
 ) -> Result<u64, StreamFault>
-    ensures { Streams AreLines (R.remaining reader.old) (R.remaining reader.new) (W.contents writer.old) (W.contents writer.new) result }
+    ensures streams { Streams AreLines (R.remaining reader.old.inner) (R.remaining reader.new.inner) (W.contents writer.old.inner) (W.contents writer.new.inner) result }
+    // A device that failed is told, and no other: the reader failed at `Input` and at no other end, the writer at `Output`.
+    ensures reader { TellsReader reader.old.faults reader.new.faults result }
+    ensures writer { TellsWriter writer.old.faults writer.new.faults result }
 {
     let mut lines = new_lines(alloc);
     handle_stream(alloc, &mut lines, reader, writer)

@@ -3,12 +3,13 @@ ghost use Rattle.std.specs.Prelude.{◌≡◌, ◌<◌, ◌+◌, ◌++◌, ◌^�
 ghost use Rattle.csi_frames.specs.Bytes.{AreBytes};
 ghost use Rattle.csi_streams.specs.Passing.{PassesOn, EndsStream};
 ghost use Rattle.csi_streams.specs.Progress.{Progress};
+ghost use Rattle.csi_streams.specs.Failing.{TellsReader, TellsWriter};
 ghost use Rattle.csi_streams.specs.Streaming.{Streams};
 
 use crate::answers::AnswerFault;
 use crate::frames::FrameStream;
 use crate::handler::Handler;
-use crate::output::{WriteFailed, write_out};
+use csi_counted::{Counted, WriteFailed, write_out};
 use csi_frames::FaultKind;
 use std::alloc::Global;
 use std::io::{Read, Write};
@@ -74,11 +75,12 @@ fn pass_on<H: Handler, W: Write>(
     handler: &mut H,
     piece: &[u8],
     out: &mut Vec<u8>,
-    writer: &mut W,
+    writer: &mut Counted<W>,
 ) -> Result<(), StreamFault>
     ensures bytes { AreBytes piece.now }
     ensures passes { (fed given : List ℕ) → Progress H.has_handled H.gives fed stream.old.splitter stream.old.count handler.old given → length fed + length piece.now < 2 ^ 64 →
-        PassesOn H.has_handled H.gives (fed ++ piece.now) given stream.new.splitter stream.new.count handler.new (W.contents writer.old) (W.contents writer.new) result }
+        PassesOn H.has_handled H.gives (fed ++ piece.now) given stream.new.splitter stream.new.count handler.new (W.contents writer.old.inner) (W.contents writer.new.inner) result }
+    ensures writer { TellsWriter writer.old.faults writer.new.faults result }
 {
     out.clear();
     let handled = stream.handle_piece(alloc, handler, piece, out);
@@ -104,12 +106,14 @@ fn count_at_end(stream: &FrameStream) -> Result<u64, StreamFault>
 pub(crate) fn handle_stream<H: Handler, R: Read, W: Write>(
     alloc: Global,
     handler: &mut H,
-    reader: &mut R,
-    writer: &mut W,
+    reader: &mut Counted<R>,
+    writer: &mut Counted<W>,
 ) -> Result<u64, StreamFault>
     requires handled { H.has_handled handler.old [] }
     requires gave { H.gives [] [] }
-    ensures { Streams H.gives (R.remaining reader.old) (R.remaining reader.new) (W.contents writer.old) (W.contents writer.new) result }
+    ensures streams { Streams H.gives (R.remaining reader.old.inner) (R.remaining reader.new.inner) (W.contents writer.old.inner) (W.contents writer.new.inner) result }
+    ensures reader { TellsReader reader.old.faults reader.new.faults result }
+    ensures writer { TellsWriter writer.old.faults writer.new.faults result }
 {
     let mut stream = FrameStream::new(alloc);
     let mut out = Vec::new(alloc);

@@ -1,13 +1,12 @@
 //! A frame, answered: stepped, committed, and then its reply written.
 ghost use Rattle.std.specs.Prelude.{◌≡◌, ◌≤◌, Option, IfOk, IfErr, OnOk, Err};
-ghost use Rattle.csi_stores.specs.Keeping.{HasRisen};
+ghost use Rattle.csi_counted.specs.Counting.{HasRisen};
 ghost use Rattle.csi_stores.specs.Stores.{store, Rests, Follows};
 ghost use Rattle.csi_serving.specs.Answering.{IsSpelledAs, Steps, StopsUnwritten, AnswersOne};
 ghost use Rattle.csi_serving.specs.Failing.{Stays, FrameStays};
 
-use crate::counted::Counted;
 use crate::plugin_core::Core;
-use crate::serving::output::{WriteFailed, write_out};
+use csi_counted::{Counted, WriteFailed, write_out};
 use csi_frames::encode;
 use csi_stores::{Keep, KeepFault};
 use csi_types::{Frame, NoMemory};

@@ -1,15 +1,15 @@
 //! The frames of a stream, answered one after another.
 ghost use Rattle.std.specs.Prelude.{◌≡◌, ◌≤◌, ◌<◌, ◌+◌, ◌^◌, None, length};
-ghost use Rattle.csi_stores.specs.Keeping.{HasRisen};
+ghost use Rattle.csi_counted.specs.Counting.{HasRisen};
 ghost use Rattle.csi_stores.specs.Stores.{store, Follows};
 ghost use Rattle.csi_serving.specs.Failing.{Stays, WriterStays};
 ghost use Rattle.csi_serving.specs.Stopping.{AnswersNext, kind_of_stop, one_more_served, stopped_by};
 
-use crate::counted::Counted;
 use crate::plugin_core::Core;
 use crate::serving::answering::{FrameStop, answer_frame};
 use crate::serving::fault::{ServeFault, ServeFaultKind, Served};
 use crate::serving::reading::next_frame;
+use csi_counted::Counted;
 use csi_frames::Splitter;
 use csi_stores::Keep;
 use std::alloc::Global;

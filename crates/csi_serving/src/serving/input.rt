@@ -6,8 +6,8 @@ ghost use Rattle.csi_serving.specs.Reading.{ReadsPiece};
 ghost use Rattle.csi_serving.specs.Failing.{Stays, ReaderStays};
 ghost use Rattle.csi_serving.specs.declared.serving.fault.ServeFaultKind.TheVariants.{NoMemory as Refused};
 
-use crate::counted::Counted;
 use crate::serving::fault::ServeFaultKind;
+use csi_counted::Counted;
 use csi_frames::Splitter;
 use csi_types::NoMemory;
 use std::io::Read;

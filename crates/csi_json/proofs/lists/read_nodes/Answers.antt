@@ -6,8 +6,8 @@ use Rattle.csi_json.specs.Configs.{node_of}
 use Rattle.csi_json.proofs.ReadLists.{goes_on, refuses}
 use Rattle.csi_json.proofs.lists.read_nodes.Goals as goal
 
-pub returns-in_err-push_node : goal.returns-in_err-push_node
-returns-in_err-push_node c =
+pub returns-in_err-push_node-clause-read : goal.returns-in_err-push_node-clause-read
+returns-in_err-push_node-clause-read c =
     let p = err_from_is_err_and c.from_residual.result c.from_residual.ensures.1 in
     rw (p.1, p.2)
     (refuses {B = Vec NodeSlots Global} (λ list. list.items) node_of c.args.items.now c.loop-item.item-index c.item-item.result c.loop-item.list.items c.push_node.new.list.items c.in_err-push_node.field-0.0 c.loop-item-test.true c.item-item.is c.in_err-push_node.ensures c.loop-item.invariant)

@@ -3,6 +3,6 @@ use Rattle.csi_json.specs.Json.{sized_object}
 use Rattle.csi_json.proofs.Items.{members_in_view}
 use Rattle.csi_json.proofs.values.sized_object.Goals as goal
 
-pub returns-in-Some : goal.returns-in-Some
+pub returns-in-Some-clause-read : goal.returns-in-Some-clause-read
 unfolding sized_object
-returns-in-Some c = grind (arith, members_in_view)
+returns-in-Some-clause-read c = grind (arith, members_in_view)

@@ -1,7 +1,7 @@
 -- What was read is what the frames came from.
 use Rattle.std.proofs.Common.{◌∙◌, refl, ◌++◌, [], ◌≤◌, ◌^◌, length, arith}
 use Rattle.std.specs.Io.KnownBytes.{IsAtEnd}
-use Rattle.csi_stores.specs.Keeping.{HasRisen}
+use Rattle.csi_counted.specs.Counting.{HasRisen}
 use Rattle.csi_stores.specs.Stores.{store}
 use Rattle.csi_serving.proofs.StoreCalls.{risen-more, follows-more}
 use Rattle.csi_serving.proofs.Failures.{reader-same, writer-more, reader-more, writer-same, reader-ends, writer-ends}

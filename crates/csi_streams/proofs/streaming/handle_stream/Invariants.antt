@@ -8,10 +8,12 @@ invariant-loop-read g l = record {
   fed : List ℕ;
   given : List ℕ;
   counted : l.read ≡ length fed;
-  consumed : Consumes (g.R.Read.remaining l.fn.reader) (g.R.Read.remaining l.reader) fed;
-  written : Appends (g.W.Write.contents l.fn.writer) (g.W.Write.contents l.writer) given;
+  consumed : Consumes (g.R.Read.remaining l.fn.reader.inner) (g.R.Read.remaining l.reader.inner) fed;
+  written : Appends (g.W.Write.contents l.fn.writer.inner) (g.W.Write.contents l.writer.inner) given;
   progress : Progress g.H.Handler.has_handled g.H.Handler.gives fed l.stream.splitter l.stream.count l.handler given;
   rests : Rests l.stream.splitter;
+  readable : l.reader.faults ≡ l.fn.reader.faults;
+  writable : l.writer.faults ≡ l.fn.writer.faults;
 }
 
 abbrev pub decreases-loop-read : goal.decreases-loop-read

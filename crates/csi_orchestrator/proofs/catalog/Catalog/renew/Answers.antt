@@ -18,3 +18,9 @@ returns-clause-noted c =
     let long = c.len-index-end.ensures.len in
     let over = c.loop-index-test.false in
     renewed-noted c.args.self.now c.loop-index.self c.loop-index.index c.requires c.loop-index.invariant.0 (rows-below c.args.self.now c.loop-index.index (omega (arith, long, over)))
+
+pub returns-clause-few : goal.returns-clause-few
+returns-clause-few c =
+    let count = c.loop-index.invariant.0.count in
+    let within = c.loop-index.invariant.1 in
+    omega (arith, count, within)

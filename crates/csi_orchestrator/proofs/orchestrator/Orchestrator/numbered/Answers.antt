@@ -1,5 +1,5 @@
 -- No rows, and no call is noted; what is shown agrees with the history of an orchestrator that did nothing.
-use Rattle.std.proofs.Common.{List, map, refl, sym, subst}
+use Rattle.std.proofs.Common.{List, map, refl, sym, subst, arith}
 use Rattle.csi_orchestrator.specs.declared.row.Row.{Row}
 use Rattle.csi_orchestrator.specs.History.{history_after}
 use Rattle.csi_orchestrator.specs.Sound.{IsKept}
@@ -12,6 +12,7 @@ invariant_of-result c =
     let none : List Row → Parts = λ rows. record { nodes = c.args.nodes.items; last = c.args.last; rows = map row_shown rows } in (
       subst (λ rows. IsKept (none rows)) (sym c.new.ensures.rows) (record {
         sound = record { names = tt; each = tt };
+        within = record { rows = omega arith; entries = tt };
         told =
             record {
               history = history_after c.args.last;

@@ -1,4 +1,4 @@
--- What was written to a writer.
+-- What was written to a writer. This profile's own.
 use Rattle.std.specs.Prelude.{◌≡◌, ℕ, List, ◌++◌, Option}
 use Rattle.std.specs.Io.KnownBytes.{Appends}
 

@@ -2,8 +2,7 @@
 ghost use Rattle.std.specs.Prelude.{◌≡◌, ◌≤◌, true, OnOk, OnErr};
 ghost use Rattle.std.specs.Io.{ReadsAtMost, WritesAtMost};
 ghost use Rattle.std.specs.Io.KnownBytes.{Keeps, Appends, Consumes, ReadConsumes, WriteAppends};
-ghost use Rattle.csi_stores.specs.Keeping.{HasRisen};
-ghost use Rattle.csi_serving.specs.Counting.{is_error, is_write_fault, counted};
+ghost use Rattle.csi_counted.specs.Counting.{HasRisen, is_error, is_write_fault, counted};
 
 use std::io;
 use std::io::{Read, Write};

@@ -1,5 +1,5 @@
 use Rattle.std.proofs.Common.{rules}
-use Rattle.csi_serving.proofs.counted.CountedWrite.write.Goals as goal
+use Rattle.csi_counted.proofs.counted.CountedWrite.write.Goals as goal
 
 pub returns-clause-faults : goal.returns-clause-faults
 returns-clause-faults c = search rules

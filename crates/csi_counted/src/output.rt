@@ -1,15 +1,17 @@
-//! A reply, written.
+//! Bytes, written.
 ghost use Rattle.std.specs.Prelude.{◌≡◌, ◌≤◌, OnOk, OnErr};
 ghost use Rattle.std.specs.Io.KnownBytes.{Appends};
-ghost use Rattle.csi_stores.specs.Keeping.{HasRisen};
-ghost use Rattle.csi_serving.specs.Writing.{WritesFront};
+ghost use Rattle.csi_counted.specs.Counting.{HasRisen};
+ghost use Rattle.csi_counted.specs.Writing.{WritesFront};
 
 use crate::counted::Counted;
 use std::io::Write;
+use thiserror::Error;
 
-/// The writer failed.
-#[derive(Clone, Copy, Debug)]
-pub(crate) struct WriteFailed;
+/// The writer answered an error, or took no byte.
+#[derive(Clone, Copy, Debug, PartialEq, Eq, Error)]
+#[error("the output can't be written")]
+pub struct WriteFailed;
 
 // Writes all bytes.
 fn write_all<W: Write>(writer: &mut Counted<W>, bytes: &[u8]) -> Result<(), WriteFailed>
@@ -30,8 +32,9 @@ fn write_all<W: Write>(writer: &mut Counted<W>, bytes: &[u8]) -> Result<(), Writ
     Ok(())
 }
 
-/// Writes all bytes and flushes. At an `Err` some front of them was written, or all.
-pub(crate) fn write_out<W: Write>(writer: &mut Counted<W>, bytes: &[u8]) -> Result<(), WriteFailed>
+/// Writes all bytes, in as many calls as the writer wants, and flushes. It fails exactly where the writer does, which is counted; then
+/// some front of the bytes was written, or all. This profile's own.
+pub fn write_out<W: Write>(writer: &mut Counted<W>, bytes: &[u8]) -> Result<(), WriteFailed>
     ensures ok { OnOk result (Appends (W.contents writer.old.inner) (W.contents writer.new.inner) bytes.now) }
     ensures err { OnErr result (WritesFront (W.contents writer.old.inner) (W.contents writer.new.inner) bytes.now) }
     ensures risen { OnErr result (HasRisen writer.old.faults writer.new.faults) }

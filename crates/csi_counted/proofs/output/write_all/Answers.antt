@@ -1,8 +1,8 @@
 use Rattle.std.proofs.Common.{◌∙◌, sym, ap, ◌++◌, List, ℕ, take, drop, append_assoc, arith}
 use Rattle.std.proofs.lemmas.List.{take-append-drop}
 use Rattle.std.proofs.KnownBytes.{Appends-trans}
-use Rattle.csi_serving.proofs.Failures.{taken-stays}
-use Rattle.csi_serving.proofs.serving.output.write_all.Goals as goal
+use Rattle.csi_counted.proofs.Failures.{taken-stays}
+use Rattle.csi_counted.proofs.output.write_all.Goals as goal
 
 pub loop-rest-preserved : goal.loop-rest-preserved
 loop-rest-preserved g c =
