@@ -8,7 +8,6 @@ ghost use Rattle.csi_records.specs.Records.{controller_layout, IsRecordOf, IsRef
 ghost use Rattle.csi_records.specs.Spelling.{controller_head, controller_parts, volume_row};
 ghost use Rattle.csi_stores.specs.Content.{all_changed};
 ghost use Rattle.csi_stores.specs.Keeping.{RefusesAt};
-ghost use Rattle.csi_stores.specs.Stores.{store};
 ghost use Rattle.csi_service.specs.Opening.{IsOpenFault, LeavesHead, HasRecord};
 ghost use Rattle.csi_service.specs.Services.{controller_service_parts, controller_service_changes, ControllerAnswers};
 
@@ -73,13 +72,13 @@ impl ControllerService {
         config: Config,
         keep: &mut K,
     ) -> Result<ControllerService, KeepFault>
-        ensures opened { IfOk result (HasRecord (IsRecordOf controller_layout) controller_service_parts (store K.is_honest K.holds K.leaves K.fits K.fault_count keep.old) (store K.is_honest K.holds K.leaves K.fits K.fault_count keep.new) (controller_head 1)) }
+        ensures opened { IfOk result (HasRecord (IsRecordOf controller_layout) controller_service_parts (K.store keep.old) (K.store keep.new) (controller_head 1)) }
         ensures config { IfOk result (λ service. service.controller.config ≡ config) }
         ensures changes { IfOk result (λ service. controller_service_changes service ≡ []) }
-        ensures cause { IfErr result (IsOpenFault (IsRefusedAt (IsRecordOf controller_layout)) (store K.is_honest K.holds K.leaves K.fits K.fault_count keep.old) (store K.is_honest K.holds K.leaves K.fits K.fault_count keep.new) (controller_head 1)) }
-        ensures honest { K.is_honest keep.new → K.is_honest keep.old }
-        ensures foreign { K.is_honest keep.new → (place : ℕ) → K.is_foreign keep.old place → RefusesAt place result }
-        ensures left { LeavesHead (store K.is_honest K.holds K.leaves K.fits K.fault_count keep.old) (store K.is_honest K.holds K.leaves K.fits K.fault_count keep.new) (controller_head 1) }
+        ensures cause { IfErr result (IsOpenFault (IsRefusedAt (IsRecordOf controller_layout)) (K.store keep.old) (K.store keep.new) (controller_head 1)) }
+        ensures honest { (K.store keep.new).honest → (K.store keep.old).honest }
+        ensures foreign { (K.store keep.new).honest → (place : ℕ) → (K.store keep.old).foreign place → RefusesAt place result }
+        ensures left { LeavesHead (K.store keep.old) (K.store keep.new) (controller_head 1) }
     {
         let head = controller_head_value(alloc, 1)?;
         let parts = match load_or_begin(alloc, keep, head) {

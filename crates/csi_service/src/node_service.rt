@@ -10,7 +10,6 @@ ghost use Rattle.csi_records.specs.Spelling.{node_head, node_parts};
 ghost use Rattle.csi_stores.specs.Content.{all_changed};
 ghost use Rattle.csi_service.specs.NodeServices.{touched_row, last_for, node_service_changes, NodeServiceAnswers};
 ghost use Rattle.csi_stores.specs.Keeping.{RefusesAt};
-ghost use Rattle.csi_stores.specs.Stores.{store};
 ghost use Rattle.csi_service.specs.Opening.{IsOpenFault, LeavesHead, HasRecord};
 ghost use Rattle.csi_service.specs.Services.{node_service_parts};
 
@@ -66,11 +65,11 @@ impl NodeService {
     /// and the head doesn't fit. This profile's own.
     pub fn open<K: Keep>(alloc: Global, id: NodeId, keep: &mut K) -> Result<NodeService, KeepFault>
         ensures changes { IfOk result (λ service. node_service_changes service ≡ []) }
-        ensures opened { IfOk result (HasRecord (IsRecordOf (node_layout (Some id))) node_service_parts (store K.is_honest K.holds K.leaves K.fits K.fault_count keep.old) (store K.is_honest K.holds K.leaves K.fits K.fault_count keep.new) (node_head id)) }
-        ensures cause { IfErr result (IsOpenFault (IsRefusedAt (IsRecordOf (node_layout (Some id)))) (store K.is_honest K.holds K.leaves K.fits K.fault_count keep.old) (store K.is_honest K.holds K.leaves K.fits K.fault_count keep.new) (node_head id)) }
-        ensures honest { K.is_honest keep.new → K.is_honest keep.old }
-        ensures foreign { K.is_honest keep.new → (place : ℕ) → K.is_foreign keep.old place → RefusesAt place result }
-        ensures left { LeavesHead (store K.is_honest K.holds K.leaves K.fits K.fault_count keep.old) (store K.is_honest K.holds K.leaves K.fits K.fault_count keep.new) (node_head id) }
+        ensures opened { IfOk result (HasRecord (IsRecordOf (node_layout (Some id))) node_service_parts (K.store keep.old) (K.store keep.new) (node_head id)) }
+        ensures cause { IfErr result (IsOpenFault (IsRefusedAt (IsRecordOf (node_layout (Some id)))) (K.store keep.old) (K.store keep.new) (node_head id)) }
+        ensures honest { (K.store keep.new).honest → (K.store keep.old).honest }
+        ensures foreign { (K.store keep.new).honest → (place : ℕ) → (K.store keep.old).foreign place → RefusesAt place result }
+        ensures left { LeavesHead (K.store keep.old) (K.store keep.new) (node_head id) }
     {
         let head = node_head_value(alloc, &id)?;
         let parts = match load_or_begin(alloc, keep, head) {
