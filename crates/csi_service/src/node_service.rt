@@ -1,11 +1,11 @@
 //! The node plugin over a store.
-ghost use Rattle.std.specs.Prelude.{◌≡◌, ◌∷◌, ℕ, ◌↔◌, [], Some, map, option_map, IfOk, IfErr, IfSome, OnOk, OnErr, IsTrue, None, if◌then◌else◌};
+ghost use Rattle.std.specs.Prelude.{◌≡◌, ◌≢◌, ◌∷◌, ℕ, ◌↔◌, [], Some, map, option_map, IfOk, IfErr, IfSome, OnOk, OnErr, IsTrue, None, if◌then◌else◌};
 ghost use Rattle.std.specs.Option.{option_copied};
 ghost use Rattle.csi_types.specs.VolumeId.{IsVolumeId};
 ghost use Rattle.csi_node.specs.OneRow.{shown, IsSoundRow};
-ghost use Rattle.csi_node.specs.OneVolume.{called_volume};
+ghost use Rattle.csi_node.specs.OneVolume.{called_volume, last_of};
 ghost use Rattle.csi_stores.specs.Part.{change_of};
-ghost use Rattle.csi_records.specs.Records.{node_layout, IsRecordOf, IsRefusedAt};
+ghost use Rattle.csi_records.specs.Records.{node_layout, AreParts, IsRecordOf, IsRefusedAt};
 ghost use Rattle.csi_records.specs.Spelling.{node_head, node_parts};
 ghost use Rattle.csi_stores.specs.Content.{all_changed};
 ghost use Rattle.csi_service.specs.NodeServices.{touched_row, last_for, node_service_changes, NodeServiceAnswers};
@@ -144,6 +144,12 @@ fn volume_unless(is_same: bool, volume: Option<VolumeId>) -> Option<VolumeId>
 }
 
 impl Core for NodeService {
+    type Record = NodeRecord;
+
+    ghost spells = { λ kept parts. AreParts (node_layout None) kept.id (map shown kept.rows) parts };
+
+    ghost is_same = { λ one other. (one.id ≡ other.id) × (map shown one.rows ≡ map shown other.rows) };
+
     ghost parts_of = { node_service_parts };
 
     ghost changes = { node_service_changes };
@@ -157,6 +163,8 @@ impl Core for NodeService {
         ensures nothing { OnOk result (map shown self.new.node.rows ≡ map shown self.old.node.rows → node_service_changes self.new ≡ []) }
         ensures err { OnErr result (node_service_parts self.new ≡ node_service_parts self.old) }
         ensures err_changes { OnErr result (node_service_changes self.new ≡ node_service_changes self.old) }
+        // A row's part is told only where the volume's last number is other than it was.
+        ensures differs { OnOk result (IfSome self.new.touched (λ id. last_of id (map shown self.new.node.rows) ≢ last_of id (map shown self.old.node.rows))) }
     {
         let volume = volume_in(frame);
         let (earlier, later) = (volume, volume);
@@ -179,4 +187,6 @@ impl Core for NodeService {
         }
         Ok(parts)
     }
+
+    fn record_law() {}
 }
