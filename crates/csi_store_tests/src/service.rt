@@ -2,7 +2,9 @@
 mod damaged;
 mod devices;
 mod files;
+mod flushes;
 mod growths;
+mod limited;
 mod pieces;
 mod playing;
 mod plugins;

@@ -110,17 +110,7 @@ impl Device {
 }
 
 impl Keep for Device {
-    ghost is_honest = { λ _. ⊥ };
-
-    ghost holds = { λ _ _. ⊥ };
-
-    ghost is_foreign = { λ _ _. ⊥ };
-
-    ghost leaves = { λ _ _. ⊥ };
-
-    ghost fits = { λ _ _. ⊥ };
-
-    ghost fault_count = { λ device. device.faults };
+    ghost store = { λ device. record { honest = ⊥; holds = λ _. ⊥; foreign = λ _. ⊥; leaves = λ _. ⊥; fits = λ _. ⊥; faults = device.faults } };
 
     fn load(&mut self) -> Result<Vec<Part>, KeepFault> {
         match self.inner.load() {
