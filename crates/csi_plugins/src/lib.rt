@@ -3,9 +3,11 @@
 
 mod ending;
 mod kind;
+mod recording;
 mod running;
 mod service;
 
 pub use ending::ending_unopened;
 pub use kind::Plugin;
+pub use recording::record;
 pub use running::plugin;
