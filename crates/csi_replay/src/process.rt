@@ -3,10 +3,9 @@ use csi_commands::stream;
 use csi_endings::{Ending, FileCommand};
 use csi_plugins::{Plugin, ending_unopened, plugin, record};
 use csi_service::Counted;
-use csi_sqlite::{SqliteKeep, copies};
+use csi_sqlite::{SqliteKeep, find_at};
 use csi_words::{CommandLine, parse};
-use sqlite::{FileStore, Start, Unknown};
-use sqlite_disk::Memory;
+use sqlite::{Start, Unknown};
 use std::process::ExitCode;
 use std::rt::Files;
 use std::{fs, io};
@@ -41,32 +40,14 @@ fn from_store<S: Start>(rt: &HostRuntime, path: &str, start: S, asked: Plugin) -
     ending
 }
 
-// The ending where a store's file can't be read.
-fn not_there(kind: io::ErrorKind) -> Ending {
-    match kind {
-        io::ErrorKind::OutOfMemory => Ending::Memory,
-        _ => Ending::StoreNotOpened,
-    }
-}
-
-// The bytes of a file; none where there is no such file.
-fn bytes_if_there(rt: &(impl Files + AllocGlobal), path: &str) -> io::Result<Vec<u8>> {
-    match fs::read(rt, path) {
-        Err(error) if error.kind() == io::ErrorKind::NotFound => Ok(Vec::new(rt.alloc())),
-        read => read,
-    }
-}
-
-// Tells what the store in this file has.
-fn told(rt: &HostRuntime, path: &str) -> Result<Ending, Ending> {
-    let db = fs::read(rt, path).map_err(|error| not_there(error.kind()))?;
-    let beside = format!(in rt.alloc(); "{path}-wal")?;
-    let log = bytes_if_there(rt, beside.as_str()).map_err(|error| not_there(error.kind()))?;
-    let files = copies(rt.alloc(), &db, &log)?;
-    let mut keep: SqliteKeep<FileStore<Memory>> =
-        SqliteKeep::find(rt.alloc(), files).map_err(ending_unopened)?;
+// Tells what the store in this file has, which is only read.
+fn told(rt: &HostRuntime, path: &str) -> Ending {
+    let mut keep = match find_at(rt, path) {
+        Ok(keep) => keep,
+        Err(fault) => return ending_unopened(fault),
+    };
     let mut out = io::writer(rt);
-    Ok(record(rt.alloc(), &mut keep, &mut out))
+    record(rt.alloc(), &mut keep, &mut out)
 }
 
 // Does what the words name. A store's file is read after a crash as SQLite reads it: a write that was cut short left each byte
@@ -84,7 +65,7 @@ fn run(rt: &HostRuntime) -> Result<Ending, Ending> {
             let asked = Plugin::of_id(rt.alloc(), id)?;
             Ok(from_store(rt, store, Unknown, asked))
         }
-        CommandLine::Record(store) => told(rt, store),
+        CommandLine::Record(store) => Ok(told(rt, store)),
     }
 }
 

@@ -6,6 +6,7 @@ mod growths;
 mod pieces;
 mod playing;
 mod plugins;
+mod shown;
 mod stops;
 mod stores;
 

@@ -1,4 +1,4 @@
-//! A store that is found in its files.
+//! A store that is found in its files, which are only read.
 ghost use Rattle.std.specs.Prelude.{◌≡◌, ◌⊎◌, List, IsTrue, IfOk, IfErr};
 ghost use Rattle.sqlite_disk.specs.Memory.{memory_bytes, memory_is_usable};
 ghost use Rattle.sqlite_trees.specs.Tree.{Trees};
@@ -14,6 +14,9 @@ use csi_types::NoMemory;
 use sqlite::{Connection, FileStore, Files, Options};
 use sqlite_disk::{Disk, Memory};
 use std::alloc::Global;
+use std::fs;
+use std::io::ErrorKind;
+use std::rt::Files as Reads;
 
 impl<D: Disk + Drop> SqliteKeep<FileStore<D>> {
     /// The store that these two files have, a database file and its log, where they are a database that lists the table `parts` alone;
@@ -69,4 +72,77 @@ pub fn copies(alloc: Global, db: &[u8], log: &[u8]) -> Result<Files<Memory>, NoM
     let db = copied(alloc, db)?;
     let log = copied(alloc, log)?;
     Ok(Files { log, db })
+}
+
+// What a file that can't be read is to the keeper.
+fn unread(kind: ErrorKind) -> KeepFault
+    ensures { (result ≡ KeepFault.Device) ⊎ (result ≡ KeepFault.NoMemory) }
+{
+    match kind {
+        ErrorKind::OutOfMemory => KeepFault::NoMemory,
+        _ => KeepFault::Device,
+    }
+}
+
+// The bytes of the file beside a database that has this name behind it; none where there is no such file.
+fn beside(rt: &(impl Reads + AllocGlobal), path: &str, name: &str) -> Result<Vec<u8>, KeepFault>
+    ensures { IfErr result (λ fault. (fault ≡ KeepFault.Device) ⊎ (fault ≡ KeepFault.NoMemory)) }
+{
+    let Ok(path) = format!(in rt.alloc(); "{path}{name}") else {
+        return Err(KeepFault::NoMemory);
+    };
+    match fs::read(rt, path.as_str()) {
+        Ok(bytes) => Ok(bytes),
+        Err(error) if error.kind() == ErrorKind::NotFound => Ok(Vec::new(rt.alloc())),
+        Err(error) => Err(unread(error.kind())),
+    }
+}
+
+// The bytes of a database file and of the log beside it. The log is read before the file and again after it, and has to be the
+// same: so the two go together, whoever writes them meanwhile.
+fn read_both(
+    rt: &(impl Reads + AllocGlobal),
+    path: &str,
+) -> Result<(Vec<u8>, Vec<u8>), KeepFault>
+    ensures { IfErr result (λ fault. (fault ≡ KeepFault.Device) ⊎ (fault ≡ KeepFault.NoMemory)) }
+{
+    let log = beside(rt, path, "-wal")?;
+    let db = match fs::read(rt, path) {
+        Ok(bytes) => bytes,
+        Err(error) => return Err(unread(error.kind())),
+    };
+    let after = beside(rt, path, "-wal")?;
+    if log.as_slice() != after.as_slice() {
+        return Err(KeepFault::Device);
+    }
+    Ok((db, log))
+}
+
+/// The store in the SQLite file at this path, as the file and the log beside it are now, in copies of the two: nothing is written
+/// to them, and where there is no file none is made. `Device` stands for all refusals but want of memory: a file can't be read, or
+/// was written meanwhile, it is no database that lists the table `parts` alone, or SQLite left a rollback journal beside it.
+pub fn find_at(
+    rt: &(impl Reads + AllocGlobal),
+    path: &str,
+) -> Result<SqliteKeep<FileStore<Memory>>, KeepFault>
+    ensures cause { IfErr result (λ fault. (fault ≡ KeepFault.Device) ⊎ (fault ≡ KeepFault.NoMemory)) }
+{
+    let real = match fs::canonicalize(rt, path) {
+        Ok(real) => real,
+        Err(error) => return Err(unread(error.kind())),
+    };
+    match fs::metadata(rt, real.as_str()) {
+        Ok(found) if found.is_file() => {}
+        Ok(_) => return Err(KeepFault::Device),
+        Err(error) => return Err(unread(error.kind())),
+    }
+    let journal = beside(rt, real.as_str(), "-journal")?;
+    if !journal.is_empty() {
+        return Err(KeepFault::Device);
+    }
+    let (db, log) = read_both(rt, real.as_str())?;
+    let Ok(files) = copies(rt.alloc(), &db, &log) else {
+        return Err(KeepFault::NoMemory);
+    };
+    SqliteKeep::find(rt.alloc(), files)
 }
