@@ -21,7 +21,7 @@ const GONE: &[u8] = &[
 
 // A volume that is staged and published at two targets, the second readonly; and one that isn't staged.
 const AT_TWO: &[u8] = &[
-    1, 1, 1, 0, 3, 2, 2, 47, 97, 0, 2, 47, 98, 1, 0, 0, 0, 0, 0, 0, 0, 1, 0, 0, 0, 0, 0, 0, 0, 3,
+    1, 1, 0, 3, 2, 2, 47, 97, 0, 2, 47, 98, 1, 0, 0, 0, 0, 0, 0, 0, 1, 0, 0, 0, 0, 0, 0, 0, 3,
     135, 0, 0, 0, 0, 0, 0, 0, 0, 0, 0,
 ];
 
@@ -106,7 +106,9 @@ const PATH: &str = "csi_store_shown/a.db";
 
 const LOG: &str = "csi_store_shown/a.db-wal";
 
-const OTHER: &str = "csi_store_shown/other.db";
+const NONE: &str = "csi_store_none";
+
+const OTHER: &str = "csi_store_none/other.db";
 
 // What is there after the script.
 const LINE: &str = "{\"next_id\":3,\"plugin\":\"controller\",\"volumes\":[{\"attached\":[],\"capabilities\":[{\"access\":\"block\",\"mode\":1}],\"capacity\":10,\"id\":1,\"last\":{\"call\":5,\"session\":1},\"live\":false,\"name\":\"v\"},{\"attached\":[],\"capabilities\":[{\"access\":\"block\",\"mode\":1}],\"capacity\":10,\"id\":2,\"last\":{\"call\":6,\"session\":1},\"live\":true,\"name\":\"w\"}]}\n";
@@ -154,9 +156,9 @@ fn a_store_in_a_file_is_told_and_left_as_it_is(rt: HostRuntime) {
 // No file, a folder, an empty file, no database, a database with no table, and one with another.
 #[test]
 fn what_is_no_store_is_not_found_and_not_made(rt: HostRuntime) {
-    let _gone = fs::remove_dir_all(&rt, FOLDER);
-    fs::create_dir(&rt, FOLDER).expect(&rt, "a folder");
-    assert!(&rt; is_refused(&rt, OTHER) && is_refused(&rt, FOLDER));
+    let _gone = fs::remove_dir_all(&rt, NONE);
+    fs::create_dir(&rt, NONE).expect(&rt, "a folder");
+    assert!(&rt; is_refused(&rt, OTHER) && is_refused(&rt, NONE));
     assert!(&rt; fs::read(&rt, OTHER).is_err());
     fs::write(&rt, OTHER, b"").expect(&rt, "a file");
     assert!(&rt; is_refused(&rt, OTHER));
@@ -170,5 +172,5 @@ fn what_is_no_store_is_not_found_and_not_made(rt: HostRuntime) {
     other.execute("CREATE TABLE others (key BLOB)", &[]).expect(&rt, "a table");
     other.close().expect(&rt, "a file");
     assert!(&rt; is_refused(&rt, OTHER));
-    fs::remove_dir_all(&rt, FOLDER).expect(&rt, "a folder");
+    fs::remove_dir_all(&rt, NONE).expect(&rt, "a folder");
 }
