@@ -1,6 +1,6 @@
 -- What is attached, staged and published, as bars: each from the call that was carried out to the one that undid it, in a column of its
 -- own. A plugin answers OK to a call exactly where the thing is then as the call asks. This profile's own.
-use Rattle.std.specs.Prelude.{ℕ, zero, suc, ◌+◌, ◌==◌, ◌&&◌, nat_le, nat_lt, Bool, false, List, [], ◌∷◌, ◌++◌, length, slice_get, codes, decimal, Option, Some, None, if◌then◌else◌}
+use Rattle.std.specs.Prelude.{ℕ, zero, suc, ◌+◌, ◌==◌, ◌&&◌, nat_le, nat_lt, Bool, false, List, [], ◌∷◌, ◌++◌, slice_get, codes, decimal, Option, Some, None, if◌then◌else◌}
 use Rattle.std.specs.List.{list_any}
 use Rattle.csi_types.specs.declared.call.Call.{Call}
 use Rattle.csi_types.specs.declared.call.Call.TheVariants as calls
@@ -114,14 +114,14 @@ is_taken_by lane row column bar = (bar.lane == lane) && ((bar.column == column) 
 abbrev pub is_taken : ℕ → ℕ → ℕ → List Bar → Bool
 is_taken lane row column bars = list_any (is_taken_by lane row column) bars
 
--- the first column, from this one on and of so many, that is free; else the one behind them
-abbrev pub free_from : ℕ → ℕ → List Bar → ℕ → ℕ → ℕ
-free_from lane row bars column zero = column
-free_from lane row bars column (suc count) = if is_taken lane row column bars then free_from lane row bars (suc column) count else column
+-- the first column, from this one on and of as many as these, that is free; else the one behind them
+abbrev pub free_among : ℕ → ℕ → List Bar → ℕ → List Bar → ℕ
+free_among lane row bars column [] = column
+free_among lane row bars column (bar ∷ others) = if is_taken lane row column bars then free_among lane row bars (suc column) others else column
 
 -- a new bar has the first column that is free, of as many as there are bars, and one more
 abbrev pub bar_of : WorldParts → List Event → List Bar → ℕ → ℕ → ℕ → Call → Lasting → Bar
-bar_of world events bars row number lane call what = record { what = what; number = number; lane = lane; from = row; to = end_row world lane call row 0 events; column = free_from lane row bars 0 (length bars) }
+bar_of world events bars row number lane call what = record { what = what; number = number; lane = lane; from = row; to = end_row world lane call row 0 events; column = free_among lane row bars 0 bars }
 
 -- where the thing is there already, none begins
 abbrev pub with_lasting : WorldParts → List Event → List Bar → ℕ → ℕ → ℕ → Call → Option Lasting → List Bar

@@ -4,7 +4,7 @@ ghost use Rattle.std.specs.Prelude.{◌≡◌, ◌+◌, ◌++◌, IfOk, OnOk, So
 ghost use Rattle.std.specs.List.{flat_map};
 ghost use Rattle.csi_types.specs.Same.{same_text};
 ghost use Rattle.csi_world.specs.Simulating.{numbered};
-ghost use Rattle.csi_pictures.specs.Bars.{detaches as detaches_by, unstages as unstages_by, unpublishes as unpublishes_by, undoes as undoes_by, undone_by, ends as ends_by, end_row as end_by, attaches as attaches_by, stages as stages_by, publishes as publishes_by, is_same_thing as same_thing, asks_for as asks_by, lasting_of as lasting_by, is_shown_by as shown_by, is_shown as shown_among, is_taken as taken_among, free_from, with_lasting, with_frame, with_event, with_both, bars_to, class_of as class_by, drawn, bar as bar_drawn};
+ghost use Rattle.csi_pictures.specs.Bars.{detaches as detaches_by, unstages as unstages_by, unpublishes as unpublishes_by, undoes as undoes_by, undone_by, ends as ends_by, end_row as end_by, attaches as attaches_by, stages as stages_by, publishes as publishes_by, is_same_thing as same_thing, asks_for as asks_by, lasting_of as lasting_by, is_shown_by as shown_by, is_shown as shown_among, is_taken_by as taken_by, is_taken as taken_among, free_among, with_lasting, with_frame, with_event, with_both, bars_to, class_of as class_by, drawn, bar as bar_drawn};
 
 use crate::escaping::put;
 use crate::scene::{delivered, lane_of, succeeded};
@@ -195,7 +195,7 @@ fn lasting_of(call: &Call) -> Option<Lasting>
 fn is_shown_by(world: &World, lane: usize, row: usize, call: &Call, bar: Bar) -> bool
     ensures { result ≡ shown_by world.now.frames lane row call.now bar }
 {
-    bar.lane == lane && row < bar.to && asks_for(world, call, bar.number)
+    bar.lane == lane && (row < bar.to && asks_for(world, call, bar.number))
 }
 
 // Whether one of the bars does.
@@ -210,12 +210,19 @@ fn is_shown(world: &World, lane: usize, row: usize, call: &Call, bars: &[Bar]) -
     false
 }
 
-// Whether one of the bars has this column of the lane in the row.
+// Whether a bar has this column of the lane in the row.
+fn is_taken_by(lane: usize, row: usize, column: usize, bar: Bar) -> bool
+    ensures { result ≡ taken_by lane row column bar }
+{
+    bar.lane == lane && (bar.column == column && row <= bar.to)
+}
+
+// Whether one of the bars does.
 fn is_taken(lane: usize, row: usize, column: usize, bars: &[Bar]) -> bool
     ensures { result ≡ taken_among lane row column bars.now }
 {
     for bar in bars {
-        if bar.lane == lane && bar.column == column && row <= bar.to {
+        if is_taken_by(lane, row, column, *bar) {
             return true;
         }
     }
@@ -224,9 +231,9 @@ fn is_taken(lane: usize, row: usize, column: usize, bars: &[Bar]) -> bool
 
 // The first column that is free.
 fn free_column(lane: usize, row: usize, bars: &[Bar]) -> usize
-    ensures { result ≡ free_from lane row bars.now 0 (length bars.now) }
+    ensures { result ≡ free_among lane row bars.now 0 bars.now }
 {
-    for column in 0..bars.len() {
+    for (column, _bar) in bars.iter().enumerate() {
         if !is_taken(lane, row, column, bars) {
             return column;
         }
