@@ -1,3 +1,4 @@
 pub mod Order
 pub mod Entries
 pub mod Listed
+pub mod Records

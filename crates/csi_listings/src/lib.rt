@@ -4,9 +4,13 @@
 mod entries;
 mod lists;
 mod live_volumes;
+mod members;
 mod order;
+mod records;
 mod things;
 
 pub use entries::{Entry, PublishedAt, StagedAt, array};
 pub use lists::{attached, published, staged};
 pub use live_volumes::volumes;
+pub use members::put_array;
+pub use records::{controller_line, node_line};

@@ -1,12 +1,11 @@
 //! What the orchestrator knows, in JSON.
-ghost use Rattle.std.specs.Prelude.{◌≡◌, OnOk};
-ghost use Rattle.serde_json.specs.Data.{string, put as with_member};
-ghost use Rattle.serde_json.specs.View.{members_view};
+ghost use Rattle.std.specs.Prelude.{◌≡◌};
 ghost use Rattle.csi_listings.specs.Entries.{known_text as text_of_known};
 
 use crate::entries::Entry;
+use crate::members::put_text;
 use csi_orchestrator::{Known, Thing};
-use serde_json::{Map, Value, put};
+use serde_json::{Map, Value};
 use std::alloc::{AllocError, Global};
 
 fn known_text(known: Known) -> &'static str
@@ -17,19 +16,6 @@ fn known_text(known: Known) -> &'static str
         Known::No => "no",
         Known::Maybe => "maybe",
     }
-}
-
-// Puts a text into an object.
-fn put_text(
-    map: &mut Map<String, Value>,
-    alloc: Global,
-    key: &str,
-    text: &str,
-) -> Result<(), AllocError>
-    ensures { OnOk result (members_view map.new.entries ≡ with_member key.now (string text.now) (members_view map.old.entries)) }
-{
-    let text = String::from_str(alloc, text)?;
-    put(map, alloc, key, Value::String(text))
 }
 
 impl Entry for (Thing, Known) {

@@ -1,6 +1,7 @@
--- What is attached, staged and published, as bars: each from the call that was carried out to the one that undid it. A plugin answers
--- OK to a call exactly where the thing is then as the call asks. This profile's own.
-use Rattle.std.specs.Prelude.{ℕ, suc, ◌%◌, ◌==◌, ◌&&◌, nat_le, Bool, false, List, [], ◌∷◌, slice_get, codes, decimal, Option, Some, None, if◌then◌else◌}
+-- What is attached, staged and published, as bars: each from the call that was carried out to the one that undid it, in a column of its
+-- own. A plugin answers OK to a call exactly where the thing is then as the call asks. This profile's own.
+use Rattle.std.specs.Prelude.{ℕ, zero, suc, ◌+◌, ◌==◌, ◌&&◌, nat_le, nat_lt, Bool, false, List, [], ◌∷◌, ◌++◌, slice_get, codes, decimal, Option, Some, None, if◌then◌else◌}
+use Rattle.std.specs.List.{list_any}
 use Rattle.csi_types.specs.declared.call.Call.{Call}
 use Rattle.csi_types.specs.declared.call.Call.TheVariants as calls
 use Rattle.csi_types.specs.declared.call.Party.{Party}
@@ -9,8 +10,13 @@ use Rattle.csi_types.specs.declared.frame.Body.TheVariants as bodies
 use Rattle.csi_types.specs.Frame.{Frame}
 use Rattle.csi_types.specs.Same.{same_text}
 use Rattle.csi_world.specs.declared.event.Event.{Event}
+use Rattle.csi_world.specs.declared.event.Event.TheVariants as happens
 use Rattle.csi_world.specs.declared.event.Outcome.{Outcome}
 use Rattle.csi_world.specs.Simulated.{WorldParts}
+use Rattle.csi_world.specs.Simulating.{numbered}
+use Rattle.csi_pictures.specs.declared.bars.Bar.{Bar}
+use Rattle.csi_pictures.specs.declared.bars.Lasting.{Lasting}
+use Rattle.csi_pictures.specs.declared.bars.Lasting.TheVariants as lasting
 use Rattle.csi_pictures.specs.Pieces.{pieces}
 use Rattle.csi_pictures.specs.Scene.{lane_of, delivered, succeeded}
 
@@ -55,29 +61,106 @@ end_row world lane begun row place (event ∷ events) =
     if nat_le row place && ends world lane begun event (slice_get world.outcomes place) then suc place
     else end_row world lane begun row (suc place) events
 
--- ---- bars
+-- ---- what is the same thing
 
--- three volumes stand side by side
-abbrev pub column : ℕ → List ℕ
-column id = if id % 3 == 1 then codes "045" else if id % 3 == 2 then codes "072" else codes "018"
+abbrev pub attaches : ℕ → List ℕ → Call → Bool
+attaches volume at (calls.ControllerPublishVolume id node capability readonly) = (id == volume) && same_text node at
+attaches volume at _ = false
 
-unfoldable pub bar : List ℕ → ℕ → List ℕ → ℕ → ℕ → List ℕ
-bar class lane column from to = pieces (codes "<path class='" ∷ class ∷ codes "' d='M" ∷ decimal lane ∷ column ∷ codes " " ∷ decimal from ∷ codes "20V" ∷ decimal to ∷ codes "20'/>\n" ∷ [])
+abbrev pub stages : ℕ → Call → Bool
+stages volume (calls.NodeStageVolume id capability) = id == volume
+stages volume _ = false
 
-abbrev pub call_bar : ℕ → ℕ → ℕ → Call → List ℕ
-call_bar row end lane (calls.ControllerPublishVolume id node capability readonly) = bar (codes "attached") lane (column id) row end
-call_bar row end lane (calls.NodeStageVolume id capability) = bar (codes "staged") lane (column id) row end
-call_bar row end lane (calls.NodePublishVolume id target capability readonly) = bar (codes "published") lane (column id) row end
-call_bar row end lane _ = []
+abbrev pub publishes : ℕ → List ℕ → Call → Bool
+publishes volume at (calls.NodePublishVolume id target capability readonly) = (id == volume) && same_text target at
+publishes volume at _ = false
 
-abbrev pub body_bar : WorldParts → List Event → ℕ → Party → Body → List ℕ
-body_bar world events row party (bodies.Call call) = call_bar row (end_row world (lane_of world.nodes party) call row 0 events) (lane_of world.nodes party) call
-body_bar world events row party (bodies.Reply kind reply) = []
+-- two calls to one plugin ask for the same thing
+abbrev pub is_same_thing : Call → Call → Bool
+is_same_thing (calls.ControllerPublishVolume id node capability readonly) call = attaches id node call
+is_same_thing (calls.NodeStageVolume id capability) call = stages id call
+is_same_thing (calls.NodePublishVolume id target capability readonly) call = publishes id target call
+is_same_thing _ call = false
 
-abbrev pub frame_bar : WorldParts → List Event → ℕ → Option Frame → List ℕ
-frame_bar world events row None = []
-frame_bar world events row (Some frame) = body_bar world events row frame.party frame.body
+abbrev pub asks_in : Call → Body → Bool
+asks_in call (bodies.Call begun) = is_same_thing begun call
+asks_in call (bodies.Reply kind reply) = false
 
--- the bar that begins with an event, if one does
-abbrev pub event_bar : WorldParts → List Event → ℕ → Event → Outcome → List ℕ
-event_bar world events row event outcome = if succeeded world.frames outcome then frame_bar world events row (delivered world.frames event) else []
+-- a frame is a call for it
+abbrev pub asks_for : Call → Option Frame → Bool
+asks_for call None = false
+asks_for call (Some frame) = asks_in call frame.body
+
+-- ---- bars, in the order in which they begin
+
+-- what a call does that lasts
+abbrev pub lasting_of : Call → Option Lasting
+lasting_of (calls.ControllerPublishVolume id node capability readonly) = Some lasting.Attached
+lasting_of (calls.NodeStageVolume id capability) = Some lasting.Staged
+lasting_of (calls.NodePublishVolume id target capability readonly) = Some lasting.Published
+lasting_of _ = None
+
+-- what a call to the plugin of a lane does is there in a row, by an earlier bar
+abbrev pub is_shown_by : List Frame → ℕ → ℕ → Call → Bar → Bool
+is_shown_by frames lane row call bar = (bar.lane == lane) && (nat_lt row bar.to && asks_for call (numbered frames bar.number))
+
+abbrev pub is_shown : List Frame → ℕ → ℕ → Call → List Bar → Bool
+is_shown frames lane row call bars = list_any (is_shown_by frames lane row call) bars
+
+-- a column of a lane is in use in a row
+abbrev pub is_taken_by : ℕ → ℕ → ℕ → Bar → Bool
+is_taken_by lane row column bar = (bar.lane == lane) && ((bar.column == column) && nat_le row bar.to)
+
+abbrev pub is_taken : ℕ → ℕ → ℕ → List Bar → Bool
+is_taken lane row column bars = list_any (is_taken_by lane row column) bars
+
+-- the first column, from this one on and of as many as these, that is free; else the one behind them
+abbrev pub free_among : ℕ → ℕ → List Bar → ℕ → List Bar → ℕ
+free_among lane row bars column [] = column
+free_among lane row bars column (bar ∷ others) = if is_taken lane row column bars then free_among lane row bars (suc column) others else column
+
+-- a new bar has the first column that is free, of as many as there are bars, and one more
+abbrev pub bar_of : WorldParts → List Event → List Bar → ℕ → ℕ → ℕ → Call → Lasting → Bar
+bar_of world events bars row number lane call what = record { what = what; number = number; lane = lane; from = row; to = end_row world lane call row 0 events; column = free_among lane row bars 0 bars }
+
+-- where the thing is there already, none begins
+abbrev pub with_lasting : WorldParts → List Event → List Bar → ℕ → ℕ → ℕ → Call → Option Lasting → List Bar
+with_lasting world events bars row number lane call None = bars
+with_lasting world events bars row number lane call (Some what) =
+    if is_shown world.frames lane row call bars then bars else bars ++ bar_of world events bars row number lane call what ∷ []
+
+abbrev pub with_body : WorldParts → List Event → List Bar → ℕ → ℕ → Party → Body → List Bar
+with_body world events bars row number party (bodies.Call call) = with_lasting world events bars row number (lane_of world.nodes party) call (lasting_of call)
+with_body world events bars row number party (bodies.Reply kind reply) = bars
+
+abbrev pub with_frame : WorldParts → List Event → List Bar → ℕ → ℕ → Option Frame → List Bar
+with_frame world events bars row number None = bars
+with_frame world events bars row number (Some frame) = with_body world events bars row number frame.party frame.body
+
+-- the bar that begins with an event, if one does, is put behind the others
+abbrev pub with_event : WorldParts → List Event → List Bar → ℕ → Event → Outcome → List Bar
+with_event world events bars row (happens.Deliver number) outcome = if succeeded world.frames outcome then with_frame world events bars row number (numbered world.frames number) else bars
+with_event world events bars row _ outcome = bars
+
+abbrev pub with_both : WorldParts → List Event → List Bar → ℕ → Option Event → Option Outcome → List Bar
+with_both world events bars row (Some event) (Some outcome) = with_event world events bars row event outcome
+with_both world events bars row _ _ = bars
+
+-- those that begin before this place
+abbrev pub bars_to : WorldParts → List Event → ℕ → List Bar
+bars_to world events zero = []
+bars_to world events (suc place) = with_both world events (bars_to world events place) (place + 1) (slice_get events place) (slice_get world.outcomes place)
+
+-- ---- as they are drawn
+
+abbrev pub class_of : Lasting → List ℕ
+class_of lasting.Attached = codes "attached"
+class_of lasting.Staged = codes "staged"
+class_of lasting.Published = codes "published"
+
+-- a column is three times ten units wide
+unfoldable pub drawn : List ℕ → ℕ → ℕ → ℕ → ℕ → List ℕ
+drawn class lane column from to = pieces (codes "<path class='" ∷ class ∷ codes "' d='M" ∷ decimal lane ∷ codes "015 " ∷ decimal from ∷ codes "20m" ∷ decimal column ∷ codes "0 0m" ∷ decimal column ∷ codes "0 0m" ∷ decimal column ∷ codes "0 0V" ∷ decimal to ∷ codes "20'/>\n" ∷ [])
+
+abbrev pub bar : Bar → List ℕ
+bar b = drawn (class_of b.what) b.lane b.column b.from b.to

@@ -5,5 +5,6 @@ pub mod Naming
 pub mod Scene
 pub mod Rows
 pub mod Front
+pub mod Lanes
 pub mod Picture
 pub mod Bars

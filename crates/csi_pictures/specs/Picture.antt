@@ -1,8 +1,7 @@
 -- The picture of a run: one SVG. This profile's own.
-use Rattle.std.specs.Prelude.{◌≡◌, ℕ, ◌+◌, Bool, List, [], ◌∷◌, ◌++◌, length, slice_get, codes, decimal, Option, Some, None, if◌then◌else◌, not, is_some}
-use Rattle.std.specs.List.{list_any}
+use Rattle.std.specs.Prelude.{◌≡◌, ℕ, ◌+◌, Bool, List, [], ◌++◌, length, slice_get, codes, Option, Some, None, if◌then◌else◌, not, is_some}
+use Rattle.std.specs.List.{list_any, flat_map}
 use Rattle.csi_types.specs.Frame.{Frame}
-use Rattle.csi_node.specs.Record.{NodeParts}
 use Rattle.csi_orchestrator.specs.Shown.{view_of}
 use Rattle.csi_world.specs.declared.event.Event.{Event}
 use Rattle.csi_world.specs.declared.event.Event.TheVariants as events
@@ -12,35 +11,13 @@ use Rattle.csi_world.specs.World.{World}
 use Rattle.csi_world.specs.Simulated.{WorldParts}
 use Rattle.csi_world.specs.Simulating.{numbered}
 use Rattle.csi_world.specs.Audited.{ArePlugins, Finds}
-use Rattle.csi_pictures.specs.Pieces.{pieces, each}
-use Rattle.csi_pictures.specs.Escaping.{escaped}
+use Rattle.csi_pictures.specs.Pieces.{each}
+use Rattle.csi_pictures.specs.Lanes.{lanes, names_at}
 use Rattle.csi_pictures.specs.Front.{front}
 use Rattle.csi_pictures.specs.Elements.{arrow}
-use Rattle.csi_pictures.specs.Bars.{event_bar}
+use Rattle.csi_pictures.specs.Bars.{bar, bars_to}
 use Rattle.csi_pictures.specs.Scene.{sender, receiver, sent_number, sent_row, delivers, way_of}
 use Rattle.csi_pictures.specs.Rows.{row_text, mark, label, lost_of}
-
--- ---- lanes
-
-unfoldable pub band : ℕ → ℕ → List ℕ → List ℕ
-band place below kind = pieces (codes "<g transform='translate(" ∷ decimal place ∷ codes "045 0)'><path class='lane' d='M0 75V" ∷ decimal below ∷ codes "30'/><svg x='-450' y='10' width='900' height='60'><text class='h' x='450' y='45'>" ∷ kind ∷ [])
-
-unfoldable pub name_below : ℕ → List ℕ → List ℕ
-name_below below kind = pieces (codes "</text></svg><svg x='-450' y='" ∷ decimal below ∷ codes "35' width='900' height='60'><text class='h' x='450' y='45'>" ∷ kind ∷ [])
-
--- a band, down to a row, and its name above and below it
-abbrev pub lane : ℕ → ℕ → List ℕ → List ℕ → List ℕ
-lane place below kind id = band place below kind ++ escaped id ++ name_below below kind ++ escaped id ++ codes "</text></svg></g>\n"
-
-abbrev pub node_lane_of : ℕ → ℕ → Option NodeParts → List ℕ
-node_lane_of below place None = []
-node_lane_of below place (Some node) = lane (place + 3) below (codes "node ") node.id
-
-abbrev pub node_head : ℕ → List NodeParts → ℕ → List ℕ
-node_head below nodes place = node_lane_of below place (slice_get nodes place)
-
-abbrev pub lanes : ℕ → List NodeParts → List ℕ
-lanes below nodes = lane 1 below (codes "orchestrator") [] ++ lane 2 below (codes "controller") [] ++ each (node_head below nodes) (length nodes)
 
 -- ---- events
 
@@ -63,10 +40,10 @@ sent_frame world events row None = []
 sent_frame world events row (Some number) = sent_of world events row number (numbered world.frames number)
 
 abbrev pub under_of : WorldParts → List Event → ℕ → Option Event → Option Outcome → List ℕ
-under_of world events row (Some event) (Some outcome) = event_bar world events row event outcome ++ passage world row event outcome
+under_of world events row (Some event) (Some outcome) = passage world row event outcome
 under_of world events row _ _ = []
 
--- what is drawn of an event below the texts: the bar that begins with it, and its arrow
+-- what is drawn of an event below the texts: its arrow
 abbrev pub under : WorldParts → List Event → ℕ → List ℕ
 under world events place = under_of world events (place + 1) (slice_get events place) (slice_get world.outcomes place)
 
@@ -86,11 +63,15 @@ over world events place = over_of world events (place + 1) (slice_get events pla
 abbrev pub world_front : WorldParts → List Event → Bool → List ℕ
 world_front world events is_safe = front (length world.nodes + 2) (length events + 4) (length events) (length world.frames) is_safe
 
+-- what is below the texts of the events: the lanes, the bars and the arrows
+abbrev pub below_texts : WorldParts → List Event → List ℕ
+below_texts world events = lanes (length events + 1) world.nodes ++ flat_map bar (bars_to world events (length events)) ++ each (under world events) (length events)
+
 abbrev pub picture : WorldParts → List Event → Bool → List ℕ
 picture world events is_safe =
     world_front world events is_safe
-    ++ lanes (length events + 1) world.nodes
-    ++ each (under world events) (length events)
+    ++ below_texts world events
+    ++ each (names_at world.nodes) (length events)
     ++ each (over world events) (length events)
     ++ codes "</svg>\n"
 

@@ -14,7 +14,7 @@ use Rattle.csi_world.specs.declared.event.Event.{Event}
 use Rattle.csi_world.specs.declared.event.Event.TheVariants as events
 use Rattle.csi_world.specs.declared.event.Outcome.{Outcome}
 use Rattle.csi_world.specs.declared.event.Outcome.TheVariants as outcomes
-use Rattle.csi_reports.specs.Outcomes.{outcome_text}
+use Rattle.csi_world.specs.Outcomes.{outcome_text}
 use Rattle.csi_pictures.specs.Pieces.{pieces}
 use Rattle.csi_pictures.specs.Escaping.{escaped}
 use Rattle.csi_pictures.specs.Naming.{kind_name, status_name}

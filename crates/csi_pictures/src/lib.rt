@@ -6,6 +6,7 @@ mod bars;
 mod elements;
 mod escaping;
 mod front;
+mod lanes;
 mod naming;
 mod picture;
 mod rows;

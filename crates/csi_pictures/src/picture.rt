@@ -1,110 +1,63 @@
 //! The picture of a run.
 ghost use Rattle.std.specs.Prelude.{◌≡◌, ◌++◌, ◌+◌, IfOk, OnOk, length};
-ghost use Rattle.csi_pictures.specs.Bars.{event_bar};
+ghost use Rattle.std.specs.List.{flat_map};
+ghost use Rattle.csi_pictures.specs.Bars.{bar, bars_to};
+ghost use Rattle.csi_pictures.specs.Lanes.{lanes, names_at};
 ghost use Rattle.csi_pictures.specs.Pieces.{each};
-ghost use Rattle.csi_pictures.specs.Picture.{band, name_below, lane as lane_drawn, lanes, node_head, passage, sent_frame, under, event_over, over, world_front, picture, IsPicture};
+ghost use Rattle.csi_pictures.specs.Picture.{below_texts, passage, sent_frame, under, event_over, over, world_front, picture, IsPicture};
 ghost use Rattle.csi_pictures.specs.Scene.{sent_number as sent_by};
 
-use crate::bars::put_event_bar;
+use crate::bars::{bars_of, put_bars};
 use crate::elements::put_arrow;
-use crate::escaping::{put, put_escaped};
+use crate::escaping::put;
 use crate::front::put_front;
+use crate::lanes::{put_lanes, put_names_at};
 use crate::rows::{put_label, put_lost, put_mark, put_row_text};
 use crate::scene::{is_delivered, receiver, sender, sent_number, sent_row, way_of};
-use csi_node::Node;
 use csi_types::NoMemory;
 use csi_world::{Event, Outcome, World, audit};
 use std::alloc::{AllocError, Global};
 
-// Appends the band of a lane, down to a row, and the front of its name above it.
-#[tactic(auto, unfolding(crate::specs::Picture::band))]
-fn put_band(
+// Appends the names of the lanes again, below each thirtieth row.
+fn put_names(
     alloc: Global,
     out: &mut Vec<u8>,
-    lane: usize,
-    below: usize,
-    kind: &str,
+    world: &World,
+    events: &[Event],
 ) -> Result<(), AllocError>
-    ensures { OnOk result (out.new.items ≡ out.old.items ++ band lane below kind.now) }
+    ensures { OnOk result (out.new.items ≡ out.old.items ++ each (names_at world.now.nodes) (length events.now)) }
 {
-    let text = format!(in alloc;
-        "<g transform='translate({lane}045 0)'><path class='lane' d='M0 75V{below}30'/><svg x='-450' y='10' width='900' height='60'><text class='h' x='450' y='45'>{kind}"
-    )?;
-    put(out, &text)
-}
-
-// Appends the front of a lane's name below its band.
-#[tactic(auto, unfolding(crate::specs::Picture::name_below))]
-fn put_below(alloc: Global, out: &mut Vec<u8>, below: usize, kind: &str) -> Result<(), AllocError>
-    ensures { OnOk result (out.new.items ≡ out.old.items ++ name_below below kind.now) }
-{
-    let text = format!(in alloc;
-        "</text></svg><svg x='-450' y='{below}35' width='900' height='60'><text class='h' x='450' y='45'>{kind}"
-    )?;
-    put(out, &text)
-}
-
-// Appends the band of a lane, down to a row, and its name above and below it.
-fn put_lane(
-    alloc: Global,
-    out: &mut Vec<u8>,
-    lane: usize,
-    below: usize,
-    kind: &str,
-    id: &str,
-) -> Result<(), AllocError>
-    ensures { OnOk result (out.new.items ≡ out.old.items ++ lane_drawn lane below kind.now id.now) }
-{
-    put_band(alloc, out, lane, below, kind)?;
-    put_escaped(out, id)?;
-    put_below(alloc, out, below, kind)?;
-    put_escaped(out, id)?;
-    put(out, "</text></svg></g>\n")
-}
-
-// Appends the lane of the node in this place.
-fn put_node(
-    alloc: Global,
-    out: &mut Vec<u8>,
-    nodes: &[Node],
-    below: usize,
-    place: usize,
-) -> Result<(), AllocError>
-    ensures { OnOk result (out.new.items ≡ out.old.items ++ node_head below nodes.now place) }
-{
-    match nodes.get(place) {
-        Some(node) => put_lane(alloc, out, place + 3, below, "node ", node.id().as_str()),
-        None => Ok(()),
-    }
-}
-
-// Appends the lanes of the nodes.
-fn put_nodes(
-    alloc: Global,
-    out: &mut Vec<u8>,
-    nodes: &[Node],
-    below: usize,
-) -> Result<(), AllocError>
-    ensures { OnOk result (out.new.items ≡ out.old.items ++ each (node_head below nodes.now) (length nodes.now)) }
-{
-    for place in 0..nodes.len() {
-        put_node(alloc, out, nodes, below, place)?;
+    for place in 0..events.len() {
+        put_names_at(alloc, out, world.nodes(), place)?;
     }
     Ok(())
 }
 
-// Appends the lanes.
-fn put_lanes(
+// Appends the bars of a run.
+fn put_all_bars(
     alloc: Global,
     out: &mut Vec<u8>,
-    nodes: &[Node],
-    below: usize,
+    world: &World,
+    events: &[Event],
 ) -> Result<(), AllocError>
-    ensures { OnOk result (out.new.items ≡ out.old.items ++ lanes below nodes.now) }
+    ensures { OnOk result (out.new.items ≡ out.old.items ++ flat_map bar (bars_to world.now events.now (length events.now))) }
 {
-    put_lane(alloc, out, 1, below, "orchestrator", "")?;
-    put_lane(alloc, out, 2, below, "controller", "")?;
-    put_nodes(alloc, out, nodes, below)
+    let bars = bars_of(alloc, world, events)?;
+    put_bars(alloc, out, &bars)
+}
+
+// Appends what is below the texts of the events: the lanes, the bars and the arrows.
+fn put_below_texts(
+    alloc: Global,
+    out: &mut Vec<u8>,
+    world: &World,
+    events: &[Event],
+) -> Result<(), AllocError>
+    ensures { OnOk result (out.new.items ≡ out.old.items ++ below_texts world.now events.now) }
+{
+    put_world_lanes(alloc, out, world, events)?;
+    put_all_bars(alloc, out, world, events)?;
+    put_all_under(alloc, out, world, events)
 }
 
 // Appends the arrow of a delivery.
@@ -156,22 +109,6 @@ fn put_sent(
     put_lost(alloc, out, sender(world.nodes(), frame), row, frame)
 }
 
-// Appends the bar that begins with an event, and its arrow.
-fn put_ways(
-    alloc: Global,
-    out: &mut Vec<u8>,
-    world: &World,
-    events: &[Event],
-    row: usize,
-    event: &Event,
-    outcome: Outcome,
-) -> Result<(), AllocError>
-    ensures { OnOk result (out.new.items ≡ out.old.items ++ (event_bar world.now events.now row event.now outcome ++ passage world.now row event.now outcome)) }
-{
-    put_event_bar(alloc, out, world, events, row, event, outcome)?;
-    put_passage(alloc, out, world, row, event, outcome)
-}
-
 // Appends what is drawn below the texts, of the event in this place.
 fn put_under(
     alloc: Global,
@@ -188,7 +125,7 @@ fn put_under(
     let Some(outcome) = world.outcomes().get(place) else {
         return Ok(());
     };
-    put_ways(alloc, out, world, events, place + 1, event, *outcome)
+    put_passage(alloc, out, world, place + 1, event, *outcome)
 }
 
 // Appends the texts and the mark of an event.
@@ -295,8 +232,8 @@ fn put_picture(
     ensures { OnOk result (out.new.items ≡ out.old.items ++ picture world.now events.now is_safe) }
 {
     put_world_front(alloc, out, world, events, is_safe)?;
-    put_world_lanes(alloc, out, world, events)?;
-    put_all_under(alloc, out, world, events)?;
+    put_below_texts(alloc, out, world, events)?;
+    put_names(alloc, out, world, events)?;
     put_all_over(alloc, out, world, events)?;
     put(out, "</svg>\n")
 }

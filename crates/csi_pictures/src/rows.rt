@@ -1,7 +1,7 @@
 //! What is written of an event in its row: its words and what came of it, a mark at the lane where it happened, and the frame
 //! that it sent.
 ghost use Rattle.std.specs.Prelude.{◌≡◌, ◌++◌, OnOk};
-ghost use Rattle.csi_reports.specs.Outcomes.{outcome_text};
+ghost use Rattle.csi_world.specs.Outcomes.{outcome_text};
 ghost use Rattle.csi_pictures.specs.Escaping.{escaped};
 ghost use Rattle.csi_pictures.specs.Rows.{placed, words, is_wrong as is_wrong_by, class_of as class_by, mark_of as mark_by, mark_lane as mark_lane_by, row_front, row_middle, row_text, is_delivery as is_delivery_by, mark_at, mark, call_front, frame_words, number_words, call_label, reply_class as reply_class_by, reply_place, reply_front, status_words, reply_label, label, lost_of};
 
@@ -9,9 +9,8 @@ use crate::escaping::{put, put_escaped};
 use crate::naming::{kind_name, status_name};
 use crate::scene::{is_ok, lane_of, node_lane};
 use csi_node::Node;
-use csi_reports::text_of;
 use csi_types::{Body, Frame, Kind, Name, NodeId, Number, Reply, Status, Target};
-use csi_world::{Event, Outcome};
+use csi_world::{Event, Outcome, text_of};
 use std::alloc::{AllocError, Global};
 
 // Appends a command and the volume or node that it is for.

@@ -1,1 +1,2 @@
 pub mod JoinedRuns
+pub mod NoRecords

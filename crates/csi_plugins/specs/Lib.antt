@@ -3,3 +3,4 @@ pub mod Asked
 pub mod Service
 pub mod Running
 pub mod Joined
+pub mod Recording

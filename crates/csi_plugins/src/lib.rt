@@ -4,10 +4,12 @@
 mod ending;
 mod joined;
 mod kind;
+mod recording;
 mod running;
 mod service;
 
 pub use ending::ending_unopened;
 pub use joined::runs_law;
 pub use kind::Plugin;
+pub use recording::record;
 pub use running::plugin;

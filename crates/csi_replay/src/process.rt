@@ -1,9 +1,9 @@
 //! What a process does that was started with some words.
 use csi_commands::stream;
 use csi_endings::{Ending, FileCommand};
-use csi_plugins::{Plugin, ending_unopened, plugin};
+use csi_plugins::{Plugin, ending_unopened, plugin, record};
 use csi_service::Counted;
-use csi_sqlite::SqliteKeep;
+use csi_sqlite::{SqliteKeep, find_at};
 use csi_words::{CommandLine, parse};
 use sqlite::{Start, Unknown};
 use std::process::ExitCode;
@@ -40,6 +40,16 @@ fn from_store<S: Start>(rt: &HostRuntime, path: &str, start: S, asked: Plugin) -
     ending
 }
 
+// Tells what the store in this file has, which is only read.
+fn told(rt: &HostRuntime, path: &str) -> Ending {
+    let mut keep = match find_at(rt, path) {
+        Ok(keep) => keep,
+        Err(fault) => return ending_unopened(fault),
+    };
+    let mut out = io::writer(rt);
+    record(rt.alloc(), &mut keep, &mut out)
+}
+
 // Does what the words name. A store's file is read after a crash as SQLite reads it: a write that was cut short left each byte
 // old or new.
 fn run(rt: &HostRuntime) -> Result<Ending, Ending> {
@@ -55,6 +65,7 @@ fn run(rt: &HostRuntime) -> Result<Ending, Ending> {
             let asked = Plugin::of_id(rt.alloc(), id)?;
             Ok(from_store(rt, store, Unknown, asked))
         }
+        CommandLine::Record(store) => Ok(told(rt, store)),
     }
 }
 

@@ -1,31 +1,16 @@
 //! The report of a world.
-ghost use Rattle.std.specs.Prelude.{◌≡◌, IfOk, OnOk, string_bytes};
-ghost use Rattle.serde_json.specs.Data.{put as with_member};
-ghost use Rattle.serde_json.specs.View.{view, members_view};
+ghost use Rattle.std.specs.Prelude.{◌≡◌, IfOk, string_bytes};
+ghost use Rattle.serde_json.specs.View.{view};
 ghost use Rattle.csi_reports.specs.Found.{gathered_of};
-ghost use Rattle.csi_listings.specs.Entries.{entries};
 ghost use Rattle.csi_reports.specs.Report.{report_of, IsReport};
 
 use crate::gathering::{Findings, gathered};
 use crate::outcomes::outcome_texts;
-use csi_listings::{Entry, array, volumes};
+use csi_listings::{put_array, volumes};
 use csi_types::NoMemory;
 use csi_world::World;
 use serde_json::{Map, Value, put};
 use std::alloc::{AllocError, Global};
-
-// Puts these, in order, into an object as an array.
-fn put_array<T: Entry>(
-    map: &mut Map<String, Value>,
-    alloc: Global,
-    key: &str,
-    items: &[T],
-) -> Result<(), AllocError>
-    ensures { OnOk result (members_view map.new.entries ≡ with_member key.now (entries T.entry items.now) (members_view map.old.entries)) }
-{
-    let list = array(alloc, items)?;
-    put(map, alloc, key, list)
-}
 
 // The report as a value. Each list is made where it is put in, so that a refused growth drops nothing but the object.
 fn document(alloc: Global, world: &World, findings: &Findings) -> Result<Value, AllocError>

@@ -8,4 +8,3 @@ mod outcomes;
 
 pub use document::report;
 pub use laws::report_law;
-pub use outcomes::text_of;

@@ -3,4 +3,4 @@
 
 mod sqlite_keep;
 
-pub use sqlite_keep::SqliteKeep;
+pub use sqlite_keep::{SqliteKeep, copies, find_at};

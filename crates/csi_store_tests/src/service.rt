@@ -8,6 +8,7 @@ mod limited;
 mod pieces;
 mod playing;
 mod plugins;
+mod shown;
 mod stops;
 mod stores;
 

@@ -69,6 +69,10 @@ const NAMED: &[(&[&str], CommandLine<'static>)] = &[
             id: "n1",
         },
     ),
+    (
+        &["csi-replay", "record", "a.db"],
+        CommandLine::Record("a.db"),
+    ),
 ];
 
 #[test]
@@ -88,6 +92,8 @@ const REFUSED: &[&[&str]] = &[
     &["csi-replay", "controller", "a", "b", "c"],
     &["csi-replay", "node", "a"],
     &["csi-replay", "node", "a", "n1", "n2"],
+    &["csi-replay", "record"],
+    &["csi-replay", "record", "a", "b"],
     &["csi-replay", "--help"],
     &["csi-replay", "help"],
     &["csi-replay", "node", "--help"],

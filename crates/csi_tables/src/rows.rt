@@ -1,5 +1,5 @@
 //! The statements on the table `parts`.
-ghost use Rattle.std.specs.Prelude.{◌≡◌, ◌⊎◌, ◌∷◌, [], List, IsTrue, map, false, Err, IfOk, IfErr, OnOk, IsOk};
+ghost use Rattle.std.specs.Prelude.{◌≡◌, ◌↔◌, ◌⊎◌, ◌∷◌, [], List, IsTrue, map, false, Err, IfOk, IfErr, OnOk, IsOk};
 ghost use Rattle.sqlite.specs.State.{HasCleanDisk, IsUnchanged, Survives};
 ghost use Rattle.sqlite.specs.Held.{state};
 ghost use Rattle.sqlite.specs.Tree.{Trees};
@@ -10,6 +10,14 @@ ghost use Rattle.csi_tables.specs.Statements.{RefusesToMake, RefusesToPut, Refus
 
 use crate::listed::{lists_nothing, lists_parts};
 use sqlite::{Alter, Connection, Error, ErrorCode, Row, Transaction, params};
+
+/// Whether the database lists a table of this name, however that is declared, and nothing else but one index; nothing is done, and no
+/// memory is taken.
+pub fn has_table<S: Alter>(connection: &Connection<S>) -> bool
+    ensures { IsTrue result ↔ ListsParts (state S.Store connection.now).now.schema }
+{
+    lists_parts(connection.schema())
+}
 
 /// Makes the table where the database lists nothing; the statement is its own transaction. Where it lists a table of this name
 /// alone, however that is declared, nothing is done, and where it lists anything else that is refused as `NotADatabase`, and nothing

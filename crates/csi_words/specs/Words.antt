@@ -16,20 +16,26 @@ pub data Named : Type 0 where
   File : FileCommand → List ℕ → Named
   Controller : (store config : List ℕ) → Named
   Node : (store id : List ℕ) → Named
+  Record : (store : List ℕ) → Named
 
 -- what a command line has
 abbrev pub named_by : CommandLine → Named
 named_by (lines.File command path) = File command path.now
 named_by (lines.Controller store config) = Controller store.now config.now
 named_by (lines.Node store id) = Node store.now id.now
+named_by (lines.Record store) = Record store.now
 
 -- one word more, which has to be there
 abbrev pub with_word : App → List ℕ → App
 with_word app id = with_rule app (record (new_rule id) { required = true })
 
--- a command of this name, with one word more
+-- a command of this name, with one word more, which is called so
+abbrev pub with_one_word : App → List ℕ → List ℕ → App
+with_one_word app name word = with_subcommand app (with_word (new_app name) word).top
+
+-- a command on a file
 abbrev pub with_file_command : App → List ℕ → App
-with_file_command app name = with_subcommand app (with_word (new_app name) (codes "FILE")).top
+with_file_command app name = with_one_word app name (codes "FILE")
 
 -- a command of this name, with two words more, of which the second is called so
 abbrev pub with_store_command : App → List ℕ → List ℕ → App
@@ -44,7 +50,7 @@ abbrev pub on_files : App
 on_files = with_file_command (with_file_command (with_file_command (with_file_command (with_file_command bare (codes "answer")) (codes "show")) (codes "run")) (codes "frames")) (codes "draw")
 
 abbrev pub program : App
-program = with_store_command (with_store_command on_files (codes "controller") (codes "CONFIG")) (codes "node") (codes "ID")
+program = with_one_word (with_store_command (with_store_command on_files (codes "controller") (codes "CONFIG")) (codes "node") (codes "ID")) (codes "record") (codes "DB")
 
 -- the first values of the words of each command
 abbrev pub on_file_in : FileCommand → List Row → Option Named
@@ -59,6 +65,9 @@ controller_in rows = both Controller (first_of (codes "DB") rows) (first_of (cod
 abbrev pub node_in : List Row → Option Named
 node_in rows = both Node (first_of (codes "DB") rows) (first_of (codes "ID") rows)
 
+abbrev pub record_in : List Row → Option Named
+record_in rows = option_map (λ store. Record store) (first_of (codes "DB") rows)
+
 -- the command of a name, with its words
 abbrev pub command_in : List ℕ → List Row → Option Named
 command_in name rows =
@@ -69,6 +78,7 @@ command_in name rows =
     else if bytes_eq name (codes "draw") then on_file_in (Schedule Draw) rows
     else if bytes_eq name (codes "controller") then controller_in rows
     else if bytes_eq name (codes "node") then node_in rows
+    else if bytes_eq name (codes "record") then record_in rows
     else None
 
 -- of a command that was entered

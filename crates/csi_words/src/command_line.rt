@@ -2,7 +2,7 @@
 ghost use Rattle.std.specs.Prelude.{◌≡◌, IfOk, IfErr, map, option_map, is_some, string_bytes, true};
 ghost use Rattle.clap.specs.Words.{app_of, first_of, found_of, kind_of, rows_of, subcommand_of, subcommand_rows_of, takes};
 ghost use Rattle.clap.specs.declared.error.kind.ErrorKind.TheVariants.{OutOfMemory};
-ghost use Rattle.csi_words.specs.Words.{command_entered, command_in as named_in, controller_in, node_in, on_file_in, ending_of as ending_by, named_by, on_files, read, EndsWords, program as all_words, with_file_command as with_one_more, with_store_command as with_two_more};
+ghost use Rattle.csi_words.specs.Words.{command_entered, command_in as named_in, controller_in, node_in, record_in, on_file_in, ending_of as ending_by, named_by, on_files, read, EndsWords, program as all_words, with_one_word as with_one_more, with_store_command as with_two_more};
 
 use clap::error::ErrorKind;
 use clap::{Arg, ArgMatches, Command, Error};
@@ -18,18 +18,21 @@ pub enum CommandLine<'a> {
     Controller { store: &'a str, config: &'a str },
     /// `node DB ID`: the path of the store, and the node's id, of which nothing is asked yet.
     Node { store: &'a str, id: &'a str },
+    /// `record DB`: the path of the store.
+    Record(&'a str),
 }
 
-// The program with one command more, which reads a file.
-fn with_file_command<'a>(
+// The program with one command more, which takes one word.
+fn with_one_word<'a>(
     alloc: Global,
     program: Command<'a>,
     name: &'a str,
+    word: &'a str,
 ) -> Result<Command<'a>, AllocError>
-    ensures { IfOk result (λ command. app_of command ≡ with_one_more (app_of program.entry) name.entry.now) }
+    ensures { IfOk result (λ command. app_of command ≡ with_one_more (app_of program.entry) name.entry.now word.entry.now) }
 {
-    let file = Arg::new(alloc, "FILE").required(true);
-    let command = Command::new(alloc, name).arg(file)?;
+    let only = Arg::new(alloc, word).required(true);
+    let command = Command::new(alloc, name).arg(only)?;
     program.subcommand(command)
 }
 
@@ -54,11 +57,11 @@ fn with_file_commands<'a>(alloc: Global) -> Result<Command<'a>, AllocError>
     ensures { IfOk result (λ command. app_of command ≡ on_files) }
 {
     let bare = Command::new(alloc, "csi-replay").subcommand_required(true);
-    let one = with_file_command(alloc, bare, "answer")?;
-    let two = with_file_command(alloc, one, "show")?;
-    let three = with_file_command(alloc, two, "run")?;
-    let four = with_file_command(alloc, three, "frames")?;
-    with_file_command(alloc, four, "draw")
+    let one = with_one_word(alloc, bare, "answer", "FILE")?;
+    let two = with_one_word(alloc, one, "show", "FILE")?;
+    let three = with_one_word(alloc, two, "run", "FILE")?;
+    let four = with_one_word(alloc, three, "frames", "FILE")?;
+    with_one_word(alloc, four, "draw", "FILE")
 }
 
 // What the words mean to `clap`.
@@ -68,7 +71,8 @@ fn matches_of<'a>(alloc: Global, words: &'a [String]) -> Result<ArgMatches<'a>, 
 {
     let three = with_file_commands(alloc)?;
     let four = with_store_command(alloc, three, "controller", "CONFIG")?;
-    let program = with_store_command(alloc, four, "node", "ID")?;
+    let five = with_store_command(alloc, four, "node", "ID")?;
+    let program = with_one_word(alloc, five, "record", "DB")?;
     program.try_get_matches_from(words)
 }
 
@@ -116,6 +120,14 @@ fn node<'a>(matches: &ArgMatches<'a>) -> Option<CommandLine<'a>>
     Some(CommandLine::Node { store, id })
 }
 
+// The store of which the record is asked for.
+fn record<'a>(matches: &ArgMatches<'a>) -> Option<CommandLine<'a>>
+    ensures { option_map named_by result ≡ record_in (rows_of (found_of matches.now)) }
+{
+    let store = word(matches, "DB")?;
+    Some(CommandLine::Record(store))
+}
+
 // The command of this name, with its words.
 fn command_of<'a>(name: &str, matches: &ArgMatches<'a>) -> Option<CommandLine<'a>>
     ensures { option_map named_by result ≡ named_in name.now (rows_of (found_of matches.now)) }
@@ -128,6 +140,7 @@ fn command_of<'a>(name: &str, matches: &ArgMatches<'a>) -> Option<CommandLine<'a
         "draw" => on_file(matches, FileCommand::Schedule(ScheduleCommand::Draw)),
         "controller" => controller(matches),
         "node" => node(matches),
+        "record" => record(matches),
         _ => None,
     }
 }

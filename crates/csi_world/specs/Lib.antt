@@ -10,3 +10,4 @@ pub mod System
 pub mod Listed
 pub mod Laws
 pub mod Worked
+pub mod Outcomes

@@ -1,5 +1,5 @@
 use Rattle.std.proofs.Common.{◌∙◌, ap, ℕ, List, ◌++◌, codes}
-use Rattle.csi_reports.specs.Outcomes.{outcome_text}
+use Rattle.csi_world.specs.Outcomes.{outcome_text}
 use Rattle.csi_pictures.specs.Rows.{words, class_of, row_front, row_middle}
 use Rattle.csi_pictures.proofs.Joins.{five}
 use Rattle.csi_pictures.proofs.rows.put_row_text.Goals as goal

@@ -1,8 +1,8 @@
 use Rattle.std.proofs.Common.{codes, [], length}
 use Rattle.csi_pictures.specs.Pieces.{each}
-use Rattle.csi_pictures.specs.Picture.{lane, node_head}
+use Rattle.csi_pictures.specs.Lanes.{lane, node_head}
 use Rattle.csi_pictures.proofs.Joins.{three}
-use Rattle.csi_pictures.proofs.picture.put_lanes.Goals as goal
+use Rattle.csi_pictures.proofs.lanes.put_lanes.Goals as goal
 
 pub returns : goal.returns
 returns c =

@@ -1,8 +1,8 @@
 use Rattle.std.proofs.Common.{codes}
 use Rattle.csi_pictures.specs.Escaping.{escaped}
-use Rattle.csi_pictures.specs.Picture.{band, name_below}
+use Rattle.csi_pictures.specs.Lanes.{band, name_below}
 use Rattle.csi_pictures.proofs.Joins.{five}
-use Rattle.csi_pictures.proofs.picture.put_lane.Goals as goal
+use Rattle.csi_pictures.proofs.lanes.put_lane.Goals as goal
 
 pub returns : goal.returns
 returns c =

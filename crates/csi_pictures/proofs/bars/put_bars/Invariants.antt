@@ -1,0 +1,8 @@
+-- The bars before this one are drawn.
+use Rattle.std.proofs.Common.{◌≡◌, ◌++◌, take}
+use Rattle.std.specs.List.{flat_map}
+use Rattle.csi_pictures.specs.Bars.{bar}
+use Rattle.csi_pictures.proofs.bars.put_bars.Given as goal
+
+abbrev pub invariant-loop-bar : goal.invariant-loop-bar
+invariant-loop-bar l = l.out.items ≡ l.fn.out.items ++ flat_map bar (take l.bar-index l.bars)

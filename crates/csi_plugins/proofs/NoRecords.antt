@@ -1,0 +1,81 @@
+-- Parts that are the record of neither plugin: a controller's head is no node's.
+use Rattle.std.proofs.Common.{◌≡◌, ◌∙◌, refl, sym, ap, subst, inl, inr, ◌⊎◌, ℕ, ◌<◌, List, [], ◌∷◌, ◌++◌, length, take, None, arith}
+use Rattle.std.proofs.lemmas.List.{length-append}
+use Rattle.csi_stores.specs.Part.{StoredPart}
+use Rattle.csi_records.specs.Records.{controller_layout, node_layout, IsRecordOf, IsRefusedAt, Begins}
+use Rattle.csi_plugins.specs.Recording.{IsRecordOfEither, IsNoRecordAt}
+
+-- the second byte of the first part, which says whose record it is
+second : List ℕ → ℕ
+second [] = 0
+second (a ∷ []) = 0
+second (a ∷ b ∷ more) = b
+
+owner : List StoredPart → ℕ
+owner [] = 0
+owner (part ∷ parts) = second part.value
+
+owner-of-node : (parts more : List StoredPart) → IsRecordOf (node_layout None) parts → owner (parts ++ more) ≡ 1
+owner-of-node parts more is = ap (λ (ps : List StoredPart). owner (ps ++ more)) is.spelled.are
+
+owner-of-controller : (parts more : List StoredPart) → IsRecordOf controller_layout parts → owner (parts ++ more) ≡ 0
+owner-of-controller parts more is = ap (λ (ps : List StoredPart). owner (ps ++ more)) is.spelled.are
+
+owner-of-node-alone : (parts : List StoredPart) → IsRecordOf (node_layout None) parts → owner parts ≡ 1
+owner-of-node-alone parts is = ap owner is.spelled.are
+
+owner-of-controller-alone : (parts : List StoredPart) → IsRecordOf controller_layout parts → owner parts ≡ 0
+owner-of-controller-alone parts is = ap owner is.spelled.are
+
+-- parts that begin as a node's record are no controller's, and the other way round
+not_controller : (parts more : List StoredPart) → IsRecordOf (node_layout None) parts → IsRecordOf controller_layout (parts ++ more) → ⊥
+not_controller parts more of_node of_controller = omega (arith, owner-of-node parts more of_node, owner-of-controller-alone (parts ++ more) of_controller)
+
+not_node : (parts more : List StoredPart) → IsRecordOf controller_layout parts → IsRecordOf (node_layout None) (parts ++ more) → ⊥
+not_node parts more of_controller of_node = omega (arith, owner-of-controller parts more of_controller, owner-of-node-alone (parts ++ more) of_node)
+
+-- what refuses parts behind the first refuses them for both
+pub of_controller : (parts : List StoredPart) (place : ℕ) → 0 < place → ((parts ≡ []) × (place ≡ 0)) ⊎ IsRefusedAt (IsRecordOf controller_layout) parts place → IsNoRecordAt parts place
+of_controller parts place behind (inl none) = absurd (omega (arith, none.1, behind))
+of_controller parts place behind (inr at) = inr (record {
+  before = at.before;
+  part = at.part;
+  after = at.after;
+  are = at.are;
+  here = at.here;
+  begins = elim at.begins [ inl none ↦ inl none | inr is ↦ inr (inl is) ];
+  refused = refused at.begins;
+}) where
+  refused : Begins (IsRecordOf controller_layout) at.before → IsRecordOfEither (at.before ++ at.part ∷ []) → ⊥
+  refused begins (inl is) = at.refused is
+  refused (inl none) (inr is) = absurd (omega (arith, ap length none, at.here, behind))
+  refused (inr begun) (inr is) = not_node at.before (at.part ∷ []) begun is
+
+nothing : {A : Type 0} (xs : List A) → length xs ≡ 0 → xs ≡ []
+nothing [] e = refl
+nothing (x ∷ xs) e = absurd (omega (arith, e))
+
+-- the first part alone, of parts that begin so
+first_alone : (parts before : List StoredPart) (part : StoredPart) (after : List StoredPart) → parts ≡ before ++ part ∷ after → before ≡ [] → take 1 parts ≡ before ++ part ∷ []
+first_alone parts before part after are none = ap (take 1) are ∙ sym (subst (λ (b : List StoredPart). b ++ part ∷ [] ≡ take 1 (b ++ part ∷ after)) (sym none) refl)
+
+-- where a controller's record refuses the first part, what refuses the parts for a node refuses them for both
+pub of_node : (parts : List StoredPart) (first place : ℕ) → first ≡ 0 → ((parts ≡ []) × (first ≡ 0)) ⊎ IsRefusedAt (IsRecordOf controller_layout) parts first
+    → ((parts ≡ []) × (place ≡ 0)) ⊎ IsRefusedAt (IsRecordOf (node_layout None)) parts place → IsNoRecordAt parts place
+of_node parts first place front other (inl none) = inl none
+of_node parts first place front other (inr at) = inr (record {
+  before = at.before;
+  part = at.part;
+  after = at.after;
+  are = at.are;
+  here = at.here;
+  begins = elim at.begins [ inl none ↦ inl none | inr is ↦ inr (inr is) ];
+  refused = refused at.begins other;
+}) where
+  refused : Begins (IsRecordOf (node_layout None)) at.before → ((parts ≡ []) × (first ≡ 0)) ⊎ IsRefusedAt (IsRecordOf controller_layout) parts first → IsRecordOfEither (at.before ++ at.part ∷ []) → ⊥
+  refused begins too (inr is) = at.refused is
+  refused (inr begun) too (inl is) = not_controller at.before (at.part ∷ []) begun is
+  refused (inl none) (inl gone) (inl is) = absurd (omega (arith, ap length (sym gone.0 ∙ at.are), length-append at.before (at.part ∷ at.after)))
+  refused (inl none) (inr too) (inl is) =
+      let same = sym (first_alone parts at.before at.part at.after at.are none) ∙ first_alone parts too.before too.part too.after too.are (nothing too.before (too.here ∙ front)) in
+      too.refused (subst (IsRecordOf controller_layout) same is)

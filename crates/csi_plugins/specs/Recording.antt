@@ -1,0 +1,64 @@
+-- What a store has, as a line of JSON: the record of a plugin. This profile's own.
+use Rattle.std.specs.Prelude.{◌≡◌, ◌⊎◌, ℕ, List, [], ◌++◌, map, codes, None, Option, Result, Ok, Err}
+use Rattle.std.specs.Io.KnownBytes.{Appends}
+use Rattle.serde_json.specs.Written.{compact_text}
+use Rattle.csi_controller.specs.Views.{RecordParts}
+use Rattle.csi_node.specs.OneRow.{shown}
+use Rattle.csi_node.specs.Record.{NodeParts}
+use Rattle.csi_stores.specs.Keeping.{HasRisen}
+use Rattle.csi_stores.specs.Part.{StoredPart}
+use Rattle.csi_stores.specs.Stores.{Store}
+use Rattle.csi_records.specs.Spelling.{controller_parts, node_parts, volume_row}
+use Rattle.csi_records.specs.Records.{controller_layout, node_layout, IsRecordOf, IsRefusedAt}
+use Rattle.csi_listings.specs.Records.{controller_entry, node_entry}
+use Rattle.csi_streams.specs.Streaming.{WritesFront}
+use Rattle.csi_endings.specs.declared.ending.Ending.{Ending}
+use Rattle.csi_endings.specs.declared.ending.Ending.TheVariants as endings
+use Rattle.csi_plugins.specs.Ending.{EndsAt}
+
+-- these parts are the record of a controller or of a node, and this is its line
+pub data IsLineOf (parts : List StoredPart) : List ℕ → Type 0 where
+  of_controller : (kept : RecordParts) → IsRecordOf controller_layout parts → parts ≡ controller_parts kept.next_id (map volume_row kept.rows) → IsLineOf parts (compact_text (controller_entry kept) ++ codes "\n")
+  of_node : (kept : NodeParts) → IsRecordOf (node_layout None) parts → parts ≡ node_parts kept.id (map shown kept.rows) → IsLineOf parts (compact_text (node_entry kept) ++ codes "\n")
+
+-- they are the record of either
+abbrev pub IsRecordOfEither : List StoredPart → Type 0
+IsRecordOfEither parts = IsRecordOf controller_layout parts ⊎ IsRecordOf (node_layout None) parts
+
+-- they are of neither, and the part at this place, from 0, is the first that is refused; where there are none, that is 0
+abbrev pub IsNoRecordAt : List StoredPart → ℕ → Type 0
+IsNoRecordAt parts place = ((parts ≡ []) × (place ≡ 0)) ⊎ IsRefusedAt IsRecordOfEither parts place
+
+-- why these parts have no line
+abbrev pub HasNoLine : List StoredPart → Ending → Type 0
+HasNoLine parts (endings.RecordFault place) = IsNoRecordAt parts place
+HasNoLine parts endings.Memory = Unit {0}
+HasNoLine parts _ = ⊥
+
+-- the same of a node alone
+abbrev pub HasNoNodeLine : List StoredPart → Ending → Type 0
+HasNoNodeLine parts (endings.RecordFault place) = ((parts ≡ []) × (place ≡ 0)) ⊎ IsRefusedAt (IsRecordOf (node_layout None)) parts place
+HasNoNodeLine parts endings.Memory = Unit {0}
+HasNoNodeLine parts _ = ⊥
+
+-- why a store gives none: the device only where it failed in this call
+abbrev pub IsNotTold : Store → Store → Ending → Type 0
+IsNotTold before after (endings.RecordFault place) = after.honest → (content : List StoredPart) → before.holds content → IsNoRecordAt content place
+IsNotTold before after endings.Memory = Unit {0}
+IsNotTold before after endings.Device = HasRisen before.faults after.faults
+IsNotTold before after _ = ⊥
+
+-- this is the line of what the store has
+abbrev pub IsTold : Store → Store → List ℕ → Type 0
+IsTold before after line = after.honest → (content : List StoredPart) → before.holds content → IsLineOf content line
+
+-- How a store's record is told: its line was written whole, or a front of it where the writer failed; else nothing was.
+abbrev pub Records : Store → Store → Option (List ℕ) → Option (List ℕ) → Ending → Type 0
+Records before after had has endings.Done = (line : List ℕ) × IsTold before after line × Appends had has line
+Records before after had has endings.Device = ((has ≡ had) × HasRisen before.faults after.faults) ⊎ ((line : List ℕ) × IsTold before after line × WritesFront had has line)
+Records before after had has ending = (has ≡ had) × IsNotTold before after ending
+
+-- what a store gives that has no list of parts, but at this place what is none
+abbrev pub IsNotGivenAt : {A : Type 0} → ℕ → Result A Ending → Type 0
+IsNotGivenAt place (Ok line) = ⊥
+IsNotGivenAt place (Err ending) = EndsAt place ending

@@ -1,0 +1,98 @@
+//! What a plugin's store has, as a line.
+ghost use Rattle.std.specs.Prelude.{◌≡◌, ◌++◌, ℕ, List, codes, map, IfOk, IfErr, OnOk, string_bytes};
+ghost use Rattle.serde_json.specs.Written.{compact_text};
+ghost use Rattle.csi_stores.specs.Part.{StoredPart, all_stored_in};
+ghost use Rattle.csi_stores.specs.Stores.{store};
+ghost use Rattle.csi_listings.specs.Records.{controller_entry, node_entry};
+ghost use Rattle.csi_plugins.specs.Ending.{EndsAt};
+ghost use Rattle.csi_plugins.specs.Recording.{IsLineOf, HasNoLine, HasNoNodeLine, IsTold, IsNotTold, IsNotGivenAt, Records};
+
+use crate::ending::ending_of_store;
+use csi_controller::ControllerRecord;
+use csi_endings::Ending;
+use csi_listings::{controller_line, node_line};
+use csi_node::NodeRecord;
+use csi_records::{Record, RecordStop};
+use csi_service::{Keep, Part};
+use csi_streams::write_out;
+use std::alloc::Global;
+use std::io::Write;
+
+// A controller's record as a line.
+fn controller_text(alloc: Global, kept: &ControllerRecord) -> Result<String, Ending>
+    ensures line { IfOk result (λ text. string_bytes text ≡ compact_text (controller_entry kept.now) ++ codes "\n") }
+    ensures refused { IfErr result (λ ending. ending ≡ Ending.Memory) }
+{
+    let mut text = controller_line(alloc, kept)?;
+    text.push_str("\n")?;
+    Ok(text)
+}
+
+// A node's.
+fn node_text(alloc: Global, kept: &NodeRecord) -> Result<String, Ending>
+    ensures line { IfOk result (λ text. string_bytes text ≡ compact_text (node_entry kept.now) ++ codes "\n") }
+    ensures refused { IfErr result (λ ending. ending ≡ Ending.Memory) }
+{
+    let mut text = node_line(alloc, kept)?;
+    text.push_str("\n")?;
+    Ok(text)
+}
+
+// The line of these parts, of which a controller's record refuses the first.
+fn line_of_node(alloc: Global, parts: &[Part]) -> Result<String, Ending>
+    ensures line { IfOk result (λ text. IsLineOf (all_stored_in parts.now) (string_bytes text)) }
+    ensures refused { IfErr result (HasNoNodeLine (all_stored_in parts.now)) }
+{
+    match NodeRecord::of_parts(alloc, parts) {
+        Ok(kept) => node_text(alloc, &kept),
+        Err(RecordStop::BadRecord(place)) => Err(Ending::RecordFault(place)),
+        Err(RecordStop::NoMemory) => Err(Ending::Memory),
+    }
+}
+
+// The line of these parts, if they are a record.
+fn line_of(alloc: Global, parts: &[Part]) -> Result<String, Ending>
+    ensures line { IfOk result (λ text. IsLineOf (all_stored_in parts.now) (string_bytes text)) }
+    ensures refused { IfErr result (HasNoLine (all_stored_in parts.now)) }
+{
+    match ControllerRecord::of_parts(alloc, parts) {
+        Ok(kept) => controller_text(alloc, &kept),
+        Err(RecordStop::NoMemory) => Err(Ending::Memory),
+        Err(RecordStop::BadRecord(place)) => {
+            if place > 0 {
+                return Err(Ending::RecordFault(place));
+            }
+            line_of_node(alloc, parts)
+        }
+    }
+}
+
+// The line of what the store has.
+fn recorded<K: Keep>(alloc: Global, keep: &mut K) -> Result<String, Ending>
+    ensures line { IfOk result (λ text. IsTold (store K.is_honest K.holds K.leaves K.fits K.fault_count keep.old) (store K.is_honest K.holds K.leaves K.fits K.fault_count keep.new) (string_bytes text)) }
+    ensures refused { IfErr result (IsNotTold (store K.is_honest K.holds K.leaves K.fits K.fault_count keep.old) (store K.is_honest K.holds K.leaves K.fits K.fault_count keep.new)) }
+    ensures foreign { K.is_honest keep.new → (place : ℕ) → K.is_foreign keep.old place → IsNotGivenAt place result }
+{
+    match keep.load() {
+        Ok(parts) => line_of(alloc, &parts),
+        Err(fault) => Err(ending_of_store(fault)),
+    }
+}
+
+/// Writes what the store has, and flushes: the record of a controller or of a node as one line of JSON, with a newline. Nothing is
+/// put into the store. `RecordFault` says that its parts are the record of neither, with the place of the first that is refused,
+/// and 0 where there are none; `Device` that the store's device or the writer failed, and then a front of the line is written;
+/// `Memory` that an allocation was refused. This profile's own.
+pub fn record<K: Keep, W: Write>(alloc: Global, keep: &mut K, out: &mut W) -> Ending
+    ensures records { Records (store K.is_honest K.holds K.leaves K.fits K.fault_count keep.old) (store K.is_honest K.holds K.leaves K.fits K.fault_count keep.new) (W.contents out.old) (W.contents out.new) result }
+    ensures foreign { K.is_honest keep.new → (place : ℕ) → K.is_foreign keep.old place → EndsAt place result }
+{
+    let line = match recorded(alloc, keep) {
+        Ok(line) => line,
+        Err(ending) => return ending,
+    };
+    match write_out(out, line.as_bytes()) {
+        Ok(()) => Ending::Done,
+        Err(_) => Ending::Device,
+    }
+}

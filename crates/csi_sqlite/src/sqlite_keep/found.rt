@@ -1,0 +1,148 @@
+//! A store that is found in its files, which are only read.
+ghost use Rattle.std.specs.Prelude.{◌≡◌, ◌⊎◌, List, IsTrue, IfOk, IfErr};
+ghost use Rattle.sqlite_disk.specs.Memory.{memory_bytes, memory_is_usable};
+ghost use Rattle.sqlite_trees.specs.Tree.{Trees};
+ghost use Rattle.sqlite.specs.State.{HasCleanDisk};
+ghost use Rattle.sqlite.specs.Files.{file_state, image_of, Finds, HoldsDatabase};
+ghost use Rattle.csi_stores.specs.Part.{StoredPart};
+ghost use Rattle.csi_sqlite.specs.Tables.{StoresParts, HoldsParts};
+
+use crate::sqlite_keep::{SqliteKeep, is_memory};
+use csi_stores::KeepFault;
+use csi_tables::has_table;
+use csi_types::NoMemory;
+use sqlite::{Connection, FileStore, Files, Options};
+use sqlite_disk::{Disk, Memory};
+use std::alloc::Global;
+use std::fs;
+use std::io::ErrorKind;
+use std::rt::Files as Reads;
+
+impl<D: Disk + Drop> SqliteKeep<FileStore<D>> {
+    /// The store that these two files have, a database file and its log, where they are a database that lists the table `parts` alone;
+    /// no table is made. `Device` stands for all refusals but want of memory.
+    pub fn find(
+        alloc: Global,
+        files: Files<D>,
+    ) -> Result<SqliteKeep<FileStore<D>>, KeepFault>
+        requires log { IsTrue (D.Disk.is_usable files.log) }
+        requires db { IsTrue (D.Disk.is_usable files.db) }
+        ensures finds { IfOk result (λ keep. HasCleanDisk (file_state keep.connection) → Finds files keep.connection) }
+        ensures found { IfOk result (λ keep. HasCleanDisk (file_state keep.connection) → (db : Trees) → (content : List StoredPart) → HoldsDatabase (image_of D.Disk files) db → StoresParts db content → HoldsParts (file_state keep.connection) content) }
+        ensures faults { IfOk result (λ keep. keep.faults ≡ 0) }
+        ensures cause { IfErr result (λ fault. (fault ≡ KeepFault.Device) ⊎ (fault ≡ KeepFault.NoMemory)) }
+    {
+        let connection = match Connection::open_files(alloc, files, Options::new(1)) {
+            Ok(connection) => connection,
+            Err((error, _left)) if is_memory(&error) => return Err(KeepFault::NoMemory),
+            Err(_) => return Err(KeepFault::Device),
+        };
+        if !has_table(&connection) {
+            return Err(KeepFault::Device);
+        }
+        match SqliteKeep::new(alloc, connection) {
+            Ok(keep) => Ok(keep),
+            Err((fault, _connection)) => Err(fault),
+        }
+    }
+}
+
+// A file in memory that has these bytes.
+fn copied(alloc: Global, bytes: &[u8]) -> Result<Memory, NoMemory>
+    ensures bytes { IfOk result (λ file. memory_bytes file ≡ bytes.now) }
+    ensures usable { IfOk result (λ file. IsTrue (memory_is_usable file)) }
+{
+    let mut file = Memory::new(alloc);
+    if bytes.is_empty() {
+        return Ok(file);
+    }
+    match file.write_at(0, bytes) {
+        Ok(()) => Ok(file),
+        Err(_) => Err(NoMemory),
+    }
+}
+
+/// A database file and its log, in memory, which have these bytes: what is done to them is done to no file.
+pub fn copies(alloc: Global, db: &[u8], log: &[u8]) -> Result<Files<Memory>, NoMemory>
+    ensures db { IfOk result (λ files. memory_bytes files.db ≡ db.now) }
+    ensures log { IfOk result (λ files. memory_bytes files.log ≡ log.now) }
+    ensures db_usable { IfOk result (λ files. IsTrue (memory_is_usable files.db)) }
+    ensures log_usable { IfOk result (λ files. IsTrue (memory_is_usable files.log)) }
+{
+    let db = copied(alloc, db)?;
+    let log = copied(alloc, log)?;
+    Ok(Files { log, db })
+}
+
+// What a file that can't be read is to the keeper.
+fn unread(kind: ErrorKind) -> KeepFault
+    ensures { (result ≡ KeepFault.Device) ⊎ (result ≡ KeepFault.NoMemory) }
+{
+    match kind {
+        ErrorKind::OutOfMemory => KeepFault::NoMemory,
+        _ => KeepFault::Device,
+    }
+}
+
+// The bytes of the file beside a database that has this name behind it; none where there is no such file.
+fn beside(rt: &(impl Reads + AllocGlobal), path: &str, name: &str) -> Result<Vec<u8>, KeepFault>
+    ensures { IfErr result (λ fault. (fault ≡ KeepFault.Device) ⊎ (fault ≡ KeepFault.NoMemory)) }
+{
+    let Ok(path) = format!(in rt.alloc(); "{path}{name}") else {
+        return Err(KeepFault::NoMemory);
+    };
+    match fs::read(rt, path.as_str()) {
+        Ok(bytes) => Ok(bytes),
+        Err(error) if error.kind() == ErrorKind::NotFound => Ok(Vec::new(rt.alloc())),
+        Err(error) => Err(unread(error.kind())),
+    }
+}
+
+// The bytes of a database file and of the log beside it. The log is read before the file and again after it, and has to be the
+// same: so the two go together, whoever writes them meanwhile.
+fn read_both(
+    rt: &(impl Reads + AllocGlobal),
+    path: &str,
+) -> Result<(Vec<u8>, Vec<u8>), KeepFault>
+    ensures { IfErr result (λ fault. (fault ≡ KeepFault.Device) ⊎ (fault ≡ KeepFault.NoMemory)) }
+{
+    let log = beside(rt, path, "-wal")?;
+    let db = match fs::read(rt, path) {
+        Ok(bytes) => bytes,
+        Err(error) => return Err(unread(error.kind())),
+    };
+    let after = beside(rt, path, "-wal")?;
+    if log.as_slice() != after.as_slice() {
+        return Err(KeepFault::Device);
+    }
+    Ok((db, log))
+}
+
+/// The store in the SQLite file at this path, as the file and the log beside it are now, in copies of the two: nothing is written
+/// to them, and where there is no file none is made. `Device` stands for all refusals but want of memory: a file can't be read, or
+/// was written meanwhile, it is no database that lists the table `parts` alone, or SQLite left a rollback journal beside it.
+pub fn find_at(
+    rt: &(impl Reads + AllocGlobal),
+    path: &str,
+) -> Result<SqliteKeep<FileStore<Memory>>, KeepFault>
+    ensures cause { IfErr result (λ fault. (fault ≡ KeepFault.Device) ⊎ (fault ≡ KeepFault.NoMemory)) }
+{
+    let real = match fs::canonicalize(rt, path) {
+        Ok(real) => real,
+        Err(error) => return Err(unread(error.kind())),
+    };
+    match fs::metadata(rt, real.as_str()) {
+        Ok(found) if found.is_file() => {}
+        Ok(_) => return Err(KeepFault::Device),
+        Err(error) => return Err(unread(error.kind())),
+    }
+    let journal = beside(rt, real.as_str(), "-journal")?;
+    if !journal.is_empty() {
+        return Err(KeepFault::Device);
+    }
+    let (db, log) = read_both(rt, real.as_str())?;
+    let Ok(files) = copies(rt.alloc(), &db, &log) else {
+        return Err(KeepFault::NoMemory);
+    };
+    SqliteKeep::find(rt.alloc(), files)
+}

@@ -1,0 +1,176 @@
+//! What stores have, as lines of JSON.
+use super::playing::{HELD, ONE_MADE, SCRIPT, played};
+use super::{CONTROLLER_HEAD, NODE_HEAD, part};
+use csi_endings::Ending;
+use csi_plugins::record;
+use csi_service::{Keep, KeepFault, MemoryKeep};
+use csi_sqlite::{SqliteKeep, find_at};
+use sqlite::{Connection, Unknown};
+use std::fs;
+use std::process::Abort;
+use std::rt::Files;
+
+// A store that has these values, from key 0 on; the line that is told of it, and how that ends.
+type Told = (&'static [&'static [u8]], &'static str, Ending);
+
+// A deleted volume with two capabilities, of which one is a mount.
+const GONE: &[u8] = &[
+    1, 2, 2, 60, 34, 0, 0, 0, 0, 0, 0, 0, 10, 2, 0, 1, 1, 4, 101, 120, 116, 52, 5, 0, 0, 0, 0, 0, 0,
+    0, 0, 3, 0, 0, 0, 0, 0, 0, 0, 5, 130, 0, 0, 0, 0, 0, 0, 0, 0, 0, 0,
+];
+
+// A volume that is staged and published at two targets, the second readonly; and one that isn't staged.
+const AT_TWO: &[u8] = &[
+    1, 1, 0, 3, 2, 2, 47, 97, 0, 2, 47, 98, 1, 0, 0, 0, 0, 0, 0, 0, 1, 0, 0, 0, 0, 0, 0, 0, 3,
+    135, 0, 0, 0, 0, 0, 0, 0, 0, 0, 0,
+];
+
+const NOT_STAGED: &[u8] = &[
+    1, 0, 0, 0, 0, 0, 0, 0, 0, 0, 2, 0, 0, 0, 0, 0, 0, 0, 5, 134, 0, 0, 0, 0, 0, 0, 0, 0, 0, 0,
+];
+
+const TOLD: &[Told] = &[
+    (&[], "", Ending::RecordFault(0)),
+    (
+        &[CONTROLLER_HEAD],
+        "{\"next_id\":1,\"plugin\":\"controller\",\"volumes\":[]}\n",
+        Ending::Done,
+    ),
+    (
+        &[ONE_MADE, HELD],
+        "{\"next_id\":2,\"plugin\":\"controller\",\"volumes\":[{\"attached\":[{\"capability\":{\"access\":\"block\",\"mode\":1},\"node\":\"n1\",\"readonly\":false}],\"capabilities\":[{\"access\":\"block\",\"mode\":1}],\"capacity\":10,\"id\":1,\"last\":{\"call\":2,\"session\":1},\"live\":true,\"name\":\"v\"}]}\n",
+        Ending::Done,
+    ),
+    (
+        &[ONE_MADE, GONE],
+        "{\"next_id\":2,\"plugin\":\"controller\",\"volumes\":[{\"attached\":[],\"capabilities\":[{\"access\":\"block\",\"mode\":1},{\"access\":\"mount\",\"fs\":\"ext4\",\"mode\":5}],\"capacity\":10,\"id\":1,\"last\":{\"call\":5,\"session\":3},\"live\":false,\"name\":\"<\\\"\"}]}\n",
+        Ending::Done,
+    ),
+    (
+        &[NODE_HEAD],
+        "{\"node\":\"n1\",\"plugin\":\"node\",\"volumes\":[]}\n",
+        Ending::Done,
+    ),
+    (
+        &[NODE_HEAD, AT_TWO, NOT_STAGED],
+        "{\"node\":\"n1\",\"plugin\":\"node\",\"volumes\":[{\"id\":1,\"last\":{\"call\":3,\"session\":1},\"published\":[{\"readonly\":false,\"target\":\"/a\"},{\"readonly\":true,\"target\":\"/b\"}],\"staged\":{\"access\":\"block\",\"mode\":3}},{\"id\":2,\"last\":{\"call\":5,\"session\":2},\"published\":[],\"staged\":null}]}\n",
+        Ending::Done,
+    ),
+    (&[&[2]], "", Ending::RecordFault(0)),
+    (&[HELD], "", Ending::RecordFault(0)),
+    (&[ONE_MADE, AT_TWO], "", Ending::RecordFault(1)),
+    (&[ONE_MADE, HELD, HELD], "", Ending::RecordFault(2)),
+    (&[NODE_HEAD, AT_TWO, HELD], "", Ending::RecordFault(2)),
+];
+
+// What is told of a store. Where memory is refused it is told the second time.
+fn told<K: Keep>(rt: &(impl Abort + AllocGlobal), keep: &mut K) -> (Vec<u8>, Ending) {
+    let mut out = Vec::new(rt.alloc());
+    let ending = record(rt.alloc(), keep, &mut out);
+    if ending != Ending::Memory {
+        return (out, ending);
+    }
+    assert!(rt; out.is_empty());
+    let mut again = Vec::new(rt.alloc());
+    let ending = record(rt.alloc(), keep, &mut again);
+    (again, ending)
+}
+
+// Whether such a store is told so.
+fn is_told(rt: &(impl Abort + AllocGlobal), (values, line, wanted): Told) -> bool {
+    let mut keep = MemoryKeep::new(rt.alloc(), 1000);
+    for (key, value) in values.iter().enumerate() {
+        let parts = [part(rt, key as u64, value)];
+        if keep.commit(&parts).is_err() {
+            keep.commit(&parts).expect(rt, "room");
+        }
+        drop(parts);
+    }
+    let (text, ending) = told(rt, &mut keep);
+    drop(keep);
+    let is_so = ending == wanted && text.as_slice() == line.as_bytes();
+    drop(text);
+    is_so
+}
+
+#[test]
+fn stores_are_told_as_lines(rt: HostRuntime) {
+    for row in TOLD {
+        assert!(&rt; is_told(&rt, *row));
+    }
+}
+
+const FOLDER: &str = "csi_store_shown";
+
+const PATH: &str = "csi_store_shown/a.db";
+
+const LOG: &str = "csi_store_shown/a.db-wal";
+
+const NONE: &str = "csi_store_none";
+
+const OTHER: &str = "csi_store_none/other.db";
+
+// What is there after the script.
+const LINE: &str = "{\"next_id\":3,\"plugin\":\"controller\",\"volumes\":[{\"attached\":[],\"capabilities\":[{\"access\":\"block\",\"mode\":1}],\"capacity\":10,\"id\":1,\"last\":{\"call\":5,\"session\":1},\"live\":false,\"name\":\"v\"},{\"attached\":[],\"capabilities\":[{\"access\":\"block\",\"mode\":1}],\"capacity\":10,\"id\":2,\"last\":{\"call\":6,\"session\":1},\"live\":true,\"name\":\"w\"}]}\n";
+
+// Whether the store in the file is told so, and the file and its log have the same bytes then.
+fn is_shown(rt: &(impl Abort + AllocGlobal + Files)) -> bool {
+    let db = fs::read(rt, PATH).expect(rt, "a file");
+    let log = fs::read(rt, LOG).expect(rt, "a log");
+    let Ok(mut keep) = find_at(rt, PATH) else {
+        return false;
+    };
+    let (text, ending) = told(rt, &mut keep);
+    drop(keep);
+    let is_so = ending == Ending::Done && text.as_slice() == LINE.as_bytes();
+    drop(text);
+    let db_after = fs::read(rt, PATH).expect(rt, "a file");
+    let log_after = fs::read(rt, LOG).expect(rt, "a log");
+    let is_same = db.as_slice() == db_after.as_slice() && log.as_slice() == log_after.as_slice();
+    drop(db);
+    drop(log);
+    drop(db_after);
+    drop(log_after);
+    is_so && is_same
+}
+
+// Whether no store is found there.
+fn is_refused(rt: &(impl AllocGlobal + Files), path: &str) -> bool {
+    matches!(find_at(rt, path), Err(KeepFault::Device))
+}
+
+// Serves the script over a new store in the file; while it is open, and once it is closed, it is told.
+#[test]
+fn a_store_in_a_file_is_told_and_left_as_it_is(rt: HostRuntime) {
+    let _gone = fs::remove_dir_all(&rt, FOLDER);
+    fs::create_dir(&rt, FOLDER).expect(&rt, "a folder");
+    let mut keep = SqliteKeep::open_file(&rt, PATH, Unknown).ok().expect(&rt, "a store");
+    let (_end, written) = played(&rt, &mut keep, SCRIPT);
+    drop(written);
+    assert!(&rt; is_shown(&rt));
+    keep.close();
+    assert!(&rt; is_shown(&rt));
+    fs::remove_dir_all(&rt, FOLDER).expect(&rt, "a folder");
+}
+
+// No file, a folder, an empty file, no database, a database with no table, and one with another.
+#[test]
+fn what_is_no_store_is_not_found_and_not_made(rt: HostRuntime) {
+    let _gone = fs::remove_dir_all(&rt, NONE);
+    fs::create_dir(&rt, NONE).expect(&rt, "a folder");
+    assert!(&rt; is_refused(&rt, OTHER) && is_refused(&rt, NONE));
+    assert!(&rt; fs::read(&rt, OTHER).is_err());
+    fs::write(&rt, OTHER, b"").expect(&rt, "a file");
+    assert!(&rt; is_refused(&rt, OTHER));
+    fs::write(&rt, OTHER, b"{}").expect(&rt, "a file");
+    assert!(&rt; is_refused(&rt, OTHER));
+    fs::remove_file(&rt, OTHER).expect(&rt, "a file");
+    let empty = Connection::open(&rt, OTHER).expect(&rt, "a database");
+    empty.close().expect(&rt, "a file");
+    assert!(&rt; is_refused(&rt, OTHER));
+    let mut other = Connection::open(&rt, OTHER).expect(&rt, "a database");
+    other.execute("CREATE TABLE others (key BLOB)", &[]).expect(&rt, "a table");
+    other.close().expect(&rt, "a file");
+    assert!(&rt; is_refused(&rt, OTHER));
+    fs::remove_dir_all(&rt, NONE).expect(&rt, "a folder");
+}

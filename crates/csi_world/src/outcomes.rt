@@ -1,0 +1,35 @@
+//! What came of an event, as text.
+ghost use Rattle.std.specs.Prelude.{◌≡◌, IfOk, string_bytes};
+ghost use Rattle.csi_world.specs.Outcomes.{refused_text as text_of_refusal, outcome_text};
+
+use crate::event::Outcome;
+use csi_orchestrator::OrchFault;
+use std::alloc::{AllocError, Global};
+
+fn refused_text(alloc: Global, fault: OrchFault) -> Result<String, AllocError>
+    ensures { IfOk result (λ text. string_bytes text ≡ text_of_refusal fault) }
+{
+    let number = fault.number();
+    let name = fault.name();
+    let mut text = format!(in alloc; "refused {number} ")?;
+    text.push_str(name)?;
+    Ok(text)
+}
+
+/// The text of an outcome, as a report has it: printable ASCII with no mark of XML's. This profile's own.
+pub fn text_of(alloc: Global, outcome: Outcome) -> Result<String, AllocError>
+    ensures { IfOk result (λ text. string_bytes text ≡ outcome_text outcome) }
+{
+    match outcome {
+        Outcome::Sent(number) => format!(in alloc; "sent {number}"),
+        Outcome::Met => String::from_str(alloc, "met"),
+        Outcome::Refused(fault) => refused_text(alloc, fault),
+        Outcome::Answered(number) => format!(in alloc; "answered {number}"),
+        Outcome::Taken(None) => String::from_str(alloc, "taken"),
+        Outcome::Taken(Some(number)) => format!(in alloc; "taken, sent {number}"),
+        Outcome::Ignored => String::from_str(alloc, "ignored"),
+        Outcome::NoSuchFrame => String::from_str(alloc, "no such frame"),
+        Outcome::Restarted => String::from_str(alloc, "restarted"),
+        Outcome::NoSuchNode => String::from_str(alloc, "no such node"),
+    }
+}
