@@ -1,4 +1,5 @@
 //! Records as bytes, and stores that plugins are opened from.
+mod beginnings;
 mod damaged;
 mod devices;
 mod files;
@@ -155,6 +156,8 @@ const CHANGES: &[(usize, u8, u64)] = &[
     (51, 0, 1),
     (54, 65, 1),
     (81, 1, 1),
+    // a reply of a node's
+    (71, 0x85, 1),
 ];
 
 #[test]

@@ -1,7 +1,7 @@
 //! Makers of values, for the tests of orchestrator and worlds.
 //!
 //! What a maker is given is within the limits, so it fails for want of memory alone, and then tries once more: a run
-//! refuses one allocation at most (`rt try --test --fail-alloc N`). So what a test is made of is there in every run,
+//! refuses one allocation at most (`tools/refusals`). So what a test is made of is there in every run,
 //! and the call under test is the one that sees the refusal, or none does.
 use csi_types::{
     Access, Call, Capability, CapabilityList, Config, Detail, Frame, Mode, Name, NodeId, NodeSlots,

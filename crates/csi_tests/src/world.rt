@@ -50,9 +50,9 @@ enum Step {
     Frames(u64),
     // There is no frame of this number.
     NoFrame(u64),
-    // The frame of this number is this call, or a reply with this status and detail.
-    Calls(u64, Kind),
-    Replies(u64, Status, &'static str),
+    // This frame, which has this session's number, is this call, or a reply with this status and detail.
+    Calls(u64, (u64, u64), Kind),
+    Replies(u64, (u64, u64), Status, &'static str),
     // So many volumes are attached, and at this node so many are staged and so many published.
     Has(usize, &'static str, usize, usize),
     // There is no node of this id.

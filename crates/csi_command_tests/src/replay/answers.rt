@@ -22,11 +22,11 @@ fn is_wanting(fault: AnswerFault, out: &[u8], replies: &[u8]) -> bool {
         && replies.starts_with(out)
 }
 
-// Whether all replies are given and three frames counted, or memory is wanted after the replies to some of the first frames.
-fn is_answered(alloc: Global, calls: &[u8], replies: &[u8]) -> bool {
+// Whether all replies are given and so many frames counted, or memory is wanted after the replies to some of the first frames.
+fn is_answered(alloc: Global, calls: &[u8], replies: &[u8], frames: u64) -> bool {
     let mut out = Vec::new(alloc);
     match answer(alloc, calls, &mut out) {
-        Ok(count) => count == 3 && out.as_slice() == replies,
+        Ok(count) => count == frames && out.as_slice() == replies,
         Err(fault) => is_wanting(fault, out.as_slice(), replies),
     }
 }
@@ -35,5 +35,13 @@ fn is_answered(alloc: Global, calls: &[u8], replies: &[u8]) -> bool {
 fn answer_gives_all_replies_or_the_first(rt: HostRuntime) {
     let calls = bytes(&rt, CALLS);
     let replies = bytes(&rt, REPLIES);
-    assert!(&rt; is_answered(rt.alloc(), &calls, &replies));
+    assert!(&rt; is_answered(rt.alloc(), &calls, &replies, 3));
+}
+
+// A reply is a frame that gets nothing.
+#[test]
+fn a_reply_is_counted_and_gets_nothing(rt: HostRuntime) {
+    let reply = bytes(&rt, &[super::DELETED]);
+    assert!(&rt; is_answered(rt.alloc(), &reply, &[], 1));
+    assert!(&rt; is_answered(rt.alloc(), &[], &[], 0));
 }

@@ -30,8 +30,17 @@ const ENDINGS: &[(Ending, &str, u8)] = &[
         1,
     ),
     (Ending::NotUtf8, "csi-replay: not UTF-8", 1),
+    (Ending::ConfigRefused, "csi-replay: config refused", 1),
+    (Ending::RecordFault(0), "csi-replay: record fault at 0", 1),
+    (
+        Ending::RecordFault(4096),
+        "csi-replay: record fault at 4096",
+        1,
+    ),
     (Ending::Usage, "csi-replay: usage", 2),
     (Ending::Device, "csi-replay: device", 3),
+    (Ending::StoreNotOpened, "csi-replay: store not opened", 3),
+    (Ending::Endless, "csi-replay: endless", 3),
     (Ending::Memory, "csi-replay: memory", 3),
 ];
 

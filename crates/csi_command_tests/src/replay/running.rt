@@ -1,4 +1,4 @@
-//! How a table of commands is run. A run may see a growth refused (by `rt try --test --fail-alloc N`): it then ends in want of
+//! How a table of commands is run. A run may see a growth refused (by `tools/refusals`): it then ends in want of
 //! memory, after a beginning of what it is to give, and gives all of it the second time.
 use super::Case;
 use csi_commands::file;

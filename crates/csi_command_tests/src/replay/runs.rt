@@ -1,6 +1,6 @@
 //! Schedules that are run to their reports, and bytes that are no schedule.
 use super::running::{gives, run_all};
-use super::schedules::with_zeros;
+use super::schedules::with_objects;
 use super::{CREATE, CREATED, Case};
 use csi_endings::{Ending, FileCommand, ScheduleCommand};
 use csi_schedules::{MAX_EVENTS, ScheduleFault};
@@ -96,7 +96,7 @@ fn bytes_that_are_no_text_are_not_run(rt: HostRuntime) {
 
 #[test]
 fn too_many_events_are_not_run(rt: HostRuntime) {
-    let text = with_zeros(&rt, MAX_EVENTS + 1);
+    let text = with_objects(&rt, MAX_EVENTS + 1);
     let asked = (FileCommand::Schedule(ScheduleCommand::Run), text.as_bytes());
     let ending = Ending::ScheduleFault(ScheduleFault::TooMany);
     gives(&rt, asked, b"", ending, 0);

@@ -176,34 +176,92 @@ fn the_first_bad_event_has_a_place(rt: HostRuntime) {
     all_judged(&rt, EVENTS);
 }
 
-// A list of so many zeros, if there is memory for it.
-fn try_zeros(alloc: Global, count: usize) -> Result<String, AllocError> {
-    let mut text = String::from_str(alloc, "[0")?;
+// A list of so many empty objects, if there is memory for it.
+fn try_objects(alloc: Global, count: usize) -> Result<String, AllocError> {
+    let mut text = String::from_str(alloc, "[{}")?;
     for _ in 1..count {
-        text.push_str(",0")?;
+        text.push_str(",{}")?;
     }
     text.push_str("]")?;
     Ok(text)
 }
 
-// A schedule with so many zeros for events.
-pub(super) fn with_zeros(rt: &(impl Abort + AllocGlobal), count: usize) -> String {
-    let zeros = match try_zeros(rt.alloc(), count) {
-        Ok(zeros) => zeros,
-        Err(_) => try_zeros(rt.alloc(), count).expect(rt, "memory"),
+// A schedule with so many empty objects for events.
+pub(super) fn with_objects(rt: &(impl Abort + AllocGlobal), count: usize) -> String {
+    let objects = match try_objects(rt.alloc(), count) {
+        Ok(objects) => objects,
+        Err(_) => try_objects(rt.alloc(), count).expect(rt, "memory"),
     };
-    with_events(rt, &zeros)
+    with_events(rt, &objects)
 }
 
-// The fault of a schedule with so many zeros for events.
-fn fault_of_zeros(rt: &(impl Abort + AllocGlobal), count: usize) -> Fault {
-    fault_in(rt.alloc(), &with_zeros(rt, count))
+// The fault of such a schedule: an empty object is no event.
+fn fault_of_objects(rt: &(impl Abort + AllocGlobal), count: usize) -> Fault {
+    fault_in(rt.alloc(), &with_objects(rt, count))
+}
+
+const MODES: &[(Text, Fault)] = &[
+    (
+        Text::Events(
+            "[{\"create\":{\"capabilities\":[{\"access\":\"block\",\"mode\":5}],\"limit\":0,\"name\":\"v\",\"required\":10}}]",
+        ),
+        NONE,
+    ),
+    (
+        Text::Events(
+            "[{\"create\":{\"capabilities\":[{\"access\":\"block\",\"mode\":0}],\"limit\":0,\"name\":\"v\",\"required\":10}}]",
+        ),
+        (2, 1),
+    ),
+    (
+        Text::Events(
+            "[{\"create\":{\"capabilities\":[{\"access\":\"block\",\"mode\":1},{\"access\":\"block\",\"mode\":6}],\"limit\":0,\"name\":\"v\",\"required\":10}}]",
+        ),
+        (2, 1),
+    ),
+    (
+        Text::Events(
+            "[{\"delete\":\"v\"},{\"use\":{\"capability\":{\"access\":\"mount\",\"fs\":\"ext4\",\"mode\":0},\"name\":\"v\",\"node\":\"n1\",\"readonly\":false,\"target\":\"/a\"}}]",
+        ),
+        (2, 2),
+    ),
+    (
+        Text::Events(
+            "[{\"delete\":\"v\"},{\"use\":{\"capability\":{\"access\":\"block\",\"mode\":6},\"name\":\"v\",\"node\":\"n1\",\"readonly\":false,\"target\":\"/a\"}}]",
+        ),
+        (2, 2),
+    ),
+];
+
+#[test]
+fn modes_are_1_to_5(rt: HostRuntime) {
+    all_judged(&rt, MODES);
+}
+
+const CAPABILITIES: &[(Text, Fault)] = &[
+    (
+        Text::Events(
+            "[{\"create\":{\"capabilities\":[{\"access\":\"block\",\"mode\":1},{\"access\":\"block\",\"mode\":1},{\"access\":\"block\",\"mode\":1},{\"access\":\"block\",\"mode\":1},{\"access\":\"block\",\"mode\":1},{\"access\":\"block\",\"mode\":1},{\"access\":\"block\",\"mode\":1},{\"access\":\"block\",\"mode\":1}],\"limit\":0,\"name\":\"v\",\"required\":10}}]",
+        ),
+        NONE,
+    ),
+    (
+        Text::Events(
+            "[{\"create\":{\"capabilities\":[{\"access\":\"block\",\"mode\":1},{\"access\":\"block\",\"mode\":1},{\"access\":\"block\",\"mode\":1},{\"access\":\"block\",\"mode\":1},{\"access\":\"block\",\"mode\":1},{\"access\":\"block\",\"mode\":1},{\"access\":\"block\",\"mode\":1},{\"access\":\"block\",\"mode\":1},{\"access\":\"block\",\"mode\":1}],\"limit\":0,\"name\":\"v\",\"required\":10}}]",
+        ),
+        (2, 1),
+    ),
+];
+
+#[test]
+fn a_volume_is_made_with_eight_capabilities_at_most(rt: HostRuntime) {
+    all_judged(&rt, CAPABILITIES);
 }
 
 #[test]
 fn too_many_events_are_refused_before_bad_ones(rt: HostRuntime) {
-    assert_eq!(&rt; fault_of_zeros(&rt, MAX_EVENTS), (2, 1));
-    assert_eq!(&rt; fault_of_zeros(&rt, MAX_EVENTS + 1), (3, 0));
+    assert_eq!(&rt; fault_of_objects(&rt, MAX_EVENTS), (2, 1));
+    assert_eq!(&rt; fault_of_objects(&rt, MAX_EVENTS + 1), (3, 0));
 }
 
 const FAULTS: &[(ScheduleFault, Fault)] = &[

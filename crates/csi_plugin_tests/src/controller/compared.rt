@@ -1,5 +1,5 @@
-//! The controller beside the plain one. Both are given the same calls. The answers are the same, and after each call the row of
-//! its volume and the next id; after each hundredth call so are the whole records.
+//! The controller beside the plain one. Both are given the same calls. The answers are the same, and after each call the whole
+//! records and the row of its volume.
 use super::calls::Draws;
 use super::plain::{Held, NODES, PlainRow, Rows, answer, next_id, row_of};
 use super::*;
@@ -167,9 +167,7 @@ fn a_plain_controller_answers_the_same(rt: HostRuntime) {
         let is_alike = answers_alike(&rt, &mut controller, &mut rows, number, ask);
         assert!(rt; is_alike, "call {call}");
         assert!(rt; has_row(&rt, &controller, &rows, ask), "after call {call}");
-        if call % 100 == 99 {
-            assert!(rt; has_record(&rt, &controller, &rows), "after call {call}");
-        }
+        assert!(rt; has_record(&rt, &controller, &rows), "after call {call}");
     }
     assert!(rt; rows.len() == 50);
     drop(rows);

@@ -1,5 +1,5 @@
 //! Refused growths. With memory to spare each test compares the whole answers. Run with one allocation refused, each
-//! in turn (`rt try --test --fail-alloc N`), the call that sees it wants memory and leaves the controller as it was,
+//! in turn (`tools/refusals`), the call that sees it wants memory and leaves the controller as it was,
 //! and the same call is then answered in full.
 use super::records::HELD;
 use super::*;

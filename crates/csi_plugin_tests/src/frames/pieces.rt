@@ -214,6 +214,37 @@ fn what_is_judged_before_it_is_whole(rt: HostRuntime) {
     drop(nothing);
 }
 
+const ZEROS: &[u8] = &[0; 1240];
+
+// A create with the longest length there is, and zeros for what it has no fields for.
+fn longest(rt: &(impl Abort + AllocGlobal)) -> Vec<u8> {
+    let mut bytes = Vec::new(rt.alloc());
+    for piece in [&[0, 0, 5, 0], &CREATE[4..], ZEROS] {
+        bytes.extend_from_slice(piece).expect(rt, "memory");
+    }
+    bytes
+}
+
+// Whether such a frame, in these pieces, is refused where its fields end, and all of it is left.
+fn ends_at_44(rt: &(impl Abort + AllocGlobal), pieces: &[&[u8]]) -> bool {
+    let mut splitter = fed(rt, pieces);
+    let is_refused = stops(&mut splitter, FaultKind::LengthDiffers, 44)
+        && ends_short(&splitter, 1284);
+    drop(splitter);
+    is_refused
+}
+
+#[test]
+fn the_longest_wrong_length_is_judged_when_it_is_whole(rt: HostRuntime) {
+    let bytes = longest(&rt);
+    let (front, last) = bytes.split_at(1283);
+    let mut early = fed(&rt, &[front]);
+    assert!(rt; waits(&mut early) && ends_short(&early, 1283));
+    drop(early);
+    assert!(rt; ends_at_44(&rt, &[front, last]) && ends_at_44(&rt, &[&bytes]));
+    drop(bytes);
+}
+
 #[test]
 fn feed_succeeds_with_memory(rt: HostRuntime) {
     let mut splitter = Splitter::new(rt.alloc());

@@ -1,5 +1,5 @@
 //! Refused growths. With memory to spare each test compares the whole answers. Run with one allocation refused, each
-//! in turn (`rt try --test --fail-alloc N`), the call that sees it wants memory and leaves the node as it was, and the
+//! in turn (`tools/refusals`), the call that sees it wants memory and leaves the node as it was, and the
 //! same call is then answered in full.
 use super::readers::{STEPS, is_record, is_row_of_nine, lists_published, lists_staged};
 use super::*;

@@ -1,5 +1,5 @@
 //! Refused growths of records, stores and services. With memory to spare each test compares the whole answers. Run with one
-//! allocation refused, each in turn (`rt try --test --fail-alloc N`), the call that sees it wants memory, and is then
+//! allocation refused, each in turn (`tools/refusals`), the call that sees it wants memory, and is then
 //! answered in full, for `open` and `serve` after opening again.
 use super::playing::{
     CREATED, Content, ENDS, End, FRAMES, NOTHING, REPLIES, SCRIPT, are_parts, has_parts, is_after,

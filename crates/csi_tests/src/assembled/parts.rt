@@ -1,5 +1,5 @@
 //! The parts of a world with one node, `n1`. Where memory is refused a part is asked again, or made a second time, so that
-//! each test here is one of refused growths too (by `rt try --test --fail-alloc N`).
+//! each test here is one of refused growths too (by `tools/refusals`).
 use crate::values::{
     block, blocks, call_frame, config, detail, name, node_id, number, room, volume_id,
 };

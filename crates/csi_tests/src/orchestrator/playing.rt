@@ -1,5 +1,5 @@
 //! How a table is played. Every step may see a growth refused: it then answers want of memory and changes nothing, and
-//! answers in full when it is asked again. So each test is one of refused growths too (by `rt try --test --fail-alloc N`).
+//! answers in full when it is asked again. So each test is one of refused growths too (by `tools/refusals`).
 use super::asking::{answer, is_given};
 use super::things::{knows, listed, lists, lists_again};
 use super::{Ask, Fact, Gives, MANY, OK, Sent, Step};

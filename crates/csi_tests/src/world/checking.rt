@@ -2,25 +2,40 @@
 use crate::orchestrator::{Fact, thing_of};
 use crate::values::node_id;
 use csi_orchestrator::Known;
-use csi_types::{Body, Frame, Kind, Status};
+use csi_types::{Body, Frame, Kind, Number, Status};
 use csi_world::World;
 use std::alloc::Global;
 use std::process::Abort;
 
-// Whether the frame is this call.
-pub(super) fn is_call(frame: Option<&Frame>, kind: Kind) -> bool {
-    match frame.map(Frame::body) {
-        Some(Body::Call(call)) => call.kind() == kind,
-        _ => false,
+// Whether there is a frame, of this session's number.
+fn has_number(frame: Option<&Frame>, (session, call): (u64, u64)) -> bool {
+    match frame {
+        Some(frame) => frame.number() == Number { session, call },
+        None => false,
     }
 }
 
+// Whether the frame is this call.
+pub(super) fn is_call(frame: Option<&Frame>, number: (u64, u64), kind: Kind) -> bool {
+    let is_kind = match frame.map(Frame::body) {
+        Some(Body::Call(call)) => call.kind() == kind,
+        _ => false,
+    };
+    is_kind && has_number(frame, number)
+}
+
 // Whether the frame is this reply.
-pub(super) fn is_reply(frame: Option<&Frame>, status: Status, detail: &str) -> bool {
-    match frame.map(Frame::body) {
+pub(super) fn is_reply(
+    frame: Option<&Frame>,
+    number: (u64, u64),
+    status: Status,
+    detail: &str,
+) -> bool {
+    let is_told = match frame.map(Frame::body) {
         Some(Body::Reply(_, reply)) => reply.status == status && reply.detail.as_str() == detail,
         _ => false,
-    }
+    };
+    is_told && has_number(frame, number)
 }
 
 // How many volumes are attached. Where memory is refused they are listed the second time.

@@ -15,7 +15,8 @@ const LATE_STAGE: &[Step] = &[
     Step::On(Does::Deliver(8), Outcome::Answered(9)),
     Step::On(Does::Deliver(9), Outcome::Taken(Some(10))),
     Step::On(Does::Deliver(5), Outcome::Answered(11)),
-    Step::Replies(11, Status::Aborted, "stale"),
+    Step::Replies(9, (1, 6), Status::Ok, ""),
+    Step::Replies(11, (1, 3), Status::Aborted, "stale"),
     Step::Has(1, "n1", 0, 0),
     Step::Frames(11),
 ];
@@ -26,11 +27,11 @@ fn a_late_staging_is_stale(rt: HostRuntime) {
 }
 
 const STAGINGS: &[Step] = &[
-    Step::Calls(5, Kind::NodeStageVolume),
-    Step::Calls(6, Kind::NodeStageVolume),
-    Step::Calls(7, Kind::NodeStageVolume),
-    Step::Calls(8, Kind::NodeUnstageVolume),
-    Step::Calls(10, Kind::ControllerUnpublishVolume),
+    Step::Calls(5, (1, 3), Kind::NodeStageVolume),
+    Step::Calls(6, (1, 4), Kind::NodeStageVolume),
+    Step::Calls(7, (1, 5), Kind::NodeStageVolume),
+    Step::Calls(8, (1, 6), Kind::NodeUnstageVolume),
+    Step::Calls(10, (1, 7), Kind::ControllerUnpublishVolume),
 ];
 
 #[test]
@@ -46,13 +47,18 @@ const UNDONE: &[Step] = &[
     Step::On(Does::Timeout, Outcome::Sent(4)),
     Step::On(Does::Timeout, Outcome::Sent(5)),
     Step::On(Does::Timeout, Outcome::Sent(6)),
-    Step::Calls(6, Kind::ControllerUnpublishVolume),
+    Step::Calls(3, (1, 2), Kind::ControllerPublishVolume),
+    Step::Calls(4, (1, 3), Kind::ControllerPublishVolume),
+    Step::Calls(5, (1, 4), Kind::ControllerPublishVolume),
+    Step::Calls(6, (1, 5), Kind::ControllerUnpublishVolume),
     Step::On(Does::Deliver(6), Outcome::Answered(7)),
+    Step::Replies(7, (1, 5), Status::Ok, ""),
     Step::On(Does::Deliver(7), Outcome::Taken(None)),
     Step::On(Does::Delete, Outcome::Sent(8)),
     Step::On(Does::Deliver(8), Outcome::Answered(9)),
     Step::On(Does::Deliver(9), Outcome::Taken(None)),
-    Step::Calls(8, Kind::DeleteVolume),
+    Step::Calls(8, (1, 6), Kind::DeleteVolume),
+    Step::Replies(9, (1, 6), Status::Ok, ""),
     Step::KnowsOfEach(Known::No),
     Step::Has(0, "n1", 0, 0),
 ];
@@ -67,7 +73,7 @@ const DELETED: &[Step] = &[
     Step::On(Does::Delete, Outcome::Met),
     Step::On(CREATE, Outcome::Refused(OrchFault::NameUsed)),
     Step::On(Does::Deliver(3), Outcome::Answered(10)),
-    Step::Replies(10, Status::Aborted, "stale"),
+    Step::Replies(10, (1, 2), Status::Aborted, "stale"),
     Step::Has(0, "n1", 0, 0),
 ];
 
@@ -88,9 +94,9 @@ const LATE_ATTACHMENT: &[Step] = &[
     Step::On(Does::Deliver(7), Outcome::Taken(None)),
     Step::Publishes(8, "n2", ONE, false),
     Step::On(Does::Deliver(3), Outcome::Answered(14)),
-    Step::Replies(14, Status::Aborted, "stale"),
+    Step::Replies(14, (1, 2), Status::Aborted, "stale"),
     Step::On(Does::Deliver(5), Outcome::Answered(15)),
-    Step::Replies(15, Status::Aborted, "stale"),
+    Step::Replies(15, (1, 4), Status::Aborted, "stale"),
     Step::Has(1, "n2", 1, 1),
     Step::Has(1, "n1", 0, 0),
 ];
@@ -106,7 +112,10 @@ const LATE_REPLY: &[Step] = &[
     Step::On(Does::Deliver(5), Outcome::Answered(6)),
     Step::On(Does::Deliver(6), Outcome::Taken(Some(7))),
     Step::On(Does::Deliver(7), Outcome::Answered(8)),
+    Step::Calls(7, (1, 4), Kind::NodePublishVolume),
+    Step::Replies(8, (1, 4), Status::Ok, ""),
     Step::On(Does::Timeout, Outcome::Sent(9)),
+    Step::Calls(9, (1, 5), Kind::NodePublishVolume),
     Step::On(Does::Deliver(8), Outcome::Ignored),
     Step::Knows(Fact::Published("v", "n1", "/a"), Known::Maybe),
     Step::Knows(Fact::Staged("v", "n1"), Known::Yes),

@@ -1,5 +1,5 @@
 //! How a table is played. The world is simulated anew after each event, and audited. Where memory is refused it is simulated,
-//! or audited, the second time, so that each test is one of refused growths too (by `rt try --test --fail-alloc N`).
+//! or audited, the second time, so that each test is one of refused growths too (by `tools/refusals`).
 use super::checking::{has, has_node, is_call, is_reply, knows};
 use super::events::event;
 use super::{Does, Step};
@@ -116,8 +116,10 @@ fn has_frames(world: &World, step: Step) -> bool {
     match step {
         Step::Frames(count) => world.frames() == count,
         Step::NoFrame(number) => world.frame(number).is_none(),
-        Step::Calls(number, kind) => is_call(world.frame(number), kind),
-        Step::Replies(number, status, detail) => is_reply(world.frame(number), status, detail),
+        Step::Calls(frame, number, kind) => is_call(world.frame(frame), number, kind),
+        Step::Replies(frame, number, status, detail) => {
+            is_reply(world.frame(frame), number, status, detail)
+        }
         _ => true,
     }
 }

@@ -3,7 +3,7 @@ use super::playing::plays;
 use super::{ATTACH, Does, N1, ONE, PUBLISH, Step, USE};
 use crate::orchestrator::Fact;
 use csi_orchestrator::Known;
-use csi_types::Kind;
+use csi_types::{Kind, Status};
 use csi_world::Outcome;
 
 // The orchestrator restarts before it hears that the volume is attached, and asks again.
@@ -15,8 +15,11 @@ const ASKS_AGAIN: &[Step] = &[
     Step::On(Does::Deliver(5), Outcome::Answered(6)),
     Step::On(Does::Deliver(6), Outcome::Taken(Some(7))),
     Step::IsIn(2),
-    Step::Calls(5, Kind::ControllerPublishVolume),
-    Step::Calls(7, Kind::NodeStageVolume),
+    Step::Calls(3, (1, 2), Kind::ControllerPublishVolume),
+    Step::Replies(4, (1, 2), Status::Ok, ""),
+    Step::Calls(5, (2, 1), Kind::ControllerPublishVolume),
+    Step::Replies(6, (2, 1), Status::Ok, ""),
+    Step::Calls(7, (2, 2), Kind::NodeStageVolume),
     Step::Has(1, "n1", 0, 0),
 ];
 

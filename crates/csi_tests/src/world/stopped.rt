@@ -11,9 +11,9 @@ const STOP: Does = Does::Stop("n1", "/a");
 // The volume is taken from its only target, and so from the node.
 const FREED: &[Step] = &[
     Step::Leaves(9, "n1"),
-    Step::Calls(9, Kind::NodeUnpublishVolume),
-    Step::Calls(11, Kind::NodeUnstageVolume),
-    Step::Calls(13, Kind::ControllerUnpublishVolume),
+    Step::Calls(9, (1, 5), Kind::NodeUnpublishVolume),
+    Step::Calls(11, (1, 6), Kind::NodeUnstageVolume),
+    Step::Calls(13, (1, 7), Kind::ControllerUnpublishVolume),
     Step::Knows(Fact::Exists("v"), Known::Yes),
     Step::Knows(Fact::Attached("v", "n1"), Known::No),
     Step::Knows(Fact::Staged("v", "n1"), Known::No),
@@ -21,7 +21,7 @@ const FREED: &[Step] = &[
     Step::Has(0, "n1", 0, 0),
     Step::On(STOP, Outcome::Refused(OrchFault::NoSuchTarget)),
     Step::On(Does::Delete, Outcome::Sent(15)),
-    Step::Calls(15, Kind::DeleteVolume),
+    Step::Calls(15, (1, 8), Kind::DeleteVolume),
 ];
 
 #[test]
@@ -45,13 +45,29 @@ const LATE_DETACHMENT: &[Step] = &[
     Step::On(Does::Deliver(17), Outcome::Taken(Some(18))),
     Step::On(Does::Deliver(18), Outcome::Answered(19)),
     Step::On(Does::Deliver(13), Outcome::Answered(20)),
-    Step::Replies(20, Status::Aborted, "stale"),
+    Step::Replies(20, (1, 7), Status::Aborted, "stale"),
     Step::Has(1, "n1", 1, 0),
+];
+
+// The calls of it, and what they were replied in time.
+const DETACHMENTS: &[Step] = &[
+    Step::Calls(9, (1, 5), Kind::NodeUnpublishVolume),
+    Step::Replies(10, (1, 5), Status::Ok, ""),
+    Step::Calls(11, (1, 6), Kind::NodeUnstageVolume),
+    Step::Replies(12, (1, 6), Status::Ok, ""),
+    Step::Calls(13, (1, 7), Kind::ControllerUnpublishVolume),
+    Step::Calls(14, (1, 8), Kind::ControllerUnpublishVolume),
+    Step::Replies(15, (1, 8), Status::Ok, ""),
+    Step::Calls(16, (1, 9), Kind::ControllerPublishVolume),
+    Step::Replies(17, (1, 9), Status::Ok, ""),
+    Step::Calls(18, (1, 10), Kind::NodeStageVolume),
+    Step::Replies(19, (1, 10), Status::Ok, ""),
+    Step::Frames(20),
 ];
 
 #[test]
 fn a_late_detachment_is_stale(rt: HostRuntime) {
-    plays(&rt, N1, &[ATTACH, PUBLISH, LATE_DETACHMENT]);
+    plays(&rt, N1, &[ATTACH, PUBLISH, LATE_DETACHMENT, DETACHMENTS]);
 }
 
 // While the use is under way it isn't stopped.
@@ -79,11 +95,11 @@ const TWO_TARGETS: &[Step] = &[
     Step::On(Does::Timeout, Outcome::Sent(12)),
     Step::On(Does::Timeout, Outcome::Sent(13)),
     Step::On(Does::Timeout, Outcome::Sent(14)),
-    Step::Calls(14, Kind::NodeUnpublishVolume),
+    Step::Calls(14, (1, 9), Kind::NodeUnpublishVolume),
     Step::On(Does::Deliver(14), Outcome::Answered(15)),
     Step::On(Does::Deliver(15), Outcome::Taken(None)),
     Step::On(Does::Deliver(11), Outcome::Answered(16)),
-    Step::Replies(16, Status::Aborted, "stale"),
+    Step::Replies(16, (1, 6), Status::Aborted, "stale"),
     Step::Has(1, "n1", 1, 1),
     Step::Knows(Fact::Published("v", "n1", "/b"), Known::Yes),
     Step::Knows(Fact::Published("v", "n1", "/a"), Known::No),
@@ -107,9 +123,9 @@ const MOVED: &[Step] = &[
     Step::Has(1, "n2", 1, 1),
     Step::Has(1, "n1", 0, 0),
     Step::On(Does::Deliver(3), Outcome::Answered(21)),
-    Step::Replies(21, Status::Aborted, "stale"),
+    Step::Replies(21, (1, 2), Status::Aborted, "stale"),
     Step::On(Does::Deliver(13), Outcome::Answered(22)),
-    Step::Replies(22, Status::Aborted, "stale"),
+    Step::Replies(22, (1, 7), Status::Aborted, "stale"),
     Step::Has(1, "n2", 1, 1),
     Step::KnowsAt("n2", Known::Yes),
 ];

@@ -17,11 +17,11 @@ fn eight_frames_publish_a_volume(rt: HostRuntime) {
 }
 
 const KEPT: &[Step] = &[
-    Step::Calls(1, Kind::CreateVolume),
-    Step::Calls(3, Kind::ControllerPublishVolume),
-    Step::Calls(5, Kind::NodeStageVolume),
-    Step::Calls(7, Kind::NodePublishVolume),
-    Step::Replies(8, Status::Ok, ""),
+    Step::Calls(1, (1, 1), Kind::CreateVolume),
+    Step::Calls(3, (1, 2), Kind::ControllerPublishVolume),
+    Step::Calls(5, (1, 3), Kind::NodeStageVolume),
+    Step::Calls(7, (1, 4), Kind::NodePublishVolume),
+    Step::Replies(8, (1, 4), Status::Ok, ""),
     Step::NoFrame(0),
     Step::NoFrame(9),
 ];
@@ -78,15 +78,15 @@ fn what_is_so_already_needs_no_call(rt: HostRuntime) {
 // Each frame comes a second time: calls get the kept replies, replies are ignored.
 const REPEATED: &[Step] = &[
     Step::On(Does::Deliver(7), Outcome::Answered(9)),
-    Step::Replies(9, Status::Ok, ""),
+    Step::Replies(9, (1, 4), Status::Ok, ""),
     Step::On(Does::Deliver(8), Outcome::Ignored),
     Step::On(Does::Deliver(9), Outcome::Ignored),
     Step::On(Does::Deliver(5), Outcome::Answered(10)),
-    Step::Replies(10, Status::Aborted, "stale"),
+    Step::Replies(10, (1, 3), Status::Aborted, "stale"),
     Step::On(Does::Deliver(3), Outcome::Answered(11)),
-    Step::Replies(11, Status::Ok, ""),
+    Step::Replies(11, (1, 2), Status::Ok, ""),
     Step::On(Does::Deliver(1), Outcome::Answered(12)),
-    Step::Replies(12, Status::Aborted, "stale"),
+    Step::Replies(12, (1, 1), Status::Aborted, "stale"),
     Step::KnowsOfEach(Known::Yes),
     Step::Has(1, "n1", 1, 1),
 ];
