@@ -1,5 +1,5 @@
 -- The readers of single fields read what is spelled: those of frames since they agree with a grammar.
-use Rattle.std.proofs.Common.{◌≡◌, ℕ, zero, suc, ◌+◌, ◌-◌, ◌≤◌, Bool, true, false, cond, ltb, eqb, List, [], ◌∷◌, ◌++◌, Some, None, Result, Ok, Err, refl, sym, ap, subst, ◌∙◌, arith}
+use Rattle.std.proofs.Common.{◌≡◌, ℕ, zero, suc, ◌+◌, ◌-◌, ◌≤◌, Bool, true, false, cond, ltb, leb, eqb, List, [], ◌∷◌, ◌++◌, Some, None, Result, Ok, Err, refl, sym, ap, subst, ◌∙◌, arith}
 use Rattle.std.specs.Prelude.{Option}
 use Rattle.std.proofs.lemmas.Bool.{ltb-false, leb-true, le-leb, eqb-true, eq-eqb}
 use Rattle.std.proofs.lemmas.List.{append-nil}
@@ -18,7 +18,7 @@ use Rattle.csi_frames.specs.Kinds.{kind_from_number, reply_kind_from}
 use Rattle.csi_frames.specs.Reading as frames
 use Rattle.csi_frames.specs.Reading.{byte_at}
 use Rattle.csi_frames.specs.Spelling as spelling
-use Rattle.csi_frames.proofs.Readers.{Agrees}
+use Rattle.csi_frames.proofs.Readers.{Agrees, done, ok_is}
 use Rattle.csi_frames.proofs.FieldReaders.{byte_agrees}
 use Rattle.csi_frames.proofs.Codes.{kind-back}
 use Rattle.csi_frames.proofs.CapabilityReaders.{any_word_agrees, any_text_agrees, flag_agrees, capability_agrees}
@@ -61,6 +61,16 @@ count_reads most =
     (λ n bytes s. record { fits = record { within = leb-true n most s.is_allowed }; are = s.one })
     (λ n bytes s. record { is_allowed = le-leb n most s.fits.within; one = s.are })
     (reads_of (byte_agrees (at_most most) BadCount (λ _. End)))
+
+-- a count that was read is at most so much; by whether the byte is
+within-by : (most b n : ℕ) (bytes left : List ℕ) (t : Bool) → leb b most ≡ t → cond t (done b bytes) (frames.stopped BadCount (b ∷ bytes)) ≡ Ok (n, left) → n ≤ most
+within-by most b n bytes left true is e = subst (λ (k : ℕ). k ≤ most) (ap (λ (x : ℕ × List ℕ). x.0) (ok_is b bytes (n, left) e)) (leb-true b most is)
+within-by most b n bytes left false is e = absurd cc
+
+pub count-within : (most n : ℕ) (bytes left : List ℕ) → byte_at (at_most most) BadCount bytes ≡ Ok (n, left) → n ≤ most
+unfolding byte_at
+count-within most n [] left e = absurd cc
+count-within most n (b ∷ bytes) left e = within-by most b n bytes left (leb b most) refl e
 
 pub word_reads : Reads word_in (Spelled IsWord spelling.word)
 unfolding word_in
