@@ -5,7 +5,7 @@ use csi_sqlite::SqliteKeep;
 use sqlite::{Connection, MemStore};
 use std::process::Abort;
 
-// A store that may read two rows at once, and has three.
+// A store that may take three steps for a statement, and has three parts, which are more than it can read.
 fn limited(rt: &(impl Abort + AllocGlobal)) -> SqliteKeep<MemStore> {
     let mut connection = Connection::open_in_memory(rt.alloc()).expect(rt, "a database");
     connection.set_step_limit(Some(3));
@@ -18,8 +18,13 @@ fn limited(rt: &(impl Abort + AllocGlobal)) -> SqliteKeep<MemStore> {
     keep
 }
 
+// A part that is taken out.
+fn gone(key: u64) -> Part {
+    Part { key, value: None }
+}
+
 // How many parts the store has, if they are read.
-fn count<K: Keep>(keep: &mut K) -> Result<usize, KeepFault> {
+fn count(keep: &mut SqliteKeep<MemStore>) -> Result<usize, KeepFault> {
     let parts = keep.load()?;
     let count = parts.len();
     drop(parts);
@@ -30,12 +35,9 @@ fn count<K: Keep>(keep: &mut K) -> Result<usize, KeepFault> {
 fn a_store_that_failed_once_goes_on(rt: HostRuntime) {
     let mut keep = limited(&rt);
     assert!(&rt; count(&mut keep) == Err(KeepFault::Device) && keep.faults() == 1);
-    let gone = [Part {
-        key: 2,
-        value: None,
-    }];
-    assert!(&rt; keep.commit(&gone).is_ok() && keep.faults() == 1);
-    drop(gone);
-    assert!(&rt; count(&mut keep) == Ok(2) && keep.faults() == 1);
+    let all = [gone(1), gone(2), gone(3)];
+    assert!(&rt; keep.commit(&all).is_ok() && keep.faults() == 1);
+    drop(all);
+    assert!(&rt; count(&mut keep) == Ok(0) && keep.faults() == 1);
     drop(keep);
 }
