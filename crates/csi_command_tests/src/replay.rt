@@ -1,10 +1,12 @@
 //! Tests of what `csi-replay` does with the bytes of a file and reads of a schedule. What is to come of them is written out in
 //! tables, by the formats.
 mod answers;
+mod configs;
 mod endings;
 mod events;
 mod examples;
 mod files;
+mod flushes;
 mod listed;
 mod long;
 mod pictures;

@@ -1,26 +1,26 @@
 -- A command on a stream ends as on the bytes of it.
-use Rattle.std.proofs.Common.{◌≡◌, sym, subst, refl, inl, inr, ℕ, List, [], length, drop, take_all, OnOk, OnErr, Option, Result, Ok, Err, arith}
+use Rattle.std.proofs.Common.{◌≡◌, ◌∙◌, sym, ap, subst, refl, inl, inr, ℕ, List, [], ◌++◌, length, take_all, OnOk, OnErr, Option, Result, Ok, Err, arith}
 use Rattle.std.proofs.lemmas.List.{append-nil}
 use Rattle.std.specs.Io.KnownBytes.{Appends, Consumes, IsAtEnd}
 use Rattle.std.proofs.KnownBytes.{Appends-nil}
-use Rattle.std.specs.declared.io.ErrorKind.{ErrorKind}
-use Rattle.std.specs.declared.io.ErrorKind.TheVariants.{OutOfMemory}
 use Rattle.csi_types.specs.Frame.{Frame}
 use Rattle.csi_frames.specs.Stream.{FramesOf}
-use Rattle.csi_streams.specs.declared.output.WriteFailed.{WriteFailed}
+use Rattle.csi_counted.specs.declared.output.WriteFailed.{WriteFailed}
+use Rattle.csi_counted.specs.Counting.{HasRisen}
+use Rattle.csi_counted.specs.Writing.{WritesFront}
 use Rattle.csi_streams.specs.declared.streaming.StreamFault.{StreamFault}
 use Rattle.csi_streams.specs.declared.streaming.StreamFault.TheVariants as stops
 use Rattle.csi_streams.specs.Replay.{Grows}
-use Rattle.csi_streams.specs.Streaming.{AreReplies, AreLines, GivesFront, StreamEnds, Streams, Waits, WritesFront}
+use Rattle.csi_streams.specs.Failing.{TellsReader, TellsWriter}
+use Rattle.csi_streams.specs.Streaming.{AreReplies, AreLines, GivesFront, StreamEnds, Streams, Waits}
 use Rattle.csi_streams.proofs.Streams.{one_stream}
 use Rattle.csi_endings.specs.declared.command.FileCommand.TheVariants.{Answer, Show, Schedule}
 use Rattle.csi_endings.specs.declared.command.ScheduleCommand.{ScheduleCommand}
 use Rattle.csi_endings.specs.declared.ending.Ending.{Ending}
 use Rattle.csi_endings.specs.declared.ending.Ending.TheVariants as endings
-use Rattle.csi_endings.specs.Ending.{ending_unless_memory}
 use Rattle.csi_commands.specs.Ending.{EndsAs}
 use Rattle.csi_commands.specs.Running.{Plays, IsRefused}
-use Rattle.csi_commands.specs.Streaming.{StreamsAs, StreamEndsAs, WasCut, ending_of_stream, ending_of_written}
+use Rattle.csi_commands.specs.Streaming.{StreamsAs, StreamEndsAs, WasCut, TellsDevice, HasRead, ReadsWhole, ending_of_stream, ending_of_written}
 
 -- all bytes begin with none; and all begin with themselves
 grows-all : (bytes : List ℕ) → Grows [] bytes
@@ -85,19 +85,25 @@ refused_so command at_end bytes endings.Usage end refused = absurd refused
 refused_so command at_end bytes endings.Device end refused = absurd refused
 refused_so command at_end bytes endings.StoreNotOpened end refused = absurd refused
 refused_so command at_end bytes endings.Endless end refused = absurd refused
-refused_so command at_end bytes endings.Memory end refused = (tt, (λ frames rest of. tt, (refused, refl)))
+refused_so command at_end bytes endings.Memory end refused = refl
 
 -- where the reader failed, or memory ran out, nothing is given
-unread : (command : ScheduleCommand) (at_end : Type 0) (bytes : List ℕ) (kind : ErrorKind) → StreamEndsAs (Schedule command) at_end bytes [] (ending_unless_memory kind endings.Device)
-unread command at_end bytes OutOfMemory = (tt, (λ frames rest of. tt, (tt, refl)))
-unread command at_end bytes _ = record { all = []; appended = inl refl; grows = grows-none [] }
-
-pub unread_so : (command : ScheduleCommand) (left now has : Option (List ℕ)) (bytes : List ℕ) (kind : ErrorKind) → Consumes left now bytes → StreamsAs (Schedule command) left now has has (ending_unless_memory kind endings.Device)
-unread_so command left now has bytes kind consumed = record { bytes = bytes; consumed = consumed; out = []; written = Appends-nil has; ends = unread command (IsAtEnd now) bytes kind }
+pub unread_so : (command : ScheduleCommand) (left now has : Option (List ℕ)) (before after : ℕ) (old new : List ℕ) (ending : Ending) → ReadsWhole left now before after old new (Err ending) → StreamsAs (Schedule command) left now has has ending
+unread_so command left now has before after old new endings.Device unread = record { bytes = unread.0; consumed = unread.1; out = []; written = Appends-nil has; ends = record { all = []; appended = inl refl; grows = grows-none [] } }
+unread_so command left now has before after old new endings.Memory unread = record { bytes = unread.0; consumed = unread.1; out = []; written = Appends-nil has; ends = refl }
+unread_so command left now has before after old new endings.Done unread = absurd unread
+unread_so command left now has before after old new (endings.FrameFault kind place) unread = absurd unread
+unread_so command left now has before after old new (endings.ScheduleFault fault) unread = absurd unread
+unread_so command left now has before after old new endings.NotUtf8 unread = absurd unread
+unread_so command left now has before after old new endings.ConfigRefused unread = absurd unread
+unread_so command left now has before after old new (endings.RecordFault place) unread = absurd unread
+unread_so command left now has before after old new endings.Usage unread = absurd unread
+unread_so command left now has before after old new endings.StoreNotOpened unread = absurd unread
+unread_so command left now has before after old new endings.Endless unread = absurd unread
 
 -- what came into an empty vector was read
-pub read_in : (left now : Option (List ℕ)) (before after bytes : List ℕ) → before ≡ [] → bytes ≡ after → Consumes left now (drop (length before) after) → Consumes left now bytes
-read_in left now before after bytes none is consumed = subst (Consumes left now) (sym is) (subst (λ (front : List ℕ). Consumes left now (drop (length front) after)) none consumed)
+pub read_in : (left now : Option (List ℕ)) (before after bytes : List ℕ) → before ≡ [] → bytes ≡ after → HasRead left now before after → Consumes left now bytes
+read_in left now before after bytes none is read = subst (Consumes left now) (sym (is ∙ read.appended ∙ ap (λ (front : List ℕ). front ++ read.more) none)) read.consumed
 
 -- what a schedule gives was written, or not
 pub plays_so : (command : ScheduleCommand) (left now had has : Option (List ℕ)) (bytes before given text : List ℕ) (result : Result (Unit {0}) WriteFailed) → Consumes left now bytes → IsAtEnd now → before ≡ [] → text ≡ given → Plays command bytes before given
@@ -114,5 +120,40 @@ plays_so command left now had has bytes before given text (Err failed) consumed 
   consumed = consumed;
   out = cut.front;
   written = cut.appended;
-  ends = record { all = given; appended = inr (subst (λ (old : List ℕ). Plays command bytes old given) none plays); grows = subst (Grows cut.front) is cut.grows };
+  ends = record { all = given; appended = inr (subst (λ (old : List ℕ). Plays command bytes old given) none plays); grows = subst (Grows cut.front) is (record { more = cut.more; appended = cut.parts }) };
 }
+
+-- ---- which failures are told
+
+-- where a stream of frames ended so
+pub told_so : (reader_before reader_after writer_before writer_after : ℕ) (result : Result ℕ StreamFault) → TellsReader reader_before reader_after result → TellsWriter writer_before writer_after result
+    → TellsDevice reader_before reader_after writer_before writer_after (ending_of_stream result)
+told_so reader_before reader_after writer_before writer_after (Ok count) reader writer = (reader, writer)
+told_so reader_before reader_after writer_before writer_after (Err (stops.Frame kind place)) reader writer = (reader, writer)
+told_so reader_before reader_after writer_before writer_after (Err stops.NoMemory) reader writer = (reader, writer)
+told_so reader_before reader_after writer_before writer_after (Err stops.Input) reader writer = inl reader
+told_so reader_before reader_after writer_before writer_after (Err stops.Output) reader writer = inr writer
+told_so reader_before reader_after writer_before writer_after (Err stops.Endless) reader writer = (reader, writer)
+
+-- where a schedule wasn't read, or is refused, or what it gives was written or not
+pub unread_told : (left now : Option (List ℕ)) (before after writer : ℕ) (old new : List ℕ) (ending : Ending) → ReadsWhole left now before after old new (Err ending) → TellsDevice before after writer writer ending
+unread_told left now before after writer old new endings.Device unread = inl unread.2
+unread_told left now before after writer old new endings.Memory unread = (unread.2, refl)
+unread_told left now before after writer old new endings.Done unread = absurd unread
+unread_told left now before after writer old new (endings.FrameFault kind place) unread = absurd unread
+unread_told left now before after writer old new (endings.ScheduleFault fault) unread = absurd unread
+unread_told left now before after writer old new endings.NotUtf8 unread = absurd unread
+unread_told left now before after writer old new endings.ConfigRefused unread = absurd unread
+unread_told left now before after writer old new (endings.RecordFault place) unread = absurd unread
+unread_told left now before after writer old new endings.Usage unread = absurd unread
+unread_told left now before after writer old new endings.StoreNotOpened unread = absurd unread
+unread_told left now before after writer old new endings.Endless unread = absurd unread
+
+pub refused_told : (bytes : List ℕ) (before after writer : ℕ) (ending : Ending) → IsRefused bytes ending → after ≡ before → TellsDevice before after writer writer ending
+refused_told bytes before after writer endings.Device refused same = absurd refused
+refused_told bytes before after writer ending refused same = (same, refl)
+
+pub written_told : (reader_before reader_after writer_before writer_after : ℕ) (result : Result (Unit {0}) WriteFailed) → reader_after ≡ reader_before → OnErr result (HasRisen writer_before writer_after) → OnOk result (writer_after ≡ writer_before)
+    → TellsDevice reader_before reader_after writer_before writer_after (ending_of_written result)
+written_told reader_before reader_after writer_before writer_after (Ok done) same risen quiet = (same, quiet)
+written_told reader_before reader_after writer_before writer_after (Err failed) same risen quiet = inr risen

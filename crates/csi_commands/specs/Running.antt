@@ -43,11 +43,11 @@ pub record Plays (command : ScheduleCommand) (input old new : List ℕ) : Type 0
   pub gives : IsGiven command schedule given
   pub appended : new ≡ old ++ given
 
--- The input is no UTF-8, or is and has this fault; or memory ran out.
+-- The input is no UTF-8, or is and has this fault; or it is, and memory ran out.
 abbrev pub IsRefused : List ℕ → Ending → Type 0
 IsRefused input endings.NotUtf8 = IsUtf8 input → ⊥
 IsRefused input (endings.ScheduleFault fault) = IsUtf8 input × (text_schedule input ≡ Err fault)
-IsRefused input endings.Memory = Unit {0}
+IsRefused input endings.Memory = IsUtf8 input
 IsRefused input _ = ⊥
 
 -- want of memory is no fault of the schedule

@@ -1,10 +1,11 @@
 -- What a command does with the bytes of a reader: what it does with the bytes of a file. This profile's own.
-use Rattle.std.specs.Prelude.{◌≡◌, ◌⊎◌, ℕ, ◌^◌, ◌≤◌, List, [], length, Option, Result, Ok, Err}
+use Rattle.std.specs.Prelude.{◌≡◌, ◌⊎◌, ℕ, ◌^◌, ◌≤◌, List, [], ◌++◌, length, Option, Result, Ok, Err}
 use Rattle.std.specs.Io.KnownBytes.{Appends, Consumes, IsAtEnd}
 use Rattle.csi_types.specs.Frame.{Frame}
 use Rattle.csi_frames.specs.declared.fault.FaultKind.TheVariants.{Short}
 use Rattle.csi_frames.specs.Stream.{FramesOf}
-use Rattle.csi_streams.specs.declared.output.WriteFailed.{WriteFailed}
+use Rattle.csi_counted.specs.declared.output.WriteFailed.{WriteFailed}
+use Rattle.csi_counted.specs.Counting.{HasRisen}
 use Rattle.csi_streams.specs.declared.streaming.StreamFault.{StreamFault}
 use Rattle.csi_streams.specs.declared.streaming.StreamFault.TheVariants as stops
 use Rattle.csi_streams.specs.Replay.{Grows}
@@ -46,11 +47,18 @@ ReadsAll at_end (endings.ScheduleFault fault) = at_end
 ReadsAll at_end endings.NotUtf8 = at_end
 ReadsAll at_end _ = Unit {0}
 
--- It ends as with the bytes of a file, or a device failed, or the reader of frames gave 2^63 bytes.
+-- It ends as with the bytes of a file, or a device failed, or the reader of frames gave 2^63 bytes; or memory ran out before a schedule gave
+-- anything, perhaps before it was read.
 abbrev pub StreamEndsAs : FileCommand → Type 0 → List ℕ → List ℕ → Ending → Type 0
 StreamEndsAs command at_end bytes out endings.Device = WasCut command bytes out
 StreamEndsAs command at_end bytes out endings.Endless = (2 ^ 63 ≤ length bytes) × WritesAll command bytes out
+StreamEndsAs (Schedule command) at_end bytes out endings.Memory = out ≡ []
 StreamEndsAs command at_end bytes out ending = ReadsAll at_end ending × FileEnds command bytes out ending
+
+-- a device failed, the reader or the writer, at the ending that says so, and neither failed at any other
+abbrev pub TellsDevice : ℕ → ℕ → ℕ → ℕ → Ending → Type 0
+TellsDevice reader_before reader_after writer_before writer_after endings.Device = HasRisen reader_before reader_after ⊎ HasRisen writer_before writer_after
+TellsDevice reader_before reader_after writer_before writer_after _ = (reader_after ≡ reader_before) × (writer_after ≡ writer_before)
 
 -- some bytes were read, and some written, and so it ended
 pub record StreamsAs (command : FileCommand) (left_before left_after written_before written_after : Option (List ℕ)) (ending : Ending) : Type 0 where
@@ -71,3 +79,16 @@ ending_of_stream (Err stops.Endless) = endings.Endless
 abbrev pub ending_of_written : Result (Unit {0}) WriteFailed → Ending
 ending_of_written (Ok done) = endings.Done
 ending_of_written (Err failed) = endings.Device
+
+-- these bytes more are there, which were read
+pub record HasRead (left_before left_after : Option (List ℕ)) (old new : List ℕ) : Type 0 where
+  pub more : List ℕ
+  pub appended : new ≡ old ++ more
+  pub consumed : Consumes left_before left_after more
+
+-- the reader was read to its end; or it failed, or memory ran out, after some bytes
+abbrev pub ReadsWhole : Option (List ℕ) → Option (List ℕ) → ℕ → ℕ → List ℕ → List ℕ → Result (Unit {0}) Ending → Type 0
+ReadsWhole left_before left_after before after old new (Ok done) = HasRead left_before left_after old new × IsAtEnd left_after × (after ≡ before)
+ReadsWhole left_before left_after before after old new (Err endings.Device) = (read : List ℕ) × Consumes left_before left_after read × HasRisen before after
+ReadsWhole left_before left_after before after old new (Err endings.Memory) = (read : List ℕ) × Consumes left_before left_after read × (after ≡ before)
+ReadsWhole left_before left_after before after old new (Err _) = ⊥

@@ -1,6 +1,7 @@
 //! A schedule, run to its report, to the frames that it sends, or to its picture.
 ghost use Rattle.std.specs.Prelude.{◌≡◌, IfOk, IfErr, OnOk, OnErr};
 ghost use Rattle.std.specs.List.{flat_map};
+ghost use Rattle.std.specs.Str.{IsUtf8};
 ghost use Rattle.csi_frames.specs.Spelling.{spelling};
 ghost use Rattle.csi_schedules.specs.Schedule.{text_schedule};
 ghost use Rattle.csi_commands.specs.Running.{IsReportLine, IsGivenOf, IsGiven, Plays, IsRefused, refusal_of as refusal};
@@ -28,6 +29,7 @@ fn refusal_of(fault: ScheduleFault) -> Ending
 fn schedule_in(alloc: Global, input: &[u8]) -> Result<(Config, Vec<Event>), Ending>
     ensures read { IfOk result (λ made. text_schedule input.now ≡ Ok (record { config = made.0; events = made.1.items })) }
     ensures refused { IfErr result (IsRefused input.now) }
+    ensures utf8 { OnOk result (IsUtf8 input.now) }
 {
     let Ok(text) = str::from_utf8(input) else {
         return Err(Ending::NotUtf8);

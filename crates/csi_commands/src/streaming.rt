@@ -1,13 +1,17 @@
 //! The commands on a reader and a writer.
 ghost use Rattle.std.specs.Prelude.{◌≡◌};
-ghost use Rattle.csi_commands.specs.Streaming.{StreamsAs, ending_of_stream, ending_of_written};
+ghost use Rattle.csi_commands.specs.Streaming.{StreamsAs, TellsDevice, ReadsWhole, ending_of_stream, ending_of_written};
 ghost use Rattle.csi_endings.specs.declared.command.FileCommand.TheVariants as commands;
 
 use crate::running::play;
+use csi_counted::{Counted, WriteFailed, write_out};
 use csi_endings::{Ending, FileCommand, ScheduleCommand};
-use csi_streams::{StreamFault, WriteFailed, answer_from, show_from, write_out};
+use csi_streams::{StreamFault, answer_from, show_from};
 use std::alloc::Global;
 use std::io::{Read, Write};
+
+/// The most bytes that are read at once: as many as a pipe of Linux holds.
+const READ: usize = 65_536;
 
 // The ending where a stream of frames ended so.
 fn ended(streamed: Result<u64, StreamFault>) -> Ending
@@ -32,19 +36,33 @@ fn written(given: Result<(), WriteFailed>) -> Ending
     }
 }
 
+// Appends all bytes that a reader has.
+fn read_whole<R: Read>(input: &mut Counted<R>, bytes: &mut Vec<u8>) -> Result<(), Ending>
+    ensures { ReadsWhole (R.remaining input.old.inner) (R.remaining input.new.inner) input.old.faults input.new.faults bytes.old.items bytes.new.items result }
+{
+    let mut piece = [0; READ];
+    'pieces: loop {
+        match input.read(&mut piece) {
+            Ok(0) => return Ok(()),
+            Ok(n) => bytes.extend_from_slice(piece.split_at(n).0)?,
+            Err(_) => return Err(Ending::Device),
+        }
+    }
+}
+
 // Runs the schedule that a reader has.
 fn play_from<R: Read, W: Write>(
     alloc: Global,
     command: ScheduleCommand,
-    input: &mut R,
-    out: &mut W,
+    input: &mut Counted<R>,
+    out: &mut Counted<W>,
 ) -> Ending
-    ensures { StreamsAs (commands.Schedule command) (R.remaining input.old) (R.remaining input.new) (W.contents out.old) (W.contents out.new) result }
+    ensures streams { StreamsAs (commands.Schedule command) (R.remaining input.old.inner) (R.remaining input.new.inner) (W.contents out.old.inner) (W.contents out.new.inner) result }
+    ensures device { TellsDevice input.old.faults input.new.faults out.old.faults out.new.faults result }
 {
     let mut bytes = Vec::new(alloc);
-    match input.read_to_end(&mut bytes) {
-        Ok(_) => {}
-        Err(error) => return Ending::of_device(error.kind()),
+    if let Err(ending) = read_whole(input, &mut bytes) {
+        return ending;
     }
     let mut given = Vec::new(alloc);
     match play(alloc, command, &bytes, &mut given) {
@@ -56,15 +74,16 @@ fn play_from<R: Read, W: Write>(
 /// Does with the bytes of a reader what `file` does with the bytes of a file, and writes to `out`, and flushes, what `file`
 /// appends. Frames are read in pieces of at most 65,536 bytes, and what is given for the frames that are there is written before
 /// more is read; a schedule is read whole, and what it gives is written at the end. `Device` says that the reader or the writer
-/// failed, and then a front of what `file` would append is written; `Endless` that the frames' reader gave 2^63 bytes, and then
+/// failed, as neither did at any other ending, and then a front of what `file` would append is written; `Endless` that the frames' reader gave 2^63 bytes, and then
 /// all is written that is given for the frames that are there; the ending is never `Usage`. Of a reader or a writer that doesn't tell its bytes nothing is said.
 pub fn stream<R: Read, W: Write>(
     alloc: Global,
     command: FileCommand,
-    input: &mut R,
-    out: &mut W,
+    input: &mut Counted<R>,
+    out: &mut Counted<W>,
 ) -> Ending
-    ensures { StreamsAs command (R.remaining input.old) (R.remaining input.new) (W.contents out.old) (W.contents out.new) result }
+    ensures streams { StreamsAs command (R.remaining input.old.inner) (R.remaining input.new.inner) (W.contents out.old.inner) (W.contents out.new.inner) result }
+    ensures device { TellsDevice input.old.faults input.new.faults out.old.faults out.new.faults result }
 {
     match command {
         FileCommand::Answer => ended(answer_from(alloc, input, out)),

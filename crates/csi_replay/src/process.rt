@@ -16,8 +16,9 @@ fn over_file(
     command: FileCommand,
     path: &str,
 ) -> Result<Ending, Ending> {
-    let mut input = fs::open(rt, path).map_err(|error| Ending::of_device(error.kind()))?;
-    let mut out = io::writer(rt);
+    let input = fs::open(rt, path).map_err(|error| Ending::of_device(error.kind()))?;
+    let mut input = Counted::new(input);
+    let mut out = Counted::new(io::writer(rt));
     Ok(stream(rt.alloc(), command, &mut input, &mut out))
 }
 

@@ -2,6 +2,7 @@
 use super::running::bytes;
 use super::{CONTROLLER_PUBLISH, CREATE, CREATED, Case, DAMAGED, DELETE, DELETED, NO_NODE};
 use csi_commands::{StreamFault, answer_from, show_from, stream};
+use csi_counted::Counted;
 use csi_endings::{Ending, FileCommand, ScheduleCommand};
 use csi_frames::FaultKind;
 use std::alloc::Global;
@@ -124,9 +125,10 @@ enum Outcome {
 }
 
 fn what_comes(alloc: Global, asked: Asked<'_>, ways: Ways, wanted: &[u8]) -> Outcome {
-    let mut reader = reader_of(asked.input, ways);
-    let mut writer = new_writer(ways);
+    let mut reader = Counted::new(reader_of(asked.input, ways));
+    let mut writer = Counted::new(new_writer(ways));
     let ending = stream(alloc, asked.command, &mut reader, &mut writer);
+    let writer = writer.into_inner();
     if ending == Ending::Memory && wanted.starts_with(writer.got()) {
         return Outcome::NoMemory;
     }
@@ -344,10 +346,10 @@ const STUCK: Ways = Ways {
 
 // Whether the writer's failure is told, after one read.
 fn is_stuck(alloc: Global, frames: &[u8]) -> bool {
-    let mut reader = reader_of(frames, STUCK);
-    let mut writer = new_writer(STUCK);
+    let mut reader = Counted::new(reader_of(frames, STUCK));
+    let mut writer = Counted::new(new_writer(STUCK));
     match answer_from(alloc, &mut reader, &mut writer) {
-        Err(StreamFault::Output) => reader.calls == 1,
+        Err(StreamFault::Output) => reader.into_inner().calls == 1,
         _ => false,
     }
 }
@@ -369,23 +371,17 @@ fn counts_three(counted: Result<u64, StreamFault>) -> bool {
 #[test]
 fn answer_from_succeeds_with_memory(rt: HostRuntime) {
     let frames = bytes(&rt, &[CREATE, CONTROLLER_PUBLISH, DELETE]);
-    let mut writer = new_writer(AT_ONCE);
-    let result = answer_from(
-        rt.alloc(),
-        &mut reader_of(&frames, BYTE_BY_BYTE),
-        &mut writer,
-    );
+    let mut reader = Counted::new(reader_of(&frames, BYTE_BY_BYTE));
+    let mut writer = Counted::new(new_writer(AT_ONCE));
+    let result = answer_from(rt.alloc(), &mut reader, &mut writer);
     assert!(&rt; counts_three(result));
 }
 
 #[test]
 fn show_from_succeeds_with_memory(rt: HostRuntime) {
     let frames = bytes(&rt, &[CREATE, CONTROLLER_PUBLISH, DELETE]);
-    let mut writer = new_writer(AT_ONCE);
-    let result = show_from(
-        rt.alloc(),
-        &mut reader_of(&frames, BYTE_BY_BYTE),
-        &mut writer,
-    );
+    let mut reader = Counted::new(reader_of(&frames, BYTE_BY_BYTE));
+    let mut writer = Counted::new(new_writer(AT_ONCE));
+    let result = show_from(rt.alloc(), &mut reader, &mut writer);
     assert!(&rt; counts_three(result));
 }

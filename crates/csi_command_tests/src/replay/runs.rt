@@ -86,6 +86,7 @@ fn a_schedule_that_has_a_fault_is_not_run(rt: HostRuntime) {
 
 const NO_UTF_8: &[Case] = &[
     Case::RunsBytes(&["ff"], Ending::NotUtf8),
+    Case::RunsBytes(&["fe"], Ending::NotUtf8),
     Case::RunsBytes(&["7b c3"], Ending::NotUtf8),
 ];
 
