@@ -333,7 +333,11 @@ fn add_at(
 }
 
 /// The bars of a run, in the order in which they begin.
-pub(crate) fn bars_of(alloc: Global, world: &World, events: &[Event]) -> Result<Vec<Bar>, AllocError>
+pub(crate) fn bars_of(
+    alloc: Global,
+    world: &World,
+    events: &[Event],
+) -> Result<Vec<Bar>, AllocError>
     ensures { IfOk result (λ bars. bars.items ≡ bars_to world.now events.now (length events.now)) }
 {
     let mut bars = Vec::new(alloc);
