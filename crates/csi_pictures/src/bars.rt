@@ -372,7 +372,7 @@ fn put_drawn(
     ensures { OnOk result (out.new.items ≡ out.old.items ++ drawn class.now lane column from to) }
 {
     let text = format!(in alloc;
-        "<path class='{class}' d='M{lane}015 {from}20m{column}0 0m{column}0 0m{column}0 0V{to}20'/>\n"
+        "<path class='{class}' d='M{lane}036 {from}20m{column}0 0m{column}0 0V{to}20'/>\n"
     )?;
     put(out, &text)
 }
