@@ -1,1 +1,2 @@
 pub mod NoRecords
+pub mod Tellings
