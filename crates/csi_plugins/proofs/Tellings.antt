@@ -1,5 +1,5 @@
 -- What a store answers, told.
-use Rattle.std.proofs.Common.{◌≡◌, ◌⊎◌, inl, inr, ℕ, List, subst}
+use Rattle.std.proofs.Common.{◌≡◌, ◌⊎◌, inl, inr, refl, ℕ, List, Option, subst}
 use Rattle.csi_stores.specs.declared.keep.KeepFault.{KeepFault}
 use Rattle.csi_stores.specs.declared.keep.KeepFault.TheVariants.{Device, NoMemory, BadRecord, Full}
 use Rattle.csi_stores.specs.Keeping.{IsLoadFault, IsForeignFault}
@@ -8,7 +8,7 @@ use Rattle.csi_stores.specs.Stores.{Store}
 use Rattle.csi_endings.specs.declared.ending.Ending.{Ending}
 use Rattle.csi_endings.specs.declared.ending.Ending.TheVariants as endings
 use Rattle.csi_plugins.specs.Ending.{ending_of_store, EndsAt}
-use Rattle.csi_plugins.specs.Recording.{IsNoRecordAt, HasNoLine, IsNotTold}
+use Rattle.csi_plugins.specs.Recording.{IsLineOf, IsNoRecordAt, HasNoLine, IsNotTold, IsTold, Records}
 
 -- why the parts that a store gave have no line is why it isn't told
 pub not_told : (before after : Store) (parts : List StoredPart) → (after.honest → (content : List StoredPart) → before.holds content → parts ≡ content) → (ending : Ending) → HasNoLine parts ending → IsNotTold before after ending
@@ -36,3 +36,21 @@ refuses_at place Device at = tt
 refuses_at place NoMemory at = tt
 refuses_at place (BadRecord here) at = at
 refuses_at place Full at = tt
+
+-- the line of the parts that a store gave is its own
+pub is_told : (before after : Store) (parts : List StoredPart) → (after.honest → (content : List StoredPart) → before.holds content → parts ≡ content) → (line : List ℕ) → IsLineOf parts line → IsTold before after line
+is_told before after parts are line is = λ honest content holds. subst (λ (p : List StoredPart). IsLineOf p line) (are honest content holds) is
+
+-- where there is no line nothing is written
+pub records_refused : (before after : Store) (had : Option (List ℕ)) (ending : Ending) → IsNotTold before after ending → Records before after had had ending
+records_refused before after had endings.Device no = inl (refl, no)
+records_refused before after had (endings.RecordFault place) no = (refl, no)
+records_refused before after had endings.Memory no = (refl, no)
+records_refused before after had endings.Done no = absurd no
+records_refused before after had (endings.FrameFault kind place) no = absurd no
+records_refused before after had (endings.ScheduleFault fault) no = absurd no
+records_refused before after had endings.NotUtf8 no = absurd no
+records_refused before after had endings.ConfigRefused no = absurd no
+records_refused before after had endings.Usage no = absurd no
+records_refused before after had endings.StoreNotOpened no = absurd no
+records_refused before after had endings.Endless no = absurd no
