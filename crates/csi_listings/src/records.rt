@@ -61,7 +61,12 @@ impl Entry for ControllerRow {
     fn value(&self, alloc: Global) -> Result<Value, AllocError> {
         let mut map = Map::new(alloc);
         put_array(&mut map, alloc, "attached", &self.holdings)?;
-        put_array(&mut map, alloc, "capabilities", self.capabilities.as_slice())?;
+        put_array(
+            &mut map,
+            alloc,
+            "capabilities",
+            self.capabilities.as_slice(),
+        )?;
         put(&mut map, alloc, "capacity", Value::from(self.capacity))?;
         put(&mut map, alloc, "id", Value::from(self.id.number()))?;
         let last = number(alloc, self.last)?;

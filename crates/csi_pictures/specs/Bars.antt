@@ -158,9 +158,9 @@ class_of lasting.Attached = codes "attached"
 class_of lasting.Staged = codes "staged"
 class_of lasting.Published = codes "published"
 
--- a column is three times ten units wide
+-- a column is twice ten units wide
 unfoldable pub drawn : List ℕ → ℕ → ℕ → ℕ → ℕ → List ℕ
-drawn class lane column from to = pieces (codes "<path class='" ∷ class ∷ codes "' d='M" ∷ decimal lane ∷ codes "015 " ∷ decimal from ∷ codes "20m" ∷ decimal column ∷ codes "0 0m" ∷ decimal column ∷ codes "0 0m" ∷ decimal column ∷ codes "0 0V" ∷ decimal to ∷ codes "20'/>\n" ∷ [])
+drawn class lane column from to = pieces (codes "<path class='" ∷ class ∷ codes "' d='M" ∷ decimal lane ∷ codes "036 " ∷ decimal from ∷ codes "20m" ∷ decimal column ∷ codes "0 0m" ∷ decimal column ∷ codes "0 0V" ∷ decimal to ∷ codes "20'/>\n" ∷ [])
 
 abbrev pub bar : Bar → List ℕ
 bar b = drawn (class_of b.what) b.lane b.column b.from b.to

@@ -1,6 +1,6 @@
 -- The picture of a run: one SVG. This profile's own.
 use Rattle.std.specs.Prelude.{◌≡◌, ℕ, ◌+◌, Bool, List, [], ◌++◌, length, slice_get, codes, Option, Some, None, if◌then◌else◌, not, is_some}
-use Rattle.std.specs.List.{list_any, flat_map}
+use Rattle.std.specs.List.{flat_map}
 use Rattle.csi_types.specs.Frame.{Frame}
 use Rattle.csi_orchestrator.specs.Shown.{view_of}
 use Rattle.csi_world.specs.declared.event.Event.{Event}
@@ -16,24 +16,24 @@ use Rattle.csi_pictures.specs.Lanes.{lanes, names_at}
 use Rattle.csi_pictures.specs.Front.{front}
 use Rattle.csi_pictures.specs.Elements.{arrow}
 use Rattle.csi_pictures.specs.Bars.{bar, bars_to}
-use Rattle.csi_pictures.specs.Scene.{sender, receiver, sent_number, sent_row, delivers, way_of}
+use Rattle.csi_pictures.specs.Scene.{sender, receiver, sent_number, sent_row, came, delivered_from, way_of}
 use Rattle.csi_pictures.specs.Rows.{row_text, mark, label, lost_of}
 
 -- ---- events
 
--- the arrow of a delivery, from where and when the frame was sent to where and when it is delivered
+-- the arrow of a delivery of a frame that was sent before, from where and when the frame was sent to where and when it is delivered
 abbrev pub passage_of : WorldParts → ℕ → ℕ → Outcome → Option Frame → List ℕ
 passage_of world row number outcome None = []
 passage_of world row number outcome (Some frame) = arrow (way_of world.frames outcome) (sender world.nodes frame) (sent_row number world.outcomes) (receiver world.nodes frame) row
 
 abbrev pub passage : WorldParts → ℕ → Event → Outcome → List ℕ
-passage world row (events.Deliver number) outcome = passage_of world row number outcome (numbered world.frames number)
+passage world row (events.Deliver number) outcome = if came outcome then passage_of world row number outcome (numbered world.frames number) else []
 passage world row _ outcome = []
 
 -- the frame that an event sent, and its way where nobody delivers it
 abbrev pub sent_of : WorldParts → List Event → ℕ → ℕ → Option Frame → List ℕ
 sent_of world events row number None = []
-sent_of world events row number (Some frame) = label world.nodes row number frame ++ (if list_any (delivers number) events then [] else lost_of (sender world.nodes frame) row frame.body)
+sent_of world events row number (Some frame) = label world.nodes row number frame ++ (if delivered_from number world.outcomes 0 events then [] else lost_of (sender world.nodes frame) row frame.body)
 
 abbrev pub sent_frame : WorldParts → List Event → ℕ → Option ℕ → List ℕ
 sent_frame world events row None = []

@@ -1,5 +1,5 @@
 -- Where things of a run stand in its picture: lanes and rows, from 1. This profile's own.
-use Rattle.std.specs.Prelude.{ℕ, suc, ◌==◌, Bool, true, false, List, [], ◌∷◌, codes, Option, Some, None, if◌then◌else◌}
+use Rattle.std.specs.Prelude.{ℕ, suc, ◌==◌, Bool, true, false, List, [], ◌∷◌, slice_get, codes, Option, Some, None, if◌then◌else◌}
 use Rattle.csi_types.specs.declared.call.Party.{Party}
 use Rattle.csi_types.specs.declared.call.Party.TheVariants.{Controller, Node}
 use Rattle.csi_types.specs.declared.frame.Body.{Body}
@@ -68,6 +68,20 @@ abbrev pub delivers : ℕ → Event → Bool
 delivers number (events.Deliver delivered) = delivered == number
 delivers number _ = false
 
+-- a delivery of a frame that was sent before
+abbrev pub came : Outcome → Bool
+came outcomes.NoSuchFrame = false
+came _ = true
+
+abbrev pub comes_by : ℕ → Event → Option Outcome → Bool
+comes_by number event None = false
+comes_by number event (Some outcome) = if came outcome then delivers number event else false
+
+-- of the events from a place on: one delivers the frame of this number, which was sent before
+abbrev pub delivered_from : ℕ → List Outcome → ℕ → List Event → Bool
+delivered_from number came_of place [] = false
+delivered_from number came_of place (event ∷ events) = if comes_by number event (slice_get came_of place) then true else delivered_from number came_of (suc place) events
+
 -- the frame that an event delivers
 abbrev pub delivered : List Frame → Event → Option Frame
 delivered frames (events.Deliver number) = numbered frames number
@@ -91,8 +105,9 @@ abbrev pub succeeded : List Frame → Outcome → Bool
 succeeded frames (outcomes.Answered number) = is_reply_of_success (numbered frames number)
 succeeded frames _ = false
 
--- a plugin refused it, or the orchestrator ignored it, or it was carried out or taken
+-- it was refused, or the orchestrator ignored it, or it was carried out or taken
 abbrev pub way_of : List Frame → Outcome → List ℕ
 way_of frames outcomes.Ignored = codes "ignored"
+way_of frames (outcomes.Refused fault) = codes "refused"
 way_of frames (outcomes.Answered number) = if succeeded frames (outcomes.Answered number) then codes "taken" else codes "refused"
 way_of frames _ = codes "taken"

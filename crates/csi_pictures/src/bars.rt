@@ -333,7 +333,11 @@ fn add_at(
 }
 
 /// The bars of a run, in the order in which they begin.
-pub(crate) fn bars_of(alloc: Global, world: &World, events: &[Event]) -> Result<Vec<Bar>, AllocError>
+pub(crate) fn bars_of(
+    alloc: Global,
+    world: &World,
+    events: &[Event],
+) -> Result<Vec<Bar>, AllocError>
     ensures { IfOk result (λ bars. bars.items ≡ bars_to world.now events.now (length events.now)) }
 {
     let mut bars = Vec::new(alloc);
@@ -368,7 +372,7 @@ fn put_drawn(
     ensures { OnOk result (out.new.items ≡ out.old.items ++ drawn class.now lane column from to) }
 {
     let text = format!(in alloc;
-        "<path class='{class}' d='M{lane}015 {from}20m{column}0 0m{column}0 0m{column}0 0V{to}20'/>\n"
+        "<path class='{class}' d='M{lane}036 {from}20m{column}0 0m{column}0 0V{to}20'/>\n"
     )?;
     put(out, &text)
 }

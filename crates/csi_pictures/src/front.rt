@@ -12,7 +12,7 @@ fn put_style(out: &mut Vec<u8>) -> Result<(), AllocError>
 {
     put(
         out,
-        "<style>text{font:39px sans-serif;fill:#222}.t{font-size:56px;font-weight:bold}.h{font-weight:bold;text-anchor:middle}.o{fill:#666;font-size:36px}.wrong{fill:#b34700;font-weight:bold}.odd{fill:#7a3e66;font-style:italic}.label,.bad{font-size:36px;stroke:#fff;stroke-width:9px;paint-order:stroke}.bad{fill:#b34700}.b{text-anchor:end}path{fill:none}.lane{stroke:#eee;stroke-width:90px}.attached,.staged{stroke-width:26px}.attached{stroke:#e69f00}.staged{stroke:#56b4e9}.published{stroke:#004c80;stroke-width:11px}.taken,.lost{stroke:#333;stroke-width:5px}.taken{marker-end:url(#head)}.refused{stroke:#d55e00;stroke-width:9px;marker-end:url(#stop)}.ignored{stroke:#aa4488;stroke-width:5px;stroke-dasharray:22 14;marker-end:url(#ring)}.lost{stroke-dasharray:8 10;marker-end:url(#open)}</style>\n",
+        "<style>text{font:39px sans-serif;fill:#222}.t{font-size:56px;font-weight:bold}.h{font-weight:bold;text-anchor:middle}.o{fill:#666;font-size:36px}.wrong{fill:#b34700;font-weight:bold}.odd{fill:#7a3e66;font-style:italic}.label,.bad{font-size:36px;stroke:#fff;stroke-width:9px;paint-order:stroke}.bad{fill:#b34700}.b{text-anchor:end}path{fill:none}.lane{stroke:#eee;stroke-width:90px}.attached,.staged{stroke-width:16px}.attached{stroke:#e69f00}.staged{stroke:#56b4e9}.published{stroke:#004c80;stroke-width:9px}.taken,.lost{stroke:#333;stroke-width:5px}.taken{marker-end:url(#head)}.refused{stroke:#d55e00;stroke-width:9px;marker-end:url(#stop)}.ignored{stroke:#aa4488;stroke-width:5px;stroke-dasharray:22 14;marker-end:url(#ring)}.lost{stroke-dasharray:8 10;marker-end:url(#open)}</style>\n",
     )
 }
 

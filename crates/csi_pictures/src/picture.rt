@@ -13,7 +13,7 @@ use crate::escaping::put;
 use crate::front::put_front;
 use crate::lanes::{put_lanes, put_names_at};
 use crate::rows::{put_label, put_lost, put_mark, put_row_text};
-use crate::scene::{is_delivered, receiver, sender, sent_number, sent_row, way_of};
+use crate::scene::{came, is_delivered, receiver, sender, sent_number, sent_row, way_of};
 use csi_types::NoMemory;
 use csi_world::{Event, Outcome, World, audit};
 use std::alloc::{AllocError, Global};
@@ -74,6 +74,9 @@ fn put_passage(
     let Event::Deliver(number) = event else {
         return Ok(());
     };
+    if !came(outcome) {
+        return Ok(());
+    }
     let Some(frame) = world.frame(*number) else {
         return Ok(());
     };
@@ -103,7 +106,7 @@ fn put_sent(
         return Ok(());
     };
     put_label(alloc, out, world.nodes(), row, number, frame)?;
-    if is_delivered(events, number) {
+    if is_delivered(world.outcomes(), events, number) {
         return Ok(());
     }
     put_lost(alloc, out, sender(world.nodes(), frame), row, frame)

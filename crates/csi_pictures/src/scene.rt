@@ -1,9 +1,8 @@
 //! Where things of a run stand in its picture: the lanes of parties, and the rows of events, from 1.
-ghost use Rattle.std.specs.Prelude.{◌≡◌};
-ghost use Rattle.std.specs.List.{list_any};
+ghost use Rattle.std.specs.Prelude.{◌≡◌, slice_get};
 ghost use Rattle.std.specs.Option.{option_copied};
 ghost use Rattle.csi_types.specs.Same.{same_text};
-ghost use Rattle.csi_pictures.specs.Scene.{node_lane as node_lane_by, lane_of as lane_by, sender as sender_by, receiver as receiver_by, sent_number as number_sent, sends as sends_it, sent_row as row_sent, delivers as delivers_it, delivered as frame_delivered, is_ok as is_status_ok, is_success as is_success_in, succeeded as has_succeeded, way_of as way_by};
+ghost use Rattle.csi_pictures.specs.Scene.{node_lane as node_lane_by, lane_of as lane_by, sender as sender_by, receiver as receiver_by, sent_number as number_sent, sends as sends_it, sent_row as row_sent, delivers as delivers_it, came as has_come, comes_by as it_comes_by, delivered_from, delivered as frame_delivered, is_ok as is_status_ok, is_success as is_success_in, succeeded as has_succeeded, way_of as way_by};
 
 use csi_node::Node;
 use csi_types::{Body, Frame, NodeId, Party, Status};
@@ -96,14 +95,45 @@ pub fn sent_row(outcomes: &[Outcome], number: u64) -> usize
     row
 }
 
-/// Whether an event delivers the frame of this number.
-pub fn is_delivered(events: &[Event], number: u64) -> bool
-    ensures { result ≡ list_any (delivers_it number) events.now }
+// Whether an event is a delivery of the frame of this number.
+fn delivers(event: &Event, number: u64) -> bool
+    ensures { result ≡ delivers_it number event.now }
 {
-    for event in events {
-        if let Event::Deliver(delivered) = event
-            && *delivered == number
-        {
+    match event {
+        Event::Deliver(delivered) => *delivered == number,
+        _ => false,
+    }
+}
+
+/// Whether a delivery that came to this was of a frame that was sent before.
+pub fn came(outcome: Outcome) -> bool
+    ensures { result ≡ has_come outcome }
+{
+    match outcome {
+        Outcome::NoSuchFrame => false,
+        _ => true,
+    }
+}
+
+// Whether the event in this place delivers the frame of this number, which was sent before.
+fn comes_by(outcomes: &[Outcome], place: usize, event: &Event, number: u64) -> bool
+    ensures { result ≡ it_comes_by number event.now (slice_get outcomes.now place) }
+{
+    let Some(outcome) = outcomes.get(place) else {
+        return false;
+    };
+    if !came(*outcome) {
+        return false;
+    }
+    delivers(event, number)
+}
+
+/// Whether an event delivers the frame of this number, which was sent before.
+pub fn is_delivered(outcomes: &[Outcome], events: &[Event], number: u64) -> bool
+    ensures { result ≡ delivered_from number outcomes.now 0 events.now }
+{
+    for (place, event) in events.iter().enumerate() {
+        if comes_by(outcomes, place, event, number) {
             return true;
         }
     }
@@ -150,12 +180,13 @@ pub fn succeeded(world: &World, outcome: Outcome) -> bool
     }
 }
 
-/// How a delivery is drawn: what a plugin refused, a reply that was ignored, and what was carried out or taken.
+/// How a delivery is drawn: what was refused, a reply that was ignored, and what was carried out or taken.
 pub fn way_of(world: &World, outcome: Outcome) -> &'static str
     ensures { result.now ≡ way_by world.now.frames outcome }
 {
     match outcome {
         Outcome::Ignored => "ignored",
+        Outcome::Refused(_) => "refused",
         Outcome::Answered(_) => {
             if succeeded(world, outcome) {
                 "taken"

@@ -1,2 +1,3 @@
 pub mod JoinedRuns
 pub mod NoRecords
+pub mod Tellings

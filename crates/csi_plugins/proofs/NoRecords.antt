@@ -3,7 +3,9 @@ use Rattle.std.proofs.Common.{◌≡◌, ◌∙◌, refl, sym, ap, subst, inl, i
 use Rattle.std.proofs.lemmas.List.{length-append}
 use Rattle.csi_stores.specs.Part.{StoredPart}
 use Rattle.csi_records.specs.Records.{controller_layout, node_layout, IsRecordOf, IsRefusedAt, Begins}
-use Rattle.csi_plugins.specs.Recording.{IsRecordOfEither, IsNoRecordAt}
+use Rattle.csi_endings.specs.declared.ending.Ending.{Ending}
+use Rattle.csi_endings.specs.declared.ending.Ending.TheVariants as endings
+use Rattle.csi_plugins.specs.Recording.{IsRecordOfEither, IsNoRecordAt, HasNoLine, HasNoNodeLine}
 
 -- the second byte of the first part, which says whose record it is
 second : List ℕ → ℕ
@@ -35,9 +37,9 @@ not_node : (parts more : List StoredPart) → IsRecordOf controller_layout parts
 not_node parts more of_controller of_node = omega (arith, owner-of-controller parts more of_controller, owner-of-node-alone (parts ++ more) of_node)
 
 -- what refuses parts behind the first refuses them for both
-pub of_controller : (parts : List StoredPart) (place : ℕ) → 0 < place → ((parts ≡ []) × (place ≡ 0)) ⊎ IsRefusedAt (IsRecordOf controller_layout) parts place → IsNoRecordAt parts place
-of_controller parts place behind (inl none) = absurd (omega (arith, none.1, behind))
-of_controller parts place behind (inr at) = inr (record {
+pub refused_controller : (parts : List StoredPart) (place : ℕ) → 0 < place → ((parts ≡ []) × (place ≡ 0)) ⊎ IsRefusedAt (IsRecordOf controller_layout) parts place → IsNoRecordAt parts place
+refused_controller parts place behind (inl none) = absurd (omega (arith, none.1, behind))
+refused_controller parts place behind (inr at) = inr (record {
   before = at.before;
   part = at.part;
   after = at.after;
@@ -60,10 +62,10 @@ first_alone : (parts before : List StoredPart) (part : StoredPart) (after : List
 first_alone parts before part after are none = ap (take 1) are ∙ sym (subst (λ (b : List StoredPart). b ++ part ∷ [] ≡ take 1 (b ++ part ∷ after)) (sym none) refl)
 
 -- where a controller's record refuses the first part, what refuses the parts for a node refuses them for both
-pub of_node : (parts : List StoredPart) (first place : ℕ) → first ≡ 0 → ((parts ≡ []) × (first ≡ 0)) ⊎ IsRefusedAt (IsRecordOf controller_layout) parts first
+pub refused_node : (parts : List StoredPart) (first place : ℕ) → first ≡ 0 → ((parts ≡ []) × (first ≡ 0)) ⊎ IsRefusedAt (IsRecordOf controller_layout) parts first
     → ((parts ≡ []) × (place ≡ 0)) ⊎ IsRefusedAt (IsRecordOf (node_layout None)) parts place → IsNoRecordAt parts place
-of_node parts first place front other (inl none) = inl none
-of_node parts first place front other (inr at) = inr (record {
+refused_node parts first place front other (inl none) = inl none
+refused_node parts first place front other (inr at) = inr (record {
   before = at.before;
   part = at.part;
   after = at.after;
@@ -79,3 +81,17 @@ of_node parts first place front other (inr at) = inr (record {
   refused (inl none) (inr too) (inl is) =
       let same = sym (first_alone parts at.before at.part at.after at.are none) ∙ first_alone parts too.before too.part too.after too.are (nothing too.before (too.here ∙ front)) in
       too.refused (subst (IsRecordOf controller_layout) same is)
+
+-- why a node has no line is why there is none, where a controller's record refuses the first part
+pub for_node : (parts : List StoredPart) (first : ℕ) → first ≡ 0 → ((parts ≡ []) × (first ≡ 0)) ⊎ IsRefusedAt (IsRecordOf controller_layout) parts first → (ending : Ending) → HasNoNodeLine parts ending → HasNoLine parts ending
+for_node parts first zero other (endings.RecordFault place) no = refused_node parts first place zero other no
+for_node parts first zero other endings.Memory no = tt
+for_node parts first zero other endings.Done no = no
+for_node parts first zero other (endings.FrameFault kind place) no = no
+for_node parts first zero other (endings.ScheduleFault fault) no = no
+for_node parts first zero other endings.NotUtf8 no = no
+for_node parts first zero other endings.ConfigRefused no = no
+for_node parts first zero other endings.Usage no = no
+for_node parts first zero other endings.Device no = no
+for_node parts first zero other endings.StoreNotOpened no = no
+for_node parts first zero other endings.Endless no = no

@@ -25,9 +25,8 @@ mod found;
 mod reading;
 
 use changing::change_at_once;
-use reading::parts_of;
-
 pub use found::{copies, find_at};
+use reading::parts_of;
 
 /// A store in a SQLite database: a part is a row of the table `parts`, its key in eight bytes, the greatest first. A commit is
 /// one transaction, and costs what it changes. It never answers `Full`. This profile's own.

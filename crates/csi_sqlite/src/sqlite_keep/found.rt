@@ -21,10 +21,7 @@ use std::rt::Files as Reads;
 impl<D: Disk + Drop> SqliteKeep<FileStore<D>> {
     /// The store that these two files have, a database file and its log, where they are a database that lists the table `parts` alone;
     /// no table is made. `Device` stands for all refusals but want of memory.
-    pub fn find(
-        alloc: Global,
-        files: Files<D>,
-    ) -> Result<SqliteKeep<FileStore<D>>, KeepFault>
+    pub fn find(alloc: Global, files: Files<D>) -> Result<SqliteKeep<FileStore<D>>, KeepFault>
         requires log { IsTrue (D.Disk.is_usable files.log) }
         requires db { IsTrue (D.Disk.is_usable files.db) }
         ensures finds { IfOk result (λ keep. HasCleanDisk (file_state keep.connection) → Finds files keep.connection) }
@@ -100,10 +97,7 @@ fn beside(rt: &(impl Reads + AllocGlobal), path: &str, name: &str) -> Result<Vec
 
 // The bytes of a database file and of the log beside it. The log is read before the file and again after it, and has to be the
 // same: so the two go together, whoever writes them meanwhile.
-fn read_both(
-    rt: &(impl Reads + AllocGlobal),
-    path: &str,
-) -> Result<(Vec<u8>, Vec<u8>), KeepFault>
+fn read_both(rt: &(impl Reads + AllocGlobal), path: &str) -> Result<(Vec<u8>, Vec<u8>), KeepFault>
     ensures { IfErr result (λ fault. (fault ≡ KeepFault.Device) ⊎ (fault ≡ KeepFault.NoMemory)) }
 {
     let log = beside(rt, path, "-wal")?;

@@ -15,14 +15,14 @@ type Told = (&'static [&'static [u8]], &'static str, Ending);
 
 // A deleted volume with two capabilities, of which one is a mount.
 const GONE: &[u8] = &[
-    1, 2, 2, 60, 34, 0, 0, 0, 0, 0, 0, 0, 10, 2, 0, 1, 1, 4, 101, 120, 116, 52, 5, 0, 0, 0, 0, 0, 0,
-    0, 0, 3, 0, 0, 0, 0, 0, 0, 0, 5, 130, 0, 0, 0, 0, 0, 0, 0, 0, 0, 0,
+    1, 2, 2, 60, 34, 0, 0, 0, 0, 0, 0, 0, 10, 2, 0, 1, 1, 4, 101, 120, 116, 52, 5, 0, 0, 0, 0, 0,
+    0, 0, 0, 3, 0, 0, 0, 0, 0, 0, 0, 5, 130, 0, 0, 0, 0, 0, 0, 0, 0, 0, 0,
 ];
 
 // A volume that is staged and published at two targets, the second readonly; and one that isn't staged.
 const AT_TWO: &[u8] = &[
-    1, 1, 0, 3, 2, 2, 47, 97, 0, 2, 47, 98, 1, 0, 0, 0, 0, 0, 0, 0, 1, 0, 0, 0, 0, 0, 0, 0, 3,
-    135, 0, 0, 0, 0, 0, 0, 0, 0, 0, 0,
+    1, 1, 0, 3, 2, 2, 47, 97, 0, 2, 47, 98, 1, 0, 0, 0, 0, 0, 0, 0, 1, 0, 0, 0, 0, 0, 0, 0, 3, 135,
+    0, 0, 0, 0, 0, 0, 0, 0, 0, 0,
 ];
 
 const NOT_STAGED: &[u8] = &[
@@ -111,7 +111,8 @@ const NONE: &str = "csi_store_none";
 const OTHER: &str = "csi_store_none/other.db";
 
 // What is there after the script.
-const LINE: &str = "{\"next_id\":3,\"plugin\":\"controller\",\"volumes\":[{\"attached\":[],\"capabilities\":[{\"access\":\"block\",\"mode\":1}],\"capacity\":10,\"id\":1,\"last\":{\"call\":5,\"session\":1},\"live\":false,\"name\":\"v\"},{\"attached\":[],\"capabilities\":[{\"access\":\"block\",\"mode\":1}],\"capacity\":10,\"id\":2,\"last\":{\"call\":6,\"session\":1},\"live\":true,\"name\":\"w\"}]}\n";
+const LINE: &str =
+    "{\"next_id\":3,\"plugin\":\"controller\",\"volumes\":[{\"attached\":[],\"capabilities\":[{\"access\":\"block\",\"mode\":1}],\"capacity\":10,\"id\":1,\"last\":{\"call\":5,\"session\":1},\"live\":false,\"name\":\"v\"},{\"attached\":[],\"capabilities\":[{\"access\":\"block\",\"mode\":1}],\"capacity\":10,\"id\":2,\"last\":{\"call\":6,\"session\":1},\"live\":true,\"name\":\"w\"}]}\n";
 
 // Whether the store in the file is told so, and the file and its log have the same bytes then.
 fn is_shown(rt: &(impl Abort + AllocGlobal + Files)) -> bool {
@@ -144,7 +145,9 @@ fn is_refused(rt: &(impl AllocGlobal + Files), path: &str) -> bool {
 fn a_store_in_a_file_is_told_and_left_as_it_is(rt: HostRuntime) {
     let _gone = fs::remove_dir_all(&rt, FOLDER);
     fs::create_dir(&rt, FOLDER).expect(&rt, "a folder");
-    let mut keep = SqliteKeep::open_file(&rt, PATH, Unknown).ok().expect(&rt, "a store");
+    let mut keep = SqliteKeep::open_file(&rt, PATH, Unknown)
+        .ok()
+        .expect(&rt, "a store");
     let (_end, written) = played(&rt, &mut keep, SCRIPT);
     drop(written);
     assert!(&rt; is_shown(&rt));
@@ -169,7 +172,9 @@ fn what_is_no_store_is_not_found_and_not_made(rt: HostRuntime) {
     empty.close().expect(&rt, "a file");
     assert!(&rt; is_refused(&rt, OTHER));
     let mut other = Connection::open(&rt, OTHER).expect(&rt, "a database");
-    other.execute("CREATE TABLE others (key BLOB)", &[]).expect(&rt, "a table");
+    other
+        .execute("CREATE TABLE others (key BLOB)", &[])
+        .expect(&rt, "a table");
     other.close().expect(&rt, "a file");
     assert!(&rt; is_refused(&rt, OTHER));
     fs::remove_dir_all(&rt, NONE).expect(&rt, "a folder");

@@ -1,8 +1,7 @@
 -- The events before this one deliver other frames, or none.
-use Rattle.std.proofs.Common.{◌≡◌, take, false}
-use Rattle.std.specs.List.{list_any}
-use Rattle.csi_pictures.specs.Scene.{delivers}
+use Rattle.std.proofs.Common.{◌≡◌, drop}
+use Rattle.csi_pictures.specs.Scene.{delivered_from}
 use Rattle.csi_pictures.proofs.scene.is_delivered.Given as goal
 
-abbrev pub invariant-loop-event : goal.invariant-loop-event
-invariant-loop-event l = list_any (delivers l.number) (take l.event-index l.events) ≡ false
+abbrev pub invariant-loop-place : goal.invariant-loop-place
+invariant-loop-place l = delivered_from l.number l.outcomes l.place (drop l.place l.events) ≡ delivered_from l.number l.outcomes 0 l.events

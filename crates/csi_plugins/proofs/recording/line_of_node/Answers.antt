@@ -1,0 +1,13 @@
+use Rattle.std.proofs.Common.{sym, subst, List, ℕ}
+use Rattle.std.proofs.lemmas.Result.{IfErr-weaker, IfOk-weaker}
+use Rattle.csi_stores.specs.Part.{all_stored_in}
+use Rattle.csi_plugins.specs.Recording.{IsLineOf, of_node, HasNoNodeLine}
+use Rattle.csi_plugins.proofs.recording.line_of_node.Goals as goal
+
+pub returns-in-Ok-clause-line : goal.returns-in-Ok-clause-line
+returns-in-Ok-clause-line c =
+    IfOk-weaker c.node_text.result _ _ (λ text is. subst (IsLineOf (all_stored_in c.args.parts.now)) (sym is) (of_node c.in-Ok.kept c.in-Ok.ensures.0 c.in-Ok.ensures.1)) c.node_text.ensures.line
+
+pub returns-in-Ok-clause-refused : goal.returns-in-Ok-clause-refused
+returns-in-Ok-clause-refused c =
+    IfErr-weaker c.node_text.result _ _ (λ ending is. subst (HasNoNodeLine (all_stored_in c.args.parts.now)) (sym is) tt) c.node_text.ensures.refused
