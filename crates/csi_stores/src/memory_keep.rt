@@ -60,8 +60,7 @@ impl MemoryKeep {
     /// A law, and nothing that runs: what a store in memory has is all that opening it again may find.
     pub fn settled_law()
         ensures { (memory : Memory) → IsSettled (memory_store memory) }
-    {
-    }
+    {}
 }
 
 impl Keep for MemoryKeep {
