@@ -10,8 +10,8 @@ mod whole_records;
 mod worked;
 
 pub use controller_service::ControllerService;
-pub use csi_records::{Record, write_record};
 pub use csi_counted::Counted;
+pub use csi_records::{Record, write_record};
 pub use csi_serving::{Core, ServeFault, ServeFaultKind, Served, serve};
 pub use csi_stores::{Keep, KeepFault, MemoryKeep, Part};
 pub use node_service::NodeService;

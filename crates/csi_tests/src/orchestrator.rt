@@ -4,6 +4,7 @@ mod asking;
 mod frames;
 mod listing;
 mod names;
+mod notes;
 mod numbers;
 mod playing;
 mod refusals;
