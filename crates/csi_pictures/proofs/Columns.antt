@@ -23,4 +23,7 @@ module _ (lane row : ℕ) (all : List Bar) where
   -- where it is in use the search goes on
   pub goes_on : (column : ℕ) → column < length all → free_among lane row all column (drop column all) ≡ free_among lane row all 0 all → is_taken lane row column all ≡ true → free_among lane row all (column + 1) (drop (column + 1) all) ≡ free_among lane row all 0 all
   goes_on column below known taken =
-      sym (next (drop column all) column (left column below) taken ∙ ap (λ (rest : List Bar). free_among lane row all (column + 1) rest) (drop-drop 1 column all)) ∙ known
+      let more : column + 1 ≡ suc column = omega arith in
+      ap (λ (k : ℕ). free_among lane row all k (drop k all)) more
+          ∙ sym (next (drop column all) column (left column below) taken ∙ ap (λ (rest : List Bar). free_among lane row all (suc column) rest) (drop-drop 1 column all ∙ ap (λ (k : ℕ). drop k all) more))
+          ∙ known
