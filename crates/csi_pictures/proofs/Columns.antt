@@ -25,5 +25,5 @@ module _ (lane row : ℕ) (all : List Bar) where
   goes_on column below known taken =
       let more : column + 1 ≡ suc column = omega arith in
       ap (λ (k : ℕ). free_among lane row all k (drop k all)) more
-          ∙ sym (next (drop column all) column (left column below) taken ∙ ap (λ (rest : List Bar). free_among lane row all (suc column) rest) (drop-drop 1 column all ∙ ap (λ (k : ℕ). drop k all) more))
-          ∙ known
+      ∙ sym (next (drop column all) column (left column below) taken ∙ ap (λ (rest : List Bar). free_among lane row all (suc column) rest) (drop-drop 1 column all ∙ ap (λ (k : ℕ). drop k all) more))
+      ∙ known

@@ -375,12 +375,7 @@ fn put_bar_front(
 
 // Appends the column of a bar, and the row where it ends.
 #[tactic(auto, unfolding(crate::specs::Bars::bar_way))]
-fn put_bar_way(
-    alloc: Global,
-    out: &mut Vec<u8>,
-    column: usize,
-    to: usize,
-) -> Result<(), AllocError>
+fn put_bar_way(alloc: Global, out: &mut Vec<u8>, column: usize, to: usize) -> Result<(), AllocError>
     ensures { OnOk result (out.new.items ≡ out.old.items ++ bar_way column to) }
 {
     let text = format!(in alloc; "{column}0 0m{column}0 0V{to}20'/>\n")?;
