@@ -159,8 +159,11 @@ class_of lasting.Staged = codes "staged"
 class_of lasting.Published = codes "published"
 
 -- a column is twice ten units wide
-unfoldable pub drawn : List ℕ → ℕ → ℕ → ℕ → ℕ → List ℕ
-drawn class lane column from to = pieces (codes "<path class='" ∷ class ∷ codes "' d='M" ∷ decimal lane ∷ codes "036 " ∷ decimal from ∷ codes "20m" ∷ decimal column ∷ codes "0 0m" ∷ decimal column ∷ codes "0 0V" ∷ decimal to ∷ codes "20'/>\n" ∷ [])
+unfoldable pub bar_front : List ℕ → ℕ → ℕ → List ℕ
+bar_front class lane from = pieces (codes "<path class='" ∷ class ∷ codes "' d='M" ∷ decimal lane ∷ codes "036 " ∷ decimal from ∷ codes "20m" ∷ [])
+
+unfoldable pub bar_way : ℕ → ℕ → List ℕ
+bar_way column to = pieces (decimal column ∷ codes "0 0m" ∷ decimal column ∷ codes "0 0V" ∷ decimal to ∷ codes "20'/>\n" ∷ [])
 
 abbrev pub bar : Bar → List ℕ
-bar b = drawn (class_of b.what) b.lane b.column b.from b.to
+bar b = bar_front (class_of b.what) b.lane b.from ++ bar_way b.column b.to

@@ -4,7 +4,7 @@ ghost use Rattle.std.specs.Prelude.{◌≡◌, ◌+◌, ◌++◌, IfOk, OnOk, So
 ghost use Rattle.std.specs.List.{flat_map};
 ghost use Rattle.csi_types.specs.Same.{same_text};
 ghost use Rattle.csi_world.specs.Simulating.{numbered};
-ghost use Rattle.csi_pictures.specs.Bars.{detaches as detaches_by, unstages as unstages_by, unpublishes as unpublishes_by, undoes as undoes_by, undone_by, ends as ends_by, end_row as end_by, attaches as attaches_by, stages as stages_by, publishes as publishes_by, is_same_thing as same_thing, asks_for as asks_by, lasting_of as lasting_by, is_shown_by as shown_by, is_shown as shown_among, is_taken_by as taken_by, is_taken as taken_among, free_among, with_lasting, with_frame, with_event, with_both, bars_to, class_of as class_by, drawn, bar as bar_drawn};
+ghost use Rattle.csi_pictures.specs.Bars.{detaches as detaches_by, unstages as unstages_by, unpublishes as unpublishes_by, undoes as undoes_by, undone_by, ends as ends_by, end_row as end_by, attaches as attaches_by, stages as stages_by, publishes as publishes_by, is_same_thing as same_thing, asks_for as asks_by, lasting_of as lasting_by, is_shown_by as shown_by, is_shown as shown_among, is_taken_by as taken_by, is_taken as taken_among, free_among, with_lasting, with_frame, with_event, with_both, bars_to, class_of as class_by, bar_front, bar_way, bar as bar_drawn};
 
 use crate::escaping::put;
 use crate::scene::{delivered, lane_of, succeeded};
@@ -358,22 +358,27 @@ fn class_of(what: Lasting) -> &'static str
     }
 }
 
-// Appends a bar of this class.
-#[tactic(auto, unfolding(crate::specs::Bars::drawn))]
-fn put_drawn(
+// Appends where a bar of this class begins, but for its column.
+#[tactic(auto, unfolding(crate::specs::Bars::bar_front))]
+fn put_bar_front(
     alloc: Global,
     out: &mut Vec<u8>,
     class: &str,
     lane: usize,
-    column: usize,
     from: usize,
-    to: usize,
 ) -> Result<(), AllocError>
-    ensures { OnOk result (out.new.items ≡ out.old.items ++ drawn class.now lane column from to) }
+    ensures { OnOk result (out.new.items ≡ out.old.items ++ bar_front class.now lane from) }
 {
-    let text = format!(in alloc;
-        "<path class='{class}' d='M{lane}036 {from}20m{column}0 0m{column}0 0V{to}20'/>\n"
-    )?;
+    let text = format!(in alloc; "<path class='{class}' d='M{lane}036 {from}20m")?;
+    put(out, &text)
+}
+
+// Appends the column of a bar, and the row where it ends.
+#[tactic(auto, unfolding(crate::specs::Bars::bar_way))]
+fn put_bar_way(alloc: Global, out: &mut Vec<u8>, column: usize, to: usize) -> Result<(), AllocError>
+    ensures { OnOk result (out.new.items ≡ out.old.items ++ bar_way column to) }
+{
+    let text = format!(in alloc; "{column}0 0m{column}0 0V{to}20'/>\n")?;
     put(out, &text)
 }
 
@@ -381,8 +386,8 @@ fn put_drawn(
 fn put_bar(alloc: Global, out: &mut Vec<u8>, bar: Bar) -> Result<(), AllocError>
     ensures { OnOk result (out.new.items ≡ out.old.items ++ bar_drawn bar) }
 {
-    let class = class_of(bar.what);
-    put_drawn(alloc, out, class, bar.lane, bar.column, bar.from, bar.to)
+    put_bar_front(alloc, out, class_of(bar.what), bar.lane, bar.from)?;
+    put_bar_way(alloc, out, bar.column, bar.to)
 }
 
 /// Appends the bars.

@@ -14,6 +14,7 @@ use crate::front::put_front;
 use crate::lanes::{put_lanes, put_names_at};
 use crate::rows::{put_label, put_lost, put_mark, put_row_text};
 use crate::scene::{came, is_delivered, receiver, sender, sent_number, sent_row, way_of};
+use csi_node::Node;
 use csi_types::NoMemory;
 use csi_world::{Event, Outcome, World, audit};
 use std::alloc::{AllocError, Global};
@@ -22,15 +23,27 @@ use std::alloc::{AllocError, Global};
 fn put_names(
     alloc: Global,
     out: &mut Vec<u8>,
+    nodes: &[Node],
+    events: &[Event],
+) -> Result<(), AllocError>
+    ensures { OnOk result (out.new.items ≡ out.old.items ++ each (names_at nodes.now) (length events.now)) }
+{
+    for place in 0..events.len() {
+        put_names_at(alloc, out, nodes, place)?;
+    }
+    Ok(())
+}
+
+// Appends those of a world.
+fn put_world_names(
+    alloc: Global,
+    out: &mut Vec<u8>,
     world: &World,
     events: &[Event],
 ) -> Result<(), AllocError>
     ensures { OnOk result (out.new.items ≡ out.old.items ++ each (names_at world.now.nodes) (length events.now)) }
 {
-    for place in 0..events.len() {
-        put_names_at(alloc, out, world.nodes(), place)?;
-    }
-    Ok(())
+    put_names(alloc, out, world.nodes(), events)
 }
 
 // Appends the bars of a run.
@@ -236,7 +249,7 @@ fn put_picture(
 {
     put_world_front(alloc, out, world, events, is_safe)?;
     put_below_texts(alloc, out, world, events)?;
-    put_names(alloc, out, world, events)?;
+    put_world_names(alloc, out, world, events)?;
     put_all_over(alloc, out, world, events)?;
     put(out, "</svg>\n")
 }

@@ -5,4 +5,4 @@ use Rattle.csi_pictures.specs.Lanes.{names_at}
 use Rattle.csi_pictures.proofs.picture.put_names.Given as goal
 
 abbrev pub invariant-loop-place : goal.invariant-loop-place
-invariant-loop-place l = l.out.items ≡ l.fn.out.items ++ each (names_at (l.world).nodes) l.place
+invariant-loop-place l = l.out.items ≡ l.fn.out.items ++ each (names_at l.nodes) l.place
