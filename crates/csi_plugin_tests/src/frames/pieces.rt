@@ -237,7 +237,8 @@ fn ends_at_44(rt: &(impl Abort + AllocGlobal), pieces: &[&[u8]]) -> bool {
 #[test]
 fn the_longest_wrong_length_is_judged_when_it_is_whole(rt: HostRuntime) {
     let bytes = longest(&rt);
-    let (front, last) = bytes.split_at(1283);
+    let front = bytes.get(..1283).expect(&rt, "bytes");
+    let last = bytes.get(1283..).expect(&rt, "a byte");
     let mut early = fed(&rt, &[front]);
     assert!(rt; waits(&mut early) && ends_short(&early, 1283));
     drop(early);
