@@ -1,1 +1,2 @@
+pub mod PlainSchedules
 pub mod ReadEvents

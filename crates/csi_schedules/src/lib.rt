@@ -3,6 +3,7 @@
 
 mod events;
 mod lists;
+mod plain;
 mod schedule;
 
 pub use csi_json::{ScheduleFault, read_config};
