@@ -21,11 +21,11 @@ use Rattle.csi_schedules.specs.Events.{event_of, event_at, deliver_of}
 use Rattle.csi_schedules.specs.Plain.{event_in, config_in}
 use Rattle.csi_schedules.specs.Schedule.{Schedule, parts_of, events_of, schedule_read, text_schedule}
 
-abbrev Member : Type 0
+abbrev pub Member : Type 0
 Member = Bor (List ℕ) × Value Global
 
 -- what is found behind a value that was read, was found in it
-inside : {A B : Type 0} (f : A → Option B) (o : Option A) (b : B) → option_and_then f o ≡ Some b → (a : A) × (o ≡ Some a) × (f a ≡ Some b)
+pub inside : {A B : Type 0} (f : A → Option B) (o : Option A) (b : B) → option_and_then f o ≡ Some b → (a : A) × (o ≡ Some a) × (f a ≡ Some b)
 inside f None b h = absurd (cc)
 inside f (Some a) b h = (a, refl, h)
 

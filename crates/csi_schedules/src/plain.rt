@@ -9,6 +9,7 @@ ghost use Rattle.csi_world.specs.declared.event.Event.TheVariants as events;
 
 use crate::events::event;
 use crate::schedule::MAX_EVENTS;
+use crate::usual::usual_command;
 use csi_json::{Flaw, config, owned, plain_number};
 use csi_types::Config;
 use csi_world::Event;
@@ -39,6 +40,10 @@ fn read_event(alloc: Global, value: &Value<'_>) -> Result<Event, Flaw>
 {
     if let Some(number) = delivery(value) {
         return Ok(Event::Deliver(number));
+    }
+    match usual_command(alloc, value) {
+        Err(Flaw::Bad) => {}
+        read => return read,
     }
     let value = owned(alloc, value)?;
     event(alloc, &value)
