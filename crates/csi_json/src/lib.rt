@@ -3,6 +3,7 @@
 #![tactic(auto)]
 
 mod access;
+mod borrowed;
 mod configs;
 mod fault;
 mod lists;
@@ -10,6 +11,7 @@ mod texts;
 mod values;
 
 pub use access::{capabilities, capability};
+pub use borrowed::{owned, plain_number};
 pub use configs::{config, read_config};
 pub use fault::ScheduleFault;
 pub use texts::{name, node_id, target};

@@ -27,6 +27,17 @@ impl<T: Drop> From<AllocFailed<T>> for Flaw {
     }
 }
 
+impl From<AllocError> for Flaw {
+    ghost use Rattle.std.specs.Prelude.{◌≡◌};
+    ghost use Rattle.csi_json.specs.declared.values.Flaw.TheVariants.{NoMemory as Refused};
+
+    ghost from_gives = { λ _ flaw. flaw ≡ Refused };
+
+    fn from(_refused: AllocError) -> Flaw {
+        Flaw::NoMemory
+    }
+}
+
 /// The value at a key of an object.
 pub fn member<'a>(object: &'a Value, key: &str) -> Result<&'a Value, Flaw>
     ensures read { Reads (λ value. view value.now) result (get key.now (view object.now)) }

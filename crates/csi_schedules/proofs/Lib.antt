@@ -1,1 +1,3 @@
+pub mod PlainSchedules
 pub mod ReadEvents
+pub mod UsualCommands

@@ -3,7 +3,9 @@
 
 mod events;
 mod lists;
+mod plain;
 mod schedule;
+mod usual;
 
 pub use csi_json::{ScheduleFault, read_config};
 pub use schedule::{MAX_EVENTS, read_schedule};

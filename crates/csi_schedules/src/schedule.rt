@@ -5,7 +5,8 @@ ghost use Rattle.csi_json.specs.Faults.{IsFaultOf};
 ghost use Rattle.csi_schedules.specs.Schedule.{events_of, schedule_of, text_schedule};
 
 use crate::lists::read_events;
-use csi_json::{ScheduleFault, config, list, member, sized_object};
+use crate::plain::read_plain;
+use csi_json::{Flaw, ScheduleFault, config, list, member, sized_object};
 use csi_types::Config;
 use csi_world::Event;
 use serde_json::Value;
@@ -39,10 +40,8 @@ fn schedule(alloc: Global, value: &Value) -> Result<(Config, Vec<Event>), Schedu
     Ok((config, events))
 }
 
-/// The configuration and the events that a text says, in the format of a schedule. Judged in this order: `NotJson` where the
-/// text isn't JSON, `BadSchedule` at 0 where the object or its configuration isn't as the format says, `TooMany`, and
-/// `BadSchedule` at the first event that isn't as the format says. `NoMemory` can come at any step.
-pub fn read_schedule(alloc: Global, text: &str) -> Result<(Config, Vec<Event>), ScheduleFault>
+// The schedule that a text says, whatever its form.
+fn judged(alloc: Global, text: &str) -> Result<(Config, Vec<Event>), ScheduleFault>
     ensures read { IfOk result (λ made. text_schedule text.now ≡ Ok (record { config = made.0; events = made.1.items })) }
     ensures fault { IfErr result (IsFaultOf (text_schedule text.now)) }
 {
@@ -50,5 +49,19 @@ pub fn read_schedule(alloc: Global, text: &str) -> Result<(Config, Vec<Event>), 
         Ok(value) => schedule(alloc, &value),
         Err(error) if error.is_memory() => Err(ScheduleFault::NoMemory),
         Err(_) => Err(ScheduleFault::NotJson),
+    }
+}
+
+/// The configuration and the events that a text says, in the format of a schedule. Judged in this order: `NotJson` where the
+/// text isn't JSON, `BadSchedule` at 0 where the object or its configuration isn't as the format says, `TooMany`, and
+/// `BadSchedule` at the first event that isn't as the format says. `NoMemory` can come at any step.
+pub fn read_schedule(alloc: Global, text: &str) -> Result<(Config, Vec<Event>), ScheduleFault>
+    ensures read { IfOk result (λ made. text_schedule text.now ≡ Ok (record { config = made.0; events = made.1.items })) }
+    ensures fault { IfErr result (IsFaultOf (text_schedule text.now)) }
+{
+    match read_plain(alloc, text) {
+        Ok(schedule) => Ok(schedule),
+        Err(Flaw::Bad) => judged(alloc, text),
+        Err(Flaw::NoMemory) => Err(ScheduleFault::NoMemory),
     }
 }
