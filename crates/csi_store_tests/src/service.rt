@@ -4,7 +4,6 @@ mod devices;
 mod files;
 mod flushes;
 mod growths;
-mod limited;
 mod pieces;
 mod playing;
 mod plugins;
