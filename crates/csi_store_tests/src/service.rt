@@ -5,7 +5,6 @@ mod devices;
 mod files;
 mod flushes;
 mod growths;
-mod limited;
 mod pieces;
 mod playing;
 mod plugins;
