@@ -3,4 +3,3 @@ pub mod Tabled
 pub mod Loading
 pub mod ForeignRows
 pub mod Closed
-pub mod WrittenWhole
