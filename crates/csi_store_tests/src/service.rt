@@ -1,6 +1,6 @@
 //! Records as bytes, and stores that plugins are opened from.
 mod damaged;
-mod devices;
+mod failing;
 mod files;
 mod growths;
 mod pieces;
