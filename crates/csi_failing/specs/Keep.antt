@@ -1,12 +1,7 @@
 -- A store that fails at one call. This profile's own.
-use Rattle.std.specs.Prelude.{◌≡◌, ℕ, ◌+◌, ◌-◌, ◌^◌, min, List}
-use Rattle.csi_stores.specs.Part.{StoredPart}
+use Rattle.std.specs.Prelude.{ℕ, ◌+◌, ◌-◌, ◌^◌, min}
+use Rattle.csi_stores.specs.Stores.{Store}
 
--- how often it failed: the store under it, and it itself
-abbrev pub all_faults : ℕ → ℕ → ℕ
-all_faults inner own = min (inner + own) (2 ^ 64 - 1)
-
--- a store has this content, and opening it again finds this alone
-pub record IsAlone (holds leaves : List StoredPart → Type 0) (content : List StoredPart) : Type 0 where
-  pub there : holds content
-  pub alone : (other : List StoredPart) → leaves other → other ≡ content
+-- the store under it, whose failures are counted with its own
+abbrev pub failing : ℕ → Store → Store
+failing own under = record under { faults = min (under.faults + own) (2 ^ 64 - 1) }

@@ -2,9 +2,10 @@
 ghost use Rattle.std.specs.Prelude.{◌≡◌, ◌≤◌, ◌⊎◌, ◌+◌, ◌-◌, ◌^◌, ℕ, List, map, min, true, false, IfOk, IfErr, OnOk, OnErr, IsErr, Err};
 ghost use Rattle.csi_stores.specs.Part.{StoredPart, put_all, change_of};
 ghost use Rattle.csi_stores.specs.Content.{all_changed};
-ghost use Rattle.csi_stores.specs.Keeping.{IsLoadFault, IsCommitFault, RefusesAt, one_more};
+ghost use Rattle.csi_stores.specs.Keeping.{RefusesAt, one_more};
+ghost use Rattle.csi_stores.specs.Stores.{IsLoadFault, IsCommitFault, IsOnly};
 ghost use Rattle.csi_failing.specs.Counting.{is_due, after_call, counted};
-ghost use Rattle.csi_failing.specs.Keep.{all_faults, IsAlone};
+ghost use Rattle.csi_failing.specs.Keep.{failing};
 
 use crate::counting::falls;
 use csi_stores::{Keep, KeepFault, Part};
@@ -66,29 +67,19 @@ impl<K> FailingKeep<K> {
 }
 
 impl<K: Keep> Keep for FailingKeep<K> {
-    ghost is_honest = { λ keep. K.is_honest keep.inner };
-
-    ghost holds = { λ keep content. K.holds keep.inner content };
-
-    ghost is_foreign = { λ keep place. K.is_foreign keep.inner place };
-
-    ghost leaves = { λ keep content. K.leaves keep.inner content };
-
-    ghost fits = { λ keep content. K.fits keep.inner content };
-
-    ghost fault_count = { λ keep. all_faults (K.fault_count keep.inner) keep.failures };
+    ghost store = { λ keep. failing keep.failures (K.store keep.inner) };
 
     /// All parts of the store under it, which isn't asked where this load is the one that fails.
     fn load(&mut self) -> Result<Vec<Part>, KeepFault>
-        ensures honest { K.is_honest self.new.inner → K.is_honest self.old.inner }
-        ensures parts { K.is_honest self.new.inner → (content : List StoredPart) → K.holds self.old.inner content → IfOk result (λ parts. map change_of parts.items ≡ put_all content) }
-        ensures stays { K.is_honest self.new.inner → (content : List StoredPart) → K.holds self.old.inner content → OnOk result (K.holds self.new.inner content) }
-        ensures foreign { K.is_honest self.new.inner → (place : ℕ) → K.is_foreign self.old.inner place → RefusesAt place result }
-        ensures left { K.is_honest self.new.inner → (content : List StoredPart) → K.leaves self.new.inner content → K.leaves self.old.inner content }
-        ensures room { (content : List StoredPart) → K.fits self.old.inner content → K.fits self.new.inner content }
-        ensures no_more_room { (content : List StoredPart) → K.fits self.new.inner content → K.fits self.old.inner content }
-        ensures faults { all_faults (K.fault_count self.old.inner) self.old.failures ≤ all_faults (K.fault_count self.new.inner) self.new.failures }
-        ensures cause { IfErr result (λ fault. IsLoadFault (K.is_honest self.new.inner) (K.holds self.old.inner) (all_faults (K.fault_count self.old.inner) self.old.failures) (all_faults (K.fault_count self.new.inner) self.new.failures) fault) }
+        ensures honest { (K.store self.new.inner).honest → (K.store self.old.inner).honest }
+        ensures parts { (K.store self.new.inner).honest → (content : List StoredPart) → (K.store self.old.inner).holds content → IfOk result (λ parts. map change_of parts.items ≡ put_all content) }
+        ensures stays { (K.store self.new.inner).honest → (content : List StoredPart) → (K.store self.old.inner).holds content → OnOk result ((K.store self.new.inner).holds content) }
+        ensures foreign { (K.store self.new.inner).honest → (place : ℕ) → (K.store self.old.inner).foreign place → RefusesAt place result }
+        ensures left { (K.store self.new.inner).honest → (content : List StoredPart) → (K.store self.new.inner).leaves content → (K.store self.old.inner).leaves content }
+        ensures room { (content : List StoredPart) → (K.store self.old.inner).fits content → (K.store self.new.inner).fits content }
+        ensures no_more_room { (content : List StoredPart) → (K.store self.new.inner).fits content → (K.store self.old.inner).fits content }
+        ensures faults { (failing self.old.failures (K.store self.old.inner)).faults ≤ (failing self.new.failures (K.store self.new.inner)).faults }
+        ensures cause { IfErr result (λ fault. IsLoadFault (failing self.old.failures (K.store self.old.inner)) (failing self.new.failures (K.store self.new.inner)) fault) }
         ensures fails { is_due self.old.load ≡ true → (result ≡ Err KeepFault.Device) × (self.new.inner ≡ self.old.inner) }
         ensures next { self.new ≡ record self.old { inner = self.new.inner; load = after_call self.old.load; failures = counted (is_due self.old.load) self.old.failures } }
     {
@@ -101,22 +92,22 @@ impl<K: Keep> Keep for FailingKeep<K> {
     /// A commit of the store under it, which isn't asked where this is the one that fails and leaves what was there. Where it leaves
     /// what is to be there, a refusal of that store is the answer, and nothing else is counted.
     fn commit(&mut self, parts: &[Part]) -> Result<(), KeepFault>
-        ensures honest { K.is_honest self.new.inner → K.is_honest self.old.inner }
-        ensures done { K.is_honest self.new.inner → (content : List StoredPart) → K.holds self.old.inner content → OnOk result (K.holds self.new.inner (all_changed (map change_of parts.now) content)) }
-        ensures alone { K.is_honest self.new.inner → (content : List StoredPart) → K.holds self.old.inner content →
-            OnOk result ((other : List StoredPart) → K.leaves self.new.inner other → other ≡ all_changed (map change_of parts.now) content) }
-        ensures refused { K.is_honest self.new.inner → (content : List StoredPart) → K.holds self.old.inner content →
-            OnErr result ((other : List StoredPart) → K.leaves self.new.inner other → K.leaves self.old.inner other ⊎ (other ≡ all_changed (map change_of parts.now) content)) }
-        ensures room { (content : List StoredPart) → K.fits self.old.inner content → K.fits self.new.inner content }
-        ensures no_more_room { (content : List StoredPart) → K.fits self.new.inner content → K.fits self.old.inner content }
-        ensures faults { all_faults (K.fault_count self.old.inner) self.old.failures ≤ all_faults (K.fault_count self.new.inner) self.new.failures }
-        ensures cause { IfErr result (λ fault. IsCommitFault (K.is_honest self.new.inner) (K.holds self.old.inner) (K.fits self.old.inner) (all_changed (map change_of parts.now)) (all_faults (K.fault_count self.old.inner) self.old.failures) (all_faults (K.fault_count self.new.inner) self.new.failures) fault) }
+        ensures honest { (K.store self.new.inner).honest → (K.store self.old.inner).honest }
+        ensures done { (K.store self.new.inner).honest → (content : List StoredPart) → (K.store self.old.inner).holds content → OnOk result ((K.store self.new.inner).holds (all_changed (map change_of parts.now) content)) }
+        ensures alone { (K.store self.new.inner).honest → (content : List StoredPart) → (K.store self.old.inner).holds content →
+            OnOk result ((other : List StoredPart) → (K.store self.new.inner).leaves other → other ≡ all_changed (map change_of parts.now) content) }
+        ensures refused { (K.store self.new.inner).honest → (content : List StoredPart) → (K.store self.old.inner).holds content →
+            OnErr result ((other : List StoredPart) → (K.store self.new.inner).leaves other → (K.store self.old.inner).leaves other ⊎ (other ≡ all_changed (map change_of parts.now) content)) }
+        ensures room { (content : List StoredPart) → (K.store self.old.inner).fits content → (K.store self.new.inner).fits content }
+        ensures no_more_room { (content : List StoredPart) → (K.store self.new.inner).fits content → (K.store self.old.inner).fits content }
+        ensures faults { (failing self.old.failures (K.store self.old.inner)).faults ≤ (failing self.new.failures (K.store self.new.inner)).faults }
+        ensures cause { IfErr result (λ fault. IsCommitFault (failing self.old.failures (K.store self.old.inner)) (failing self.new.failures (K.store self.new.inner)) (all_changed (map change_of parts.now)) fault) }
         ensures fails { is_due self.old.commit ≡ true → IsErr result }
         ensures leaves_old { is_due self.old.commit ≡ true → self.old.left ≡ Left.Old →
             (result ≡ Err KeepFault.Device) × (self.new ≡ record self.old { commit = after_call self.old.commit; failures = one_more self.old.failures }) }
         ensures leaves_new { is_due self.old.commit ≡ true → self.old.left ≡ Left.New → (self.new.failures ≡ self.old.failures) ⊎
             (result ≡ Err KeepFault.Device) × (self.new.failures ≡ one_more self.old.failures) ×
-            (K.is_honest self.new.inner → (content : List StoredPart) → K.holds self.old.inner content → IsAlone (K.holds self.new.inner) (K.leaves self.new.inner) (all_changed (map change_of parts.now) content)) }
+            ((K.store self.new.inner).honest → (content : List StoredPart) → (K.store self.old.inner).holds content → IsOnly (K.store self.new.inner) (all_changed (map change_of parts.now) content)) }
         ensures passes { is_due self.old.commit ≡ false → self.new.failures ≡ self.old.failures }
         ensures next { self.new ≡ record self.old { inner = self.new.inner; commit = after_call self.old.commit; failures = self.new.failures } }
     {

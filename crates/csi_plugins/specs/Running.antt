@@ -31,6 +31,7 @@ pub record IsOpened {C K : Type 0} (seen : K → Store) (IsRecord : List StoredP
   pub core : C
   pub asked : IsAsked core
   pub opened : K
+  pub honest : (seen opened).honest → (seen before).honest
   pub found : HasRecord IsRecord parts_of (seen before) (seen opened) head core
   pub left : LeavesHead (seen before) (seen opened) head
   pub served : IsServed answers parts_of core (seen opened) (seen after) io ending

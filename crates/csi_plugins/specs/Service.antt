@@ -50,8 +50,9 @@ setting_of answers parts_of core before after io bytes = record {
   endless = 2 ^ 63 ≤ length bytes;
 }
 
--- the core was served over its store, and it ended by what serving answered
+-- the core was served over its store, which was honest before if it is afterwards, and it ended by what serving answered
 pub record IsServed {C : Type 0} (answers : C → Frame → Option Frame → C → Type 0) (parts_of : C → List StoredPart) (core : C) (before after : Store) (io : Streams) (ending : Ending) : Type 0 where
+  pub honest : after.honest → before.honest
   pub bytes : List ℕ
   pub consumed : Consumes io.unread_before io.unread_after bytes
   pub result : Result Served ServeFault

@@ -2,10 +2,12 @@
 #![tactic(auto)]
 
 mod ending;
+mod joined;
 mod kind;
 mod running;
 mod service;
 
 pub use ending::ending_unopened;
+pub use joined::runs_law;
 pub use kind::Plugin;
 pub use running::plugin;

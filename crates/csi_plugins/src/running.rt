@@ -1,6 +1,5 @@
 //! A plugin's process, but for what it asks of the system.
 ghost use Rattle.std.specs.Prelude.{ℕ};
-ghost use Rattle.csi_stores.specs.Stores.{store};
 ghost use Rattle.csi_plugins.specs.Service.{streams};
 ghost use Rattle.csi_plugins.specs.Ending.{EndsAt};
 ghost use Rattle.csi_plugins.specs.Running.{ControllerRuns, NodeRuns, PluginRuns};
@@ -22,9 +21,9 @@ fn run_controller<K: Keep, R: Read, W: Write>(
     reader: &mut Counted<R>,
     writer: &mut Counted<W>,
 ) -> Ending
-    ensures runs { ControllerRuns (store K.is_honest K.holds K.leaves K.fits K.fault_count) config keep.old keep.new (streams R.remaining W.contents reader.old reader.new writer.old writer.new) result }
-    ensures honest { K.is_honest keep.new → K.is_honest keep.old }
-    ensures foreign { K.is_honest keep.new → (place : ℕ) → K.is_foreign keep.old place → EndsAt place result }
+    ensures runs { ControllerRuns K.store config keep.old keep.new (streams R.remaining W.contents reader.old reader.new writer.old writer.new) result }
+    ensures honest { (K.store keep.new).honest → (K.store keep.old).honest }
+    ensures foreign { (K.store keep.new).honest → (place : ℕ) → (K.store keep.old).foreign place → EndsAt place result }
 {
     match ControllerService::open(alloc, config, keep) {
         Ok(core) => served(alloc, core, keep, reader, writer),
@@ -40,9 +39,9 @@ fn run_node<K: Keep, R: Read, W: Write>(
     reader: &mut Counted<R>,
     writer: &mut Counted<W>,
 ) -> Ending
-    ensures runs { NodeRuns (store K.is_honest K.holds K.leaves K.fits K.fault_count) id keep.old keep.new (streams R.remaining W.contents reader.old reader.new writer.old writer.new) result }
-    ensures honest { K.is_honest keep.new → K.is_honest keep.old }
-    ensures foreign { K.is_honest keep.new → (place : ℕ) → K.is_foreign keep.old place → EndsAt place result }
+    ensures runs { NodeRuns K.store id keep.old keep.new (streams R.remaining W.contents reader.old reader.new writer.old writer.new) result }
+    ensures honest { (K.store keep.new).honest → (K.store keep.old).honest }
+    ensures foreign { (K.store keep.new).honest → (place : ℕ) → (K.store keep.old).foreign place → EndsAt place result }
 {
     match NodeService::open(alloc, id, keep) {
         Ok(core) => served(alloc, core, keep, reader, writer),
@@ -64,9 +63,9 @@ pub fn plugin<K: Keep, R: Read, W: Write>(
     reader: &mut Counted<R>,
     writer: &mut Counted<W>,
 ) -> Ending
-    ensures runs { PluginRuns (store K.is_honest K.holds K.leaves K.fits K.fault_count) plugin keep.old keep.new (streams R.remaining W.contents reader.old reader.new writer.old writer.new) result }
-    ensures honest { K.is_honest keep.new → K.is_honest keep.old }
-    ensures foreign { K.is_honest keep.new → (place : ℕ) → K.is_foreign keep.old place → EndsAt place result }
+    ensures runs { PluginRuns K.store plugin keep.old keep.new (streams R.remaining W.contents reader.old reader.new writer.old writer.new) result }
+    ensures honest { (K.store keep.new).honest → (K.store keep.old).honest }
+    ensures foreign { (K.store keep.new).honest → (place : ℕ) → (K.store keep.old).foreign place → EndsAt place result }
 {
     match plugin {
         Plugin::Controller(config) => run_controller(alloc, config, keep, reader, writer),

@@ -1,5 +1,4 @@
 //! A plugin, served.
-ghost use Rattle.csi_stores.specs.Stores.{store};
 ghost use Rattle.csi_plugins.specs.Service.{IsServed, streams};
 
 use crate::ending::ending_of_serving;
@@ -16,8 +15,8 @@ pub(crate) fn served<C: Core, K: Keep, R: Read, W: Write>(
     reader: &mut Counted<R>,
     writer: &mut Counted<W>,
 ) -> Ending
-    ensures serves { IsServed C.answers C.parts_of core (store K.is_honest K.holds K.leaves K.fits K.fault_count keep.old) (store K.is_honest K.holds K.leaves K.fits K.fault_count keep.new) (streams R.remaining W.contents reader.old reader.new writer.old writer.new) result }
-    ensures honest { K.is_honest keep.new → K.is_honest keep.old }
+    ensures serves { IsServed C.answers C.parts_of core (K.store keep.old) (K.store keep.new) (streams R.remaining W.contents reader.old reader.new writer.old writer.new) result }
+    ensures honest { (K.store keep.new).honest → (K.store keep.old).honest }
 {
     ending_of_serving(serve(alloc, core, keep, reader, writer))
 }

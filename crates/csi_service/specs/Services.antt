@@ -1,5 +1,5 @@
 -- The plugins that are served: the parts of their records, what a step changes of them, and how they answer. This profile's own.
-use Rattle.std.specs.Prelude.{◌≡◌, ℕ, ◌==◌, Bool, if◌then◌else◌, List, [], ◌∷◌, ◌++◌, map, find, Option, Some, None, option_map}
+use Rattle.std.specs.Prelude.{◌≡◌, ◌≢◌, ℕ, ◌==◌, Bool, true, if◌then◌else◌, List, [], ◌∷◌, ◌++◌, map, find, Option, Some, None, IfSome, option_map}
 use Rattle.csi_types.specs.declared.number.Number.{Number}
 use Rattle.csi_types.specs.declared.frame.Body.{Body}
 use Rattle.csi_types.specs.declared.frame.Body.TheVariants as bodies
@@ -57,6 +57,13 @@ pub record ControllerAnswers (old : ControllerService) (frame : Frame) (reply : 
 abbrev pub last_in : Body → ControllerState → Option (ℕ × Number)
 last_in (bodies.Call call) state = option_map last_call (row_for call state)
 last_in (bodies.Reply kind reply) state = None
+
+-- What a step tells as changed is other than it was: the next id; and of the row that it touched, which is that of the frame's volume, the
+-- last number.
+pub record AllDiffer (changed : Changed) (body : Body) (old new : Parts) : Type 0 where
+  pub next_id : changed.has_new_id ≡ true → new.next_id ≢ old.next_id
+  pub row : IfSome changed.touched (λ id. (before after : ControllerState) → Shows old before → Shows new after
+      → (number : Number) × (last_in body after ≡ Some (id, number)) × (last_in body before ≢ Some (id, number)))
 
 -- ---- a node
 

@@ -1,5 +1,5 @@
 //! What a step of the controller changes of its record, and the parts that say so.
-ghost use Rattle.std.specs.Prelude.{◌≡◌, ◌⊎◌, ◌++◌, ◌==◌, ◌∷◌, None, Some, [], find, map, IfOk, IfSome, OnErr, OnOk};
+ghost use Rattle.std.specs.Prelude.{◌≡◌, ◌≢◌, ◌⊎◌, ◌++◌, ◌==◌, ◌∷◌, None, Some, [], find, map, IfOk, IfSome, OnErr, OnOk};
 ghost use Rattle.csi_types.specs.declared.number.Number.{Number as OneNumber};
 ghost use Rattle.csi_types.specs.VolumeId.{IsVolumeId};
 ghost use Rattle.csi_controller.specs.Core.{Shows};
@@ -7,7 +7,7 @@ ghost use Rattle.csi_controller.specs.Fenced.{fenced};
 ghost use Rattle.csi_controller.specs.State.{ControllerState};
 ghost use Rattle.csi_stores.specs.Part.{change_of};
 ghost use Rattle.csi_stores.specs.Content.{all_changed};
-ghost use Rattle.csi_service.specs.Services.{parts_of_controller, changes_of, row_change, last_in};
+ghost use Rattle.csi_service.specs.Services.{parts_of_controller, changes_of, row_change, last_in, AllDiffer};
 ghost use Rattle.csi_service.specs.declared.controller_changes.Changed.{Changed as WhatChanged};
 
 use csi_controller::{Controller, rows_law, showing_law, sound_law};
@@ -50,6 +50,7 @@ fn touched(
     ensures none { result ≡ None → (before ≡ after) ⊎ (after ≡ None) }
     ensures some { IfSome result (λ id. (number : OneNumber) × (after ≡ Some (id, number))) }
     ensures id { IfSome result IsVolumeId }
+    ensures other { IfSome result (λ id. before ≢ after) }
 {
     let (id, last) = after?;
     let _number = id.number();
@@ -88,6 +89,7 @@ pub(crate) fn answer(
     ensures state { (state : ControllerState) → Shows controller.old state → OnOk result (Shows controller.new (fenced controller.old.config state frame.now).state) }
     ensures parts { IfOk result (λ answer. parts_of_controller controller.new ≡ all_changed (changes_of answer.1 controller.new) (parts_of_controller controller.old)) }
     ensures nothing { (state : ControllerState) → Shows controller.old state → (fenced controller.old.config state frame.now).state ≡ state → IfOk result (λ answer. changes_of answer.1 controller.new ≡ []) }
+    ensures differs { IfOk result (λ answer. AllDiffer answer.1 frame.now.body controller.old controller.new) }
     ensures err { OnErr result (parts_of_controller controller.new ≡ parts_of_controller controller.old) }
     ensures err_changes { (changed : WhatChanged) → OnErr result (changes_of changed controller.new ≡ changes_of changed controller.old) }
 {

@@ -4,13 +4,12 @@ ghost use Rattle.csi_controller.specs.Core.{Shows};
 ghost use Rattle.csi_controller.specs.Fenced.{fenced};
 ghost use Rattle.csi_controller.specs.State.{ControllerState};
 ghost use Rattle.csi_stores.specs.Part.{change_of};
-ghost use Rattle.csi_records.specs.Records.{controller_layout, IsRecordOf, IsRefusedAt};
+ghost use Rattle.csi_records.specs.Records.{controller_layout, AreParts, IsRecordOf, IsRefusedAt};
 ghost use Rattle.csi_records.specs.Spelling.{controller_head, controller_parts, volume_row};
 ghost use Rattle.csi_stores.specs.Content.{all_changed};
 ghost use Rattle.csi_stores.specs.Keeping.{RefusesAt};
-ghost use Rattle.csi_stores.specs.Stores.{store};
 ghost use Rattle.csi_service.specs.Opening.{IsOpenFault, LeavesHead, HasRecord};
-ghost use Rattle.csi_service.specs.Services.{controller_service_parts, controller_service_changes, ControllerAnswers};
+ghost use Rattle.csi_service.specs.Services.{controller_service_parts, controller_service_changes, ControllerAnswers, AllDiffer};
 
 use crate::controller_changes::{Changed, NOTHING, answer, push_row};
 use crate::opening::load_or_begin;
@@ -73,13 +72,13 @@ impl ControllerService {
         config: Config,
         keep: &mut K,
     ) -> Result<ControllerService, KeepFault>
-        ensures opened { IfOk result (HasRecord (IsRecordOf controller_layout) controller_service_parts (store K.is_honest K.holds K.leaves K.fits K.fault_count keep.old) (store K.is_honest K.holds K.leaves K.fits K.fault_count keep.new) (controller_head 1)) }
+        ensures opened { IfOk result (HasRecord (IsRecordOf controller_layout) controller_service_parts (K.store keep.old) (K.store keep.new) (controller_head 1)) }
         ensures config { IfOk result (λ service. service.controller.config ≡ config) }
         ensures changes { IfOk result (λ service. controller_service_changes service ≡ []) }
-        ensures cause { IfErr result (IsOpenFault (IsRefusedAt (IsRecordOf controller_layout)) (store K.is_honest K.holds K.leaves K.fits K.fault_count keep.old) (store K.is_honest K.holds K.leaves K.fits K.fault_count keep.new) (controller_head 1)) }
-        ensures honest { K.is_honest keep.new → K.is_honest keep.old }
-        ensures foreign { K.is_honest keep.new → (place : ℕ) → K.is_foreign keep.old place → RefusesAt place result }
-        ensures left { LeavesHead (store K.is_honest K.holds K.leaves K.fits K.fault_count keep.old) (store K.is_honest K.holds K.leaves K.fits K.fault_count keep.new) (controller_head 1) }
+        ensures cause { IfErr result (IsOpenFault (IsRefusedAt (IsRecordOf controller_layout)) (K.store keep.old) (K.store keep.new) (controller_head 1)) }
+        ensures honest { (K.store keep.new).honest → (K.store keep.old).honest }
+        ensures foreign { (K.store keep.new).honest → (place : ℕ) → (K.store keep.old).foreign place → RefusesAt place result }
+        ensures left { LeavesHead (K.store keep.old) (K.store keep.new) (controller_head 1) }
     {
         let head = controller_head_value(alloc, 1)?;
         let parts = match load_or_begin(alloc, keep, head) {
@@ -97,6 +96,12 @@ impl ControllerService {
 }
 
 impl Core for ControllerService {
+    type Record = ControllerRecord;
+
+    ghost spells = { λ kept parts. AreParts controller_layout kept.next_id (map volume_row kept.rows) parts };
+
+    ghost is_same = { λ one other. (one.next_id ≡ other.next_id) × (map volume_row one.rows ≡ map volume_row other.rows) };
+
     ghost parts_of = { controller_service_parts };
 
     ghost changes = { controller_service_changes };
@@ -111,6 +116,8 @@ impl Core for ControllerService {
         ensures nothing { (state : ControllerState) → Shows self.old.controller state → (fenced self.old.controller.config state frame.now).state ≡ state → OnOk result (controller_service_changes self.new ≡ []) }
         ensures err { OnErr result (controller_service_parts self.new ≡ controller_service_parts self.old) }
         ensures err_changes { OnErr result (controller_service_changes self.new ≡ controller_service_changes self.old) }
+        // A part is told only where what it says is other than it was.
+        ensures differs { OnOk result (AllDiffer self.new.changed frame.now.body self.old.controller self.new.controller) }
     {
         let (reply, changed) = answer(&mut self.controller, frame)?;
         self.changed = changed;
@@ -131,4 +138,6 @@ impl Core for ControllerService {
         }
         Ok(parts)
     }
+
+    fn record_law() {}
 }

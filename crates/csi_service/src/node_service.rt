@@ -1,16 +1,15 @@
 //! The node plugin over a store.
-ghost use Rattle.std.specs.Prelude.{◌≡◌, ◌∷◌, ℕ, ◌↔◌, [], Some, map, option_map, IfOk, IfErr, IfSome, OnOk, OnErr, IsTrue, None, if◌then◌else◌};
+ghost use Rattle.std.specs.Prelude.{◌≡◌, ◌≢◌, ◌∷◌, ℕ, ◌↔◌, [], Some, map, option_map, IfOk, IfErr, IfSome, OnOk, OnErr, IsTrue, None, if◌then◌else◌};
 ghost use Rattle.std.specs.Option.{option_copied};
 ghost use Rattle.csi_types.specs.VolumeId.{IsVolumeId};
 ghost use Rattle.csi_node.specs.OneRow.{shown, IsSoundRow};
-ghost use Rattle.csi_node.specs.OneVolume.{called_volume};
+ghost use Rattle.csi_node.specs.OneVolume.{called_volume, last_of};
 ghost use Rattle.csi_stores.specs.Part.{change_of};
-ghost use Rattle.csi_records.specs.Records.{node_layout, IsRecordOf, IsRefusedAt};
+ghost use Rattle.csi_records.specs.Records.{node_layout, AreParts, IsRecordOf, IsRefusedAt};
 ghost use Rattle.csi_records.specs.Spelling.{node_head, node_parts};
 ghost use Rattle.csi_stores.specs.Content.{all_changed};
 ghost use Rattle.csi_service.specs.NodeServices.{touched_row, last_for, node_service_changes, NodeServiceAnswers};
 ghost use Rattle.csi_stores.specs.Keeping.{RefusesAt};
-ghost use Rattle.csi_stores.specs.Stores.{store};
 ghost use Rattle.csi_service.specs.Opening.{IsOpenFault, LeavesHead, HasRecord};
 ghost use Rattle.csi_service.specs.Services.{node_service_parts};
 
@@ -66,11 +65,11 @@ impl NodeService {
     /// and the head doesn't fit. This profile's own.
     pub fn open<K: Keep>(alloc: Global, id: NodeId, keep: &mut K) -> Result<NodeService, KeepFault>
         ensures changes { IfOk result (λ service. node_service_changes service ≡ []) }
-        ensures opened { IfOk result (HasRecord (IsRecordOf (node_layout (Some id))) node_service_parts (store K.is_honest K.holds K.leaves K.fits K.fault_count keep.old) (store K.is_honest K.holds K.leaves K.fits K.fault_count keep.new) (node_head id)) }
-        ensures cause { IfErr result (IsOpenFault (IsRefusedAt (IsRecordOf (node_layout (Some id)))) (store K.is_honest K.holds K.leaves K.fits K.fault_count keep.old) (store K.is_honest K.holds K.leaves K.fits K.fault_count keep.new) (node_head id)) }
-        ensures honest { K.is_honest keep.new → K.is_honest keep.old }
-        ensures foreign { K.is_honest keep.new → (place : ℕ) → K.is_foreign keep.old place → RefusesAt place result }
-        ensures left { LeavesHead (store K.is_honest K.holds K.leaves K.fits K.fault_count keep.old) (store K.is_honest K.holds K.leaves K.fits K.fault_count keep.new) (node_head id) }
+        ensures opened { IfOk result (HasRecord (IsRecordOf (node_layout (Some id))) node_service_parts (K.store keep.old) (K.store keep.new) (node_head id)) }
+        ensures cause { IfErr result (IsOpenFault (IsRefusedAt (IsRecordOf (node_layout (Some id)))) (K.store keep.old) (K.store keep.new) (node_head id)) }
+        ensures honest { (K.store keep.new).honest → (K.store keep.old).honest }
+        ensures foreign { (K.store keep.new).honest → (place : ℕ) → (K.store keep.old).foreign place → RefusesAt place result }
+        ensures left { LeavesHead (K.store keep.old) (K.store keep.new) (node_head id) }
     {
         let head = node_head_value(alloc, &id)?;
         let parts = match load_or_begin(alloc, keep, head) {
@@ -145,6 +144,12 @@ fn volume_unless(is_same: bool, volume: Option<VolumeId>) -> Option<VolumeId>
 }
 
 impl Core for NodeService {
+    type Record = NodeRecord;
+
+    ghost spells = { λ kept parts. AreParts (node_layout None) kept.id (map shown kept.rows) parts };
+
+    ghost is_same = { λ one other. (one.id ≡ other.id) × (map shown one.rows ≡ map shown other.rows) };
+
     ghost parts_of = { node_service_parts };
 
     ghost changes = { node_service_changes };
@@ -158,6 +163,8 @@ impl Core for NodeService {
         ensures nothing { OnOk result (map shown self.new.node.rows ≡ map shown self.old.node.rows → node_service_changes self.new ≡ []) }
         ensures err { OnErr result (node_service_parts self.new ≡ node_service_parts self.old) }
         ensures err_changes { OnErr result (node_service_changes self.new ≡ node_service_changes self.old) }
+        // A row's part is told only where the volume's last number is other than it was.
+        ensures differs { OnOk result (IfSome self.new.touched (λ id. last_of id (map shown self.new.node.rows) ≢ last_of id (map shown self.old.node.rows))) }
     {
         let volume = volume_in(frame);
         let (earlier, later) = (volume, volume);
@@ -180,4 +187,6 @@ impl Core for NodeService {
         }
         Ok(parts)
     }
+
+    fn record_law() {}
 }

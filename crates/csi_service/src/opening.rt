@@ -1,7 +1,6 @@
 //! A store, opened: its parts, of which the head is put in first where there is none.
 ghost use Rattle.std.specs.Prelude.{ℕ, IfOk, IfErr};
 ghost use Rattle.csi_stores.specs.Keeping.{RefusesAt};
-ghost use Rattle.csi_stores.specs.Stores.{store};
 ghost use Rattle.csi_service.specs.Opening.{head_of, IsOpenFault, LeavesHead, HasLoaded};
 
 use csi_stores::{Keep, KeepFault, Part, push_value};
@@ -13,11 +12,11 @@ pub(crate) fn load_or_begin<K: Keep>(
     keep: &mut K,
     head: Vec<u8>,
 ) -> Result<Vec<Part>, KeepFault>
-    ensures loaded { IfOk result (HasLoaded (store K.is_honest K.holds K.leaves K.fits K.fault_count keep.old) (store K.is_honest K.holds K.leaves K.fits K.fault_count keep.new) (head_of head.items)) }
-    ensures cause { IfErr result (IsOpenFault (λ _ _. ⊥) (store K.is_honest K.holds K.leaves K.fits K.fault_count keep.old) (store K.is_honest K.holds K.leaves K.fits K.fault_count keep.new) (head_of head.items)) }
-    ensures honest { K.is_honest keep.new → K.is_honest keep.old }
-    ensures foreign { K.is_honest keep.new → (place : ℕ) → K.is_foreign keep.old place → RefusesAt place result }
-    ensures left { LeavesHead (store K.is_honest K.holds K.leaves K.fits K.fault_count keep.old) (store K.is_honest K.holds K.leaves K.fits K.fault_count keep.new) (head_of head.items) }
+    ensures loaded { IfOk result (HasLoaded (K.store keep.old) (K.store keep.new) (head_of head.items)) }
+    ensures cause { IfErr result (IsOpenFault (λ _ _. ⊥) (K.store keep.old) (K.store keep.new) (head_of head.items)) }
+    ensures honest { (K.store keep.new).honest → (K.store keep.old).honest }
+    ensures foreign { (K.store keep.new).honest → (place : ℕ) → (K.store keep.old).foreign place → RefusesAt place result }
+    ensures left { LeavesHead (K.store keep.old) (K.store keep.new) (head_of head.items) }
 {
     let mut first = Vec::new(alloc);
     push_value(&mut first, 0, head)?;

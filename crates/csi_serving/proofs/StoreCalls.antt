@@ -4,8 +4,8 @@ use Rattle.std.specs.Prelude.{◌⊎◌}
 use Rattle.csi_stores.specs.declared.keep.KeepFault.{KeepFault}
 use Rattle.csi_stores.specs.declared.keep.KeepFault.TheVariants.{Device, NoMemory, BadRecord, Full}
 use Rattle.csi_stores.specs.Part.{StoredPart}
-use Rattle.csi_stores.specs.Keeping.{HasRisen, IsCommitFault}
-use Rattle.csi_stores.specs.Stores.{Store, Follows, Rests, LeavesEither, IsRefusal}
+use Rattle.csi_stores.specs.Keeping.{HasRisen}
+use Rattle.csi_stores.specs.Stores.{Store, IsCommitFault, Follows, Rests, LeavesEither, IsRefusal}
 
 -- ---- a commit that was refused
 pub refused-left : (before after : Store) (first next : List StoredPart) (change : List StoredPart → List StoredPart) → change first ≡ next
@@ -19,7 +19,7 @@ refused-left before after first next change leads refused = λ honest only other
 
 -- the cause of a commit's refusal is that of the content to which it was to lead
 pub refused-cause : (before after : Store) (first next : List StoredPart) (change : List StoredPart → List StoredPart) (fault : KeepFault) → change first ≡ next
-    → IsCommitFault after.honest before.holds before.fits change before.faults after.faults fault → IsRefusal before after first next fault
+    → IsCommitFault before after change fault → IsRefusal before after first next fault
 refused-cause before after first next change Device leads cause = cause
 refused-cause before after first next change NoMemory leads cause = tt
 refused-cause before after first next change (BadRecord place) leads cause = cause

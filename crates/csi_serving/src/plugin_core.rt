@@ -9,6 +9,15 @@ use csi_types::{Frame, NoMemory};
 
 /// A plugin whose record is kept as parts. This profile's own.
 pub trait Core: Drop {
+    /// Its record, as it is written whole and read again.
+    type Record;
+
+    /// These are the parts of this record, by rising key, and all that is in them is within its limits.
+    ghost spells: { Self.Record → List StoredPart → Type 0 };
+
+    /// Two records say the same.
+    ghost is_same: { Self.Record → Self.Record → Type 0 };
+
     /// The parts of its record, by rising key.
     ghost parts_of: { Self → List StoredPart };
 
@@ -27,4 +36,8 @@ pub trait Core: Drop {
     /// What the last step that answered changed: the parts to be put in or taken out.
     fn parts(&self) -> Result<Vec<Part>, NoMemory>
         ensures { IfOk result (λ parts. map change_of parts.items ≡ changes self.now) };
+
+    /// A law, and nothing that runs: the same parts are one record's alone, so a core's parts determine its record.
+    fn record_law()
+        ensures { (parts : List StoredPart) → (one other : Self.Record) → spells one parts → spells other parts → is_same one other };
 }

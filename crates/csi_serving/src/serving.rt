@@ -3,7 +3,7 @@ ghost use Rattle.std.specs.Prelude.{◌≡◌, ◌≤◌, ◌+◌, ◌<◌, ◌^
 ghost use Rattle.std.specs.Io.KnownBytes.{Consumes, IsAtEnd};
 ghost use Rattle.csi_stores.specs.Keeping.{HasRisen};
 ghost use Rattle.csi_serving.specs.Failing.{Stays, ReaderStaysAt, WriterStaysAt};
-ghost use Rattle.csi_stores.specs.Stores.{store, Follows};
+ghost use Rattle.csi_stores.specs.Stores.{Follows};
 ghost use Rattle.csi_serving.specs.Serving.{Serves};
 ghost use Rattle.csi_serving.specs.Ending.{ended_by};
 
@@ -64,10 +64,10 @@ pub fn serve<C: Core, K: Keep, R: Read, W: Write>(
     reader: &mut Counted<R>,
     writer: &mut Counted<W>,
 ) -> Result<Served, ServeFault>
-    ensures serves { (bytes : List ℕ) × Consumes (R.remaining reader.old.inner) (R.remaining reader.new.inner) bytes × Serves (record { answers = C.answers; parts_of = C.parts_of; core = core; before = store K.is_honest K.holds K.leaves K.fits K.fault_count keep.old; after = store K.is_honest K.holds K.leaves K.fits K.fault_count keep.new; written_before = W.contents writer.old.inner; written_after = W.contents writer.new.inner; at_end = IsAtEnd (R.remaining reader.new.inner); reader_failed = HasRisen reader.old.faults reader.new.faults; writer_failed = HasRisen writer.old.faults writer.new.faults; endless = 2 ^ 63 ≤ length bytes }) bytes result }
+    ensures serves { (bytes : List ℕ) × Consumes (R.remaining reader.old.inner) (R.remaining reader.new.inner) bytes × Serves (record { answers = C.answers; parts_of = C.parts_of; core = core; before = K.store keep.old; after = K.store keep.new; written_before = W.contents writer.old.inner; written_after = W.contents writer.new.inner; at_end = IsAtEnd (R.remaining reader.new.inner); reader_failed = HasRisen reader.old.faults reader.new.faults; writer_failed = HasRisen writer.old.faults writer.new.faults; endless = 2 ^ 63 ≤ length bytes }) bytes result }
     ensures reader { Stays ReaderStaysAt reader.old.faults reader.new.faults result }
     ensures writer { Stays WriterStaysAt writer.old.faults writer.new.faults result }
-    ensures follows { Follows (store K.is_honest K.holds K.leaves K.fits K.fault_count keep.old) (store K.is_honest K.holds K.leaves K.fits K.fault_count keep.new) }
+    ensures follows { Follows (K.store keep.old) (K.store keep.new) }
 {
     let mut splitter = Splitter::new(alloc);
     let mut served = Served {

@@ -1,3 +1,4 @@
 pub mod Loading
 pub mod Tables
 pub mod Closing
+pub mod Kept

@@ -1,6 +1,6 @@
 //! A store in a SQLite database.
-ghost use Rattle.std.specs.Prelude.{◌≡◌, ◌≤◌, ◌⊎◌, ◌↔◌, ℕ, List, [], map, ⊤, IsTrue, IfOk, IfErr, IsErrAnd, OnOk, OnErr};
-ghost use Rattle.sqlite.specs.Held.{state};
+ghost use Rattle.std.specs.Prelude.{◌≡◌, ◌≤◌, ◌⊎◌, ◌↔◌, ℕ, List, [], map, false, IsTrue, IfOk, IfErr, IsOk, IsErrAnd, OnOk, OnErr};
+ghost use Rattle.sqlite.specs.Held.{Held, state};
 ghost use Rattle.sqlite.specs.State.{HasCleanDisk};
 ghost use Rattle.sqlite.specs.Order.{Row};
 ghost use Rattle.sqlite.specs.Tree.{Trees};
@@ -8,7 +8,9 @@ ghost use Rattle.csi_tables.specs.Listed.{ListsParts, ListsOther};
 ghost use Rattle.csi_tables.specs.Rows.{IsBlank, HasColumns};
 ghost use Rattle.csi_stores.specs.Part.{StoredPart, change_of, put_all};
 ghost use Rattle.csi_stores.specs.Content.{all_changed};
-ghost use Rattle.csi_stores.specs.Keeping.{IsLoadFault, IsCommitFault, RefusesAt};
+ghost use Rattle.csi_stores.specs.Keeping.{RefusesAt};
+ghost use Rattle.csi_stores.specs.Stores.{IsLoadFault, IsCommitFault, IsSettled};
+ghost use Rattle.csi_sqlite.specs.Kept.{sqlite_store, IsNotMade};
 ghost use Rattle.csi_sqlite.specs.Loading.{IsLoaded, IsForeign};
 ghost use Rattle.csi_sqlite.specs.Tables.{StoresParts, HoldsParts, LeavesParts, OpensOver, IsCounted, CountsFault, CountsOnce};
 
@@ -69,7 +71,8 @@ fn refused(faults: &mut u64, error: &Error) -> KeepFault
 impl<S: Alter> SqliteKeep<S> {
     /// A store in this database, in which the table `parts` is made where nothing is listed. A database that lists such a table
     /// alone is taken as it is, and one that lists anything else is refused, as it is. At a refusal the connection comes back:
-    /// `Device` stands for all but want of memory, as for a transaction that is open.
+    /// `Device` stands for all but want of memory, as for a transaction that is open; where none is open, and nothing else is listed, it
+    /// is what SQLite answers to the statement that makes the table.
     pub fn new(
         alloc: Global,
         mut connection: Connection<S>,
@@ -82,6 +85,8 @@ impl<S: Alter> SqliteKeep<S> {
         ensures faults { IfOk result (λ keep. keep.faults ≡ 0) }
         ensures back { IfErr result (λ refusal. OpensOver (state S.Store connection) (state S.Store refusal.1)) }
         ensures cause { IfErr result (λ refusal. (refusal.0 ≡ KeepFault.Device) ⊎ (refusal.0 ≡ KeepFault.NoMemory)) }
+        ensures device { IfErr result (λ refusal. HasCleanDisk (state S.Store refusal.1) → (state S.Store connection).in_transaction ≡ false → ¬ ListsOther (state S.Store connection).now.schema → IsNotMade (state S.Store connection) (state S.Store refusal.1) refusal.0) }
+        ensures opens { (state S.Store connection).in_transaction ≡ false → ListsParts (state S.Store connection).now.schema → IsOk result }
     {
         if !connection.is_autocommit() {
             return Err((KeepFault::Device, connection));
@@ -95,6 +100,12 @@ impl<S: Alter> SqliteKeep<S> {
             Err(error) if is_memory(&error) => Err((KeepFault::NoMemory, connection)),
             Err(_) => Err((KeepFault::Device, connection)),
         }
+    }
+
+    /// A law, and nothing that runs: the parts that a store has are all that opening it again may find.
+    pub fn settled_law()
+        ensures { (connection : Held S) (faults : ℕ) → IsSettled (sqlite_store (state S.Store connection) faults) }
+    {
     }
 
     /// The connection. It takes no memory.
@@ -111,17 +122,7 @@ impl<S: Alter> SqliteKeep<S> {
 }
 
 impl<S: Alter> Keep for SqliteKeep<S> {
-    ghost is_honest = { λ keep. HasCleanDisk (state S.Store keep.connection) };
-
-    ghost holds = { λ keep content. HoldsParts (state S.Store keep.connection) content };
-
-    ghost is_foreign = { λ keep place. IsForeign (state S.Store keep.connection) place };
-
-    ghost leaves = { λ keep content. LeavesParts (state S.Store keep.connection) content };
-
-    ghost fits = { λ _ _. ⊤ };
-
-    ghost fault_count = { λ keep. keep.faults };
+    ghost store = { λ keep. sqlite_store (state S.Store keep.connection) keep.faults };
 
     /// All parts, by rising key, where the table is as declared and each of its rows is a part. A row that is none is `BadRecord`,
     /// with the position, from 0, of the first such row in SQLite's order of keys. Nothing is written: whatever the database has,
@@ -135,7 +136,7 @@ impl<S: Alter> Keep for SqliteKeep<S> {
         ensures foreign { HasCleanDisk (state S.Store self.new.connection) → (place : ℕ) → IsForeign (state S.Store self.old.connection) place → RefusesAt place result }
         ensures counted { CountsOnce self.old.faults self.new.faults result }
         ensures crash { HasCleanDisk (state S.Store self.new.connection) → (db : Trees) → (state S.Store self.new.connection).may_leave db → (state S.Store self.old.connection).may_leave db }
-        ensures cause { IfErr result (λ fault. IsLoadFault (HasCleanDisk (state S.Store self.new.connection)) (HoldsParts (state S.Store self.old.connection)) self.old.faults self.new.faults fault) }
+        ensures cause { IfErr result (λ fault. IsLoadFault (sqlite_store (state S.Store self.old.connection) self.old.faults) (sqlite_store (state S.Store self.new.connection) self.new.faults) fault) }
         ensures judged { HasCleanDisk (state S.Store self.new.connection) → (columns : List Row) → HasColumns (state S.Store self.old.connection) columns → IsLoaded (state S.Store self.old.connection) columns result }
     {
         match all_rows(&mut self.connection) {
@@ -153,7 +154,7 @@ impl<S: Alter> Keep for SqliteKeep<S> {
         ensures alone { HasCleanDisk (state S.Store self.new.connection) → (content : List StoredPart) → HoldsParts (state S.Store self.old.connection) content → OnOk result ((other : List StoredPart) → LeavesParts (state S.Store self.new.connection) other → other ≡ all_changed (map change_of parts.now) content) }
         ensures refused { HasCleanDisk (state S.Store self.new.connection) → (content : List StoredPart) → HoldsParts (state S.Store self.old.connection) content → OnErr result ((other : List StoredPart) → LeavesParts (state S.Store self.new.connection) other → LeavesParts (state S.Store self.old.connection) other ⊎ (other ≡ all_changed (map change_of parts.now) content)) }
         ensures faults { self.old.faults ≤ self.new.faults }
-        ensures cause { IfErr result (λ fault. IsCommitFault (HasCleanDisk (state S.Store self.new.connection)) (HoldsParts (state S.Store self.old.connection)) (λ _. ⊤) (all_changed (map change_of parts.now)) self.old.faults self.new.faults fault) }
+        ensures cause { IfErr result (λ fault. IsCommitFault (sqlite_store (state S.Store self.old.connection) self.old.faults) (sqlite_store (state S.Store self.new.connection) self.new.faults) (all_changed (map change_of parts.now)) fault) }
         ensures counted { CountsOnce self.old.faults self.new.faults result }
         ensures crash { HasCleanDisk (state S.Store self.new.connection) → (content : List StoredPart) → HoldsParts (state S.Store self.old.connection) content → (db : Trees) → (state S.Store self.new.connection).may_leave db → (state S.Store self.old.connection).may_leave db ⊎ StoresParts db (all_changed (map change_of parts.now) content) }
     {

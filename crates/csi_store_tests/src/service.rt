@@ -2,7 +2,9 @@
 mod damaged;
 mod failing;
 mod files;
+mod flushes;
 mod growths;
+mod limited;
 mod pieces;
 mod playing;
 mod plugins;

@@ -1,8 +1,9 @@
 -- A store in memory, as contracts see it.
-use Rattle.std.specs.Prelude.{◌≤◌, ℕ, List, map}
+use Rattle.std.specs.Prelude.{◌≡◌, ◌≤◌, ⊤, ℕ, List, map}
 use Rattle.csi_stores.specs.declared.entries.Entry.{Entry}
 use Rattle.csi_stores.specs.Part.{StoredPart}
 use Rattle.csi_stores.specs.Content.{IsRising, size_of}
+use Rattle.csi_stores.specs.Stores.{Store}
 
 -- its limit in bytes, and its parts
 pub record Memory : Type 0 where
@@ -19,3 +20,14 @@ stored entry = record { key = entry.key; value = entry.value.items }
 
 abbrev pub all_stored : List Entry → List StoredPart
 all_stored entries = map stored entries
+
+-- as a store: what it has is all that opening it again finds, it always has a list of parts, and nothing in it fails
+abbrev pub memory_store : Memory → Store
+memory_store memory = record {
+  honest = ⊤;
+  holds = λ content. memory.parts ≡ content;
+  foreign = λ place. ⊥;
+  leaves = λ content. memory.parts ≡ content;
+  fits = λ content. size_of content ≤ memory.limit;
+  faults = 0;
+}

@@ -2,7 +2,8 @@
 ghost use Rattle.std.specs.Prelude.{◌≡◌, ◌≤◌, ◌⊎◌, ℕ, List, map, IfOk, IfErr, OnOk, OnErr};
 ghost use Rattle.csi_stores.specs.Part.{StoredPart, put_all, change_of};
 ghost use Rattle.csi_stores.specs.Content.{all_changed};
-ghost use Rattle.csi_stores.specs.Keeping.{IsLoadFault, IsCommitFault, RefusesAt};
+ghost use Rattle.csi_stores.specs.Keeping.{RefusesAt};
+ghost use Rattle.csi_stores.specs.Stores.{Store, IsLoadFault, IsCommitFault};
 
 use crate::part::Part;
 use csi_types::NoMemory;
@@ -38,52 +39,37 @@ impl From<NoMemory> for KeepFault {
 
 /// A store of parts, which gives them back when it is opened again. This profile's own.
 pub trait Keep {
-    /// All that is outside the store did as it says so far: a disk gave back what was written, and nobody else wrote.
-    ghost is_honest: { Self → Type 0 };
-
-    /// These are its parts, by rising key.
-    ghost holds: { Self → List StoredPart → Type 0 };
-
-    /// What it has is no list of parts: the first thing that is none stands at this place, from 0.
-    ghost is_foreign: { Self → ℕ → Type 0 };
-
-    /// A store that is opened again now may find these parts.
-    ghost leaves: { Self → List StoredPart → Type 0 };
-
-    /// It has room for these parts.
-    ghost fits: { Self → List StoredPart → Type 0 };
-
-    /// How often the device under it failed.
-    ghost fault_count: { Self → ℕ };
+    /// What it is now: its parts, what opening it again may find, its room, its faults, and whether all outside it did as it says.
+    ghost store: { Self → Store };
 
     /// All parts, by rising key. Where there is no list of parts that is refused, with the place of the first thing that is none.
     /// What opening again may find only gets less, and where the parts were given the store is as it was.
     fn load(&mut self) -> Result<Vec<Part>, KeepFault>
-        ensures honest { is_honest self.new → is_honest self.old }
-        ensures parts { is_honest self.new → (content : List StoredPart) → holds self.old content → IfOk result (λ parts. map change_of parts.items ≡ put_all content) }
-        ensures stays { is_honest self.new → (content : List StoredPart) → holds self.old content → OnOk result (holds self.new content) }
-        ensures foreign { is_honest self.new → (place : ℕ) → is_foreign self.old place → RefusesAt place result }
-        ensures left { is_honest self.new → (content : List StoredPart) → leaves self.new content → leaves self.old content }
-        ensures room { (content : List StoredPart) → fits self.old content → fits self.new content }
-        ensures no_more_room { (content : List StoredPart) → fits self.new content → fits self.old content }
-        ensures faults { fault_count self.old ≤ fault_count self.new }
-        ensures cause { IfErr result (λ fault. IsLoadFault (is_honest self.new) (holds self.old) (fault_count self.old) (fault_count self.new) fault) };
+        ensures honest { (store self.new).honest → (store self.old).honest }
+        ensures parts { (store self.new).honest → (content : List StoredPart) → (store self.old).holds content → IfOk result (λ parts. map change_of parts.items ≡ put_all content) }
+        ensures stays { (store self.new).honest → (content : List StoredPart) → (store self.old).holds content → OnOk result ((store self.new).holds content) }
+        ensures foreign { (store self.new).honest → (place : ℕ) → (store self.old).foreign place → RefusesAt place result }
+        ensures left { (store self.new).honest → (content : List StoredPart) → (store self.new).leaves content → (store self.old).leaves content }
+        ensures room { (content : List StoredPart) → (store self.old).fits content → (store self.new).fits content }
+        ensures no_more_room { (content : List StoredPart) → (store self.new).fits content → (store self.old).fits content }
+        ensures faults { (store self.old).faults ≤ (store self.new).faults }
+        ensures cause { IfErr result (λ fault. IsLoadFault (store self.old) (store self.new) fault) };
 
     /// Puts parts in and takes them out, one after another, all or none. After a refusal opening again finds what it would
     /// have found before, or all of them done.
     fn commit(&mut self, parts: &[Part]) -> Result<(), KeepFault>
-        ensures honest { is_honest self.new → is_honest self.old }
-        ensures done { is_honest self.new → (content : List StoredPart) → holds self.old content → OnOk result (holds self.new (all_changed (map change_of parts.now) content)) }
-        ensures alone { is_honest self.new → (content : List StoredPart) → holds self.old content →
-            OnOk result ((other : List StoredPart) → leaves self.new other → other ≡ all_changed (map change_of parts.now) content) }
-        ensures refused { is_honest self.new → (content : List StoredPart) → holds self.old content →
-            OnErr result ((other : List StoredPart) → leaves self.new other → leaves self.old other ⊎ (other ≡ all_changed (map change_of parts.now) content)) }
-        ensures room { (content : List StoredPart) → fits self.old content → fits self.new content }
-        ensures no_more_room { (content : List StoredPart) → fits self.new content → fits self.old content }
-        ensures faults { fault_count self.old ≤ fault_count self.new }
-        ensures cause { IfErr result (λ fault. IsCommitFault (is_honest self.new) (holds self.old) (fits self.old) (all_changed (map change_of parts.now)) (fault_count self.old) (fault_count self.new) fault) };
+        ensures honest { (store self.new).honest → (store self.old).honest }
+        ensures done { (store self.new).honest → (content : List StoredPart) → (store self.old).holds content → OnOk result ((store self.new).holds (all_changed (map change_of parts.now) content)) }
+        ensures alone { (store self.new).honest → (content : List StoredPart) → (store self.old).holds content →
+            OnOk result ((other : List StoredPart) → (store self.new).leaves other → other ≡ all_changed (map change_of parts.now) content) }
+        ensures refused { (store self.new).honest → (content : List StoredPart) → (store self.old).holds content →
+            OnErr result ((other : List StoredPart) → (store self.new).leaves other → (store self.old).leaves other ⊎ (other ≡ all_changed (map change_of parts.now) content)) }
+        ensures room { (content : List StoredPart) → (store self.old).fits content → (store self.new).fits content }
+        ensures no_more_room { (content : List StoredPart) → (store self.new).fits content → (store self.old).fits content }
+        ensures faults { (store self.old).faults ≤ (store self.new).faults }
+        ensures cause { IfErr result (λ fault. IsCommitFault (store self.old) (store self.new) (all_changed (map change_of parts.now)) fault) };
 
     /// How often the device failed so far; a count of 2^64 - 1 stays. It takes no memory.
     fn faults(&self) -> u64
-        ensures { result ≡ fault_count self.now };
+        ensures { result ≡ (store self.now).faults };
 }

@@ -2,7 +2,8 @@
 ghost use Rattle.std.specs.Prelude.{◌≡◌, ◌≤◌, ◌<◌, ◌⊎◌, [], map, IfOk, IfErr, OnOk, OnErr, IsOk};
 ghost use Rattle.csi_stores.specs.Part.{put_all, change_of};
 ghost use Rattle.csi_stores.specs.Content.{all_changed, size_of};
-ghost use Rattle.csi_stores.specs.Memory.{all_stored};
+ghost use Rattle.csi_stores.specs.Memory.{Memory, all_stored, memory_store};
+ghost use Rattle.csi_stores.specs.Stores.{IsSettled};
 
 use crate::entries::{Entry, change_all, copies_of, fit};
 use crate::keep::{Keep, KeepFault};
@@ -55,22 +56,18 @@ impl MemoryKeep {
             entries: Vec::new(alloc),
         }
     }
+
+    /// A law, and nothing that runs: what a store in memory has is all that opening it again may find.
+    pub fn settled_law()
+        ensures { (memory : Memory) → IsSettled (memory_store memory) }
+    {
+    }
 }
 
 impl Keep for MemoryKeep {
-    ghost use Rattle.std.specs.Prelude.{⊤};
+    ghost use Rattle.csi_stores.specs.Memory.{memory_store};
 
-    ghost is_honest = { λ _. ⊤ };
-
-    ghost holds = { λ memory content. memory.parts ≡ content };
-
-    ghost is_foreign = { λ _ _. ⊥ };
-
-    ghost leaves = { λ memory content. memory.parts ≡ content };
-
-    ghost fits = { λ memory content. size_of content ≤ memory.limit };
-
-    ghost fault_count = { λ _. 0 };
+    ghost store = { memory_store };
 
     fn load(&mut self) -> Result<Vec<Part>, KeepFault>
         ensures parts { IfOk result (λ parts. map change_of parts.items ≡ put_all self.old.parts) }

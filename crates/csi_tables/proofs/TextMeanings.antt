@@ -16,18 +16,7 @@ use Rattle.sqlite_tied.specs.Compute.{everything}
 use Rattle.sqlite.specs.Listing.{understood, reads_listing}
 use Rattle.sqlite.proofs.Callers.{IsPlain, command_of, statement_of}
 use Rattle.csi_tables.specs.Declared.{parts_table, parts_schema, no_schema}
-
-abbrev pub make_text : List ℕ
-make_text = codes "CREATE TABLE IF NOT EXISTS parts (key BLOB NOT NULL PRIMARY KEY, value BLOB NOT NULL)"
-
-abbrev pub read_text : List ℕ
-read_text = codes "SELECT key, value FROM parts ORDER BY key"
-
-abbrev pub put_text : List ℕ
-put_text = codes "INSERT INTO parts (key, value) VALUES (?1, ?2) ON CONFLICT (key) DO UPDATE SET value = excluded.value"
-
-abbrev pub remove_text : List ℕ
-remove_text = codes "DELETE FROM parts WHERE key = ?1"
+pub use Rattle.csi_tables.specs.Statements.{make_text, read_text, put_text, remove_text}
 
 -- the rowid is to be chosen, and then the two parameters
 abbrev pub put_terms : List Term

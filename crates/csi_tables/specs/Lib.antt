@@ -1,3 +1,4 @@
 pub mod Declared
 pub mod Listed
 pub mod Rows
+pub mod Statements

@@ -6,13 +6,14 @@ ghost use Rattle.sqlite.specs.Tree.{Trees};
 ghost use Rattle.sqlite.specs.Order.{Row as Cells};
 ghost use Rattle.csi_tables.specs.Rows.{KeyedRow, cells, without, AreRising, AreByKey, StoresRows, HasColumns, HasRows, IsAtRest, IsBlank, IsInputError};
 ghost use Rattle.csi_tables.specs.Listed.{ListsParts, ListsOther};
+ghost use Rattle.csi_tables.specs.Statements.{RefusesToMake, RefusesToPut, RefusesToRemove};
 
 use crate::listed::{lists_nothing, lists_parts};
 use sqlite::{Alter, Connection, Error, ErrorCode, Row, Transaction, params};
 
 /// Makes the table where the database lists nothing; the statement is its own transaction. Where it lists a table of this name
 /// alone, however that is declared, nothing is done, and where it lists anything else that is refused as `NotADatabase`, and nothing
-/// is done either.
+/// is done either. Any other error is SQLite's own at the statement.
 pub fn make_table<S: Alter>(connection: &mut Connection<S>) -> Result<(), Error>
     ensures made { HasCleanDisk (state S.Store connection.new) → IsBlank (state S.Store connection.old) → IsAtRest (state S.Store connection.old)
         → OnOk result (HasRows (state S.Store connection.new) [] × IsAtRest (state S.Store connection.new)) }
@@ -24,6 +25,7 @@ pub fn make_table<S: Alter>(connection: &mut Connection<S>) -> Result<(), Error>
     ensures clean { HasCleanDisk (state S.Store connection.new) → HasCleanDisk (state S.Store connection.old) }
     ensures there { ListsParts (state S.Store connection.old).now.schema → IsOk result × (connection.new ≡ connection.old) }
     ensures other { ListsOther (state S.Store connection.old).now.schema → (result ≡ Err (Error.SqliteFailure ErrorCode.NotADatabase)) × (connection.new ≡ connection.old) }
+    ensures refused { HasCleanDisk (state S.Store connection.new) → ¬ ListsOther (state S.Store connection.old).now.schema → IfErr result (RefusesToMake (state S.Store connection.old) (state S.Store connection.new)) }
 {
     let schema = connection.schema();
     if lists_parts(schema) {
@@ -52,7 +54,7 @@ pub fn all_rows<S: Alter>(connection: &mut Connection<S>) -> Result<Vec<Row>, Er
     connection.query_all("SELECT key, value FROM parts ORDER BY key", &[])
 }
 
-/// Puts a row in, in place of the one of its key if there is one.
+/// Puts a row in, in place of the one of its key if there is one. An error is SQLite's own at the statement.
 pub fn put_row<S: Alter>(
     transaction: &mut Transaction<'_, S>,
     key: &[u8],
@@ -61,6 +63,7 @@ pub fn put_row<S: Alter>(
     ensures same_reference { transaction.new.conn.ghost_name ≡ transaction.old.conn.ghost_name }
     ensures put { HasCleanDisk (state S.Store transaction.new.conn.now) → (rows : List KeyedRow) → HasRows (state S.Store transaction.old.conn.now) rows
         → OnOk result (HasRows (state S.Store transaction.new.conn.now) ((record { key = key.now; value = value.now }) ∷ without key.now rows)) }
+    ensures refused { HasCleanDisk (state S.Store transaction.new.conn.now) → IsTrue (state S.Store transaction.old.conn.now).in_transaction → IfErr result (RefusesToPut key.now value.now (state S.Store transaction.old.conn.now) (state S.Store transaction.new.conn.now)) }
     ensures survives { Survives (state S.Store transaction.old.conn.now) (state S.Store transaction.new.conn.now) (λ _. ⊥) }
 {
     transaction.execute(
@@ -70,11 +73,12 @@ pub fn put_row<S: Alter>(
     Ok(())
 }
 
-/// Takes out the row of a key, if there is one.
+/// Takes out the row of a key, if there is one. An error is SQLite's own at the statement.
 pub fn remove_row<S: Alter>(transaction: &mut Transaction<'_, S>, key: &[u8]) -> Result<(), Error>
     ensures same_reference { transaction.new.conn.ghost_name ≡ transaction.old.conn.ghost_name }
     ensures removed { HasCleanDisk (state S.Store transaction.new.conn.now) → (rows : List KeyedRow) → HasRows (state S.Store transaction.old.conn.now) rows
         → OnOk result (HasRows (state S.Store transaction.new.conn.now) (without key.now rows)) }
+    ensures refused { HasCleanDisk (state S.Store transaction.new.conn.now) → IsTrue (state S.Store transaction.old.conn.now).in_transaction → IfErr result (RefusesToRemove key.now (state S.Store transaction.old.conn.now) (state S.Store transaction.new.conn.now)) }
     ensures survives { Survives (state S.Store transaction.old.conn.now) (state S.Store transaction.new.conn.now) (λ _. ⊥) }
 {
     transaction.execute("DELETE FROM parts WHERE key = ?1", params![key])?;

@@ -1,7 +1,7 @@
 //! A frame, answered: stepped, committed, and then its reply written.
 ghost use Rattle.std.specs.Prelude.{◌≡◌, ◌≤◌, Option, IfOk, IfErr, OnOk, Err};
 ghost use Rattle.csi_stores.specs.Keeping.{HasRisen};
-ghost use Rattle.csi_stores.specs.Stores.{store, Rests, Follows};
+ghost use Rattle.csi_stores.specs.Stores.{Rests, Follows};
 ghost use Rattle.csi_serving.specs.Answering.{IsSpelledAs, Steps, StopsUnwritten, AnswersOne};
 ghost use Rattle.csi_serving.specs.Failing.{Stays, FrameStays};
 
@@ -57,10 +57,10 @@ fn carry_out<C: Core, K: Keep>(
     frame: &Frame,
 ) -> Result<Option<Vec<u8>>, FrameStop>
     ensures steps { IfOk result (Steps C.answers core.old frame.now core.new) }
-    ensures kept { OnOk result (Rests (store K.is_honest K.holds K.leaves K.fits K.fault_count keep.old) (store K.is_honest K.holds K.leaves K.fits K.fault_count keep.new) (C.parts_of core.old) (C.parts_of core.new)) }
-    ensures err { IfErr result (StopsUnwritten C.answers C.parts_of (store K.is_honest K.holds K.leaves K.fits K.fault_count keep.old) (store K.is_honest K.holds K.leaves K.fits K.fault_count keep.new) core.old frame.now core.new) }
+    ensures kept { OnOk result (Rests (K.store keep.old) (K.store keep.new) (C.parts_of core.old) (C.parts_of core.new)) }
+    ensures err { IfErr result (StopsUnwritten C.answers C.parts_of (K.store keep.old) (K.store keep.new) core.old frame.now core.new) }
     ensures untouched { result ≡ Err FrameStop.NoMemory → keep.new ≡ keep.old }
-    ensures follows { Follows (store K.is_honest K.holds K.leaves K.fits K.fault_count keep.old) (store K.is_honest K.holds K.leaves K.fits K.fault_count keep.new) }
+    ensures follows { Follows (K.store keep.old) (K.store keep.new) }
 {
     let reply = core.step(frame)?;
     let bytes = spelled(alloc, reply)?;
@@ -79,8 +79,8 @@ pub(crate) fn answer_frame<C: Core, K: Keep, W: Write>(
     writer: &mut Counted<W>,
     frame: &Frame,
 ) -> Result<bool, FrameStop>
-    ensures answer { AnswersOne (record { answers = C.answers; parts_of = C.parts_of; core = core.old; before = store K.is_honest K.holds K.leaves K.fits K.fault_count keep.old; after = store K.is_honest K.holds K.leaves K.fits K.fault_count keep.new; written_before = W.contents writer.old.inner; written_after = W.contents writer.new.inner; at_end = ⊥; reader_failed = ⊥; writer_failed = HasRisen writer.old.faults writer.new.faults; endless = ⊥ }) frame.now core.new result }
-    ensures follows { Follows (store K.is_honest K.holds K.leaves K.fits K.fault_count keep.old) (store K.is_honest K.holds K.leaves K.fits K.fault_count keep.new) }
+    ensures answer { AnswersOne (record { answers = C.answers; parts_of = C.parts_of; core = core.old; before = K.store keep.old; after = K.store keep.new; written_before = W.contents writer.old.inner; written_after = W.contents writer.new.inner; at_end = ⊥; reader_failed = ⊥; writer_failed = HasRisen writer.old.faults writer.new.faults; endless = ⊥ }) frame.now core.new result }
+    ensures follows { Follows (K.store keep.old) (K.store keep.new) }
     ensures faults { writer.old.faults ≤ writer.new.faults }
     ensures quiet { Stays FrameStays writer.old.faults writer.new.faults result }
 {

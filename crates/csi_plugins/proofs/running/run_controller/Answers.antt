@@ -7,6 +7,7 @@ returns-in-Ok-clause-runs g c = inr (record {
   core = c.in-Ok.core;
   asked = c.in-Ok.ensures.config;
   opened = c.open.new.keep;
+  honest = c.in-Ok.ensures.honest;
   found = c.in-Ok.ensures.opened;
   left = c.in-Ok.ensures.left;
   served = c.served.ensures.serves;

@@ -1,14 +1,13 @@
 use Rattle.std.proofs.Common.{◌≤◌, length, arith}
 use Rattle.std.proofs.lemmas.Bool.Decides.{nat_tests}
-use Rattle.csi_stores.specs.Stores.{store}
 use Rattle.csi_service.specs.Opening.{head_of}
 use Rattle.csi_service.proofs.LoadedParts.{all-put, some-content, has-opened}
 use Rattle.csi_service.proofs.opening.load_or_begin.Goals as goal
 
 pub returns-then-not-is_empty-clause-loaded : goal.returns-then-not-is_empty-clause-loaded
 returns-then-not-is_empty-clause-loaded g c = λ honest content holds.
-    let before = store g.K.Keep.is_honest g.K.Keep.holds g.K.Keep.leaves g.K.Keep.fits g.K.Keep.fault_count c.args.keep.now in
-    let after = store g.K.Keep.is_honest g.K.Keep.holds g.K.Keep.leaves g.K.Keep.fits g.K.Keep.fault_count c.load.new.self in
+    let before = g.K.Keep.store c.args.keep.now in
+    let after = g.K.Keep.store c.load.new.self in
     let parts = c.in-Ok.ensures.parts honest content holds in
     let some : 1 ≤ length c.in-Ok.parts.items = grind (arith, nat_tests) in
     let there = c.in-Ok.ensures.stays honest content holds in (

@@ -2,7 +2,6 @@
 use Rattle.std.proofs.Common.{◌∙◌, refl, ◌++◌, [], ◌≤◌, ◌^◌, length, arith}
 use Rattle.std.specs.Io.KnownBytes.{IsAtEnd}
 use Rattle.csi_stores.specs.Keeping.{HasRisen}
-use Rattle.csi_stores.specs.Stores.{store}
 use Rattle.csi_serving.proofs.StoreCalls.{risen-more, follows-more}
 use Rattle.csi_serving.proofs.Failures.{reader-same, writer-more, reader-more, writer-same, reader-ends, writer-ends}
 use Rattle.std.proofs.KnownBytes.{Consumes-nil, Consumes-trans}
@@ -12,7 +11,7 @@ use Rattle.csi_serving.proofs.serving.serve.Goals as goal
 
 pub frames-init : goal.frames-init
 frames-init g c =
-    let now = store g.K.Keep.is_honest g.K.Keep.holds g.K.Keep.leaves g.K.Keep.fits g.K.Keep.fault_count in
+    let now = g.K.Keep.store in
     record {
       stream = [];
       consumed = Consumes-nil (g.R.Read.remaining c.args.reader.now.inner);
@@ -41,7 +40,7 @@ stopped-requires-in-Err g c =
 
 pub frames-preserved-in-Ok-Some : goal.frames-preserved-in-Ok-Some
 frames-preserved-in-Ok-Some g c =
-    let now = store g.K.Keep.is_honest g.K.Keep.holds g.K.Keep.leaves g.K.Keep.fits g.K.Keep.fault_count in
+    let now = g.K.Keep.store in
     let contents = g.W.Write.contents in
     let i = c.frames.invariant in
     record {
@@ -58,7 +57,7 @@ frames-preserved-in-Ok-Some g c =
 
 pub frames-smaller-in-Ok-Some : goal.frames-smaller-in-Ok-Some
 frames-smaller-in-Ok-Some g c =
-    let now = store g.K.Keep.is_honest g.K.Keep.holds g.K.Keep.leaves g.K.Keep.fits g.K.Keep.fault_count in
+    let now = g.K.Keep.store in
     let contents = g.W.Write.contents in
     let i = c.frames.invariant in
     let off = takes_off g.C.Core.answers g.C.Core.parts_of c.args.core c.frames.core (now c.args.keep.now) (now c.frames.keep) (contents c.args.writer.now.inner) (contents c.frames.writer.inner) i.stream c.frames.splitter c.frames.served
@@ -67,7 +66,7 @@ frames-smaller-in-Ok-Some g c =
 
 pub frames-preserved : goal.frames-preserved
 frames-preserved g c =
-    let now = store g.K.Keep.is_honest g.K.Keep.holds g.K.Keep.leaves g.K.Keep.fits g.K.Keep.fault_count in
+    let now = g.K.Keep.store in
     let contents = g.W.Write.contents in
     let remaining = g.R.Read.remaining in
     let i = c.frames.invariant in
@@ -87,7 +86,7 @@ frames-preserved g c =
 
 pub returns-in-Err-clause-serves : goal.returns-in-Err-clause-serves
 returns-in-Err-clause-serves g c =
-    let now = store g.K.Keep.is_honest g.K.Keep.holds g.K.Keep.leaves g.K.Keep.fits g.K.Keep.fault_count in
+    let now = g.K.Keep.store in
     let contents = g.W.Write.contents in
     let remaining = g.R.Read.remaining in
     let i = c.frames.invariant in (
@@ -101,7 +100,7 @@ returns-in-Err-clause-serves g c =
 
 pub returns-in-Err-read_piece-clause-serves : goal.returns-in-Err-read_piece-clause-serves
 returns-in-Err-read_piece-clause-serves g c =
-    let now = store g.K.Keep.is_honest g.K.Keep.holds g.K.Keep.leaves g.K.Keep.fits g.K.Keep.fault_count in
+    let now = g.K.Keep.store in
     let contents = g.W.Write.contents in
     let remaining = g.R.Read.remaining in
     let i = c.frames.invariant in
@@ -118,7 +117,7 @@ returns-in-Err-read_piece-clause-serves g c =
 
 pub returns-in-Ok-false-clause-serves : goal.returns-in-Ok-false-clause-serves
 returns-in-Ok-false-clause-serves g c =
-    let now = store g.K.Keep.is_honest g.K.Keep.holds g.K.Keep.leaves g.K.Keep.fits g.K.Keep.fault_count in
+    let now = g.K.Keep.store in
     let contents = g.W.Write.contents in
     let remaining = g.R.Read.remaining in
     let i = c.frames.invariant in
@@ -141,7 +140,7 @@ returns-in-Err-clause-writer g c =
 
 pub returns-in-Err-clause-follows : goal.returns-in-Err-clause-follows
 returns-in-Err-clause-follows g c =
-    let now = store g.K.Keep.is_honest g.K.Keep.holds g.K.Keep.leaves g.K.Keep.fits g.K.Keep.fault_count in
+    let now = g.K.Keep.store in
     follows-more (now c.args.keep.now) (now c.frames.keep) (now c.answer_next.new.keep) c.frames.invariant.progress.follows c.in-Err.ensures.follows
 
 pub returns-in-Err-read_piece-clause-reader : goal.returns-in-Err-read_piece-clause-reader
@@ -154,7 +153,7 @@ returns-in-Err-read_piece-clause-writer g c =
 
 pub returns-in-Err-read_piece-clause-follows : goal.returns-in-Err-read_piece-clause-follows
 returns-in-Err-read_piece-clause-follows g c =
-    let now = store g.K.Keep.is_honest g.K.Keep.holds g.K.Keep.leaves g.K.Keep.fits g.K.Keep.fault_count in
+    let now = g.K.Keep.store in
     follows-more (now c.args.keep.now) (now c.frames.keep) (now c.answer_next.new.keep) c.frames.invariant.progress.follows c.in-Ok-None.ensures.follows
 
 pub returns-in-Ok-false-clause-reader : goal.returns-in-Ok-false-clause-reader
@@ -167,5 +166,5 @@ returns-in-Ok-false-clause-writer g c =
 
 pub returns-in-Ok-false-clause-follows : goal.returns-in-Ok-false-clause-follows
 returns-in-Ok-false-clause-follows g c =
-    let now = store g.K.Keep.is_honest g.K.Keep.holds g.K.Keep.leaves g.K.Keep.fits g.K.Keep.fault_count in
+    let now = g.K.Keep.store in
     follows-more (now c.args.keep.now) (now c.frames.keep) (now c.answer_next.new.keep) c.frames.invariant.progress.follows c.in-Ok-None.ensures.follows

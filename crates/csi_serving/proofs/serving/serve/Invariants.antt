@@ -1,14 +1,13 @@
 -- All frames that the splitter gave of what was read were answered; each answer takes of what it keeps, each read of what is still allowed.
 use Rattle.std.proofs.Common.{◌≡◌, ℕ, List, ◌+◌, ◌-◌, ◌*◌, ◌^◌, ◌≤◌, length}
 use Rattle.std.specs.Io.KnownBytes.{Consumes}
-use Rattle.csi_stores.specs.Stores.{store}
 use Rattle.csi_serving.proofs.Progress.{Progress}
 use Rattle.csi_serving.proofs.serving.serve.Given as goal
 
 -- what was read are frames that were answered, and what the splitter keeps; no count of faults has fallen
 abbrev pub invariant-frames : goal.invariant-frames
 invariant-frames g l =
-    let now = store g.K.Keep.is_honest g.K.Keep.holds g.K.Keep.leaves g.K.Keep.fits g.K.Keep.fault_count in
+    let now = g.K.Keep.store in
     let contents = g.W.Write.contents in
     record {
       stream : List ℕ;

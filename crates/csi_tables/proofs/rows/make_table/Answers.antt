@@ -1,4 +1,5 @@
-use Rattle.std.proofs.Common.{inl, inr, Ok, subst}
+use Rattle.std.proofs.Common.{◌≡◌, inl, inr, Result, Ok, Err, IfErr, subst, rules}
+use Rattle.csi_tables.specs.Statements.{RefusesToMake}
 use Rattle.sqlite.specs.Held.{state}
 use Rattle.csi_tables.proofs.MakingTable.{makes, may_make, finds, may_find}
 use Rattle.csi_tables.specs.Listed.{ListsParts}
@@ -50,3 +51,13 @@ returns-then-lists_parts-clause-found g c clean rows is_open stores rest =
     let live = (c.schema-schema.ensures.live is_open).0 in
     let now = (state g.S.Store c.args.connection.now).now in
     (record { is_open = is_open; declared = parts_listed now.schema now.trees stores.listed live; stores = stores }, rest)
+
+-- what is so of an error is so of a result that is this error
+told : {A E : Type 0} (P : E → Type 0) (r : Result A E) (e : E) → r ≡ Err e → P e → IfErr r P
+told P (Ok a) e is so = tt
+told P (Err x) e is so = let same : e ≡ x = cc in subst P same so
+
+pub returns-in_err-execute-clause-refused : goal.returns-in_err-execute-clause-refused
+returns-in_err-execute-clause-refused g c clean understood =
+    let is : c.from_residual.result ≡ Err c.in_err-execute.field-0.0 = search rules in
+    told (RefusesToMake (state g.S.Store c.args.connection.now) (state g.S.Store c.execute.new.self)) c.from_residual.result c.in_err-execute.field-0.0 is (c.in_err-execute.ensures.runs clean)

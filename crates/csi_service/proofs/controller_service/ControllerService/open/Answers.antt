@@ -7,7 +7,6 @@ use Rattle.csi_stores.specs.Part.{all_stored_in, StoredPart}
 use Rattle.csi_records.specs.Records.{controller_layout, IsRecordOf, IsRefusedAt}
 use Rattle.csi_records.specs.Places.{ReadsParts}
 use Rattle.csi_records.specs.Spelling.{controller_head, controller_parts, volume_row}
-use Rattle.csi_stores.specs.Stores.{store}
 use Rattle.csi_service.specs.Opening.{head_of, IsOpenFault, LeavesHead, HasLoaded}
 use Rattle.csi_service.specs.Services.{controller_service_parts}
 use Rattle.csi_service.proofs.OpeningAnswers.{cause-weaker, stop-cause, opened-new, opened-old, new-controller}
@@ -15,16 +14,16 @@ use Rattle.csi_service.proofs.controller_service.ControllerService.open.Goals as
 
 pub returns-in-Err-clause-cause : goal.returns-in-Err-clause-cause
 returns-in-Err-clause-cause g c =
-    let before = store g.K.Keep.is_honest g.K.Keep.holds g.K.Keep.leaves g.K.Keep.fits g.K.Keep.fault_count c.args.keep.now in
-    let after = store g.K.Keep.is_honest g.K.Keep.holds g.K.Keep.leaves g.K.Keep.fits g.K.Keep.fault_count c.load_or_begin.new.keep in
+    let before = g.K.Keep.store c.args.keep.now in
+    let after = g.K.Keep.store c.load_or_begin.new.keep in
     let head = ap head_of c.in_ok-head.ensures in
     cause-weaker (IsRefusedAt (IsRecordOf controller_layout)) before after (controller_head 1) c.in-Err.fault
     (subst (λ (h : StoredPart). IsOpenFault (λ _ _. ⊥) before after h c.in-Err.fault) head c.in-Err.ensures.cause)
 
 pub returns-then-is_empty-clause-opened : goal.returns-then-is_empty-clause-opened
 returns-then-is_empty-clause-opened g c =
-    let before = store g.K.Keep.is_honest g.K.Keep.holds g.K.Keep.leaves g.K.Keep.fits g.K.Keep.fault_count c.args.keep.now in
-    let after = store g.K.Keep.is_honest g.K.Keep.holds g.K.Keep.leaves g.K.Keep.fits g.K.Keep.fault_count c.load_or_begin.new.keep in
+    let before = g.K.Keep.store c.args.keep.now in
+    let after = g.K.Keep.store c.load_or_begin.new.keep in
     let head = ap head_of c.in_ok-head.ensures in
     let zero : length c.in-Ok.parts.items ≡ 0 = grind (arith, nat_tests) in
     let none : c.in-Ok.parts.items ≡ [] = nil_from_length c.in-Ok.parts.items zero in
@@ -33,8 +32,8 @@ returns-then-is_empty-clause-opened g c =
 
 pub returns-in_ok-of_record-in-Ok-of_parts-clause-opened : goal.returns-in_ok-of_record-in-Ok-of_parts-clause-opened
 returns-in_ok-of_record-in-Ok-of_parts-clause-opened g c =
-    let before = store g.K.Keep.is_honest g.K.Keep.holds g.K.Keep.leaves g.K.Keep.fits g.K.Keep.fault_count c.args.keep.now in
-    let after = store g.K.Keep.is_honest g.K.Keep.holds g.K.Keep.leaves g.K.Keep.fits g.K.Keep.fault_count c.load_or_begin.new.keep in
+    let before = g.K.Keep.store c.args.keep.now in
+    let after = g.K.Keep.store c.load_or_begin.new.keep in
     let head = ap head_of c.in_ok-head.ensures in
     let kept = controller_parts c.in-Ok-of_parts.kept.next_id (map volume_row c.in-Ok-of_parts.kept.rows) in
     let some : 1 ≤ length c.in-Ok.parts.items = grind (arith, nat_tests) in
@@ -45,8 +44,8 @@ returns-in_ok-of_record-in-Ok-of_parts-clause-opened g c =
 
 pub returns-in-Err-of_parts-clause-cause : goal.returns-in-Err-of_parts-clause-cause
 returns-in-Err-of_parts-clause-cause g c =
-    let before = store g.K.Keep.is_honest g.K.Keep.holds g.K.Keep.leaves g.K.Keep.fits g.K.Keep.fault_count c.args.keep.now in
-    let after = store g.K.Keep.is_honest g.K.Keep.holds g.K.Keep.leaves g.K.Keep.fits g.K.Keep.fault_count c.load_or_begin.new.keep in
+    let before = g.K.Keep.store c.args.keep.now in
+    let after = g.K.Keep.store c.load_or_begin.new.keep in
     let head = ap head_of c.in_ok-head.ensures in
     let shown : RecordParts → List StoredPart = λ kept. controller_parts kept.next_id (map volume_row kept.rows) in
     let some : 1 ≤ length c.in-Ok.parts.items = grind (arith, nat_tests) in
@@ -57,6 +56,6 @@ returns-in-Err-of_parts-clause-cause g c =
 
 pub returns-in_ok-of_record-in-Ok-of_parts-clause-left : goal.returns-in_ok-of_record-in-Ok-of_parts-clause-left
 returns-in_ok-of_record-in-Ok-of_parts-clause-left g c =
-    let before = store g.K.Keep.is_honest g.K.Keep.holds g.K.Keep.leaves g.K.Keep.fits g.K.Keep.fault_count c.args.keep.now in
-    let after = store g.K.Keep.is_honest g.K.Keep.holds g.K.Keep.leaves g.K.Keep.fits g.K.Keep.fault_count c.load_or_begin.new.keep in
+    let before = g.K.Keep.store c.args.keep.now in
+    let after = g.K.Keep.store c.load_or_begin.new.keep in
     subst (λ (h : StoredPart). LeavesHead before after h) (ap head_of c.in_ok-head.ensures) c.in-Ok.ensures.left

@@ -8,15 +8,14 @@ use Rattle.csi_stores.specs.Part.{all_stored_in, StoredPart}
 use Rattle.csi_records.specs.Records.{node_layout, IsRecordOf, IsRefusedAt}
 use Rattle.csi_records.specs.Places.{ReadsParts}
 use Rattle.csi_records.specs.Spelling.{node_head, node_parts}
-use Rattle.csi_stores.specs.Stores.{store}
 use Rattle.csi_service.specs.Opening.{head_of, IsOpenFault, HasLoaded}
 use Rattle.csi_service.proofs.OpeningAnswers.{stop-cause}
 use Rattle.csi_service.proofs.node_service.NodeService.open.Goals as goal
 
 pub returns-clause-cause : goal.returns-clause-cause
 returns-clause-cause g c =
-    let before = store g.K.Keep.is_honest g.K.Keep.holds g.K.Keep.leaves g.K.Keep.fits g.K.Keep.fault_count c.args.keep.now in
-    let after = store g.K.Keep.is_honest g.K.Keep.holds g.K.Keep.leaves g.K.Keep.fits g.K.Keep.fault_count c.load_or_begin.new.keep in
+    let before = g.K.Keep.store c.args.keep.now in
+    let after = g.K.Keep.store c.load_or_begin.new.keep in
     let Is = IsRecordOf (node_layout (Some c.args.id)) in
     let head = ap head_of c.in_ok-head.ensures.value in
     let kept_parts : NodeParts → List StoredPart = λ kept. node_parts kept.id (map shown kept.rows) in

@@ -2,7 +2,6 @@
 use Rattle.std.proofs.Common.{◌≡◌, ◌∙◌, ap, sym, map, List}
 use Rattle.csi_stores.specs.Part.{StoredPart, Change, change_of}
 use Rattle.csi_stores.specs.Content.{all_changed}
-use Rattle.csi_stores.specs.Stores.{store}
 use Rattle.csi_serving.proofs.StoreCalls.{refused-left, refused-cause}
 use Rattle.csi_serving.proofs.serving.answering.carry_out.Goals as goal
 
@@ -12,8 +11,8 @@ returns-in-Err-clause-err g c =
     let next = g.C.Core.parts_of c.step.new.self in
     let change : List StoredPart → List StoredPart = all_changed (map change_of c.deref.result.now) in
     let leads : change first ≡ next = ap (λ (changes : List Change). all_changed changes first) (ap (map change_of) c.deref.ensures.value ∙ c.in_ok-parts.ensures) ∙ sym c.in_ok-reply.ensures.parts in
-    let before = store g.K.Keep.is_honest g.K.Keep.holds g.K.Keep.leaves g.K.Keep.fits g.K.Keep.fault_count c.args.keep.now in
-    let after = store g.K.Keep.is_honest g.K.Keep.holds g.K.Keep.leaves g.K.Keep.fits g.K.Keep.fault_count c.commit.new.self in
+    let before = g.K.Keep.store c.args.keep.now in
+    let after = g.K.Keep.store c.commit.new.self in
     record {
       reply = c.in_ok-reply.reply;
       answered = c.in_ok-reply.ensures.answered;

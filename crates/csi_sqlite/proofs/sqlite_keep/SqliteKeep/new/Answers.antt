@@ -1,8 +1,9 @@
-use Rattle.std.proofs.Common.{◌≡◌, ◌⊎◌, inl, inr, List, [], IsTrue, Bool, true, false, not, refl, map}
+use Rattle.std.proofs.Common.{◌≡◌, ◌⊎◌, inl, inr, List, [], IsTrue, Bool, true, false, not, refl, subst, map}
 use Rattle.sqlite.specs.Tree.{Trees}
 use Rattle.sqlite.specs.State.{State, HasCleanDisk}
 use Rattle.sqlite.specs.Held.{state}
 use Rattle.csi_tables.specs.Rows.{KeyedRow, StoresRows, IsBlank, IsAtRest}
+use Rattle.csi_tables.specs.Statements.{RefusesToMake}
 use Rattle.csi_sqlite.specs.Tables.{row_of, OpensOver}
 use Rattle.csi_sqlite.proofs.sqlite_keep.SqliteKeep.new.Goals as goal
 
@@ -49,3 +50,14 @@ returns-in-Err-clause-back g c =
 pub returns-in-Err-2-clause-back : goal.returns-in-Err-2-clause-back
 returns-in-Err-2-clause-back g c =
     opens (state g.S.Store c.args.connection) (state g.S.Store c.make_table.new.connection) c.make_table.ensures.clean c.make_table.ensures.crash_made c.make_table.ensures.crash_found
+
+pub returns-in-Err-clause-device : goal.returns-in-Err-clause-device
+returns-in-Err-clause-device g c clean outside known =
+    subst (RefusesToMake (state g.S.Store c.args.connection) (state g.S.Store c.make_table.new.connection)) (c.is_memory.ensures.0 c.if-is_memory.true) (c.in-Err.ensures.refused clean known)
+
+pub returns-in-Err-2-clause-device : goal.returns-in-Err-2-clause-device
+returns-in-Err-2-clause-device g c clean outside known = (
+  c.in-Err.error,
+  λ memory. let told = c.is_memory.ensures.1 memory in absurd (let no = c.if-is_memory.false in cc),
+  c.in-Err.ensures.refused clean known,
+)

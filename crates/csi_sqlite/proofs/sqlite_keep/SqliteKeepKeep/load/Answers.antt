@@ -5,8 +5,9 @@ use Rattle.csi_tables.specs.Rows.{cells, AreByKey}
 use Rattle.csi_stores.specs.declared.keep.KeepFault.{KeepFault}
 use Rattle.csi_stores.specs.declared.keep.KeepFault.TheVariants.{NoMemory, BadRecord}
 use Rattle.csi_stores.specs.Part.{StoredPart}
-use Rattle.csi_stores.specs.Keeping.{IsLoadFault}
+use Rattle.csi_stores.specs.Stores.{Store, IsLoadFault}
 use Rattle.csi_sqlite.specs.Tables.{row_of, HoldsParts}
+use Rattle.csi_sqlite.specs.Kept.{sqlite_store}
 use Rattle.csi_sqlite.specs.Loading.{IsFirstBad}
 use Rattle.csi_sqlite.proofs.Tabled.{still_holds}
 use Rattle.csi_sqlite.proofs.Loading.{loaded, loaded_content, none_refused}
@@ -19,12 +20,12 @@ done P (Ok a) h = h
 done P (Err e) h = tt
 
 -- why reading the rows was refused is why loading is, where no row of a store's parts is bad
-refused : {A : Type 0} (r : Result A KeepFault) (honest : Type 0) (holds : List StoredPart → Type 0) (before after : ℕ) (rows : List Row)
+refused : {A : Type 0} (r : Result A KeepFault) (before after : Store) (rows : List Row)
     → IfErr r (λ fault. (fault ≡ NoMemory) ⊎ ((place : ℕ) × (fault ≡ BadRecord place) × IsFirstBad rows place))
-    → (honest → (content : List StoredPart) → holds content → (place : ℕ) → ¬ IsFirstBad rows place) → IfErr r (IsLoadFault honest holds before after)
-refused (Ok a) honest holds before after rows cause never = tt
-refused (Err e) honest holds before after rows (inl is) never = subst (IsLoadFault honest holds before after) (sym is) tt
-refused (Err e) honest holds before after rows (inr bad) never = subst (IsLoadFault honest holds before after) (sym bad.1) (λ clean content has. never clean content has bad.0 bad.2)
+    → (after.honest → (content : List StoredPart) → before.holds content → (place : ℕ) → ¬ IsFirstBad rows place) → IfErr r (IsLoadFault before after)
+refused (Ok a) before after rows cause never = tt
+refused (Err e) before after rows (inl is) never = subst (IsLoadFault before after) (sym is) tt
+refused (Err e) before after rows (inr bad) never = subst (IsLoadFault before after) (sym bad.1) (λ clean content has. never clean content has bad.0 bad.2)
 
 pub returns-in-Ok-clause-judged : goal.returns-in-Ok-clause-judged
 returns-in-Ok-clause-judged g c clean columns has =
@@ -44,7 +45,7 @@ returns-in-Ok-clause-stays g c clean content has =
 
 pub returns-in-Ok-clause-cause : goal.returns-in-Ok-clause-cause
 returns-in-Ok-clause-cause g c =
-    refused c.parts_of.result _ _ _ _ c.deref.result.now c.parts_of.ensures.bad (λ clean content has place bad.
+    refused c.parts_of.result (sqlite_store (state g.S.Store c.args.self.now.connection) c.args.self.now.faults) (sqlite_store (state g.S.Store c.all_rows.new.connection) c.args.self.now.faults) c.deref.result.now c.parts_of.ensures.bad (λ clean content has place bad.
     let columns = map cells (map row_of content) in
     none_refused content place has.0.keys (c.deref.result.now, subst (AreByKey columns) (sym c.deref.ensures.value) (c.in-Ok.ensures.by_key clean columns has.0.rows), bad))
 

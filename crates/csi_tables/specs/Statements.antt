@@ -1,0 +1,28 @@
+-- The four statements on the table: what makes it, reads it, puts a row in and takes one out; and how SQLite refuses three of them.
+use Rattle.std.specs.Prelude.{ℕ, List, [], ◌∷◌, codes, Err}
+use Rattle.sqlite.specs.declared.types.Value.TheVariants.{Blob}
+use Rattle.sqlite.specs.declared.error.Error.{Error}
+use Rattle.sqlite.specs.State.{State, Executes, ExecutesInside}
+
+abbrev pub make_text : List ℕ
+make_text = codes "CREATE TABLE IF NOT EXISTS parts (key BLOB NOT NULL PRIMARY KEY, value BLOB NOT NULL)"
+
+abbrev pub read_text : List ℕ
+read_text = codes "SELECT key, value FROM parts ORDER BY key"
+
+abbrev pub put_text : List ℕ
+put_text = codes "INSERT INTO parts (key, value) VALUES (?1, ?2) ON CONFLICT (key) DO UPDATE SET value = excluded.value"
+
+abbrev pub remove_text : List ℕ
+remove_text = codes "DELETE FROM parts WHERE key = ?1"
+
+-- SQLite refuses by this error, from the first state to the second: to make the table; and, in a transaction, to put a row in, or to
+-- take one out
+abbrev pub RefusesToMake : State → State → Error → Type 0
+RefusesToMake before after error = Executes make_text [] before after (Err error)
+
+abbrev pub RefusesToPut : List ℕ → List ℕ → State → State → Error → Type 0
+RefusesToPut key value before after error = ExecutesInside 0 put_text (Blob key ∷ Blob value ∷ []) before after (Err error)
+
+abbrev pub RefusesToRemove : List ℕ → State → State → Error → Type 0
+RefusesToRemove key before after error = ExecutesInside 0 remove_text (Blob key ∷ []) before after (Err error)
