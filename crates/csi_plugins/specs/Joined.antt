@@ -68,3 +68,12 @@ RunsLaw {K} {R} {W} seen remaining contents =
     → PluginRuns seen asked before between (streams remaining contents r r_read w w_written) Done
     → PluginRuns seen asked between after (streams remaining contents s s_read v v_written) Done
     → PluginJoins asked content (seen after) (streams remaining contents r r_read w w_written) (streams remaining contents s s_read v v_written)
+
+-- the same of a keeper whose stores are all so that what they have is all that opening them again may find
+abbrev pub SettledRunsLaw : {K R W : Type 0} → (K → Store) → (R → Option (List ℕ)) → (W → Option (List ℕ)) → Type 0
+SettledRunsLaw {K} {R} {W} seen remaining contents =
+    (asked : Plugin) (before between after : K) (content : List StoredPart) (r r_read s s_read : Counted R) (w w_written v v_written : Counted W)
+    → (seen after).honest → (seen before).holds content
+    → PluginRuns seen asked before between (streams remaining contents r r_read w w_written) Done
+    → PluginRuns seen asked between after (streams remaining contents s s_read v v_written) Done
+    → PluginJoins asked content (seen after) (streams remaining contents r r_read w w_written) (streams remaining contents s s_read v v_written)

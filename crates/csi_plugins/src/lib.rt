@@ -8,6 +8,6 @@ mod running;
 mod service;
 
 pub use ending::ending_unopened;
-pub use joined::runs_law;
+pub use joined::{memory_runs_law, runs_law};
 pub use kind::Plugin;
 pub use running::plugin;

@@ -105,8 +105,7 @@ impl<S: Alter> SqliteKeep<S> {
     /// A law, and nothing that runs: the parts that a store has are all that opening it again may find.
     pub fn settled_law()
         ensures { (connection : Held S) (faults : ℕ) → IsSettled (sqlite_store (state S.Store connection) faults) }
-    {
-    }
+    {}
 
     /// The connection. It takes no memory.
     pub fn into_connection(self) -> Connection<S>

@@ -1,6 +1,6 @@
 -- By the plugin that was asked for.
 use Rattle.std.proofs.Common.{◌≡◌, ◌∙◌, refl}
-use Rattle.std.specs.Prelude.{ℕ, List, Option, Some}
+use Rattle.std.specs.Prelude.{⊤, ℕ, List, Option, Some}
 use Rattle.csi_types.specs.Frame.{Frame}
 use Rattle.csi_types.specs.Config.{Config}
 use Rattle.csi_stores.specs.Part.{StoredPart}
