@@ -219,8 +219,9 @@ fn a_device_that_fails_ends_a_plugin(rt: HostRuntime) {
 #[test]
 fn each_commit_that_fails_ends_a_plugin(rt: HostRuntime) {
     for (frames, written) in ENDS.iter().copied().enumerate().take(6) {
+        let next = frames.saturating_add(1);
         let old = Devices {
-            commit: Some(1 + frames as u64),
+            commit: Some(next as u64),
             ..SOUND
         };
         let new = Devices {
@@ -228,8 +229,7 @@ fn each_commit_that_fails_ends_a_plugin(rt: HostRuntime) {
             ..old
         };
         assert!(&rt; comes_to(&rt, old, (Stop::Commit, frames, written, Some(frames))));
-        let kept = Some(1 + frames);
-        assert!(&rt; comes_to(&rt, new, (Stop::Commit, frames, written, kept)));
+        assert!(&rt; comes_to(&rt, new, (Stop::Commit, frames, written, Some(next))));
     }
 }
 
@@ -252,10 +252,10 @@ fn each_flush_that_fails_ends_a_plugin(rt: HostRuntime) {
 
 // How many frames end within so many bytes.
 fn whole_frames(size: usize) -> usize {
-    let mut frames = 0;
+    let mut frames = 0usize;
     for end in FRAMES.iter().skip(1) {
         if *end <= size {
-            frames += 1;
+            frames = frames.saturating_add(1);
         }
     }
     frames

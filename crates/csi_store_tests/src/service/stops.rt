@@ -233,9 +233,9 @@ fn runs(rt: &(impl Abort + AllocGlobal), stop: Stop, is_closed: bool, far: &mut 
     } = stopped(rt, stop, is_closed);
     let goes_on = goes_on(rt, end, &image);
     drop(image);
-    let stage = stage(rt, end);
-    assert!(rt; goes_on && stage >= *far);
-    *far = stage;
+    let now = stage(rt, end);
+    assert!(rt; goes_on && now >= *far);
+    *far = now;
     is_whole
 }
 
@@ -345,7 +345,8 @@ const COUNTS: &[u64] = &[0, 5, 13, 34];
 fn a_store_that_stopped_may_be_closed(rt: HostRuntime) {
     for count in COUNTS {
         for way in [LOG, LOST_LOG] {
-            let _is_whole = runs(&rt, stop_of(way, *count), true, &mut 0);
+            let mut far = 0;
+            let _is_whole = runs(&rt, stop_of(way, *count), true, &mut far);
         }
     }
 }
