@@ -1,6 +1,6 @@
 -- Two runs over one store are one run of all their frames.
-use Rattle.std.proofs.Common.{◌≡◌, ◌∙◌, sym, ap, ap₂, refl, subst, ◌⊎◌, inl, inr, ℕ, List, [], ◌∷◌, ◌++◌, length, take, append_assoc, Result, Ok, Err}
-use Rattle.std.specs.Prelude.{Option, Some, None}
+use Rattle.std.proofs.Common.{◌≡◌, ◌∙◌, sym, ap, ap₂, refl, subst, inl, inr, ℕ, List, [], ◌∷◌, ◌++◌, take, Result, Ok, Err}
+use Rattle.std.specs.Prelude.{Option}
 use Rattle.std.specs.List.{flat_map, AllByRecursion}
 use Rattle.std.specs.Io.KnownBytes.{Consumes, Appends, IsAtEnd}
 use Rattle.std.proofs.Math.Seq.{take-length}
@@ -10,7 +10,6 @@ use Rattle.csi_types.specs.Frame.{Frame}
 use Rattle.csi_types.specs.Limits.{IsFrame}
 use Rattle.csi_frames.specs.Spelling.{spelling}
 use Rattle.csi_frames.specs.Stream.{FramesOf}
-use Rattle.csi_frames.specs.declared.fault.FaultKind.{FaultKind}
 use Rattle.csi_stores.specs.declared.keep.KeepFault.{KeepFault}
 use Rattle.csi_stores.specs.declared.keep.KeepFault.TheVariants as faults
 use Rattle.csi_stores.specs.Part.{StoredPart}
@@ -19,12 +18,11 @@ use Rattle.csi_serving.specs.declared.serving.fault.Served.{Served}
 use Rattle.csi_serving.specs.declared.serving.fault.ServeFault.{ServeFault}
 use Rattle.csi_serving.specs.declared.serving.fault.ServeFaultKind.{ServeFaultKind}
 use Rattle.csi_serving.specs.declared.serving.fault.ServeFaultKind.TheVariants as kinds
-use Rattle.csi_serving.specs.Serving.{Runs as FrameRuns, Serves, AllDone, output_of}
+use Rattle.csi_serving.specs.Serving.{Runs as FrameRuns, Serves, output_of}
 use Rattle.csi_service.specs.Opening.{opened_to}
-use Rattle.csi_endings.specs.declared.ending.Ending.{Ending}
 use Rattle.csi_endings.specs.declared.ending.Ending.TheVariants.{Done}
 use Rattle.csi_plugins.specs.Ending.{ending_of_store, ending_of_kind, ending_of_serving}
-use Rattle.csi_plugins.specs.Service.{Streams, IsServed, setting_of}
+use Rattle.csi_plugins.specs.Service.{Streams, setting_of}
 use Rattle.csi_plugins.specs.Running.{IsOpened, Runs}
 use Rattle.csi_plugins.specs.Joined.{RunsAgain, AreOneRun}
 

@@ -2,7 +2,6 @@
 use Rattle.std.specs.Prelude.{◌≡◌, ⊤, ℕ, List, [], ◌∷◌, ◌++◌, Option, Some}
 use Rattle.std.specs.Io.KnownBytes.{Consumes, Appends, IsAtEnd}
 use Rattle.csi_types.specs.Frame.{Frame}
-use Rattle.csi_types.specs.Config.{Config}
 use Rattle.csi_frames.specs.Stream.{FramesOf}
 use Rattle.csi_stores.specs.Part.{StoredPart}
 use Rattle.csi_stores.specs.Stores.{Store, IsOnly, IsSettled}

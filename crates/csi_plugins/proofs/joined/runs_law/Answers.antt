@@ -1,8 +1,6 @@
 -- By the plugin that was asked for.
 use Rattle.std.proofs.Common.{◌≡◌, ◌∙◌, refl}
-use Rattle.std.specs.Prelude.{⊤, ℕ, List, Option, Some}
-use Rattle.csi_types.specs.Frame.{Frame}
-use Rattle.csi_types.specs.Config.{Config}
+use Rattle.std.specs.Prelude.{⊤, List, Some}
 use Rattle.csi_stores.specs.Part.{StoredPart}
 use Rattle.csi_stores.specs.Stores.{Store, IsSettled}
 use Rattle.csi_records.specs.Records.{controller_layout, node_layout, IsRecordOf}
