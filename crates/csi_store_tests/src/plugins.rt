@@ -1,4 +1,7 @@
 //! Plugins, opened from their stores and served, as a process does.
+mod failing;
+mod files;
+
 use Asked::{Controller, Node};
 use csi_endings::Ending;
 use csi_frames::FaultKind;

@@ -1,7 +1,7 @@
 //! Records as bytes, and stores that plugins are opened from.
 mod beginnings;
 mod damaged;
-mod devices;
+mod failing;
 mod files;
 mod flushes;
 mod growths;

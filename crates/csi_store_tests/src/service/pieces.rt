@@ -1,12 +1,11 @@
 //! Serving a controller whose input comes in pieces, over readers, writers and a store that fail.
-use super::devices::{Device, Sink, Source};
 use super::{controller, is_part};
 use Content::{Gone, Live, Nothing};
+use csi_failing::{FailingKeep, FailingReader, FailingWriter, Left};
 use csi_frames::FaultKind;
 use csi_service::{
     Counted, Keep, KeepFault, MemoryKeep, Part, ServeFault, ServeFaultKind, Served, serve,
 };
-use std::alloc::Global;
 use std::process::Abort;
 
 // Creates `v`, deletes it, and asks for that once more under the same number.
@@ -86,7 +85,7 @@ fn has_no_row(parts: &[Part]) -> bool {
     }
 }
 
-fn has_content(keep: &mut Device, content: Content) -> bool {
+fn has_content(keep: &mut FailingKeep<MemoryKeep>, content: Content) -> bool {
     match keep.load() {
         Ok(parts) => match content {
             Nothing => has_no_row(&parts),
@@ -97,11 +96,16 @@ fn has_content(keep: &mut Device, content: Content) -> bool {
     }
 }
 
-// How many bytes a reader gives, or a writer takes, at a call at most, and the call that fails, if one does.
+// How many bytes a reader gives, or a writer takes, at a call at most, and the call that fails, from 1, if one does.
 type Calls = (usize, u64);
 
-// The commit that fails, if one does, and whether what was to be kept is kept all the same.
-type Commits = (u64, bool);
+// The commit that fails, if one does, and what the store has then.
+type Commits = (u64, Left);
+
+// How many calls pass before this one; and none fails at 0.
+fn passing(failing: u64) -> Option<u64> {
+    failing.checked_sub(1)
+}
 
 // What is served, and by what.
 type Given = (&'static [u8], Calls, Calls, Commits);
@@ -113,7 +117,7 @@ type Outcome = (u64, Option<ServeFaultKind>, usize, Content, u64);
 // All at once.
 const ALL: Calls = (4096, 0);
 
-const NONE_FAILS: Commits = (0, false);
+const NONE_FAILS: Commits = (0, Left::Old);
 
 fn is_end(ended: &Result<Served, ServeFault>, frames: u64, fault: Option<ServeFaultKind>) -> bool {
     match (ended, fault) {
@@ -123,30 +127,42 @@ fn is_end(ended: &Result<Served, ServeFault>, frames: u64, fault: Option<ServeFa
     }
 }
 
+// A writer.
+type Sink = FailingWriter<Vec<u8>>;
+
 // Whether so much of the replies was written, and the writer was flushed after each of them.
-fn is_written(sink: &Sink, size: usize) -> bool {
-    let written = sink.bytes.as_slice();
-    written == &REPLIES[..size.min(REPLIES.len())] && sink.flushes == (written.len() / 33) as u64
+fn is_written(sink: Sink, size: usize) -> bool {
+    let flushes = sink.flushes();
+    let written = sink.into_inner();
+    let is_flushed = flushes == (written.len() / 33) as u64;
+    let is_front = written.as_slice() == &REPLIES[..size.min(REPLIES.len())];
+    drop(written);
+    is_front && is_flushed
+}
+
+// A writer that takes so many bytes a call, and of which one call or one flush fails.
+fn sink(rt: &impl AllocGlobal, calls: Calls, flush: Option<u64>) -> Sink {
+    FailingWriter::new(Vec::new(rt.alloc()), calls.0, passing(calls.1), flush)
 }
 
 // Whether a new controller is served so.
 fn comes_to(rt: &(impl Abort + AllocGlobal), given: &Given, wanted: &Outcome) -> bool {
-    let sink = Sink::new(rt.alloc(), given.2.0, given.2.1);
-    serves(rt, given, sink, wanted)
+    serves(rt, given, sink(rt, given.2, None), wanted)
 }
 
 // Whether it is where the writer is this one.
 fn serves(rt: &(impl Abort + AllocGlobal), given: &Given, sink: Sink, wanted: &Outcome) -> bool {
     let mut inner = MemoryKeep::new(rt.alloc(), 1000);
     let service = controller(rt, &mut inner).expect(rt, "a controller");
-    let mut keep = Device::new(inner, given.3.0, given.3.1);
-    let mut reader = Counted::new(Source::new(given.0, given.1.0, given.1.1));
+    let mut keep = FailingKeep::new(inner, None, passing(given.3.0), given.3.1);
+    let reader = FailingReader::new(given.0, given.1.0, passing(given.1.1));
+    let mut reader = Counted::new(reader);
     let mut writer = Counted::new(sink);
     let ended = serve(rt.alloc(), service, &mut keep, &mut reader, &mut writer);
     is_end(&ended, wanted.0, wanted.1)
-        && is_written(&writer.into_inner(), wanted.2)
+        && is_written(writer.into_inner(), wanted.2)
         && has_content(&mut keep, wanted.3)
-        && reader.into_inner().calls == wanted.4
+        && reader.into_inner().calls() == wanted.4
 }
 
 fn all_come(rt: &(impl Abort + AllocGlobal), rows: &[(Given, Outcome)]) {
@@ -242,16 +258,15 @@ fn a_frame_whose_reply_is_not_written_is_committed(rt: HostRuntime) {
 
 // What comes of it where the flush after the first reply fails, after the second, and after the third.
 const FAILING_FLUSHES: &[(u64, Outcome)] = &[
-    (1, (1, OUTPUT, 33, Live, 1)),
-    (2, (2, OUTPUT, 66, Gone, 1)),
-    (3, (3, OUTPUT, 99, Gone, 1)),
+    (0, (1, OUTPUT, 33, Live, 1)),
+    (1, (2, OUTPUT, 66, Gone, 1)),
+    (2, (3, OUTPUT, 99, Gone, 1)),
 ];
 
 #[test]
 fn a_reply_that_is_not_flushed_is_not_passed_over(rt: HostRuntime) {
-    for (failing, wanted) in FAILING_FLUSHES {
-        let mut sink = Sink::new(rt.alloc(), 4096, 0);
-        sink.failing_flush = *failing;
+    for (flush, wanted) in FAILING_FLUSHES {
+        let sink = sink(&rt, ALL, Some(*flush));
         assert!(&rt; serves(&rt, &(STREAM, ALL, ALL, NONE_FAILS), sink, wanted));
     }
 }
@@ -259,12 +274,15 @@ fn a_reply_that_is_not_flushed_is_not_passed_over(rt: HostRuntime) {
 const DEVICE: Option<ServeFaultKind> = Some(ServeFaultKind::Keep(KeepFault::Device));
 
 const FAILING_STORES: &[(Given, Outcome)] = &[
-    ((STREAM, ALL, ALL, (1, false)), (0, DEVICE, 0, Nothing, 1)),
-    ((STREAM, ALL, ALL, (1, true)), (0, DEVICE, 0, Live, 1)),
-    ((STREAM, ALL, ALL, (2, false)), (1, DEVICE, 33, Live, 1)),
-    ((STREAM, ALL, ALL, (2, true)), (1, DEVICE, 33, Gone, 1)),
-    ((STREAM, ALL, ALL, (3, false)), (2, DEVICE, 66, Gone, 1)),
-    ((STREAM, ALL, ALL, (3, true)), (2, DEVICE, 66, Gone, 1)),
+    (
+        (STREAM, ALL, ALL, (1, Left::Old)),
+        (0, DEVICE, 0, Nothing, 1),
+    ),
+    ((STREAM, ALL, ALL, (1, Left::New)), (0, DEVICE, 0, Live, 1)),
+    ((STREAM, ALL, ALL, (2, Left::Old)), (1, DEVICE, 33, Live, 1)),
+    ((STREAM, ALL, ALL, (2, Left::New)), (1, DEVICE, 33, Gone, 1)),
+    ((STREAM, ALL, ALL, (3, Left::Old)), (2, DEVICE, 66, Gone, 1)),
+    ((STREAM, ALL, ALL, (3, Left::New)), (2, DEVICE, 66, Gone, 1)),
 ];
 
 #[test]

@@ -181,7 +181,8 @@ pub(super) fn served<C: Core, K: Keep>(
     (end_of(&ended), writer.into_inner())
 }
 
-const TWO_NODES: &str =
+/// A configuration of two nodes.
+pub(super) const TWO_NODES: &str =
     "{\"greatest\":1000,\"nodes\":[{\"id\":\"n1\",\"slots\":4},{\"id\":\"n2\",\"slots\":4}]}";
 
 /// Serves these frames by the controller of this store, with what was replied.

@@ -103,37 +103,57 @@ fn opened(
     }
 }
 
-// What a store leaves that is closed, whether its log could be put back or not.
+// What a store leaves that is closed, and whether its log could be put back.
 fn left_closed(
     rt: &(impl Abort + AllocGlobal),
     keep: SqliteKeep<Disks>,
     power_fails: bool,
-) -> Image {
+) -> (bool, Image) {
     match keep.close_files() {
-        Ok(files) => image_of(rt, files, power_fails),
-        Err(store) => image_of(rt, store.close(), power_fails),
+        Ok(files) => (true, image_of(rt, files, power_fails)),
+        Err(store) => (false, image_of(rt, store.close(), power_fails)),
     }
 }
 
-// Serves the script over new files that stop so, and what the files hold then, if the store is closed or isn't.
-fn stopped(rt: &(impl Abort + AllocGlobal), stop: Stop, is_closed: bool) -> (End, Image) {
+// A run of the script: how it ended, whether no file stopped, and what the files hold then.
+#[derive(Drop)]
+struct Run {
+    end: End,
+    is_whole: bool,
+    image: Image,
+}
+
+// Serves the script over new files that stop so; then the store is closed, or isn't.
+fn stopped(rt: &(impl Abort + AllocGlobal), stop: Stop, is_closed: bool) -> Run {
     let new = Image {
         log: Vec::new(rt.alloc()),
         db: Vec::new(rt.alloc()),
     };
     let mut keep = match opened(rt, &new, stop) {
         Ok(keep) => keep,
-        Err(image) => return (End::Opening, image),
+        Err(image) => {
+            return Run {
+                end: End::Opening,
+                is_whole: false,
+                image,
+            };
+        }
     };
     let (end, written) = played(rt, &mut keep, SCRIPT);
     assert!(rt; is_replied(end, written.as_slice()));
     drop(written);
     drop(new);
     assert!(rt; (keep.faults() == 0) == is_end(end, 6));
-    if is_closed {
-        return (end, left_closed(rt, keep, stop.2));
+    let (is_left, image) = if is_closed {
+        left_closed(rt, keep, stop.2)
+    } else {
+        (true, left_by(rt, keep.into_connection(), stop.2))
+    };
+    Run {
+        end,
+        is_whole: is_left && is_end(end, 6),
+        image,
     }
-    (end, left_by(rt, keep.into_connection(), stop.2))
 }
 
 // Whether these files have what such a run may leave, and come to the whole script's record when it is served again.
@@ -149,57 +169,184 @@ fn goes_on(rt: &(impl Abort + AllocGlobal), end: End, image: &Image) -> bool {
     is_left && is_whole
 }
 
-// Whether the script, stopped so, goes on.
-fn goes_on_after(rt: &(impl Abort + AllocGlobal), stop: Stop) -> bool {
-    leaves_a_record(rt, stop, false) && leaves_a_record(rt, stop, true)
-}
-
-// Whether it does where the store is closed then, or isn't.
-fn leaves_a_record(rt: &(impl Abort + AllocGlobal), stop: Stop, is_closed: bool) -> bool {
-    let (end, image) = stopped(rt, stop, is_closed);
-    let goes_on = goes_on(rt, end, &image);
-    drop(image);
-    goes_on
-}
-
 #[test]
 fn with_no_stop_the_script_is_served_to_its_end(rt: HostRuntime) {
-    let (end, image) = stopped(&rt, NO_STOP, false);
-    assert!(&rt; is_end(end, 6) && goes_on(&rt, end, &image));
+    let Run {
+        end,
+        is_whole,
+        image,
+    } = stopped(&rt, NO_STOP, false);
+    assert!(&rt; is_whole && goes_on(&rt, end, &image));
     drop(image);
 }
 
 #[test]
 fn a_store_that_is_closed_needs_no_log(rt: HostRuntime) {
-    let (end, image) = stopped(&rt, NO_STOP, true);
+    let Run {
+        end,
+        is_whole,
+        image,
+    } = stopped(&rt, NO_STOP, true);
     let Image { log, db } = image;
     drop(log);
     let alone = Image {
         log: Vec::new(rt.alloc()),
         db,
     };
-    assert!(&rt; is_end(end, 6) && goes_on(&rt, end, &alone));
+    assert!(&rt; is_whole && goes_on(&rt, end, &alone));
     drop(alone);
+}
+
+// The file that stops.
+#[derive(Clone, Copy)]
+enum Stopping {
+    Log,
+    Database,
+}
+
+// The file that stops, and whether the power fails then, so that what wasn't synced may be lost.
+type Way = (Stopping, bool);
+
+// A stop after so many calls.
+fn stop_of(way: Way, calls: u64) -> Stop {
+    match way.0 {
+        Stopping::Log => (calls, u64::MAX, way.1),
+        Stopping::Database => (u64::MAX, calls, way.1),
+    }
+}
+
+// How far a run came: 0 where the store was not opened, one more at each commit that stopped, and 7 at the end.
+fn stage(rt: &impl Abort, end: End) -> usize {
+    match end {
+        End::Opening => 0,
+        End::Stopped(frames) | End::Served(frames) => frames.saturating_add(1),
+        _ => panic!(rt; "a stop"),
+    }
+}
+
+// Serves the script over files of which one stops so; whether none did. The script goes on, and came at least so far.
+fn runs(rt: &(impl Abort + AllocGlobal), stop: Stop, is_closed: bool, far: &mut usize) -> bool {
+    let Run {
+        end,
+        is_whole,
+        image,
+    } = stopped(rt, stop, is_closed);
+    let goes_on = goes_on(rt, end, &image);
+    drop(image);
+    let now = stage(rt, end);
+    assert!(rt; goes_on && now >= *far);
+    *far = now;
+    is_whole
+}
+
+// Serves it with so many calls of the file let through, and then one more, until a run ends with no stop; and from then on closes
+// the store, until that ends with no stop; whether it did.
+fn ends(rt: &(impl Abort + AllocGlobal), way: Way, first: u64, behind: u64) -> bool {
+    let mut far = 0;
+    let mut is_served = false;
+    for calls in first..behind {
+        let stop = stop_of(way, calls);
+        if !is_served {
+            is_served = runs(rt, stop, false, &mut far);
+        }
+        if is_served && runs(rt, stop, true, &mut far) {
+            return true;
+        }
+    }
+    false
+}
+
+// More calls than a run makes. Each test has a part of them, since its time is bounded.
+const MANY: u64 = 1000;
+
+const LOG: Way = (Stopping::Log, false);
+
+#[test]
+fn stops_of_the_log_from_0_on_leave_a_record(rt: HostRuntime) {
+    let _early = ends(&rt, LOG, 0, 12);
+}
+
+#[test]
+fn stops_of_the_log_from_12_on_leave_a_record(rt: HostRuntime) {
+    let _early = ends(&rt, LOG, 12, 24);
+}
+
+#[test]
+fn stops_of_the_log_from_24_on_leave_a_record(rt: HostRuntime) {
+    let _early = ends(&rt, LOG, 24, 36);
+}
+
+#[test]
+fn stops_of_the_log_from_36_on_leave_a_record(rt: HostRuntime) {
+    let _early = ends(&rt, LOG, 36, 48);
+}
+
+#[test]
+fn stops_of_the_log_from_48_on_leave_a_record(rt: HostRuntime) {
+    assert!(&rt; ends(&rt, LOG, 48, MANY));
+}
+
+const DATABASE: Way = (Stopping::Database, false);
+
+#[test]
+fn stops_of_the_database_file_from_0_on_leave_a_record(rt: HostRuntime) {
+    let _early = ends(&rt, DATABASE, 0, 10);
+}
+
+#[test]
+fn stops_of_the_database_file_from_10_on_leave_a_record(rt: HostRuntime) {
+    assert!(&rt; ends(&rt, DATABASE, 10, MANY));
+}
+
+// As above, and what was not synced is lost.
+const LOST_LOG: Way = (Stopping::Log, true);
+
+#[test]
+fn stops_of_the_log_from_0_on_that_lose_bytes_leave_a_record(rt: HostRuntime) {
+    let _early = ends(&rt, LOST_LOG, 0, 12);
+}
+
+#[test]
+fn stops_of_the_log_from_12_on_that_lose_bytes_leave_a_record(rt: HostRuntime) {
+    let _early = ends(&rt, LOST_LOG, 12, 24);
+}
+
+#[test]
+fn stops_of_the_log_from_24_on_that_lose_bytes_leave_a_record(rt: HostRuntime) {
+    let _early = ends(&rt, LOST_LOG, 24, 36);
+}
+
+#[test]
+fn stops_of_the_log_from_36_on_that_lose_bytes_leave_a_record(rt: HostRuntime) {
+    let _early = ends(&rt, LOST_LOG, 36, 48);
+}
+
+#[test]
+fn stops_of_the_log_from_48_on_that_lose_bytes_leave_a_record(rt: HostRuntime) {
+    assert!(&rt; ends(&rt, LOST_LOG, 48, MANY));
+}
+
+const LOST_DATABASE: Way = (Stopping::Database, true);
+
+#[test]
+fn stops_of_the_database_file_from_0_on_that_lose_bytes_leave_a_record(rt: HostRuntime) {
+    let _early = ends(&rt, LOST_DATABASE, 0, 10);
+}
+
+#[test]
+fn stops_of_the_database_file_from_10_on_that_lose_bytes_leave_a_record(rt: HostRuntime) {
+    assert!(&rt; ends(&rt, LOST_DATABASE, 10, MANY));
 }
 
 // How many calls of a file are answered before it stops: few are in the opening, most in commits or between.
 const COUNTS: &[u64] = &[0, 5, 13, 34];
 
 #[test]
-fn a_stop_of_the_log_leaves_a_record(rt: HostRuntime) {
+fn a_store_that_stopped_may_be_closed(rt: HostRuntime) {
     for count in COUNTS {
-        assert!(&rt; goes_on_after(&rt, (*count, u64::MAX, false)));
+        for way in [LOG, LOST_LOG] {
+            let mut far = 0;
+            let _is_whole = runs(&rt, stop_of(way, *count), true, &mut far);
+        }
     }
-}
-
-#[test]
-fn a_stop_of_the_database_file_leaves_a_record(rt: HostRuntime) {
-    for count in COUNTS {
-        assert!(&rt; goes_on_after(&rt, (u64::MAX, *count, false)));
-    }
-}
-
-#[test]
-fn a_stop_that_loses_what_was_not_synced_leaves_a_record(rt: HostRuntime) {
-    assert!(&rt; goes_on_after(&rt, (34, u64::MAX, true)));
 }
