@@ -2,13 +2,13 @@
 use Rattle.std.proofs.Common.{◌≡◌, ◌⊎◌, inl, inr, refl, ℕ, List, Option, subst}
 use Rattle.csi_stores.specs.declared.keep.KeepFault.{KeepFault}
 use Rattle.csi_stores.specs.declared.keep.KeepFault.TheVariants.{Device, NoMemory, BadRecord, Full}
-use Rattle.csi_stores.specs.Keeping.{IsLoadFault, IsForeignFault}
+use Rattle.csi_stores.specs.Keeping.{IsForeignFault}
 use Rattle.csi_stores.specs.Part.{StoredPart}
-use Rattle.csi_stores.specs.Stores.{Store}
+use Rattle.csi_stores.specs.Stores.{Store, IsLoadFault}
 use Rattle.csi_endings.specs.declared.ending.Ending.{Ending}
 use Rattle.csi_endings.specs.declared.ending.Ending.TheVariants as endings
 use Rattle.csi_plugins.specs.Ending.{ending_of_store, EndsAt}
-use Rattle.csi_plugins.specs.Recording.{IsLineOf, IsNoRecordAt, HasNoLine, IsNotTold, IsTold, Records}
+use Rattle.csi_plugins.specs.Recording.{IsLineOf, IsNoRecordAt, HasNoLine, IsNotTold, IsTold, Records, Writer}
 
 -- why the parts that a store gave have no line is why it isn't told
 pub not_told : (before after : Store) (parts : List StoredPart) → (after.honest → (content : List StoredPart) → before.holds content → parts ≡ content) → (ending : Ending) → HasNoLine parts ending → IsNotTold before after ending
@@ -25,7 +25,7 @@ not_told before after parts are endings.StoreNotOpened no = no
 not_told before after parts are endings.Endless no = no
 
 -- a store that refuses
-pub load_refused : (before after : Store) (fault : KeepFault) → IsLoadFault after.honest before.holds before.faults after.faults fault → IsNotTold before after (ending_of_store fault)
+pub load_refused : (before after : Store) (fault : KeepFault) → IsLoadFault before after fault → IsNotTold before after (ending_of_store fault)
 load_refused before after Device cause = cause
 load_refused before after NoMemory cause = tt
 load_refused before after (BadRecord place) cause = λ honest content holds. absurd (cause honest content holds)
@@ -42,7 +42,7 @@ pub is_told : (before after : Store) (parts : List StoredPart) → (after.honest
 is_told before after parts are line is = λ honest content holds. subst (λ (p : List StoredPart). IsLineOf p line) (are honest content holds) is
 
 -- where there is no line nothing is written
-pub records_refused : (before after : Store) (had : Option (List ℕ)) (ending : Ending) → IsNotTold before after ending → Records before after had had ending
+pub records_refused : (before after : Store) (had : Writer) (ending : Ending) → IsNotTold before after ending → Records before after had had ending
 records_refused before after had endings.Device no = inl (refl, no)
 records_refused before after had (endings.RecordFault place) no = (refl, no)
 records_refused before after had endings.Memory no = (refl, no)
