@@ -18,15 +18,19 @@ owner [] = 0
 owner (part ∷ parts) = second part.value
 
 owner-of-node : (parts more : List StoredPart) → IsRecordOf (node_layout None) parts → owner (parts ++ more) ≡ 1
+  unfolding owner second
 owner-of-node parts more is = ap (λ (ps : List StoredPart). owner (ps ++ more)) is.spelled.are
 
 owner-of-controller : (parts more : List StoredPart) → IsRecordOf controller_layout parts → owner (parts ++ more) ≡ 0
+  unfolding owner second
 owner-of-controller parts more is = ap (λ (ps : List StoredPart). owner (ps ++ more)) is.spelled.are
 
 owner-of-node-alone : (parts : List StoredPart) → IsRecordOf (node_layout None) parts → owner parts ≡ 1
+  unfolding owner second
 owner-of-node-alone parts is = ap owner is.spelled.are
 
 owner-of-controller-alone : (parts : List StoredPart) → IsRecordOf controller_layout parts → owner parts ≡ 0
+  unfolding owner second
 owner-of-controller-alone parts is = ap owner is.spelled.are
 
 -- parts that begin as a node's record are no controller's, and the other way round
@@ -84,14 +88,14 @@ refused_node parts first place front other (inr at) = inr (record {
 
 -- why a node has no line is why there is none, where a controller's record refuses the first part
 pub for_node : (parts : List StoredPart) (first : ℕ) → first ≡ 0 → ((parts ≡ []) × (first ≡ 0)) ⊎ IsRefusedAt (IsRecordOf controller_layout) parts first → (ending : Ending) → HasNoNodeLine parts ending → HasNoLine parts ending
-for_node parts first zero other (endings.RecordFault place) no = refused_node parts first place zero other no
-for_node parts first zero other endings.Memory no = tt
-for_node parts first zero other endings.Done no = no
-for_node parts first zero other (endings.FrameFault kind place) no = no
-for_node parts first zero other (endings.ScheduleFault fault) no = no
-for_node parts first zero other endings.NotUtf8 no = no
-for_node parts first zero other endings.ConfigRefused no = no
-for_node parts first zero other endings.Usage no = no
-for_node parts first zero other endings.Device no = no
-for_node parts first zero other endings.StoreNotOpened no = no
-for_node parts first zero other endings.Endless no = no
+for_node parts first zero other (endings.RecordFault place) why = refused_node parts first place zero other why
+for_node parts first zero other endings.Memory why = tt
+for_node parts first zero other endings.Done why = why
+for_node parts first zero other (endings.FrameFault kind place) why = why
+for_node parts first zero other (endings.ScheduleFault fault) why = why
+for_node parts first zero other endings.NotUtf8 why = why
+for_node parts first zero other endings.ConfigRefused why = why
+for_node parts first zero other endings.Usage why = why
+for_node parts first zero other endings.Device why = why
+for_node parts first zero other endings.StoreNotOpened why = why
+for_node parts first zero other endings.Endless why = why

@@ -14,10 +14,10 @@ pub returns-in-Ok-clause-refused : goal.returns-in-Ok-clause-refused
 returns-in-Ok-clause-refused c =
     IfErr-weaker c.controller_text.result _ _ (λ ending is. subst (HasNoLine (all_stored_in c.args.parts.now)) (sym is) tt) c.controller_text.ensures.refused
 
-pub returns-then-gt-clause-refused : goal.returns-then-gt-clause-refused
-returns-then-gt-clause-refused c =
+pub returns-then-place-gt0-clause-refused : goal.returns-then-place-gt0-clause-refused
+returns-then-place-gt0-clause-refused c =
     refused_controller (all_stored_in c.args.parts.now) c.in-Err-BadRecord.place (grind (arith, nat_tests)) c.in-Err-BadRecord.ensures
 
-pub returns-in-Err-BadRecord-clause-refused : goal.returns-in-Err-BadRecord-clause-refused
-returns-in-Err-BadRecord-clause-refused c =
+pub returns-else-place-gt0-clause-refused : goal.returns-else-place-gt0-clause-refused
+returns-else-place-gt0-clause-refused c =
     IfErr-weaker c.line_of_node.result _ _ (for_node (all_stored_in c.args.parts.now) c.in-Err-BadRecord.place (grind (arith, nat_tests)) c.in-Err-BadRecord.ensures) c.line_of_node.ensures.refused
