@@ -1,5 +1,5 @@
 -- What a store answers, told.
-use Rattle.std.proofs.Common.{◌≡◌, ◌⊎◌, inl, inr, refl, ℕ, List, Option, subst}
+use Rattle.std.proofs.Common.{◌≡◌, inl, refl, ℕ, List, subst}
 use Rattle.csi_stores.specs.declared.keep.KeepFault.{KeepFault}
 use Rattle.csi_stores.specs.declared.keep.KeepFault.TheVariants.{Device, NoMemory, BadRecord, Full}
 use Rattle.csi_stores.specs.Keeping.{IsForeignFault}
