@@ -1,7 +1,12 @@
 -- Parts that are the record of neither plugin: a controller's head is no node's.
-use Rattle.std.proofs.Common.{◌≡◌, ◌∙◌, refl, sym, ap, subst, inl, inr, ◌⊎◌, ℕ, ◌<◌, List, [], ◌∷◌, ◌++◌, length, take, None, arith}
+use Rattle.std.proofs.Common.{◌≡◌, ◌∙◌, refl, sym, ap, subst, inl, inr, ◌⊎◌, ℕ, ◌<◌, List, [], ◌∷◌, ◌++◌, length, map, take, None, Err, arith}
 use Rattle.std.proofs.lemmas.List.{length-append}
+use Rattle.csi_controller.specs.Views.{RecordParts}
 use Rattle.csi_stores.specs.Part.{StoredPart}
+use Rattle.csi_records.specs.declared.fault.RecordStop.{RecordStop}
+use Rattle.csi_records.specs.declared.fault.RecordStop.TheVariants.{BadRecord}
+use Rattle.csi_records.specs.Places.{ReadsParts}
+use Rattle.csi_records.specs.Spelling.{controller_parts, volume_row}
 use Rattle.csi_records.specs.Records.{controller_layout, node_layout, IsRecordOf, IsRefusedAt, Begins}
 use Rattle.csi_endings.specs.declared.ending.Ending.{Ending}
 use Rattle.csi_endings.specs.declared.ending.Ending.TheVariants as endings
@@ -18,15 +23,19 @@ owner [] = 0
 owner (part ∷ parts) = second part.value
 
 owner-of-node : (parts more : List StoredPart) → IsRecordOf (node_layout None) parts → owner (parts ++ more) ≡ 1
+unfolding owner second
 owner-of-node parts more is = ap (λ (ps : List StoredPart). owner (ps ++ more)) is.spelled.are
 
 owner-of-controller : (parts more : List StoredPart) → IsRecordOf controller_layout parts → owner (parts ++ more) ≡ 0
+unfolding owner second
 owner-of-controller parts more is = ap (λ (ps : List StoredPart). owner (ps ++ more)) is.spelled.are
 
 owner-of-node-alone : (parts : List StoredPart) → IsRecordOf (node_layout None) parts → owner parts ≡ 1
+unfolding owner second
 owner-of-node-alone parts is = ap owner is.spelled.are
 
 owner-of-controller-alone : (parts : List StoredPart) → IsRecordOf controller_layout parts → owner parts ≡ 0
+unfolding owner second
 owner-of-controller-alone parts is = ap owner is.spelled.are
 
 -- parts that begin as a node's record are no controller's, and the other way round
@@ -35,6 +44,13 @@ not_controller parts more of_node of_controller = omega (arith, owner-of-node pa
 
 not_node : (parts more : List StoredPart) → IsRecordOf controller_layout parts → IsRecordOf (node_layout None) (parts ++ more) → ⊥
 not_node parts more of_controller of_node = omega (arith, owner-of-controller parts more of_controller, owner-of-node-alone (parts ++ more) of_node)
+
+-- what a controller's record refuses, where it is told with a place
+pub refused_at : (parts : List StoredPart) (stop : RecordStop) (place : ℕ) → stop ≡ BadRecord place
+    → ReadsParts (IsRecordOf controller_layout) (λ (kept : RecordParts). controller_parts kept.next_id (map volume_row kept.rows)) parts (Err stop)
+    → ((parts ≡ []) × (place ≡ 0)) ⊎ IsRefusedAt (IsRecordOf controller_layout) parts place
+refused_at parts stop place is reads =
+    subst (λ (s : RecordStop). ReadsParts (IsRecordOf controller_layout) (λ (kept : RecordParts). controller_parts kept.next_id (map volume_row kept.rows)) parts (Err s)) is reads
 
 -- what refuses parts behind the first refuses them for both
 pub refused_controller : (parts : List StoredPart) (place : ℕ) → 0 < place → ((parts ≡ []) × (place ≡ 0)) ⊎ IsRefusedAt (IsRecordOf controller_layout) parts place → IsNoRecordAt parts place
@@ -84,14 +100,14 @@ refused_node parts first place front other (inr at) = inr (record {
 
 -- why a node has no line is why there is none, where a controller's record refuses the first part
 pub for_node : (parts : List StoredPart) (first : ℕ) → first ≡ 0 → ((parts ≡ []) × (first ≡ 0)) ⊎ IsRefusedAt (IsRecordOf controller_layout) parts first → (ending : Ending) → HasNoNodeLine parts ending → HasNoLine parts ending
-for_node parts first zero other (endings.RecordFault place) no = refused_node parts first place zero other no
-for_node parts first zero other endings.Memory no = tt
-for_node parts first zero other endings.Done no = no
-for_node parts first zero other (endings.FrameFault kind place) no = no
-for_node parts first zero other (endings.ScheduleFault fault) no = no
-for_node parts first zero other endings.NotUtf8 no = no
-for_node parts first zero other endings.ConfigRefused no = no
-for_node parts first zero other endings.Usage no = no
-for_node parts first zero other endings.Device no = no
-for_node parts first zero other endings.StoreNotOpened no = no
-for_node parts first zero other endings.Endless no = no
+for_node parts first zero other (endings.RecordFault place) why = refused_node parts first place zero other why
+for_node parts first zero other endings.Memory why = tt
+for_node parts first zero other endings.Done why = why
+for_node parts first zero other (endings.FrameFault kind place) why = why
+for_node parts first zero other (endings.ScheduleFault fault) why = why
+for_node parts first zero other endings.NotUtf8 why = why
+for_node parts first zero other endings.ConfigRefused why = why
+for_node parts first zero other endings.Usage why = why
+for_node parts first zero other endings.Device why = why
+for_node parts first zero other endings.StoreNotOpened why = why
+for_node parts first zero other endings.Endless why = why

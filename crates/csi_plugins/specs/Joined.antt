@@ -7,7 +7,7 @@ use Rattle.csi_stores.specs.Part.{StoredPart}
 use Rattle.csi_stores.specs.Stores.{Store, IsOnly, IsSettled}
 use Rattle.csi_records.specs.Records.{controller_layout, node_layout, IsRecordOf}
 use Rattle.csi_records.specs.Spelling.{controller_head, node_head}
-use Rattle.csi_serving.specs.declared.counted.Counted.{Counted}
+use Rattle.csi_counted.specs.declared.counted.Counted.{Counted}
 use Rattle.csi_serving.specs.Serving.{output_of}
 use Rattle.csi_service.specs.declared.controller_service.ControllerService.{ControllerService}
 use Rattle.csi_service.specs.declared.node_service.NodeService.{NodeService}

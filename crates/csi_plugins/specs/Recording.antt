@@ -2,16 +2,17 @@
 use Rattle.std.specs.Prelude.{◌≡◌, ◌⊎◌, ℕ, List, [], ◌++◌, map, codes, None, Option, Result, Ok, Err}
 use Rattle.std.specs.Io.KnownBytes.{Appends}
 use Rattle.serde_json.specs.Written.{compact_text}
+use Rattle.csi_counted.specs.Counting.{HasRisen}
+use Rattle.csi_counted.specs.Writing.{WritesFront}
+use Rattle.csi_counted.specs.declared.counted.Counted.{Counted}
 use Rattle.csi_controller.specs.Views.{RecordParts}
 use Rattle.csi_node.specs.OneRow.{shown}
 use Rattle.csi_node.specs.Record.{NodeParts}
-use Rattle.csi_stores.specs.Keeping.{HasRisen}
 use Rattle.csi_stores.specs.Part.{StoredPart}
 use Rattle.csi_stores.specs.Stores.{Store}
 use Rattle.csi_records.specs.Spelling.{controller_parts, node_parts, volume_row}
 use Rattle.csi_records.specs.Records.{controller_layout, node_layout, IsRecordOf, IsRefusedAt}
 use Rattle.csi_listings.specs.Records.{controller_entry, node_entry}
-use Rattle.csi_streams.specs.Streaming.{WritesFront}
 use Rattle.csi_endings.specs.declared.ending.Ending.{Ending}
 use Rattle.csi_endings.specs.declared.ending.Ending.TheVariants as endings
 use Rattle.csi_plugins.specs.Ending.{EndsAt}
@@ -52,10 +53,18 @@ IsNotTold before after _ = ⊥
 abbrev pub IsTold : Store → Store → List ℕ → Type 0
 IsTold before after line = after.honest → (content : List StoredPart) → before.holds content → IsLineOf content line
 
+-- what a counted writer took, and how often it failed
+pub record Writer : Type 0 where
+  pub contents : Option (List ℕ)
+  pub faults : ℕ
+
+abbrev pub written_by : {W : Type 0} → (W → Option (List ℕ)) → Counted W → Writer
+written_by contents writer = record { contents = contents writer.inner; faults = writer.faults }
+
 -- How a store's record is told: its line was written whole, or a front of it where the writer failed; else nothing was.
-abbrev pub Records : Store → Store → Option (List ℕ) → Option (List ℕ) → Ending → Type 0
-Records before after had has endings.Done = (line : List ℕ) × IsTold before after line × Appends had has line
-Records before after had has endings.Device = ((has ≡ had) × HasRisen before.faults after.faults) ⊎ ((line : List ℕ) × IsTold before after line × WritesFront had has line)
+abbrev pub Records : Store → Store → Writer → Writer → Ending → Type 0
+Records before after had has endings.Done = ((line : List ℕ) × IsTold before after line × Appends had.contents has.contents line) × (has.faults ≡ had.faults)
+Records before after had has endings.Device = ((has ≡ had) × HasRisen before.faults after.faults) ⊎ (((line : List ℕ) × IsTold before after line × WritesFront had.contents has.contents line) × HasRisen had.faults has.faults)
 Records before after had has ending = (has ≡ had) × IsNotTold before after ending
 
 -- what a store gives that has no list of parts, but at this place what is none

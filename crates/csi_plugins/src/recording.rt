@@ -2,19 +2,18 @@
 ghost use Rattle.std.specs.Prelude.{◌≡◌, ◌++◌, ℕ, List, codes, map, IfOk, IfErr, OnOk, string_bytes};
 ghost use Rattle.serde_json.specs.Written.{compact_text};
 ghost use Rattle.csi_stores.specs.Part.{StoredPart, all_stored_in};
-ghost use Rattle.csi_stores.specs.Stores.{store};
 ghost use Rattle.csi_listings.specs.Records.{controller_entry, node_entry};
 ghost use Rattle.csi_plugins.specs.Ending.{EndsAt};
-ghost use Rattle.csi_plugins.specs.Recording.{IsLineOf, HasNoLine, HasNoNodeLine, IsTold, IsNotTold, IsNotGivenAt, Records};
+ghost use Rattle.csi_plugins.specs.Recording.{IsLineOf, HasNoLine, HasNoNodeLine, IsTold, IsNotTold, IsNotGivenAt, Records, written_by};
 
 use crate::ending::ending_of_store;
 use csi_controller::ControllerRecord;
+use csi_counted::{Counted, write_out};
 use csi_endings::Ending;
 use csi_listings::{controller_line, node_line};
 use csi_node::NodeRecord;
 use csi_records::{Record, RecordStop};
 use csi_service::{Keep, Part};
-use csi_streams::write_out;
 use std::alloc::Global;
 use std::io::Write;
 
@@ -69,9 +68,9 @@ fn line_of(alloc: Global, parts: &[Part]) -> Result<String, Ending>
 
 // The line of what the store has.
 fn recorded<K: Keep>(alloc: Global, keep: &mut K) -> Result<String, Ending>
-    ensures line { IfOk result (λ text. IsTold (store K.is_honest K.holds K.leaves K.fits K.fault_count keep.old) (store K.is_honest K.holds K.leaves K.fits K.fault_count keep.new) (string_bytes text)) }
-    ensures refused { IfErr result (IsNotTold (store K.is_honest K.holds K.leaves K.fits K.fault_count keep.old) (store K.is_honest K.holds K.leaves K.fits K.fault_count keep.new)) }
-    ensures foreign { K.is_honest keep.new → (place : ℕ) → K.is_foreign keep.old place → IsNotGivenAt place result }
+    ensures line { IfOk result (λ text. IsTold (K.store keep.old) (K.store keep.new) (string_bytes text)) }
+    ensures refused { IfErr result (IsNotTold (K.store keep.old) (K.store keep.new)) }
+    ensures foreign { (K.store keep.new).honest → (place : ℕ) → (K.store keep.old).foreign place → IsNotGivenAt place result }
 {
     match keep.load() {
         Ok(parts) => line_of(alloc, &parts),
@@ -81,11 +80,11 @@ fn recorded<K: Keep>(alloc: Global, keep: &mut K) -> Result<String, Ending>
 
 /// Writes what the store has, and flushes: the record of a controller or of a node as one line of JSON, with a newline. Nothing is
 /// put into the store. `RecordFault` says that its parts are the record of neither, with the place of the first that is refused,
-/// and 0 where there are none; `Device` that the store's device or the writer failed, and then a front of the line is written;
-/// `Memory` that an allocation was refused. This profile's own.
-pub fn record<K: Keep, W: Write>(alloc: Global, keep: &mut K, out: &mut W) -> Ending
-    ensures records { Records (store K.is_honest K.holds K.leaves K.fits K.fault_count keep.old) (store K.is_honest K.holds K.leaves K.fits K.fault_count keep.new) (W.contents out.old) (W.contents out.new) result }
-    ensures foreign { K.is_honest keep.new → (place : ℕ) → K.is_foreign keep.old place → EndsAt place result }
+/// and 0 where there are none; `Device` that the store's device or the writer failed, which is counted, and then a front of the line
+/// is written; `Memory` that an allocation was refused. This profile's own.
+pub fn record<K: Keep, W: Write>(alloc: Global, keep: &mut K, out: &mut Counted<W>) -> Ending
+    ensures records { Records (K.store keep.old) (K.store keep.new) (written_by W.contents out.old) (written_by W.contents out.new) result }
+    ensures foreign { (K.store keep.new).honest → (place : ℕ) → (K.store keep.old).foreign place → EndsAt place result }
 {
     let line = match recorded(alloc, keep) {
         Ok(line) => line,

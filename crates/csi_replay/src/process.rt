@@ -47,7 +47,7 @@ fn told(rt: &HostRuntime, path: &str) -> Ending {
         Ok(keep) => keep,
         Err(fault) => return ending_unopened(fault),
     };
-    let mut out = io::writer(rt);
+    let mut out = Counted::new(io::writer(rt));
     record(rt.alloc(), &mut keep, &mut out)
 }
 

@@ -3,7 +3,7 @@ use super::playing::{HELD, ONE_MADE, SCRIPT, played};
 use super::{CONTROLLER_HEAD, NODE_HEAD, part};
 use csi_endings::Ending;
 use csi_plugins::record;
-use csi_service::{Keep, KeepFault, MemoryKeep};
+use csi_service::{Counted, Keep, KeepFault, MemoryKeep};
 use csi_sqlite::{SqliteKeep, find_at};
 use sqlite::{Connection, Unknown};
 use std::fs;
@@ -65,15 +65,16 @@ const TOLD: &[Told] = &[
 
 // What is told of a store. Where memory is refused it is told the second time.
 fn told<K: Keep>(rt: &(impl Abort + AllocGlobal), keep: &mut K) -> (Vec<u8>, Ending) {
-    let mut out = Vec::new(rt.alloc());
+    let mut out = Counted::new(Vec::new(rt.alloc()));
     let ending = record(rt.alloc(), keep, &mut out);
+    let out = out.into_inner();
     if ending != Ending::Memory {
         return (out, ending);
     }
     assert!(rt; out.is_empty());
-    let mut again = Vec::new(rt.alloc());
+    let mut again = Counted::new(Vec::new(rt.alloc()));
     let ending = record(rt.alloc(), keep, &mut again);
-    (again, ending)
+    (again.into_inner(), ending)
 }
 
 // Whether such a store is told so.

@@ -1,9 +1,9 @@
-use Rattle.std.proofs.Common.{sym, subst, List, ℕ, arith}
+use Rattle.std.proofs.Common.{sym, subst, arith}
 use Rattle.std.proofs.lemmas.Bool.Decides.{nat_tests}
 use Rattle.std.proofs.lemmas.Result.{IfErr-weaker, IfOk-weaker}
 use Rattle.csi_stores.specs.Part.{all_stored_in}
 use Rattle.csi_plugins.specs.Recording.{IsLineOf, of_controller, HasNoLine}
-use Rattle.csi_plugins.proofs.NoRecords.{refused_controller, for_node}
+use Rattle.csi_plugins.proofs.NoRecords.{refused_at, refused_controller, for_node}
 use Rattle.csi_plugins.proofs.recording.line_of.Goals as goal
 
 pub returns-in-Ok-clause-line : goal.returns-in-Ok-clause-line
@@ -14,10 +14,10 @@ pub returns-in-Ok-clause-refused : goal.returns-in-Ok-clause-refused
 returns-in-Ok-clause-refused c =
     IfErr-weaker c.controller_text.result _ _ (λ ending is. subst (HasNoLine (all_stored_in c.args.parts.now)) (sym is) tt) c.controller_text.ensures.refused
 
-pub returns-then-gt-clause-refused : goal.returns-then-gt-clause-refused
-returns-then-gt-clause-refused c =
-    refused_controller (all_stored_in c.args.parts.now) c.in-Err-BadRecord.place (grind (arith, nat_tests)) c.in-Err-BadRecord.ensures
+pub returns-then-place-gt0-clause-refused : goal.returns-then-place-gt0-clause-refused
+returns-then-place-gt0-clause-refused c =
+    refused_controller (all_stored_in c.args.parts.now) c.in-Err-BadRecord.place (grind (arith, nat_tests)) (refused_at (all_stored_in c.args.parts.now) c.in-Err-BadRecord.field-0 c.in-Err-BadRecord.place c.in-Err-BadRecord.field-0-is c.in-Err-BadRecord.ensures)
 
-pub returns-in-Err-BadRecord-clause-refused : goal.returns-in-Err-BadRecord-clause-refused
-returns-in-Err-BadRecord-clause-refused c =
-    IfErr-weaker c.line_of_node.result _ _ (for_node (all_stored_in c.args.parts.now) c.in-Err-BadRecord.place (grind (arith, nat_tests)) c.in-Err-BadRecord.ensures) c.line_of_node.ensures.refused
+pub returns-else-place-gt0-clause-refused : goal.returns-else-place-gt0-clause-refused
+returns-else-place-gt0-clause-refused c =
+    IfErr-weaker c.line_of_node.result _ _ (for_node (all_stored_in c.args.parts.now) c.in-Err-BadRecord.place (grind (arith, nat_tests)) (refused_at (all_stored_in c.args.parts.now) c.in-Err-BadRecord.field-0 c.in-Err-BadRecord.place c.in-Err-BadRecord.field-0-is c.in-Err-BadRecord.ensures)) c.line_of_node.ensures.refused

@@ -1,4 +1,4 @@
-use Rattle.std.proofs.Common.{sym, subst, List, ℕ}
+use Rattle.std.proofs.Common.{sym, subst}
 use Rattle.std.proofs.lemmas.Result.{IfErr-weaker, IfOk-weaker}
 use Rattle.csi_stores.specs.Part.{all_stored_in}
 use Rattle.csi_plugins.specs.Recording.{IsLineOf, of_node, HasNoNodeLine}
