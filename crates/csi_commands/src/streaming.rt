@@ -61,8 +61,9 @@ fn play_from<R: Read, W: Write>(
     ensures device { TellsDevice input.old.faults input.new.faults out.old.faults out.new.faults result }
 {
     let mut bytes = Vec::new(alloc);
-    if let Err(ending) = read_whole(input, &mut bytes) {
-        return ending;
+    match read_whole(input, &mut bytes) {
+        Ok(()) => {}
+        Err(ending) => return ending,
     }
     let mut given = Vec::new(alloc);
     match play(alloc, command, &bytes, &mut given) {
