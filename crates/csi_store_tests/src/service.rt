@@ -5,6 +5,7 @@ mod devices;
 mod files;
 mod flushes;
 mod growths;
+mod limited;
 mod pieces;
 mod playing;
 mod plugins;
