@@ -5,6 +5,7 @@ mod failing;
 mod files;
 mod flushes;
 mod growths;
+mod limited;
 mod pieces;
 mod playing;
 mod plugins;

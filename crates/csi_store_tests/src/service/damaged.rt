@@ -21,8 +21,14 @@ fn store(
     keep
 }
 
+// The row of a volume with a mount.
+const MOUNTED: &[u8] = &[
+    1, 1, 1, 118, 0, 0, 0, 0, 0, 0, 0, 10, 1, 1, 4, 101, 120, 116, 52, 5, 0, 0, 0, 0, 0, 0, 0, 0,
+    1, 0, 0, 0, 0, 0, 0, 0, 1, 129, 0, 0, 0, 0, 0, 0, 0, 0, 1, 0,
+];
+
 // A controller's row, and the byte that is damaged: the name, the list of capabilities, that of nodes, a node and how it
-// has the volume, and the detail of the kept reply.
+// has the volume, the detail of the kept reply, and a mount's file system.
 const ROWS: &[(&[u8], usize, u8)] = &[
     (HELD, 2, 0),
     (HELD, 3, 255),
@@ -35,15 +41,19 @@ const ROWS: &[(&[u8], usize, u8)] = &[
     (HELD, 21, 2),
     (REFUSED, 48, 1),
     (REFUSED, 49, 255),
+    (MOUNTED, 14, 0),
+    (MOUNTED, 15, 255),
 ];
 
 const IN_ROW: Option<KeepFault> = Some(KeepFault::BadRecord(1));
 
 #[test]
 fn no_controller_is_opened_of_a_damaged_row(rt: HostRuntime) {
-    let mut whole = store(&rt, ONE_MADE, (HELD, 0, 1));
-    assert!(&rt; controller_fault(&rt, &mut whole).is_none());
-    drop(whole);
+    for row in [HELD, REFUSED, MOUNTED] {
+        let mut whole = store(&rt, ONE_MADE, (row, 0, 1));
+        assert!(&rt; controller_fault(&rt, &mut whole).is_none());
+        drop(whole);
+    }
     for row in ROWS {
         let mut keep = store(&rt, ONE_MADE, *row);
         assert!(&rt; controller_fault(&rt, &mut keep) == IN_ROW);
