@@ -1,23 +1,29 @@
-/* Refuses a program one allocation. It is loaded before the C library (LD_PRELOAD) and counts the calls of malloc, calloc and realloc
-   that the program itself makes; the call whose number is in REFUSE is answered with no memory. What came of it is written to the file
-   that REFUSAL names, which is mapped, so that it is there however the program ends: how many allocations there were, whether one was
-   refused, and where the program was then. `refusals` reads it. */
+/* Refuses a program its allocations, each in a process of its own. It is loaded before the C library (LD_PRELOAD) and counts the calls of
+   malloc, calloc and realloc that the program itself makes. At each REFUSE-th of them the process forks. The child is answered with no
+   memory and runs to its end, in a copy of the folder that lies in it under the allocation's number, so that what it writes is its own. The
+   process waits for it, tells to the descriptor REFUSALS what came of it, and goes on with memory: nothing is run twice from the start.
+   `refusals` reads what is told. */
 #define _GNU_SOURCE
+#include <dirent.h>
 #include <errno.h>
 #include <fcntl.h>
 #include <link.h>
 #include <stddef.h>
 #include <stdint.h>
+#include <stdio.h>
 #include <stdlib.h>
 #include <string.h>
-#include <sys/mman.h>
+#include <sys/sendfile.h>
+#include <sys/stat.h>
+#include <sys/wait.h>
 #include <unistd.h>
 
-enum { CALLS = 511 };
+enum { CALLS = 511, FILES = 64, SECONDS = 600 };
 
+/* What is told of a refusal. */
 struct refusal {
-    uint64_t count;   /* allocations so far */
-    uint64_t refused; /* whether one was refused */
+    uint64_t number; /* of the allocation, from 1 */
+    uint64_t status; /* how the child ended, as wait says it */
     struct {
         uint64_t place, callee; /* behind the call, and what was called, counted from the program's front */
     } calls[CALLS];             /* the calls that may have been under way, innermost first; then zeros */
@@ -28,9 +34,15 @@ extern void *__libc_calloc(size_t count, size_t size);
 extern void *__libc_realloc(void *old, size_t size);
 extern void *__libc_stack_end;
 
-static struct refusal *refusal;
-static uint64_t number;                /* of the one to refuse */
-static uintptr_t front, begin, end;    /* the program's front, and where its code lies */
+static int refusals = -1;           /* where refusals are told; none here, and none in a child */
+static uint64_t made, every;        /* allocations so far, and how many of them there are to a refusal */
+static uintptr_t front, begin, end; /* the program's front, and where its code lies */
+
+/* What the script takes for a wrong end of the run. */
+static void fail(const char *why) {
+    perror(why);
+    _exit(99);
+}
 
 static int find_program(struct dl_phdr_info *info, size_t size, void *none) {
     (void)size, (void)none;
@@ -46,23 +58,18 @@ static int find_program(struct dl_phdr_info *info, size_t size, void *none) {
 }
 
 __attribute__((constructor)) static void start(void) {
-    const char *name = getenv("REFUSAL"), *wanted = getenv("REFUSE");
-    if (name == NULL) return;
-    int file = open(name, O_RDWR | O_CREAT | O_TRUNC | O_CLOEXEC, 0600);
-    if (file < 0 || ftruncate(file, sizeof *refusal) != 0) _exit(99);
-    void *map = mmap(NULL, sizeof *refusal, PROT_READ | PROT_WRITE, MAP_SHARED, file, 0);
-    if (map == MAP_FAILED) _exit(99);
-    close(file);
-    number = wanted == NULL ? 0 : strtoull(wanted, NULL, 10);
+    const char *to = getenv("REFUSALS"), *each = getenv("REFUSE");
+    if (to == NULL || each == NULL) return;
     dl_iterate_phdr(find_program, NULL);
-    refusal = map;
+    every = strtoull(each, NULL, 10);
+    refusals = atoi(to);
 }
 
 static int is_code(uintptr_t place) { return begin + 5 <= place && place < end; }
 
-/* There is no table for unwinding: each word of the stack that points behind a call is told, with what that calls, and `refusals` sees
+/* There is no table for unwinding: each word of the stack that points behind a call is noted, with what that calls, and `refusals` sees
    which of them are joined to one another. */
-static void note_calls(uintptr_t *word) {
+static void note_calls(struct refusal *refusal, const uintptr_t *word) {
     size_t found = 0;
     for (; word < (uintptr_t *)__libc_stack_end && found < CALLS; word++) {
         if (!is_code(*word) || *(const uint8_t *)(*word - 5) != 0xe8) continue;
@@ -73,13 +80,59 @@ static void note_calls(uintptr_t *word) {
     }
 }
 
+/* Copies a file to this folder; and wherever it is open, the copy is, at the place to which it was read or written. */
+static void go_over(int from, int folder, const char *name) {
+    struct stat of, it;
+    int to = openat(folder, name, O_WRONLY | O_CREAT | O_EXCL, 0600);
+    if (to < 0 || fstat(from, &of) != 0) fail(name);
+    for (off_t at = 0; at < of.st_size;)
+        if (sendfile(to, from, &at, (size_t)(of.st_size - at)) <= 0) fail(name);
+    close(to);
+    for (int file = 0; file < FILES; file++) {
+        if (file == from || fstat(file, &it) != 0 || it.st_dev != of.st_dev || it.st_ino != of.st_ino) continue;
+        int copy = openat(folder, name, fcntl(file, F_GETFL) & (O_ACCMODE | O_APPEND));
+        if (copy < 0 || lseek(copy, lseek(file, 0, SEEK_CUR), SEEK_SET) < 0 || dup2(copy, file) < 0) fail(name);
+        close(copy);
+    }
+}
+
+static void move_to_copy(uint64_t number) {
+    char name[24];
+    snprintf(name, sizeof name, "%ju", (uintmax_t)number);
+    DIR *here = opendir(".");
+    int folder = mkdir(name, 0700) == 0 ? open(name, O_RDONLY | O_DIRECTORY) : -1;
+    if (here == NULL || folder < 0) fail(name);
+    for (struct dirent *entry; (entry = readdir(here)) != NULL;) {
+        if (entry->d_type != DT_REG) continue;
+        int from = openat(dirfd(here), entry->d_name, O_RDONLY);
+        if (from < 0) fail(entry->d_name);
+        go_over(from, folder, entry->d_name);
+        close(from);
+    }
+    closedir(here);
+    if (fchdir(folder) != 0) fail(name);
+    close(folder);
+}
+
 static int is_refused(uintptr_t caller) {
-    if (refusal == NULL || !is_code(caller)) return 0;
-    if (++refusal->count != number) return 0;
-    refusal->refused = 1;
-    note_calls((uintptr_t *)__builtin_frame_address(0));
-    errno = ENOMEM;
-    return 1;
+    if (refusals < 0 || !is_code(caller) || ++made % every != 0) return 0;
+    pid_t child = fork();
+    if (child < 0) fail("fork");
+    if (child == 0) {
+        close(refusals);
+        refusals = -1;
+        alarm(SECONDS);
+        move_to_copy(made);
+        errno = ENOMEM;
+        return 1;
+    }
+    struct refusal refusal = {.number = made};
+    note_calls(&refusal, (uintptr_t *)__builtin_frame_address(0));
+    int status;
+    if (waitpid(child, &status, 0) != child) fail("wait");
+    refusal.status = (uint64_t)status;
+    if (write(refusals, &refusal, sizeof refusal) != sizeof refusal) fail("write");
+    return 0;
 }
 
 #define CALLER ((uintptr_t)__builtin_return_address(0))
