@@ -1,5 +1,5 @@
 //! Parts that are put into a store.
-ghost use Rattle.std.specs.Prelude.{◌≡◌, ◌++◌, ◌∷◌, [], map, OnOk};
+ghost use Rattle.std.specs.Prelude.{◌≡◌, ◌++◌, ◌∷◌, [], map, OnOk, OnErr};
 ghost use Rattle.csi_stores.specs.Part.{change_of, put_all};
 
 use crate::part::Part;
@@ -7,7 +7,8 @@ use csi_types::NoMemory;
 
 /// Puts a part of this key and value at the end. An `Err` leaves the parts as they were. This profile's own.
 pub fn push_value(parts: &mut Vec<Part>, key: u64, value: Vec<u8>) -> Result<(), NoMemory>
-    ensures { OnOk result (map change_of parts.new.items ≡ map change_of parts.old.items ++ put_all (record { key = key; value = value.items } ∷ [])) }
+    ensures ok { OnOk result (map change_of parts.new.items ≡ map change_of parts.old.items ++ put_all (record { key = key; value = value.items } ∷ [])) }
+    ensures err { OnErr result (parts.new.items ≡ parts.old.items) }
 {
     parts.push(Part {
         key,
