@@ -7,7 +7,9 @@
 #include <dirent.h>
 #include <errno.h>
 #include <fcntl.h>
+#include <limits.h>
 #include <link.h>
+#include <stdarg.h>
 #include <stddef.h>
 #include <stdint.h>
 #include <stdio.h>
@@ -37,6 +39,7 @@ extern void *__libc_stack_end;
 static int refusals = -1;           /* where refusals are told; none here, and none in a child */
 static uint64_t made, every;        /* allocations so far, and how many of them there are to a refusal */
 static uintptr_t front, begin, end; /* the program's front, and where its code lies */
+static char left[PATH_MAX];         /* in a child: the folder of which it is in a copy */
 
 /* What the script takes for a wrong end of the run. */
 static void fail(const char *why) {
@@ -100,7 +103,7 @@ static void move_to_copy(uint64_t number) {
     char name[24];
     snprintf(name, sizeof name, "%ju", (uintmax_t)number);
     DIR *here = opendir(".");
-    int folder = mkdir(name, 0700) == 0 ? open(name, O_RDONLY | O_DIRECTORY) : -1;
+    int folder = mkdir(name, 0700) == 0 ? openat(AT_FDCWD, name, O_RDONLY | O_DIRECTORY) : -1;
     if (here == NULL || folder < 0) fail(name);
     for (struct dirent *entry; (entry = readdir(here)) != NULL;) {
         if (entry->d_type != DT_REG) continue;
@@ -110,8 +113,22 @@ static void move_to_copy(uint64_t number) {
         close(from);
     }
     closedir(here);
-    if (fchdir(folder) != 0) fail(name);
+    if (getcwd(left, sizeof left) == NULL || fchdir(folder) != 0) fail(name);
     close(folder);
+}
+
+/* A child that knows its files by the folder that it left opens those of the copy. */
+int open(const char *path, int flags, ...) {
+    mode_t mode = 0;
+    if (flags & O_CREAT) {
+        va_list rest;
+        va_start(rest, flags);
+        mode = va_arg(rest, mode_t);
+        va_end(rest);
+    }
+    size_t size = strlen(left);
+    if (size > 0 && strncmp(path, left, size) == 0 && path[size] == '/' && strchr(path + size + 1, '/') == NULL) path += size + 1;
+    return openat(AT_FDCWD, path, flags, mode);
 }
 
 static int is_refused(uintptr_t caller) {
