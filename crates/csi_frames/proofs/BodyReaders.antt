@@ -6,7 +6,7 @@ use Rattle.std.proofs.lemmas.Bool.{eqb-true}
 use Rattle.std.proofs.lemmas.List.{append-nil}
 use Rattle.csi_types.specs.declared.number.Number.{Number}
 use Rattle.csi_types.specs.declared.mode.Mode.{Mode}
-use Rattle.csi_types.specs.declared.mode.Mode.TheVariants.{SingleNodeWriter, SingleNodeReaderOnly, MultiNodeReaderOnly, MultiNodeSingleWriter, MultiNodeMultiWriter}
+use Rattle.csi_types.specs.declared.mode.Mode.TheVariants.{SingleNodeWriter, SingleNodeReaderOnly, MultiNodeReaderOnly, MultiNodeSingleWriter, MultiNodeMultiWriter, SingleNodeSingleWriter, SingleNodeMultiWriter}
 use Rattle.csi_types.specs.declared.capability.Capability.{Capability}
 use Rattle.csi_types.specs.declared.call.Call.{Call}
 use Rattle.csi_types.specs.declared.call.Call.TheVariants as calls
@@ -247,6 +247,8 @@ has_every_mode SingleNodeReaderOnly = refl
 has_every_mode MultiNodeReaderOnly = refl
 has_every_mode MultiNodeSingleWriter = refl
 has_every_mode MultiNodeMultiWriter = refl
+has_every_mode SingleNodeSingleWriter = refl
+has_every_mode SingleNodeMultiWriter = refl
 
 has_each_mode : (capabilities : List Capability) → AllByRecursion (λ c. HasMode One c.mode) capabilities
 has_each_mode [] = tt

@@ -3,7 +3,7 @@ use Rattle.std.proofs.Common.{◌≡◌, ℕ, zero, suc, ◌+◌, ◌-◌, ◌�
 use Rattle.std.specs.Prelude.{◌==◌, if◌then◌else◌, is_some, option_map, unwrap_or}
 use Rattle.std.proofs.lemmas.Bool.{ltb-false, leb-true}
 use Rattle.csi_types.specs.declared.mode.Mode.{Mode}
-use Rattle.csi_types.specs.declared.mode.Mode.TheVariants.{SingleNodeWriter, SingleNodeReaderOnly, MultiNodeReaderOnly, MultiNodeSingleWriter, MultiNodeMultiWriter}
+use Rattle.csi_types.specs.declared.mode.Mode.TheVariants.{SingleNodeWriter, SingleNodeReaderOnly, MultiNodeReaderOnly, MultiNodeSingleWriter, MultiNodeMultiWriter, SingleNodeSingleWriter, SingleNodeMultiWriter}
 use Rattle.csi_types.specs.declared.status.Status.{Status}
 use Rattle.csi_types.specs.declared.status.Status.TheVariants as statuses
 use Rattle.csi_types.specs.declared.call.Kind.{Kind}
@@ -66,7 +66,9 @@ mode-back (suc (suc zero)) e = refl
 mode-back (suc (suc (suc zero))) e = refl
 mode-back (suc (suc (suc (suc zero)))) e = refl
 mode-back (suc (suc (suc (suc (suc zero))))) e = refl
-mode-back (suc (suc (suc (suc (suc (suc n)))))) e = absurd cc
+mode-back (suc (suc (suc (suc (suc (suc zero)))))) e = refl
+mode-back (suc (suc (suc (suc (suc (suc (suc zero))))))) e = refl
+mode-back (suc (suc (suc (suc (suc (suc (suc (suc n)))))))) e = absurd cc
 
 mode-found : (mode : Mode) → mode_from_number (mode_number mode) ≡ Some mode
 mode-found SingleNodeWriter = refl
@@ -74,6 +76,8 @@ mode-found SingleNodeReaderOnly = refl
 mode-found MultiNodeReaderOnly = refl
 mode-found MultiNodeSingleWriter = refl
 mode-found MultiNodeMultiWriter = refl
+mode-found SingleNodeSingleWriter = refl
+mode-found SingleNodeMultiWriter = refl
 
 mode-again : (mode : Mode) → mode_of (mode_number mode) ≡ mode
 mode-again mode = ap (λ (o : Option Mode). unwrap_or o SingleNodeWriter) (mode-found mode)

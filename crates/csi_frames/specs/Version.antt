@@ -1,7 +1,7 @@
 -- What each version of frames and of records has. Whatever tells one version from another stands here. This profile's own.
 use Rattle.std.specs.Prelude.{ℕ, zero, suc, Bool, true, if◌then◌else◌, Option, Some, None}
 use Rattle.csi_types.specs.declared.mode.Mode.{Mode}
-use Rattle.csi_types.specs.declared.mode.Mode.TheVariants.{SingleNodeWriter, SingleNodeReaderOnly, MultiNodeReaderOnly, MultiNodeSingleWriter, MultiNodeMultiWriter}
+use Rattle.csi_types.specs.declared.mode.Mode.TheVariants.{SingleNodeWriter, SingleNodeReaderOnly, MultiNodeReaderOnly, MultiNodeSingleWriter, MultiNodeMultiWriter, SingleNodeSingleWriter, SingleNodeMultiWriter}
 use Rattle.csi_types.specs.Mode.{mode_from_number}
 use Rattle.csi_frames.specs.declared.body_kind.BodyKind.{BodyKind}
 use Rattle.csi_frames.specs.declared.version.Version.{Version}
@@ -24,6 +24,8 @@ has_mode One SingleNodeReaderOnly = true
 has_mode One MultiNodeReaderOnly = true
 has_mode One MultiNodeSingleWriter = true
 has_mode One MultiNodeMultiWriter = true
+has_mode One SingleNodeSingleWriter = true
+has_mode One SingleNodeMultiWriter = true
 
 -- a frame may be a call of this kind, or a reply to one
 abbrev pub has_kind : Version → BodyKind → Bool

@@ -45,6 +45,8 @@ impl Version {
             (Version::One, Mode::MultiNodeReaderOnly) => true,
             (Version::One, Mode::MultiNodeSingleWriter) => true,
             (Version::One, Mode::MultiNodeMultiWriter) => true,
+            (Version::One, Mode::SingleNodeSingleWriter) => true,
+            (Version::One, Mode::SingleNodeMultiWriter) => true,
         }
     }
 
