@@ -1,6 +1,8 @@
 //! Stores of version 1. The plugin that is opened from one has all its parts put in again, in version 2 and by one commit: what is there
 //! then, what is left where that fails, and what serving goes on with.
-use super::playing::{CREATED, Content, SCRIPT, has_parts, is_after, is_end, played};
+use super::playing::{
+    CREATED, Content, MADE, ONE_MADE, SCRIPT, has_parts, is_after, is_end, played,
+};
 use super::stops::{
     DATABASE, Image, LOG, LOST_DATABASE, LOST_LOG, MANY, NO_STOP, Stop, Way, left_by, left_closed,
     new_image, opened, stop_of,
@@ -13,25 +15,27 @@ use sqlite::Connection;
 use std::alloc::Global;
 use std::process::Abort;
 
-const ONE_MADE: &[u8] = &[1, 0, 0, 0, 0, 0, 0, 0, 0, 2];
+const OLD_ONE_MADE: &[u8] = &[1, 0, 0, 0, 0, 0, 0, 0, 0, 2];
 
-const MADE: &[u8] = &[
+const OLD_MADE: &[u8] = &[
     1, 1, 1, 118, 0, 0, 0, 0, 0, 0, 0, 10, 1, 0, 1, 0, 0, 0, 0, 0, 0, 0, 0, 1, 0, 0, 0, 0, 0, 0, 0,
     1, 129, 0, 0, 0, 0, 0, 0, 0, 0, 1, 0,
 ];
 
+const OLD_TWO_MADE: &[u8] = &[1, 0, 0, 0, 0, 0, 0, 0, 0, 3];
+
+const OLD_GONE: &[u8] = &[
+    1, 2, 1, 118, 0, 0, 0, 0, 0, 0, 0, 10, 1, 0, 1, 0, 0, 0, 0, 0, 0, 0, 0, 1, 0, 0, 0, 0, 0, 0, 0,
+    5, 130, 0, 0, 0, 0, 0, 0, 0, 0, 0, 0,
+];
+
+const OLD_OTHER: &[u8] = &[
+    1, 1, 1, 119, 0, 0, 0, 0, 0, 0, 0, 10, 1, 0, 1, 0, 0, 0, 0, 0, 0, 0, 0, 1, 0, 0, 0, 0, 0, 0, 0,
+    6, 129, 0, 0, 0, 0, 0, 0, 0, 0, 2, 0,
+];
+
 /// What the whole script leaves: two volumes, of which the first is deleted.
-pub(super) const OLD: Content = (
-    &[1, 0, 0, 0, 0, 0, 0, 0, 0, 3],
-    &[
-        1, 2, 1, 118, 0, 0, 0, 0, 0, 0, 0, 10, 1, 0, 1, 0, 0, 0, 0, 0, 0, 0, 0, 1, 0, 0, 0, 0, 0,
-        0, 0, 5, 130, 0, 0, 0, 0, 0, 0, 0, 0, 0, 0,
-    ],
-    &[
-        1, 1, 1, 119, 0, 0, 0, 0, 0, 0, 0, 10, 1, 0, 1, 0, 0, 0, 0, 0, 0, 0, 0, 1, 0, 0, 0, 0, 0,
-        0, 0, 6, 129, 0, 0, 0, 0, 0, 0, 0, 0, 2, 0,
-    ],
-);
+pub(super) const OLD: Content = (OLD_TWO_MADE, OLD_GONE, OLD_OTHER);
 
 // A node `n1` that staged volume 1 and published it at `/a`; and the same in version 2.
 const OLD_NODE: Content = (
@@ -81,7 +85,7 @@ fn puts<K: Keep>(rt: &(impl Abort + AllocGlobal), keep: &mut K, content: Content
 fn is_rewritten<K: Keep>(rt: &(impl Abort + AllocGlobal), keep: &mut K) -> bool {
     puts(rt, keep, OLD_NODE);
     let is_of_node = node_fault(rt, keep, "n1").is_none() && has_parts(keep, NODE);
-    puts(rt, keep, (ONE_MADE, MADE, &[]));
+    puts(rt, keep, (OLD_ONE_MADE, OLD_MADE, &[]));
     let is_of_one = controller_fault(rt, keep).is_none() && has_parts(keep, CREATED);
     puts(rt, keep, OLD);
     let is_of_two = controller_fault(rt, keep).is_none() && is_after(keep, 6);
@@ -122,13 +126,13 @@ const IN_MODE_6: &[u8] = &[
 // Stores that no controller is opened of, and the part that is refused: a part of version 1 behind a head of version 2, and the other
 // way, or behind another part; rows that are none in version 1; a head of version 3, and a node's.
 const REFUSED: &[(Content, u64)] = &[
-    ((CREATED.0, MADE, &[]), 1),
-    ((ONE_MADE, CREATED.1, &[]), 1),
-    ((OLD.0, OLD.1, CREATED.1), 2),
-    ((ONE_MADE, EMPTY, &[]), 1),
-    ((ONE_MADE, IN_MODE_6, &[]), 1),
-    ((OLD.0, OLD.1, EMPTY), 2),
-    ((&[3, 0, 0, 0, 0, 0, 0, 0, 0, 2], MADE, &[]), 0),
+    ((ONE_MADE, OLD_MADE, &[]), 1),
+    ((OLD_ONE_MADE, MADE, &[]), 1),
+    ((OLD_TWO_MADE, OLD_GONE, MADE), 2),
+    ((OLD_ONE_MADE, EMPTY, &[]), 1),
+    ((OLD_ONE_MADE, IN_MODE_6, &[]), 1),
+    ((OLD_TWO_MADE, OLD_GONE, EMPTY), 2),
+    ((&[3, 0, 0, 0, 0, 0, 0, 0, 0, 2], OLD_MADE, &[]), 0),
     (OLD_NODE, 0),
 ];
 

@@ -51,8 +51,8 @@ pub(super) const ONE_MADE: &[u8] = &[2, 0, 0, 0, 0, 0, 0, 0, 0, 2];
 
 const TWO_MADE: &[u8] = &[2, 0, 0, 0, 0, 0, 0, 0, 0, 3];
 
-// The row of `v` after each frame that changes it.
-const MADE: &[u8] = &[
+/// The row of `v` after each frame that changes it.
+pub(super) const MADE: &[u8] = &[
     2, 1, 1, 118, 0, 0, 0, 0, 0, 0, 0, 10, 1, 0, 1, 0, 0, 0, 0, 0, 0, 0, 0, 1, 0, 0, 0, 0, 0, 0, 0,
     1, 129, 0, 0, 0, 0, 0, 0, 0, 0, 1, 0,
 ];
