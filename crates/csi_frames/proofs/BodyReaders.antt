@@ -1,13 +1,9 @@
 -- The reader of a body agrees with the grammar, and what it reads is spelled so.
 use Rattle.std.proofs.Common.{◌≡◌, ℕ, ◌+◌, ◌^◌, ◌<◌, Bool, true, false, cond, List, [], ◌∷◌, ◌++◌, refl, sym, ap, subst, ◌∙◌, arith}
-use Rattle.std.specs.List.{AllByRecursion}
 use Rattle.std.specs.Prelude.{◌==◌, not}
 use Rattle.std.proofs.lemmas.Bool.{eqb-true}
 use Rattle.std.proofs.lemmas.List.{append-nil}
 use Rattle.csi_types.specs.declared.number.Number.{Number}
-use Rattle.csi_types.specs.declared.mode.Mode.{Mode}
-use Rattle.csi_types.specs.declared.mode.Mode.TheVariants.{SingleNodeWriter, SingleNodeReaderOnly, MultiNodeReaderOnly, MultiNodeSingleWriter, MultiNodeMultiWriter}
-use Rattle.csi_types.specs.declared.capability.Capability.{Capability}
 use Rattle.csi_types.specs.declared.call.Call.{Call}
 use Rattle.csi_types.specs.declared.call.Call.TheVariants as calls
 use Rattle.csi_types.specs.declared.call.Kind.{Kind}
@@ -24,7 +20,7 @@ use Rattle.csi_frames.specs.declared.body_kind.BodyKind.{BodyKind}
 use Rattle.csi_frames.specs.declared.body_kind.BodyKind.TheVariants as body_kinds
 use Rattle.csi_frames.specs.declared.fault.FaultKind.TheVariants.{BadVersion, BadKind, BadParty}
 use Rattle.csi_frames.specs.declared.version.Version.{Version}
-use Rattle.csi_frames.specs.declared.version.Version.TheVariants.{One}
+use Rattle.csi_frames.specs.declared.version.Version.TheVariants.{One, Two}
 use Rattle.csi_frames.specs.Version.{version_number}
 use Rattle.csi_frames.specs.Codes.{is_version, version_of, kind_in, is_body_kind, body_kind_of}
 use Rattle.csi_frames.specs.Spelling as spelling
@@ -34,10 +30,12 @@ use Rattle.csi_frames.proofs.Readers.{Agrees, Then, then, Given, gives, in_words
 use Rattle.csi_frames.proofs.FieldReaders.{IsByte, byte_agrees}
 use Rattle.csi_frames.proofs.Says.{Spelled, After, Made, after, makes, Always, code_agrees}
 use Rattle.csi_types.specs.Same.{kind_number}
-use Rattle.csi_frames.proofs.Codes.{version_code, HasMode, HasKind, body_kind_number, body_kind_code}
+use Rattle.csi_frames.proofs.Codes.{version_code, HasKind, body_kind_number, body_kind_code}
 use Rattle.csi_frames.proofs.CapabilityReaders.{any_word_agrees, any_text_agrees}
 use Rattle.csi_frames.proofs.CallReaders.{SaysCall, IsCallOf, call_agrees, join2}
 use Rattle.csi_frames.proofs.ReplyReaders.{SaysReply, reply_agrees}
+use Rattle.csi_frames.proofs.Versions.{in_first, in_second, has_its_kind, in_its_version}
+pub use Rattle.csi_frames.proofs.Versions.{has_every_mode}
 
 -- ---- version and kind
 
@@ -237,34 +235,18 @@ WasFrame =
     After Always version_byte (λ version. After (HasKind version) kind_byte (λ kind. After IsNumber number (λ n. After (IsPartyOf kind) spelling.party (λ party.
     Made (FitsKind version kind) spelling.body_fields (λ body. record { number = n; party = party; body = body })))))
 
--- each version is the first one, which has all bodies and all kinds of them
-one_version : (version : Version) → version_number version ≡ spelling.version
-one_version One = refl
+-- a body that was read in a version is spelled in that one
+version-there : (version : Version) (kind : BodyKind) (body : Body) → HasKind version kind → IsBodyOf kind body → IsBodyIn version body → version ≡ spelling.body_version body
+version-there One kind (bodies.Call call) has of_kind of_version = in_first call of_version
+version-there One kind (bodies.Reply k reply) has of_kind of_version = refl
+version-there Two (body_kinds.Call kind) (bodies.Call call) has of_kind of_version = in_second call (subst (λ (k : Kind). HasKind Two (body_kinds.Call k)) (sym of_kind) has) of_version
+version-there Two (body_kinds.Call kind) (bodies.Reply k reply) has of_kind of_version = absurd of_kind
+version-there Two (body_kinds.Reply kind) body has of_kind of_version = absurd (cc has)
 
-pub has_every_mode : (mode : Mode) → HasMode One mode
-has_every_mode SingleNodeWriter = refl
-has_every_mode SingleNodeReaderOnly = refl
-has_every_mode MultiNodeReaderOnly = refl
-has_every_mode MultiNodeSingleWriter = refl
-has_every_mode MultiNodeMultiWriter = refl
-
-has_each_mode : (capabilities : List Capability) → AllByRecursion (λ c. HasMode One c.mode) capabilities
-has_each_mode [] = tt
-has_each_mode (c ∷ cs) = (has_every_mode c.mode, has_each_mode cs)
-
-has_every_call : (call : Call) → IsCallOf One call
-has_every_call (calls.CreateVolume name required limit capabilities) = (omega arith, has_each_mode capabilities)
-has_every_call (calls.DeleteVolume id) = tt
-has_every_call (calls.ControllerPublishVolume id node c readonly) = has_every_mode c.mode
-has_every_call (calls.ControllerUnpublishVolume id node) = tt
-has_every_call (calls.NodeStageVolume id c) = has_every_mode c.mode
-has_every_call (calls.NodeUnstageVolume id) = tt
-has_every_call (calls.NodePublishVolume id target c readonly) = has_every_mode c.mode
-has_every_call (calls.NodeUnpublishVolume id target) = tt
-
-has_every_body : (body : Body) → IsBodyIn One body
-has_every_body (bodies.Call call) = has_every_call call
-has_every_body (bodies.Reply kind reply) = tt
+-- each body is of the version that it is spelled in
+body_in_its_version : (body : Body) → IsBodyIn (spelling.body_version body) body
+body_in_its_version (bodies.Call call) = in_its_version call
+body_in_its_version (bodies.Reply kind reply) = tt
 
 -- a party to which such calls go, and a body of this kind, may stand together in a frame
 allowed-there : (kind : BodyKind) (party : Party) (body : Body) → is_party_of (kind_in kind) party ≡ true → IsBodyOf kind body → IsAllowed party body
@@ -290,21 +272,22 @@ frame-there value bytes s =
     (record {
       fits = record { number_fits = s1.fits; party_fits = s2.fits.fits; body_fits = s3.fits.fits; allowed = allowed-there kind party body s2.fits.of_kind s3.fits.of_kind };
       are = s.parts ∙ ap (λ (t : List ℕ). version_byte version ++ t) (s0.parts ∙ ap (λ (t : List ℕ). kind_byte kind ++ t) (s1.parts ∙ ap (λ (t : List ℕ). number n ++ t) (s2.parts ∙ ap (λ (t : List ℕ). spelling.party party ++ t) s3.are)))
-          ∙ ap (λ (v : ℕ). v ∷ body_kind_number kind ∷ number n ++ (spelling.party party ++ spelling.body_fields body)) (one_version version)
-          ∙ ap (λ (k : ℕ). spelling.version ∷ k ∷ number n ++ (spelling.party party ++ spelling.body_fields body)) (number-there-of kind body s3.fits.of_kind);
+          ∙ ap (λ (v : Version). version_number v ∷ body_kind_number kind ∷ number n ++ (spelling.party party ++ spelling.body_fields body)) (version-there version kind body s0.fits s3.fits.of_kind s3.fits.of_version)
+          ∙ ap (λ (k : ℕ). version_number (spelling.body_version body) ∷ k ∷ number n ++ (spelling.party party ++ spelling.body_fields body)) (number-there-of kind body s3.fits.of_kind);
     })
 
--- a body is of its own kind
+-- a body is of its own kind, which its version has
 record OfItself (party : Party) (body : Body) : Type 0 where
   kind : BodyKind
   numbered : spelling.body_kind body ≡ body_kind_number kind
   of_party : is_party_of (kind_in kind) party ≡ true
   of_body : IsBodyOf kind body
+  of_version : HasKind (spelling.body_version body) kind
 
 -- where a party and a body may stand together, the body has a kind, whose calls go to this party
 of_itself : (party : Party) (body : Body) → IsAllowed party body → OfItself party body
-of_itself party (bodies.Call call) a = record { kind = body_kinds.Call (kind_of call); numbered = refl; of_party = a; of_body = refl }
-of_itself party (bodies.Reply kind reply) a = record { kind = body_kinds.Reply kind; numbered = refl; of_party = a.0; of_body = (refl, a.1) }
+of_itself party (bodies.Call call) a = record { kind = body_kinds.Call (kind_of call); numbered = refl; of_party = a; of_body = refl; of_version = has_its_kind call }
+of_itself party (bodies.Reply kind reply) a = record { kind = body_kinds.Reply kind; numbered = refl; of_party = a.0; of_body = (refl, a.1); of_version = refl }
 
 -- the spelling of a frame's body is its head, its number, its party and its kind's fields
 frame-back : (value : Frame) (bytes : List ℕ) → Spelled IsFrame spelling.frame_body value bytes → WasFrame value bytes
@@ -313,13 +296,13 @@ frame-back value bytes s =
     let o = of_itself value.party value.body s.fits.allowed in
     let rest : List ℕ = number value.number ++ (spelling.party value.party ++ spelling.body_fields value.body) in
     record {
-      before = One;
+      before = spelling.body_version value.body;
       fits = tt;
       back = spelling.body_kind value.body ∷ rest;
       parts = s.are;
       second = record {
         before = o.kind;
-        fits = refl;
+        fits = o.of_version;
         back = rest;
         parts = ap (λ (k : ℕ). k ∷ rest) o.numbered;
         second = record {
@@ -332,7 +315,7 @@ frame-back value bytes s =
             fits = record { fits = s.fits.party_fits; of_kind = o.of_party };
             back = spelling.body_fields value.body;
             parts = refl;
-            second = record { before = value.body; fits = record { of_kind = o.of_body; fits = s.fits.body_fits; of_version = has_every_body value.body }; same = refl; are = refl };
+            second = record { before = value.body; fits = record { of_kind = o.of_body; fits = s.fits.body_fits; of_version = body_in_its_version value.body }; same = refl; are = refl };
           };
         };
       };

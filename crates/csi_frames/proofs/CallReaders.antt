@@ -1,7 +1,7 @@
 -- The readers of calls agree with the grammar, and what they read is spelled so.
 use Rattle.std.proofs.Common.{◌≡◌, ℕ, ◌≤◌, Bool, true, false, List, [], ◌∷◌, ◌++◌, length, refl, sym, ap, subst, ◌∙◌, append_assoc, arith}
 use Rattle.std.specs.Prelude.{nat_le, ◌&&◌}
-use Rattle.std.specs.List.{flat_map, AllByRecursion}
+use Rattle.std.specs.List.{flat_map}
 use Rattle.std.proofs.lemmas.Bool.{leb-true, le-leb}
 use Rattle.csi_types.specs.declared.capability.Capability.{Capability}
 use Rattle.csi_types.specs.declared.call.Kind.{Kind}
@@ -15,14 +15,14 @@ use Rattle.csi_types.specs.Limits.{IsWord, IsCall}
 use Rattle.csi_frames.specs.declared.fault.FaultKind.TheVariants.{BadCount}
 use Rattle.csi_frames.specs.Spelling as spelling
 use Rattle.csi_frames.specs.declared.version.Version.{Version}
-use Rattle.csi_frames.specs.Version.{least_count}
+use Rattle.csi_frames.specs.Version.{least_count, owes_new_mode}
 use Rattle.csi_frames.specs.Grammar.{End, Byte, Word, Text, any, is_count, capability_grammar, capabilities_grammar, flag_grammar, call_grammar}
 use Rattle.csi_frames.specs.Reading.{create_at, id_alone_at, id_and_text_at, stage_at, publish_at, call_at}
 use Rattle.csi_frames.proofs.Readers.{Agrees, Then, then, in_words}
 use Rattle.csi_frames.proofs.FieldReaders.{IsByte, byte_agrees}
 use Rattle.csi_frames.proofs.Says.{After, Made, after, makes, Always}
-use Rattle.csi_frames.proofs.Codes.{HasMode}
-use Rattle.csi_frames.proofs.CapabilityReaders.{any_word_agrees, id_agrees, any_text_agrees, flag_agrees, capability_agrees, IsCapabilityOf, AreCapabilities, capabilities_agree}
+use Rattle.csi_frames.proofs.Codes.{TakesMode}
+use Rattle.csi_frames.proofs.CapabilityReaders.{any_word_agrees, id_agrees, any_text_agrees, flag_agrees, IsCapabilityIn, owed_capability_agrees, AreInModes, AreCapabilities, capabilities_agree}
 
 -- ---- two tests
 
@@ -57,15 +57,15 @@ cut4 x a b c d e = e ∙ append_assoc (a ++ b) c d ∙ append_assoc a b (c ++ d)
 
 -- ---- calls
 
--- its capabilities are in modes that the version has, and no fewer than it asks for
+-- its capabilities are in modes that the version has, one of them in a new mode where the version owes it, and no fewer than it asks for
 abbrev pub IsCallOf : Version → Call → Type 0
-IsCallOf version (calls.CreateVolume name required limit capabilities) = (least_count version ≤ length capabilities) × AllByRecursion (λ c. HasMode version c.mode) capabilities
+IsCallOf version (calls.CreateVolume name required limit capabilities) = (least_count version ≤ length capabilities) × AreInModes version (owes_new_mode version) capabilities
 IsCallOf version (calls.DeleteVolume id) = Unit {0}
-IsCallOf version (calls.ControllerPublishVolume id node c readonly) = HasMode version c.mode
+IsCallOf version (calls.ControllerPublishVolume id node c readonly) = TakesMode version (owes_new_mode version) c.mode
 IsCallOf version (calls.ControllerUnpublishVolume id node) = Unit {0}
-IsCallOf version (calls.NodeStageVolume id c) = HasMode version c.mode
+IsCallOf version (calls.NodeStageVolume id c) = TakesMode version (owes_new_mode version) c.mode
 IsCallOf version (calls.NodeUnstageVolume id) = Unit {0}
-IsCallOf version (calls.NodePublishVolume id target c readonly) = HasMode version c.mode
+IsCallOf version (calls.NodePublishVolume id target c readonly) = TakesMode version (owes_new_mode version) c.mode
 IsCallOf version (calls.NodeUnpublishVolume id target) = Unit {0}
 
 -- a call of this kind and of this version, within its limits, and its fields
@@ -79,7 +79,7 @@ pub record SaysCall (version : Version) (kind : Kind) (value : Call) (bytes : Li
 
 -- the bytes were read as a count and so many capabilities
 abbrev WasCounted : Version → List ℕ → ℕ → ℕ → Call → List ℕ → Type 0
-WasCounted version name required limit = Then (IsByte (is_count version)) (λ count. Made (AreCapabilities version count) (flat_map spelling.capability) (λ capabilities. calls.CreateVolume name required limit capabilities))
+WasCounted version name required limit = Then (IsByte (is_count version)) (λ count. Made (AreCapabilities version (owes_new_mode version) count) (flat_map spelling.capability) (λ capabilities. calls.CreateVolume name required limit capabilities))
 
 -- the bytes were read as the fields of a CreateVolume
 abbrev SaysCreate : Version → Call → List ℕ → Type 0
@@ -145,11 +145,11 @@ create_agrees : (version : Version) → Agrees (create_at version) (SaysCall ver
 unfolding create_at call_grammar
 create_agrees version =
     in_words (SaysCall version kinds.CreateVolume) (create-there version) (create-back version)
-    (after (any_text_agrees 1 128 (λ _. Word any (λ _. Word any (λ _. Byte (is_count version) BadCount (capabilities_grammar version)))))
-    (λ name. after (any_word_agrees (λ _. Word any (λ _. Byte (is_count version) BadCount (capabilities_grammar version))))
-    (λ required. after (any_word_agrees (λ _. Byte (is_count version) BadCount (capabilities_grammar version)))
-    (λ limit. then (byte_agrees (is_count version) BadCount (capabilities_grammar version))
-    (λ count. makes (λ capabilities. calls.CreateVolume name required limit capabilities) (λ _. End) (capabilities_agree version count))))))
+    (after (any_text_agrees 1 128 (λ _. Word any (λ _. Word any (λ _. Byte (is_count version) BadCount (capabilities_grammar version (owes_new_mode version))))))
+    (λ name. after (any_word_agrees (λ _. Word any (λ _. Byte (is_count version) BadCount (capabilities_grammar version (owes_new_mode version)))))
+    (λ required. after (any_word_agrees (λ _. Byte (is_count version) BadCount (capabilities_grammar version (owes_new_mode version))))
+    (λ limit. then (byte_agrees (is_count version) BadCount (capabilities_grammar version (owes_new_mode version)))
+    (λ count. makes (λ capabilities. calls.CreateVolume name required limit capabilities) (λ _. End) (capabilities_agree version (owes_new_mode version) count))))))
 
 -- calls with an id alone
 
@@ -198,7 +198,7 @@ node_unpublish-back version _ bytes s = absurd (cc s.of_kind)
 
 -- the bytes were read as an id and a capability
 abbrev SaysStage : Version → Call → List ℕ → Type 0
-SaysStage version = After IsVolumeId spelling.word (λ id. Made (IsCapabilityOf version) spelling.capability (λ c. calls.NodeStageVolume id c))
+SaysStage version = After IsVolumeId spelling.word (λ id. Made (IsCapabilityIn version (owes_new_mode version)) spelling.capability (λ c. calls.NodeStageVolume id c))
 
 stage-there : (version : Version) (value : Call) (bytes : List ℕ) → SaysStage version value bytes → SaysCall version kinds.NodeStageVolume value bytes
 stage-there version value bytes s =
@@ -214,7 +214,7 @@ stage-back version _ bytes s = absurd (cc s.of_kind)
 
 -- the bytes were read as an id, a text, a capability and a flag
 abbrev SaysPublish : Version → (ℕ → List ℕ → Capability → Bool → Call) → Call → List ℕ → Type 0
-SaysPublish version make = After IsVolumeId spelling.word (λ id. After (IsText 1 255) spelling.text (λ place. After (IsCapabilityOf version) spelling.capability (λ c. Made Always spelling.flag (make id place c))))
+SaysPublish version make = After IsVolumeId spelling.word (λ id. After (IsText 1 255) spelling.text (λ place. After (IsCapabilityIn version (owes_new_mode version)) spelling.capability (λ c. Made Always spelling.flag (make id place c))))
 
 publish-there : (version : Version) (value : Call) (bytes : List ℕ) → SaysPublish version (λ id node c readonly. calls.ControllerPublishVolume id node c readonly) value bytes → SaysCall version kinds.ControllerPublishVolume value bytes
 publish-there version value bytes s =
@@ -272,23 +272,23 @@ call_agrees version kinds.DeleteVolume =
     in_words (SaysCall version kinds.DeleteVolume) (delete-there version) (delete-back version) (makes (λ id. calls.DeleteVolume id) (λ _. End) (id_agrees (λ _. End)))
 call_agrees version kinds.ControllerPublishVolume =
     in_words (SaysCall version kinds.ControllerPublishVolume) (publish-there version) (publish-back version)
-    (after (id_agrees (λ _. Text 1 255 (λ _. capability_grammar version flag_grammar)))
-    (λ id. after (any_text_agrees 1 255 (λ _. capability_grammar version flag_grammar))
-    (λ node. after (capability_agrees version flag_grammar)
+    (after (id_agrees (λ _. Text 1 255 (λ _. capability_grammar version (owes_new_mode version) (λ _. flag_grammar))))
+    (λ id. after (any_text_agrees 1 255 (λ _. capability_grammar version (owes_new_mode version) (λ _. flag_grammar)))
+    (λ node. after (owed_capability_agrees version (owes_new_mode version) (λ _. flag_grammar))
     (λ c. makes (λ readonly. calls.ControllerPublishVolume id node c readonly) (λ _. End) (flag_agrees (λ _. End))))))
 call_agrees version kinds.ControllerUnpublishVolume =
     in_words (SaysCall version kinds.ControllerUnpublishVolume) (unpublish-there version) (unpublish-back version)
     (after (id_agrees (λ _. Text 1 255 (λ _. End))) (λ id. makes (λ node. calls.ControllerUnpublishVolume id node) (λ _. End) (any_text_agrees 1 255 (λ _. End))))
 call_agrees version kinds.NodeStageVolume =
     in_words (SaysCall version kinds.NodeStageVolume) (stage-there version) (stage-back version)
-    (after (id_agrees (λ _. capability_grammar version End)) (λ id. makes (λ c. calls.NodeStageVolume id c) (λ _. End) (capability_agrees version End)))
+    (after (id_agrees (λ _. capability_grammar version (owes_new_mode version) (λ _. End))) (λ id. makes (λ c. calls.NodeStageVolume id c) (λ _. End) (owed_capability_agrees version (owes_new_mode version) (λ _. End))))
 call_agrees version kinds.NodeUnstageVolume =
     in_words (SaysCall version kinds.NodeUnstageVolume) (unstage-there version) (unstage-back version) (makes (λ id. calls.NodeUnstageVolume id) (λ _. End) (id_agrees (λ _. End)))
 call_agrees version kinds.NodePublishVolume =
     in_words (SaysCall version kinds.NodePublishVolume) (node_publish-there version) (node_publish-back version)
-    (after (id_agrees (λ _. Text 1 255 (λ _. capability_grammar version flag_grammar)))
-    (λ id. after (any_text_agrees 1 255 (λ _. capability_grammar version flag_grammar))
-    (λ target. after (capability_agrees version flag_grammar)
+    (after (id_agrees (λ _. Text 1 255 (λ _. capability_grammar version (owes_new_mode version) (λ _. flag_grammar))))
+    (λ id. after (any_text_agrees 1 255 (λ _. capability_grammar version (owes_new_mode version) (λ _. flag_grammar)))
+    (λ target. after (owed_capability_agrees version (owes_new_mode version) (λ _. flag_grammar))
     (λ c. makes (λ readonly. calls.NodePublishVolume id target c readonly) (λ _. End) (flag_agrees (λ _. End))))))
 call_agrees version kinds.NodeUnpublishVolume =
     in_words (SaysCall version kinds.NodeUnpublishVolume) (node_unpublish-there version) (node_unpublish-back version)

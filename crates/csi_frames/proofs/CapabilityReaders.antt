@@ -1,6 +1,6 @@
 -- The readers of capabilities agree with the grammar, and what they read is spelled so.
-use Rattle.std.proofs.Common.{◌≡◌, ℕ, zero, suc, Bool, true, cond, List, [], ◌∷◌, ◌++◌, length, refl, sym, ap, subst, ◌∙◌, arith}
-use Rattle.std.specs.Prelude.{◌==◌, nat_lt}
+use Rattle.std.proofs.Common.{◌≡◌, ℕ, zero, suc, Bool, true, false, cond, List, [], ◌∷◌, ◌++◌, length, refl, sym, ap, subst, ◌∙◌, arith}
+use Rattle.std.specs.Prelude.{◌==◌, ◌&&◌, not, nat_lt}
 use Rattle.std.specs.List.{flat_map, AllByRecursion}
 use Rattle.std.proofs.lemmas.Bool.{ltb-true, lt-ltb, leb-true}
 use Rattle.std.proofs.lemmas.List.Concat.{flat_map-cons}
@@ -14,14 +14,15 @@ use Rattle.csi_types.specs.VolumeId.{IsVolumeId}
 use Rattle.csi_types.specs.Limits.{IsWord, IsAccess, IsCapability}
 use Rattle.csi_frames.specs.declared.fault.FaultKind.TheVariants.{BadMode, BadAccess, BadFlag}
 use Rattle.csi_frames.specs.Codes.{is_mode, mode_of}
+use Rattle.csi_frames.specs.Version.{is_new_mode}
 use Rattle.csi_frames.specs.Spelling as spelling
 use Rattle.csi_frames.specs.Grammar.{Grammar, End, Byte, Word, Text, any, at_most, mode_grammar, capability_grammar, capabilities_grammar}
-use Rattle.csi_frames.specs.Reading.{word_at, text_at, id_at, flag_at, access_at, mode_at, capability_at, capabilities_at}
+use Rattle.csi_frames.specs.Reading.{word_at, text_at, id_at, flag_at, access_at, mode_at, owed_capability_at, capability_at, capabilities_at}
 use Rattle.csi_frames.proofs.Readers.{Agrees, Then, then, Given, gives, in_words, Either, either}
 use Rattle.csi_frames.proofs.FieldReaders.{IsByte, byte_agrees, word_agrees, text_agrees}
 use Rattle.csi_frames.proofs.Says.{Spelled, After, Made, after, makes, Always, code_agrees}
 use Rattle.csi_frames.specs.declared.version.Version.{Version}
-use Rattle.csi_frames.proofs.Codes.{HasMode, mode_code, flag_code, flag_number}
+use Rattle.csi_frames.proofs.Codes.{TakesMode, mode_code, flag_code, flag_number}
 
 -- ---- words, texts, flags
 
@@ -46,9 +47,9 @@ pub flag_agrees : (next : Bool → Grammar) → Agrees flag_at (Spelled Always s
 unfolding flag_at
 flag_agrees next = code_agrees Always (at_most 1) BadFlag (λ b. b == 1) flag_number next flag_code
 
-pub mode_agrees : (version : Version) (next : Mode → Grammar) → Agrees (mode_at version) (Spelled (HasMode version) (λ mode. mode_number mode ∷ [])) (Byte (is_mode version) BadMode (λ b. next (mode_of b))) next
+pub mode_agrees : (version : Version) (owed : Bool) (next : Mode → Grammar) → Agrees (mode_at version owed) (Spelled (TakesMode version owed) (λ mode. mode_number mode ∷ [])) (mode_grammar version owed next) next
 unfolding mode_at
-mode_agrees version next = code_agrees (HasMode version) (is_mode version) BadMode mode_of mode_number next (mode_code version)
+mode_agrees version owed next = code_agrees (TakesMode version owed) (is_mode version owed) BadMode mode_of mode_number next (mode_code version owed)
 
 -- ---- capabilities
 
@@ -89,82 +90,103 @@ access_agrees next =
     (then (byte_agrees (at_most 1) BadAccess (λ b. cond (b == 0) next (Text 0 128 (λ _. next))))
     (λ b. either (b == 0) (gives {next = λ _. next} Block) (makes Mount (λ _. next) (any_text_agrees 0 128 (λ _. next)))))
 
--- a capability within its limits, in a mode that the version has
-pub record IsCapabilityOf (version : Version) (capability : Capability) : Type 0 where
+-- a capability within its limits, in a mode that the version has, and in a new one where one is owed
+pub record IsCapabilityIn (version : Version) (owed : Bool) (capability : Capability) : Type 0 where
   pub fits : IsCapability capability
-  pub in_mode : HasMode version capability.mode
+  pub in_mode : TakesMode version owed capability.mode
+
+-- the same where no new mode is owed
+abbrev pub IsCapabilityOf : Version → Capability → Type 0
+IsCapabilityOf version = IsCapabilityIn version false
 
 -- the bytes were read as an access and then a mode
-abbrev SaysCapability : Version → Capability → List ℕ → Type 0
-SaysCapability version = After IsAccess spelling.access (λ access. Made (HasMode version) (λ mode. mode_number mode ∷ []) (λ mode. record { access = access; mode = mode }))
+abbrev SaysCapability : Version → Bool → Capability → List ℕ → Type 0
+SaysCapability version owed = After IsAccess spelling.access (λ access. Made (TakesMode version owed) (λ mode. mode_number mode ∷ []) (λ mode. record { access = access; mode = mode }))
 
 -- an access and then a mode are the spelling of the capability that was made of them
-capability-there : (version : Version) (value : Capability) (bytes : List ℕ) → SaysCapability version value bytes → Spelled (IsCapabilityOf version) spelling.capability value bytes
-capability-there version value bytes s =
-    subst (λ (v : Capability). Spelled (IsCapabilityOf version) spelling.capability v bytes) (sym s.second.same)
+capability-there : (version : Version) (owed : Bool) (value : Capability) (bytes : List ℕ) → SaysCapability version owed value bytes → Spelled (IsCapabilityIn version owed) spelling.capability value bytes
+capability-there version owed value bytes s =
+    subst (λ (v : Capability). Spelled (IsCapabilityIn version owed) spelling.capability v bytes) (sym s.second.same)
     (record { fits = record { fits = s.fits; in_mode = s.second.fits }; are = s.parts ∙ ap (λ (t : List ℕ). spelling.access s.before ++ t) s.second.are })
 
 -- the spelling of a capability is that of its access and then that of its mode
-capability-back : (version : Version) (value : Capability) (bytes : List ℕ) → Spelled (IsCapabilityOf version) spelling.capability value bytes → SaysCapability version value bytes
-capability-back version value bytes s =
+capability-back : (version : Version) (owed : Bool) (value : Capability) (bytes : List ℕ) → Spelled (IsCapabilityIn version owed) spelling.capability value bytes → SaysCapability version owed value bytes
+capability-back version owed value bytes s =
     record { before = value.access; fits = s.fits.fits; back = mode_number value.mode ∷ []; parts = s.are; second = record { before = value.mode; fits = s.fits.in_mode; same = refl; are = refl } }
 
--- the reader of a capability agrees with the grammar
-pub capability_agrees : (version : Version) (next : Grammar) → Agrees (capability_at version) (Spelled (IsCapabilityOf version) spelling.capability) (capability_grammar version next) (λ _. next)
-unfolding capability_at
-capability_agrees version next =
-    in_words (Spelled (IsCapabilityOf version) spelling.capability) (capability-there version) (capability-back version)
-    (after (access_agrees (mode_grammar version next)) (λ access. makes (λ mode. record { access = access; mode = mode }) (λ _. next) (mode_agrees version (λ _. next))))
+-- the reader of a capability agrees with the grammar, where a new mode is owed and where none is
+pub owed_capability_agrees : (version : Version) (owed : Bool) (next : Mode → Grammar) → Agrees (owed_capability_at version owed) (Spelled (IsCapabilityIn version owed) spelling.capability) (capability_grammar version owed next) (λ c. next c.mode)
+unfolding owed_capability_at
+owed_capability_agrees version owed next =
+    in_words (Spelled (IsCapabilityIn version owed) spelling.capability) (capability-there version owed) (capability-back version owed)
+    (after (access_agrees (mode_grammar version owed next)) (λ access. makes (λ mode. record { access = access; mode = mode }) (λ c. next c.mode) (mode_agrees version owed next)))
 
--- so many capabilities, each in a mode that the version has
-pub record AreCapabilities (version : Version) (count : ℕ) (capabilities : List Capability) : Type 0 where
+pub capability_agrees : (version : Version) (next : Grammar) → Agrees (capability_at version) (Spelled (IsCapabilityOf version) spelling.capability) (capability_grammar version false (λ _. next)) (λ _. next)
+unfolding capability_at
+capability_agrees version next = owed_capability_agrees version false (λ _. next)
+
+-- each is in a mode that the version has, and where a new one is owed the last is in such a mode, if no earlier one is
+abbrev pub AreInModes : Version → Bool → List Capability → Type 0
+AreInModes version owed [] = Unit {0}
+AreInModes version owed (c ∷ cs) = TakesMode version (owed && (length cs == 0)) c.mode × AreInModes version (owed && not (is_new_mode c.mode)) cs
+
+-- so many capabilities, in such modes
+pub record AreCapabilities (version : Version) (owed : Bool) (count : ℕ) (capabilities : List Capability) : Type 0 where
   pub counted : length capabilities ≡ count
   pub each : AllByRecursion IsCapability capabilities
-  pub in_modes : AllByRecursion (λ c. HasMode version c.mode) capabilities
+  pub in_modes : AreInModes version owed capabilities
 
 -- the bytes were read as a capability, and then so many more
-abbrev SaysMore : Version → ℕ → List Capability → List ℕ → Type 0
-SaysMore version n = After (IsCapabilityOf version) spelling.capability (λ first. Made (AreCapabilities version n) (flat_map spelling.capability) (λ others. first ∷ others))
+abbrev SaysMore : Version → Bool → ℕ → List Capability → List ℕ → Type 0
+SaysMore version owed n =
+    After (IsCapabilityIn version (owed && (n == 0))) spelling.capability (λ first. Made (AreCapabilities version (owed && not (is_new_mode first.mode)) n) (flat_map spelling.capability) (λ others. first ∷ others))
 
 -- so many capabilities, each within its limits, and their spellings one after another
-abbrev SaysCapabilities : Version → ℕ → List Capability → List ℕ → Type 0
-SaysCapabilities version n = Spelled (AreCapabilities version n) (flat_map spelling.capability)
+abbrev SaysCapabilities : Version → Bool → ℕ → List Capability → List ℕ → Type 0
+SaysCapabilities version owed n = Spelled (AreCapabilities version owed n) (flat_map spelling.capability)
 
 -- a capability and then so many more that were read are one more than these, and are spelled so
-more-there : (version : Version) (n : ℕ) (value : List Capability) (bytes : List ℕ) → SaysMore version n value bytes → SaysCapabilities version (suc n) value bytes
-more-there version n value bytes s =
-    subst (λ (v : List Capability). SaysCapabilities version (suc n) v bytes) (sym s.second.same)
+more-there : (version : Version) (owed : Bool) (n : ℕ) (value : List Capability) (bytes : List ℕ) → SaysMore version owed n value bytes → SaysCapabilities version owed (suc n) value bytes
+more-there version owed n value bytes s =
+    let made = s.second in
+    subst (λ (v : List Capability). SaysCapabilities version owed (suc n) v bytes) (sym made.same)
     (record {
-      fits = record { counted = ap suc s.second.fits.counted; each = (s.fits.fits, s.second.fits.each); in_modes = (s.fits.in_mode, s.second.fits.in_modes) };
-      are = s.parts ∙ ap (λ (t : List ℕ). spelling.capability s.before ++ t) s.second.are ∙ sym (flat_map-cons spelling.capability s.before s.second.before);
+      fits = record {
+        counted = ap suc made.fits.counted;
+        each = (s.fits.fits, made.fits.each);
+        in_modes = (subst (λ (k : ℕ). TakesMode version (owed && (k == 0)) s.before.mode) (sym made.fits.counted) s.fits.in_mode, made.fits.in_modes);
+      };
+      are = s.parts ∙ ap (λ (t : List ℕ). spelling.capability s.before ++ t) made.are ∙ sym (flat_map-cons spelling.capability s.before made.before);
     })
 
 -- the spelling of one more than so many capabilities is a capability's and then that of so many
-more-back : (version : Version) (n : ℕ) (value : List Capability) (bytes : List ℕ) → SaysCapabilities version (suc n) value bytes → SaysMore version n value bytes
-more-back version n [] bytes s = absurd (cc s.fits.counted)
-more-back version n (first ∷ others) bytes s =
+more-back : (version : Version) (owed : Bool) (n : ℕ) (value : List Capability) (bytes : List ℕ) → SaysCapabilities version owed (suc n) value bytes → SaysMore version owed n value bytes
+more-back version owed n [] bytes s = absurd (cc s.fits.counted)
+more-back version owed n (first ∷ others) bytes s =
+    let counted : length others ≡ n = omega (arith, s.fits.counted) in
     record {
       before = first;
-      fits = record { fits = s.fits.each.0; in_mode = s.fits.in_modes.0 };
+      fits = record { fits = s.fits.each.0; in_mode = subst (λ (k : ℕ). TakesMode version (owed && (k == 0)) first.mode) counted s.fits.in_modes.0 };
       back = flat_map spelling.capability others;
       parts = s.are ∙ flat_map-cons spelling.capability first others;
-      second = record { before = others; fits = record { counted = omega (arith, s.fits.counted); each = s.fits.each.1; in_modes = s.fits.in_modes.1 }; same = refl; are = refl };
+      second = record { before = others; fits = record { counted = counted; each = s.fits.each.1; in_modes = s.fits.in_modes.1 }; same = refl; are = refl };
     }
 
 -- no capabilities are spelled by no bytes
-nil-there : (version : Version) (value : List Capability) (bytes : List ℕ) → Given [] value bytes → SaysCapabilities version 0 value bytes
-nil-there version value bytes s =
-    subst (λ (v : List Capability). SaysCapabilities version 0 v bytes) (sym s.same) (record { fits = record { counted = refl; each = tt; in_modes = tt }; are = s.none })
+nil-there : (version : Version) (owed : Bool) (value : List Capability) (bytes : List ℕ) → Given [] value bytes → SaysCapabilities version owed 0 value bytes
+nil-there version owed value bytes s =
+    subst (λ (v : List Capability). SaysCapabilities version owed 0 v bytes) (sym s.same) (record { fits = record { counted = refl; each = tt; in_modes = tt }; are = s.none })
 
 -- no bytes spell no capabilities
-nil-back : (version : Version) (value : List Capability) (bytes : List ℕ) → SaysCapabilities version 0 value bytes → Given [] value bytes
-nil-back version [] bytes s = record { same = refl; none = s.are }
-nil-back version (first ∷ others) bytes s = absurd (cc s.fits.counted)
+nil-back : (version : Version) (owed : Bool) (value : List Capability) (bytes : List ℕ) → SaysCapabilities version owed 0 value bytes → Given [] value bytes
+nil-back version owed [] bytes s = record { same = refl; none = s.are }
+nil-back version owed (first ∷ others) bytes s = absurd (cc s.fits.counted)
 
 -- the reader of so many capabilities agrees with the grammar
-pub capabilities_agree : (version : Version) (n : ℕ) → Agrees (capabilities_at version n) (SaysCapabilities version n) (capabilities_grammar version n) (λ _. End)
+pub capabilities_agree : (version : Version) (owed : Bool) (n : ℕ) → Agrees (capabilities_at version owed n) (SaysCapabilities version owed n) (capabilities_grammar version owed n) (λ _. End)
 unfolding capabilities_at
-capabilities_agree version zero = in_words (SaysCapabilities version 0) (nil-there version) (nil-back version) (gives {next = λ _. End} [])
-capabilities_agree version (suc n) =
-    in_words (SaysCapabilities version (suc n)) (more-there version n) (more-back version n)
-    (after (capability_agrees version (capabilities_grammar version n)) (λ first. makes (λ others. first ∷ others) (λ _. End) (capabilities_agree version n)))
+capabilities_agree version owed zero = in_words (SaysCapabilities version owed 0) (nil-there version owed) (nil-back version owed) (gives {next = λ _. End} [])
+capabilities_agree version owed (suc n) =
+    in_words (SaysCapabilities version owed (suc n)) (more-there version owed n) (more-back version owed n)
+    (after (owed_capability_agrees version (owed && (n == 0)) (λ mode. capabilities_grammar version (owed && not (is_new_mode mode)) n))
+    (λ first. makes (λ others. first ∷ others) (λ _. End) (capabilities_agree version (owed && not (is_new_mode first.mode)) n)))

@@ -3,7 +3,7 @@ use Rattle.std.proofs.Common.{◌≡◌, ℕ, zero, suc, ◌+◌, ◌-◌, ◌�
 use Rattle.std.specs.Prelude.{◌==◌, if◌then◌else◌, is_some, option_map, unwrap_or}
 use Rattle.std.proofs.lemmas.Bool.{ltb-false, leb-true}
 use Rattle.csi_types.specs.declared.mode.Mode.{Mode}
-use Rattle.csi_types.specs.declared.mode.Mode.TheVariants.{SingleNodeWriter, SingleNodeReaderOnly, MultiNodeReaderOnly, MultiNodeSingleWriter, MultiNodeMultiWriter}
+use Rattle.csi_types.specs.declared.mode.Mode.TheVariants.{SingleNodeWriter, SingleNodeReaderOnly, MultiNodeReaderOnly, MultiNodeSingleWriter, MultiNodeMultiWriter, SingleNodeSingleWriter, SingleNodeMultiWriter}
 use Rattle.csi_types.specs.declared.status.Status.{Status}
 use Rattle.csi_types.specs.declared.status.Status.TheVariants as statuses
 use Rattle.csi_types.specs.declared.call.Kind.{Kind}
@@ -13,10 +13,10 @@ use Rattle.csi_types.specs.Status.{status_code}
 use Rattle.csi_frames.specs.declared.body_kind.BodyKind.{BodyKind}
 use Rattle.csi_frames.specs.declared.body_kind.BodyKind.TheVariants.{Call, Reply}
 use Rattle.csi_frames.specs.declared.version.Version.{Version}
-use Rattle.csi_frames.specs.declared.version.Version.TheVariants.{One}
+use Rattle.csi_frames.specs.declared.version.Version.TheVariants.{One, Two}
 use Rattle.csi_frames.specs.Codes.{is_version, version_of, is_mode, mode_of, is_status, status_of, is_body_kind, body_kind_of}
 use Rattle.csi_frames.specs.Kinds.{kind_from_number, body_kind_from_number}
-use Rattle.csi_frames.specs.Version.{version_number, has_mode, has_kind, only}
+use Rattle.csi_frames.specs.Version.{version_number, has_mode, takes_mode, has_kind, only}
 use Rattle.csi_frames.specs.Grammar.{at_most}
 use Rattle.csi_types.specs.Same.{kind_number}
 use Rattle.csi_frames.proofs.Says.{IsCode, Always}
@@ -40,13 +40,16 @@ passes-only test o x there passes = rw (there, passes) refl
 version-back : (b : ℕ) → is_version b ≡ true → version_number (version_of b) ≡ b
 version-back zero e = absurd cc
 version-back (suc zero) e = refl
-version-back (suc (suc n)) e = absurd cc
+version-back (suc (suc zero)) e = refl
+version-back (suc (suc (suc n))) e = absurd cc
 
 version-allowed : (version : Version) → Always version → is_version (version_number version) ≡ true
 version-allowed One fits = refl
+version-allowed Two fits = refl
 
 version-again : (version : Version) → version_of (version_number version) ≡ version
 version-again One = refl
+version-again Two = refl
 
 -- each allowed byte stands for one version, and each version has one; below the same of modes, statuses, the kinds of bodies, and flags
 pub version_code : IsCode Always is_version version_of version_number
@@ -58,6 +61,10 @@ version_code = record { back = version-back; fits = λ b e. tt; is_allowed = ver
 abbrev pub HasMode : Version → Mode → Type 0
 HasMode version mode = has_mode version mode ≡ true
 
+-- and it is a new one where one is owed
+abbrev pub TakesMode : Version → Bool → Mode → Type 0
+TakesMode version owed mode = takes_mode version owed mode ≡ true
+
 -- a byte at which a mode is found is the mode's number; each mode is found at its number, and that number stands for the mode
 mode-back : (b : ℕ) → is_some (mode_from_number b) ≡ true → mode_number (mode_of b) ≡ b
 mode-back zero e = absurd cc
@@ -66,7 +73,9 @@ mode-back (suc (suc zero)) e = refl
 mode-back (suc (suc (suc zero))) e = refl
 mode-back (suc (suc (suc (suc zero)))) e = refl
 mode-back (suc (suc (suc (suc (suc zero))))) e = refl
-mode-back (suc (suc (suc (suc (suc (suc n)))))) e = absurd cc
+mode-back (suc (suc (suc (suc (suc (suc zero)))))) e = refl
+mode-back (suc (suc (suc (suc (suc (suc (suc zero))))))) e = refl
+mode-back (suc (suc (suc (suc (suc (suc (suc (suc n)))))))) e = absurd cc
 
 mode-found : (mode : Mode) → mode_from_number (mode_number mode) ≡ Some mode
 mode-found SingleNodeWriter = refl
@@ -74,15 +83,17 @@ mode-found SingleNodeReaderOnly = refl
 mode-found MultiNodeReaderOnly = refl
 mode-found MultiNodeSingleWriter = refl
 mode-found MultiNodeMultiWriter = refl
+mode-found SingleNodeSingleWriter = refl
+mode-found SingleNodeMultiWriter = refl
 
 mode-again : (mode : Mode) → mode_of (mode_number mode) ≡ mode
 mode-again mode = ap (λ (o : Option Mode). unwrap_or o SingleNodeWriter) (mode-found mode)
 
-pub mode_code : (version : Version) → IsCode (HasMode version) (is_mode version) mode_of mode_number
-mode_code version = record {
-  back = λ b e. mode-back b (only-passes (has_mode version) (mode_from_number b) SingleNodeWriter e).0;
-  fits = λ b e. (only-passes (has_mode version) (mode_from_number b) SingleNodeWriter e).1;
-  is_allowed = λ mode fits. passes-only (has_mode version) (mode_from_number (mode_number mode)) mode (mode-found mode) fits;
+pub mode_code : (version : Version) (owed : Bool) → IsCode (TakesMode version owed) (is_mode version owed) mode_of mode_number
+mode_code version owed = record {
+  back = λ b e. mode-back b (only-passes (takes_mode version owed) (mode_from_number b) SingleNodeWriter e).0;
+  fits = λ b e. (only-passes (takes_mode version owed) (mode_from_number b) SingleNodeWriter e).1;
+  is_allowed = λ mode fits. passes-only (takes_mode version owed) (mode_from_number (mode_number mode)) mode (mode-found mode) fits;
   again = mode-again;
 }
 

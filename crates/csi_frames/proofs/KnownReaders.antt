@@ -1,22 +1,28 @@
 -- What was read before is read again without a stop.
-use Rattle.std.proofs.Common.{◌≡◌, ℕ, ◌-◌, ◌≤◌, cond, Bool, true, false, not, ◌&&◌, List, [], ◌∷◌, take, drop, length, slice_index_or, Result, Ok, Err, is_ok, refl, sym, ap, subst, ◌∙◌, arith}
-use Rattle.std.specs.Prelude.{nat_le, nat_lt}
+use Rattle.std.proofs.Common.{◌≡◌, ℕ, zero, suc, ◌-◌, ◌≤◌, cond, Bool, true, false, not, ◌&&◌, List, [], ◌∷◌, take, drop, length, slice_index_or, Option, Some, None, Result, Ok, Err, is_ok, refl, sym, ap, subst, ◌∙◌, arith}
+use Rattle.std.specs.Prelude.{◌==◌, nat_le, nat_lt, is_some}
 use Rattle.std.specs.Str.{IsUtf8, is_utf8}
 use Rattle.std.proofs.Math.Seq.{take-length}
 use Rattle.std.proofs.lemmas.Bool.{ltb-false}
 use Rattle.std.proofs.lemmas.Str.{IsUtf8-from_is_utf8}
+use Rattle.csi_types.specs.declared.mode.Mode.{Mode}
 use Rattle.csi_types.specs.declared.capability.Capability.{Capability}
 use Rattle.csi_types.specs.declared.call.Kind.{Kind}
 use Rattle.csi_types.specs.declared.call.Call.{Call}
 use Rattle.csi_types.specs.declared.call.Call.TheVariants as calls
 use Rattle.csi_types.specs.declared.frame.Body.TheVariants as bodies
+use Rattle.csi_types.specs.Mode.{mode_from_number}
 use Rattle.csi_frames.specs.declared.body_kind.BodyKind.TheVariants as body_kinds
+use Rattle.csi_frames.specs.declared.fault.FaultKind.TheVariants.{BadMode}
 use Rattle.csi_frames.specs.declared.fields.Stop.{Stop}
 use Rattle.csi_frames.specs.declared.fields.Fields.{Fields}
 use Rattle.csi_frames.specs.declared.version.Version.{Version}
+use Rattle.csi_frames.specs.Version.{has_mode, is_new_mode, takes_mode, only}
+use Rattle.csi_frames.specs.Codes.{is_mode, mode_of}
 use Rattle.csi_frames.specs.Borrowed.{body_in, list_in}
 use Rattle.csi_frames.specs.Gives.{Gives, GivesAgain}
-use Rattle.csi_frames.specs.Reading.{Reader, go_on, give, text_at, call_at, fields_at}
+use Rattle.csi_frames.specs.Reading.{Reader, go_on, ◌>>=◌, give, stopped, byte_at, text_at, access_at, mode_at, owed_capability_at, capabilities_at, call_at, fields_at}
+use Rattle.csi_frames.proofs.Readers.{done}
 
 -- where all of two readings was read, the first one was
 pub first_ok : {A B : Type 0} (read : Result (A × List ℕ) Stop) (next : A → Reader B) → is_ok (go_on read next) ≡ true → is_ok read ≡ true
@@ -58,6 +64,51 @@ known least most (n ∷ rest) ok =
     let one_less : length (n ∷ rest) - 1 ≡ length rest = omega arith in
     subst (λ (behind : List ℕ). KnownText least most (n ∷ rest) n behind) (sym (ap (λ (k : ℕ). take k rest) one_less ∙ take-length rest)) (known_behind least most n rest ok)
 
+-- ---- what was read where a new mode was owed is read where none is
+
+taken_again : (has new : Bool) (x : Mode) → is_some (cond (has && new) (Some x) None) ≡ true → is_some (cond has (Some x) None) ≡ true
+taken_again true new x e = refl
+taken_again false new x e = absurd cc
+
+found_again : (version : Version) (found : Option Mode) → is_some (only (takes_mode version true) found) ≡ true → is_some (only (takes_mode version false) found) ≡ true
+found_again version None e = absurd cc
+found_again version (Some mode) e = taken_again (has_mode version mode) (is_new_mode mode) mode e
+
+byte_again : (a b : Bool) (n : ℕ) (bytes : List ℕ) → (a ≡ true → b ≡ true) → is_ok (go_on (cond a (done n bytes) (stopped BadMode (n ∷ bytes))) (λ n. give (mode_of n))) ≡ true
+    → go_on (cond b (done n bytes) (stopped BadMode (n ∷ bytes))) (λ n. give (mode_of n)) ≡ go_on (cond a (done n bytes) (stopped BadMode (n ∷ bytes))) (λ n. give (mode_of n))
+byte_again true b n bytes too ok = rw (too refl) refl
+byte_again false b n bytes too ok = absurd cc
+
+mode_again : (version : Version) (bytes : List ℕ) → is_ok (mode_at version true bytes) ≡ true → mode_at version false bytes ≡ mode_at version true bytes
+unfolding mode_at byte_at
+mode_again version [] ok = absurd cc
+mode_again version (b ∷ bytes) ok = byte_again (is_mode version true b) (is_mode version false b) b bytes (found_again version (mode_from_number b)) ok
+
+-- where all of two readings was read, and the second one gives the same in another way, so do both together
+then_again : {A B : Type 0} (read : Result (A × List ℕ) Stop) (one other : A → Reader B) → ((x : A × List ℕ) → is_ok (one x.0 x.1) ≡ true → other x.0 x.1 ≡ one x.0 x.1) → is_ok (go_on read one) ≡ true → go_on read other ≡ go_on read one
+then_again (Ok x) one other same ok = same x ok
+then_again (Err stop) one other same ok = absurd cc
+
+one_again : (version : Version) (owed : Bool) (bytes : List ℕ) → is_ok (owed_capability_at version owed bytes) ≡ true → owed_capability_at version false bytes ≡ owed_capability_at version owed bytes
+unfolding owed_capability_at
+one_again version false bytes ok = refl
+one_again version true bytes ok =
+    then_again (access_at bytes) (λ a. mode_at version true >>= (λ mode. give (record { access = a; mode = mode }))) (λ a. mode_at version false >>= (λ mode. give (record { access = a; mode = mode })))
+    (λ x read. ap (λ (r : Result (Mode × List ℕ) Stop). go_on r (λ mode. give (record { access = x.0; mode = mode }))) (mode_again version x.1 (first_ok (mode_at version true x.1) (λ mode. give (record { access = x.0; mode = mode })) read)))
+    ok
+
+pub list_again : (version : Version) (owed : Bool) (n : ℕ) (bytes : List ℕ) → is_ok (capabilities_at version owed n bytes) ≡ true → capabilities_at version false n bytes ≡ capabilities_at version owed n bytes
+unfolding capabilities_at
+list_again version owed zero bytes ok = refl
+list_again version owed (suc n) bytes ok =
+    let now : Bool = owed && (n == 0) in
+    let more : Capability → Reader (List Capability) = λ first. capabilities_at version (owed && not (is_new_mode first.mode)) n >>= (λ others. give (first ∷ others)) in
+    let plain : Capability → Reader (List Capability) = λ first. capabilities_at version false n >>= (λ others. give (first ∷ others)) in
+    ap (λ (r : Result (Capability × List ℕ) Stop). go_on r plain) (one_again version now bytes (first_ok (owed_capability_at version now bytes) more ok))
+    ∙ then_again (owed_capability_at version now bytes) more plain
+    (λ x read. ap (λ (r : Result (List Capability × List ℕ) Stop). go_on r (λ others. give (x.0 ∷ others))) (list_again version (owed && not (is_new_mode x.0.mode)) n x.1 (first_ok (capabilities_at version (owed && not (is_new_mode x.0.mode)) n x.1) (λ others. give (x.0 ∷ others)) read)))
+    ok
+
 -- ---- a call
 
 -- the fields of a call that were read are the call's
@@ -75,8 +126,21 @@ pub again : {X Y : Type 0} (view : X → Y) (result : Result X Stop) (left : Fie
 again view (Ok x) left read e = (left.bytes.now, e)
 again view (Err stop) left read e = e
 
+-- what follows a list that was read was read, and so is the list where no new mode is owed
+pub list_ok : {A : Type 0} (version : Version) (owed : Bool) (n : ℕ) (bytes : List ℕ) (next : List Capability → Reader A) → is_ok (go_on (capabilities_at version owed n bytes) next) ≡ true → is_ok (capabilities_at version false n bytes) ≡ true
+list_ok version owed n bytes next ok = let read = first_ok (capabilities_at version owed n bytes) next ok in ap is_ok (list_again version owed n bytes read) ∙ read
+
 -- a CreateVolume that was read is the one with what is read of its capabilities
-pub with_list : (name : List ℕ) (required limit : ℕ) (read : Result (List Capability × List ℕ) Stop) → is_ok (go_on read (λ list. give (calls.CreateVolume name required limit list))) ≡ true
+with_list : (name : List ℕ) (required limit : ℕ) (read : Result (List Capability × List ℕ) Stop) → is_ok (go_on read (λ list. give (calls.CreateVolume name required limit list))) ≡ true
     → (left : List ℕ) × (go_on read (λ list. give (calls.CreateVolume name required limit list)) ≡ Ok (calls.CreateVolume name required limit (list_in read), left))
 with_list name required limit (Ok x) ok = (x.1, refl)
 with_list name required limit (Err stop) ok = absurd cc
+
+-- and with what is read of them where no new mode is owed
+pub with_known_list : (name : List ℕ) (required limit : ℕ) (version : Version) (owed : Bool) (n : ℕ) (bytes : List ℕ) → is_ok (go_on (capabilities_at version owed n bytes) (λ list. give (calls.CreateVolume name required limit list))) ≡ true
+    → (left : List ℕ) × (go_on (capabilities_at version owed n bytes) (λ list. give (calls.CreateVolume name required limit list)) ≡ Ok (calls.CreateVolume name required limit (list_in (capabilities_at version false n bytes)), left))
+with_known_list name required limit version owed n bytes ok =
+    let total : Result (List Capability × List ℕ) Stop = capabilities_at version owed n bytes in
+    let same = list_again version owed n bytes (first_ok total (λ list. give (calls.CreateVolume name required limit list)) ok) in
+    subst (λ (read : Result (List Capability × List ℕ) Stop). (left : List ℕ) × (go_on total (λ list. give (calls.CreateVolume name required limit list)) ≡ Ok (calls.CreateVolume name required limit (list_in read), left))) (sym same)
+    (with_list name required limit total ok)

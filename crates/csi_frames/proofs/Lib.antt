@@ -8,6 +8,7 @@ pub mod Codes
 pub mod CapabilityReaders
 pub mod CallReaders
 pub mod ReplyReaders
+pub mod Versions
 pub mod BodyReaders
 pub mod Judge
 pub mod KnownReaders

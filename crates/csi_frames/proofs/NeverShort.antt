@@ -2,6 +2,7 @@
 use Rattle.std.proofs.Common.{◌≡◌, ◌≢◌, ℕ, zero, suc, ◌≤◌, ◌==◌, Bool, true, false, cond, not, ◌&&◌, ltb, leb, List, [], ◌∷◌, length, take, drop, Some, None, refl, ◌∙◌, arith}
 use Rattle.std.specs.Str.{is_utf8}
 use Rattle.byteorder.specs.Endian.{big_number}
+use Rattle.csi_types.specs.declared.mode.Mode.{Mode}
 use Rattle.csi_types.specs.declared.call.Kind.{Kind}
 use Rattle.csi_types.specs.declared.call.Kind.TheVariants as kinds
 use Rattle.csi_frames.specs.declared.body_kind.BodyKind.{BodyKind}
@@ -9,7 +10,8 @@ use Rattle.csi_frames.specs.declared.body_kind.BodyKind.TheVariants.{Call, Reply
 use Rattle.csi_frames.specs.declared.fault.FaultKind.{FaultKind}
 use Rattle.csi_frames.specs.declared.fault.FaultKind.TheVariants.{Short, BadText, BadId, LengthDiffers, NoMemory}
 use Rattle.csi_frames.specs.declared.version.Version.{Version}
-use Rattle.csi_frames.specs.Codes.{version_of, body_kind_of}
+use Rattle.csi_frames.specs.Codes.{version_of, mode_of, body_kind_of}
+use Rattle.csi_frames.specs.Version.{is_new_mode, owes_new_mode}
 use Rattle.csi_frames.specs.Grammar.{Grammar, End, Byte, Word, Text, Leads, nothing, byte, word, text, refusal, mode_grammar, capability_grammar, capabilities_grammar, flag_grammar, call_grammar, reply_grammar, fields_grammar, party_grammar, body_grammar}
 use Rattle.csi_frames.specs.Fault.{IsStuck, IsFaulty, no_length, too_long, short, in_body}
 
@@ -28,29 +30,30 @@ choice true g h first second = first
 choice false g h first second = second
 
 -- down to `body`: the grammar of each part of a body has no Short, where what follows the part has none
-mode : (version : Version) (next : Grammar) → NeverShort next → NeverShort (mode_grammar version next)
-mode version next never = (λ e. cc, λ m. never)
+mode : (version : Version) (owed : Bool) (next : Mode → Grammar) → ((m : Mode) → NeverShort (next m)) → NeverShort (mode_grammar version owed next)
+mode version owed next never = (λ e. cc, λ b. never (mode_of b))
 
-capability : (version : Version) (next : Grammar) → NeverShort next → NeverShort (capability_grammar version next)
-capability version next never =
-    (λ e. cc, λ access. choice (access == 0) (mode_grammar version next) (Text 0 128 (λ _. mode_grammar version next)) (mode version next never) (λ fs. mode version next never))
+capability : (version : Version) (owed : Bool) (next : Mode → Grammar) → ((m : Mode) → NeverShort (next m)) → NeverShort (capability_grammar version owed next)
+capability version owed next never =
+    (λ e. cc, λ access. choice (access == 0) (mode_grammar version owed next) (Text 0 128 (λ _. mode_grammar version owed next)) (mode version owed next never) (λ fs. mode version owed next never))
 
-capabilities : (version : Version) (n : ℕ) → NeverShort (capabilities_grammar version n)
-capabilities version zero = tt
-capabilities version (suc n) = capability version (capabilities_grammar version n) (capabilities version n)
+capabilities : (version : Version) (owed : Bool) (n : ℕ) → NeverShort (capabilities_grammar version owed n)
+capabilities version owed zero = tt
+capabilities version owed (suc n) =
+    capability version (owed && (n == 0)) (λ m. capabilities_grammar version (owed && not (is_new_mode m)) n) (λ m. capabilities version (owed && not (is_new_mode m)) n)
 
 flag : NeverShort flag_grammar
 flag = (λ e. cc, λ b. tt)
 
 call : (version : Version) (kind : Kind) → NeverShort (call_grammar version kind)
 unfolding call_grammar
-call version kinds.CreateVolume = λ name required limit. (λ e. cc, capabilities version)
+call version kinds.CreateVolume = λ name required limit. (λ e. cc, capabilities version (owes_new_mode version))
 call version kinds.DeleteVolume = λ id. tt
-call version kinds.ControllerPublishVolume = λ id node. capability version flag_grammar flag
+call version kinds.ControllerPublishVolume = λ id node. capability version (owes_new_mode version) (λ _. flag_grammar) (λ _. flag)
 call version kinds.ControllerUnpublishVolume = λ id node. tt
-call version kinds.NodeStageVolume = λ id. capability version End tt
+call version kinds.NodeStageVolume = λ id. capability version (owes_new_mode version) (λ _. End) (λ _. tt)
 call version kinds.NodeUnstageVolume = λ id. tt
-call version kinds.NodePublishVolume = λ id target. capability version flag_grammar flag
+call version kinds.NodePublishVolume = λ id target. capability version (owes_new_mode version) (λ _. flag_grammar) (λ _. flag)
 call version kinds.NodeUnpublishVolume = λ id target. tt
 
 reply : (kind : Kind) → NeverShort (reply_grammar kind)

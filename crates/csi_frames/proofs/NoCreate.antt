@@ -10,10 +10,11 @@ use Rattle.csi_frames.specs.declared.body_kind.BodyKind.{BodyKind}
 use Rattle.csi_frames.specs.declared.body_kind.BodyKind.TheVariants as body_kinds
 use Rattle.csi_frames.specs.declared.fields.Stop.{Stop}
 use Rattle.csi_frames.specs.declared.version.Version.{Version}
+use Rattle.csi_frames.specs.Version.{owes_new_mode}
 use Rattle.csi_frames.specs.Borrowed.{body_in}
 use Rattle.csi_frames.specs.Codes.{is_create_call}
 use Rattle.csi_frames.specs.Lent.{capabilities_in, capabilities_in_body}
-use Rattle.csi_frames.specs.Reading.{Reader, go_on, give, id_at, text_at, capability_at, flag_at, id_alone_at, id_and_text_at, stage_at, publish_at, call_at, reply_at, fields_at}
+use Rattle.csi_frames.specs.Reading.{Reader, go_on, give, id_at, text_at, owed_capability_at, flag_at, id_alone_at, id_and_text_at, stage_at, publish_at, call_at, reply_at, fields_at}
 
 -- the capabilities of the call that was read
 abbrev of_read : Result (Call × List ℕ) Stop → List Capability
@@ -35,12 +36,12 @@ with_text make bytes none = after (id_at bytes) _ (λ id b. after (text_at 1 255
 
 staged : (version : Version) (bytes : List ℕ) → of_read (stage_at version bytes) ≡ []
 unfolding stage_at
-staged version bytes = after (id_at bytes) _ (λ id b. after (capability_at version b) _ (λ c _. refl))
+staged version bytes = after (id_at bytes) _ (λ id b. after (owed_capability_at version (owes_new_mode version) b) _ (λ c _. refl))
 
 published : (version : Version) (make : ℕ → List ℕ → Capability → Bool → Call) (bytes : List ℕ) → ((id : ℕ) (text : List ℕ) (c : Capability) (readonly : Bool) → capabilities_in (make id text c readonly) ≡ []) → of_read (publish_at version make bytes) ≡ []
 unfolding publish_at
 published version make bytes none =
-    after (id_at bytes) _ (λ id b. after (text_at 1 255 b) _ (λ text d. after (capability_at version d) _ (λ c e. after (flag_at e) _ (λ readonly _. none id text c readonly))))
+    after (id_at bytes) _ (λ id b. after (text_at 1 255 b) _ (λ text d. after (owed_capability_at version (owes_new_mode version) d) _ (λ c e. after (flag_at e) _ (λ readonly _. none id text c readonly))))
 
 -- the body has the capabilities of its call
 of_call : (read : Result (Call × List ℕ) Stop) → of_read read ≡ [] → capabilities_in_body (body_in (go_on read (λ call. give (bodies.Call call)))) ≡ []

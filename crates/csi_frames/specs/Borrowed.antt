@@ -1,5 +1,5 @@
 -- What a frame that borrows its texts stands for: the frame that has copies of them.
-use Rattle.std.specs.Prelude.{ℕ, List, [], Result, Ok, Err}
+use Rattle.std.specs.Prelude.{ℕ, false, List, [], Result, Ok, Err}
 use Rattle.csi_types.specs.declared.capability.Capability.{Capability}
 use Rattle.csi_types.specs.declared.call.Party.{Party}
 use Rattle.csi_types.specs.declared.call.Party.TheVariants as parties
@@ -29,7 +29,7 @@ list_in (Ok read) = read.0
 list_in (Err stop) = []
 
 abbrev pub owned_capabilities : CapabilitiesRef → List Capability
-owned_capabilities cs = list_in (capabilities_at cs.version cs.count cs.bytes.now)
+owned_capabilities cs = list_in (capabilities_at cs.version false cs.count cs.bytes.now)
 
 abbrev pub owned_party : PartyRef → Party
 owned_party Controller = parties.Controller

@@ -23,8 +23,8 @@ is_version n = is_some (version_from_number n)
 abbrev pub version_of : ℕ → Version
 version_of n = unwrap_or (version_from_number n) One
 
-abbrev pub is_mode : Version → ℕ → Bool
-is_mode version n = is_some (mode_in version n)
+abbrev pub is_mode : Version → Bool → ℕ → Bool
+is_mode version owed n = is_some (mode_in version owed n)
 
 abbrev pub mode_of : ℕ → Mode
 mode_of n = unwrap_or (mode_from_number n) SingleNodeWriter

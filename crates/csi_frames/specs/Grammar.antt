@@ -3,14 +3,15 @@
 use Rattle.std.specs.Prelude.{◌≡◌, ℕ, zero, suc, ◌==◌, ◌&&◌, nat_lt, nat_le, Bool, true, not, if◌then◌else◌, List, [], ◌∷◌, ◌++◌, length, take, Option, Some, None}
 use Rattle.std.specs.Str.{is_utf8}
 use Rattle.byteorder.specs.Endian.{big_number}
+use Rattle.csi_types.specs.declared.mode.Mode.{Mode}
 use Rattle.csi_types.specs.declared.status.Status.{Status}
 use Rattle.csi_types.specs.declared.call.Kind.{Kind}
 use Rattle.csi_types.specs.declared.call.Kind.TheVariants as kinds
 use Rattle.csi_types.specs.Call.{is_node_kind}
 use Rattle.csi_types.specs.Reply.{is_create, is_ok_status}
 use Rattle.csi_frames.specs.declared.version.Version.{Version}
-use Rattle.csi_frames.specs.Version.{least_count}
-use Rattle.csi_frames.specs.Codes.{is_version, version_of, is_mode, is_status, status_of, kind_in, is_body_kind, body_kind_of}
+use Rattle.csi_frames.specs.Version.{is_new_mode, least_count, owes_new_mode}
+use Rattle.csi_frames.specs.Codes.{is_version, version_of, is_mode, mode_of, is_status, status_of, kind_in, is_body_kind, body_kind_of}
 use Rattle.csi_frames.specs.declared.body_kind.BodyKind.{BodyKind}
 use Rattle.csi_frames.specs.declared.body_kind.BodyKind.TheVariants.{Call, Reply}
 use Rattle.csi_frames.specs.declared.fault.FaultKind.{FaultKind}
@@ -34,18 +35,20 @@ at_most most n = nat_le n most
 abbrev pub from_to : ℕ → ℕ → ℕ → Bool
 from_to least most n = nat_le least n && nat_le n most
 
--- ---- capabilities: 0 for block, or 1 for mount and the fs type; and the mode
+-- ---- capabilities: 0 for block, or 1 for mount and the fs type; and the mode, a new one where it is owed
 
-abbrev pub mode_grammar : Version → Grammar → Grammar
-mode_grammar version next = Byte (is_mode version) BadMode (λ _. next)
+abbrev pub mode_grammar : Version → Bool → (Mode → Grammar) → Grammar
+mode_grammar version owed next = Byte (is_mode version owed) BadMode (λ b. next (mode_of b))
 
-abbrev pub capability_grammar : Version → Grammar → Grammar
-capability_grammar version next =
-    Byte (at_most 1) BadAccess (λ access. if access == 0 then mode_grammar version next else Text 0 128 (λ _. mode_grammar version next))
+abbrev pub capability_grammar : Version → Bool → (Mode → Grammar) → Grammar
+capability_grammar version owed next =
+    Byte (at_most 1) BadAccess (λ access. if access == 0 then mode_grammar version owed next else Text 0 128 (λ _. mode_grammar version owed next))
 
-abbrev pub capabilities_grammar : Version → ℕ → Grammar
-capabilities_grammar version zero = End
-capabilities_grammar version (suc n) = capability_grammar version (capabilities_grammar version n)
+-- so many; a new mode that is owed is that of the last one, where no earlier one is in such a mode
+abbrev pub capabilities_grammar : Version → Bool → ℕ → Grammar
+capabilities_grammar version owed zero = End
+capabilities_grammar version owed (suc n) =
+    capability_grammar version (owed && (n == 0)) (λ mode. capabilities_grammar version (owed && not (is_new_mode mode)) n)
 
 -- ---- calls and replies
 
@@ -61,13 +64,14 @@ abbrev pub is_count : Version → ℕ → Bool
 is_count version n = from_to (least_count version) 8 n
 
 unfoldable pub call_grammar : Version → Kind → Grammar
-call_grammar version kinds.CreateVolume = Text 1 128 (λ _. Word any (λ _. Word any (λ _. Byte (is_count version) BadCount (capabilities_grammar version))))
+call_grammar version kinds.CreateVolume =
+    Text 1 128 (λ _. Word any (λ _. Word any (λ _. Byte (is_count version) BadCount (capabilities_grammar version (owes_new_mode version)))))
 call_grammar version kinds.DeleteVolume = id_grammar End
-call_grammar version kinds.ControllerPublishVolume = id_grammar (Text 1 255 (λ _. capability_grammar version flag_grammar))
+call_grammar version kinds.ControllerPublishVolume = id_grammar (Text 1 255 (λ _. capability_grammar version (owes_new_mode version) (λ _. flag_grammar)))
 call_grammar version kinds.ControllerUnpublishVolume = id_grammar (Text 1 255 (λ _. End))
-call_grammar version kinds.NodeStageVolume = id_grammar (capability_grammar version End)
+call_grammar version kinds.NodeStageVolume = id_grammar (capability_grammar version (owes_new_mode version) (λ _. End))
 call_grammar version kinds.NodeUnstageVolume = id_grammar End
-call_grammar version kinds.NodePublishVolume = id_grammar (Text 1 255 (λ _. capability_grammar version flag_grammar))
+call_grammar version kinds.NodePublishVolume = id_grammar (Text 1 255 (λ _. capability_grammar version (owes_new_mode version) (λ _. flag_grammar)))
 call_grammar version kinds.NodeUnpublishVolume = id_grammar (Text 1 255 (λ _. End))
 
 -- in a reply the id isn't 0 exactly where the kind is CreateVolume and the status is Ok

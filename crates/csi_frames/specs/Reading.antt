@@ -1,6 +1,6 @@
 -- How a body is read, from left to right: what the decoder's private functions answer. Who reads the public
 -- contracts need not read this; it is joined to the spelling and to the grammar in proofs/.
-use Rattle.std.specs.Prelude.{ℕ, zero, suc, ◌+◌, ◌-◌, ◌==◌, ◌&&◌, nat_lt, nat_le, Bool, not, if◌then◌else◌, List, [], ◌∷◌, length, take, drop, Option, Some, None, Result, Ok, Err}
+use Rattle.std.specs.Prelude.{ℕ, zero, suc, ◌+◌, ◌-◌, ◌==◌, ◌&&◌, nat_lt, nat_le, Bool, false, not, if◌then◌else◌, List, [], ◌∷◌, length, take, drop, Option, Some, None, Result, Ok, Err}
 use Rattle.std.specs.Str.{is_utf8}
 use Rattle.byteorder.specs.Endian.{big_number}
 use Rattle.csi_types.specs.declared.number.Number.{Number}
@@ -26,6 +26,7 @@ use Rattle.csi_frames.specs.declared.body_kind.BodyKind.{BodyKind}
 use Rattle.csi_frames.specs.declared.body_kind.BodyKind.TheVariants as body_kinds
 use Rattle.csi_frames.specs.declared.fields.Stop.{Stop}
 use Rattle.csi_frames.specs.declared.version.Version.{Version}
+use Rattle.csi_frames.specs.Version.{is_new_mode, owes_new_mode}
 use Rattle.csi_frames.specs.Codes.{is_version, version_of, is_mode, mode_of, is_status, status_of, is_body_kind, body_kind_of}
 use Rattle.csi_frames.specs.Grammar.{any, at_most, is_count, is_reply_id, is_party_number}
 
@@ -83,22 +84,28 @@ access_at = do
     fs_type ← text_at 0 128
     give (Mount fs_type)
 
-unfoldable pub mode_at : Version → Reader Mode
-mode_at version = do
-  b ← byte_at (is_mode version) BadMode
+-- a mode that the version has, and a new one where it is owed
+unfoldable pub mode_at : Version → Bool → Reader Mode
+mode_at version owed = do
+  b ← byte_at (is_mode version owed) BadMode
   give (mode_of b)
 
-unfoldable pub capability_at : Version → Reader Capability
-capability_at version = do
+unfoldable pub owed_capability_at : Version → Bool → Reader Capability
+owed_capability_at version owed = do
   access ← access_at
-  mode ← mode_at version
+  mode ← mode_at version owed
   give (record { access = access; mode = mode })
 
-unfoldable pub capabilities_at : Version → ℕ → Reader (List Capability)
-capabilities_at version zero = give []
-capabilities_at version (suc n) = do
-  first ← capability_at version
-  others ← capabilities_at version n
+-- a capability in any mode that the version has
+unfoldable pub capability_at : Version → Reader Capability
+capability_at version = owed_capability_at version false
+
+-- so many; a new mode that is owed is that of the last one, where no earlier one is in such a mode
+unfoldable pub capabilities_at : Version → Bool → ℕ → Reader (List Capability)
+capabilities_at version owed zero = give []
+capabilities_at version owed (suc n) = do
+  first ← owed_capability_at version (owed && (n == 0))
+  others ← capabilities_at version (owed && not (is_new_mode first.mode)) n
   give (first ∷ others)
 
 -- ---- calls and replies
@@ -109,7 +116,7 @@ create_at version = do
   required ← word_at any
   limit ← word_at any
   count ← byte_at (is_count version) BadCount
-  capabilities ← capabilities_at version count
+  capabilities ← capabilities_at version (owes_new_mode version) count
   give (calls.CreateVolume name required limit capabilities)
 
 -- the fields of the other calls: an id; an id and a text, of a node or a target; an id and how the volume is to be used;
@@ -128,14 +135,14 @@ id_and_text_at make = do
 unfoldable pub stage_at : Version → Reader Call
 stage_at version = do
   id ← id_at
-  capability ← capability_at version
+  capability ← owed_capability_at version (owes_new_mode version)
   give (calls.NodeStageVolume id capability)
 
 unfoldable pub publish_at : Version → (ℕ → List ℕ → Capability → Bool → Call) → Reader Call
 publish_at version make = do
   id ← id_at
   text ← text_at 1 255
-  capability ← capability_at version
+  capability ← owed_capability_at version (owes_new_mode version)
   readonly ← flag_at
   give (make id text capability readonly)
 

@@ -1,7 +1,7 @@
 -- The spelling of a frame: a length of four bytes, and a body of that many bytes. Numbers have the greatest
 -- byte first. This profile's own; each value has one spelling.
 use Rattle.std.specs.Prelude.{◌≡◌, ℕ, ◌+◌, ◌≤◌, Bool, if◌then◌else◌, List, [], ◌∷◌, ◌++◌, length, take, Option, Some, None}
-use Rattle.std.specs.List.{flat_map}
+use Rattle.std.specs.List.{flat_map, list_any}
 use Rattle.byteorder.specs.Endian.{big_bytes}
 use Rattle.csi_types.specs.declared.number.Number.{Number}
 use Rattle.csi_types.specs.declared.capability.Access.{Access}
@@ -20,8 +20,9 @@ use Rattle.csi_types.specs.Call.{kind_of}
 use Rattle.csi_types.specs.Same.{kind_number}
 use Rattle.csi_types.specs.Frame.{Frame}
 use Rattle.csi_types.specs.Limits.{IsFrame}
+use Rattle.csi_frames.specs.declared.version.Version.{Version}
 use Rattle.csi_frames.specs.declared.version.Version.TheVariants.{One}
-use Rattle.csi_frames.specs.Version.{version_number}
+use Rattle.csi_frames.specs.Version.{version_number, version_with, is_new_mode}
 
 -- a number of 64 bits
 abbrev pub word : ℕ → List ℕ
@@ -73,17 +74,33 @@ abbrev pub body_fields : Body → List ℕ
 body_fields (bodies.Call call) = call_fields call
 body_fields (bodies.Reply kind reply) = reply_fields reply
 
--- the version of each frame
-abbrev pub version : ℕ
-version = version_number One
+-- all capabilities of a call
+abbrev pub call_capabilities : Call → List Capability
+call_capabilities (calls.CreateVolume name required limit capabilities) = capabilities
+call_capabilities (calls.DeleteVolume id) = []
+call_capabilities (calls.ControllerPublishVolume id node c readonly) = c ∷ []
+call_capabilities (calls.ControllerUnpublishVolume id node) = []
+call_capabilities (calls.NodeStageVolume id c) = c ∷ []
+call_capabilities (calls.NodeUnstageVolume id) = []
+call_capabilities (calls.NodePublishVolume id target c readonly) = c ∷ []
+call_capabilities (calls.NodeUnpublishVolume id target) = []
 
--- what stands before a frame's party, by the count of its body's bytes and its kind byte
-abbrev pub head : ℕ → ℕ → Number → List ℕ
-head size kind number = big_bytes 4 size ++ version ∷ kind ∷ word number.session ++ word number.call
+-- one of them is in a mode that the first version hasn't
+abbrev pub has_new_mode : List Capability → Bool
+has_new_mode capabilities = list_any (λ c. is_new_mode c.mode) capabilities
+
+-- the version of a frame with this body: the second one exactly where a capability is in a mode that the first one hasn't
+abbrev pub body_version : Body → Version
+body_version (bodies.Call call) = version_with (has_new_mode (call_capabilities call))
+body_version (bodies.Reply kind reply) = One
+
+-- what stands before a frame's party, by the count of its body's bytes, its version and its kind byte
+abbrev pub head : ℕ → Version → ℕ → Number → List ℕ
+head size version kind number = big_bytes 4 size ++ version_number version ∷ kind ∷ word number.session ++ word number.call
 
 -- the version, the kind, the number, the party, and the kind's fields
 unfoldable pub frame_body : Frame → List ℕ
-frame_body frame = version ∷ body_kind frame.body ∷ word frame.number.session ++ word frame.number.call ++ party frame.party ++ body_fields frame.body
+frame_body frame = version_number (body_version frame.body) ∷ body_kind frame.body ∷ word frame.number.session ++ word frame.number.call ++ party frame.party ++ body_fields frame.body
 
 unfoldable pub spelling : Frame → List ℕ
 spelling frame = big_bytes 4 (length (frame_body frame)) ++ frame_body frame

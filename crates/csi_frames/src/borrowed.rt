@@ -1,19 +1,19 @@
 //! A frame that borrows its texts from the bytes that it was read from. No type in it has a model, since what is lent by a
 //! `&mut` may have none. So an id is a number here, which a call has only from 1 on.
-ghost use Rattle.std.specs.Prelude.{◌≡◌, true, is_ok};
+ghost use Rattle.std.specs.Prelude.{◌≡◌, true, false, is_ok};
 ghost use Rattle.csi_frames.specs.Reading.{capabilities_at, fields_at};
 
 use crate::body_kind::BodyKind;
 use crate::version::Version;
 use csi_types::{CapabilityRef, Kind, Number, Status};
 
-/// Capabilities one after another, at the front of these bytes.
+/// Capabilities one after another, at the front of these bytes, in modes that the version has.
 #[derive(Clone, Copy)]
 pub(crate) struct CapabilitiesRef<'a> {
     pub version: Version,
     pub bytes: &'a [u8],
     pub count: u8,
-    ghost read: { is_ok (capabilities_at version count bytes.now) ≡ true },
+    ghost read: { is_ok (capabilities_at version false count bytes.now) ≡ true },
 }
 
 #[derive(Clone, Copy)]

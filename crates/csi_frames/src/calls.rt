@@ -1,16 +1,17 @@
 //! Capabilities, calls and replies, read from the bytes of a body.
-ghost use Rattle.std.specs.Prelude.{◌≡◌, ◌&&◌};
+ghost use Rattle.std.specs.Prelude.{◌≡◌, ◌==◌, ◌&&◌, not};
 ghost use Rattle.csi_types.specs.Lent.{lent_access, lent_capability};
 ghost use Rattle.csi_types.specs.Reply.{is_create, is_ok_status};
 ghost use Rattle.csi_frames.specs.Borrowed.{owned_capabilities, owned_call, owned_reply};
 ghost use Rattle.csi_frames.specs.Gives.{Gives};
 ghost use Rattle.csi_frames.specs.Grammar.{is_count};
-ghost use Rattle.csi_frames.specs.Reading.{byte_at, access_at, mode_at, capability_at, capabilities_at, create_at, call_at, status_at, reply_id_at, reply_at};
+ghost use Rattle.csi_frames.specs.Version.{is_new_mode, owes_new_mode};
+ghost use Rattle.csi_frames.specs.Reading.{byte_at, access_at, mode_at, owed_capability_at, capability_at, capabilities_at, create_at, call_at, status_at, reply_id_at, reply_at};
 
 use crate::borrowed::{BorrowedCall, CapabilitiesRef, ReplyRef};
 use crate::fault::FaultKind;
 use crate::fields::{Fields, Stop};
-use crate::version::Version;
+use crate::version::{Version, is_new_mode};
 use csi_types::{
     AccessRef, CapabilityRef, Detail, FsType, Kind, Mode, Name, NodeId, Status, Target,
 };
@@ -30,12 +31,27 @@ fn access_at<'a>(fields: &mut Fields<'a>) -> Result<AccessRef<'a>, Stop>
 
 #[inline(always)]
 #[tactic(auto, unfolding(crate::specs::Reading::byte_at, crate::specs::Reading::mode_at))]
-pub(crate) fn mode_at(fields: &mut Fields<'_>, version: Version) -> Result<Mode, Stop>
-    ensures { Gives (λ mode. mode) result fields.new (mode_at version fields.old.bytes.now) }
+pub(crate) fn mode_at(fields: &mut Fields<'_>, version: Version, owed: bool) -> Result<Mode, Stop>
+    ensures { Gives (λ mode. mode) result fields.new (mode_at version owed fields.old.bytes.now) }
 {
     let bad = fields.stop(FaultKind::BadMode);
     let byte = fields.any_byte()?;
-    version.mode(byte).ok_or(bad)
+    version.mode_where(owed, byte).ok_or(bad)
+}
+
+// A capability in a mode that the version has, and in a new one where it is owed.
+#[inline(always)]
+#[tactic(auto, unfolding(crate::specs::Reading::owed_capability_at))]
+fn owed_capability_at<'a>(
+    fields: &mut Fields<'a>,
+    version: Version,
+    owed: bool,
+) -> Result<CapabilityRef<'a>, Stop>
+    ensures { Gives lent_capability result fields.new (owed_capability_at version owed fields.old.bytes.now) }
+{
+    let access = access_at(fields)?;
+    let mode = mode_at(fields, version, owed)?;
+    Ok(CapabilityRef { access, mode })
 }
 
 /// A capability, in a mode that the version has. It takes no memory.
@@ -47,22 +63,39 @@ pub fn capability_at<'a>(
 ) -> Result<CapabilityRef<'a>, Stop>
     ensures { Gives lent_capability result fields.new (capability_at version fields.old.bytes.now) }
 {
-    let access = access_at(fields)?;
-    let mode = mode_at(fields, version)?;
-    Ok(CapabilityRef { access, mode })
+    owed_capability_at(fields, version, false)
 }
 
-// As many capabilities as `count` says.
+// Whether the capability behind which so many are left has to be in a new mode.
+fn is_owed(owed: bool, left: u8) -> bool
+    ensures { result ≡ (owed && (left == 0)) }
+{
+    owed && left == 0
+}
+
+// Whether a new mode is still owed behind a capability in this one.
+fn is_still_owed(owed: bool, mode: Mode) -> bool
+    ensures { result ≡ (owed && not (is_new_mode mode)) }
+{
+    owed && !is_new_mode(mode)
+}
+
+// As many capabilities as `count` says. Where the version owes a new mode, the last one is in such a mode if no earlier one is.
 fn capabilities_at<'a>(
     fields: &mut Fields<'a>,
     version: Version,
     count: u8,
 ) -> Result<CapabilitiesRef<'a>, Stop>
-    ensures { Gives owned_capabilities result fields.new (capabilities_at version count fields.old.bytes.now) }
+    ensures { Gives owned_capabilities result fields.new (capabilities_at version (owes_new_mode version) count fields.old.bytes.now) }
 {
     let bytes = fields.bytes;
-    for _ in 0..count {
-        capability_at(fields, version)?;
+    let mut owed = version.owes_new_mode();
+    let mut left = count;
+    while left > 0 {
+        left -= 1;
+        let here = is_owed(owed, left);
+        let one = owed_capability_at(fields, version, here)?;
+        owed = is_still_owed(owed, one.mode);
     }
     Ok(CapabilitiesRef {
         version,
@@ -107,7 +140,7 @@ fn controller_publish_at<'a>(
 {
     let id = fields.id()?;
     let node = fields.text(1, NodeId::MAX_LEN)?;
-    let capability = capability_at(fields, version)?;
+    let capability = owed_capability_at(fields, version, version.owes_new_mode())?;
     let readonly = fields.flag()?;
     Ok(BorrowedCall::ControllerPublishVolume {
         id,
@@ -124,7 +157,7 @@ fn node_publish_at<'a>(fields: &mut Fields<'a>, version: Version) -> Result<Borr
 {
     let id = fields.id()?;
     let target = fields.text(1, Target::MAX_LEN)?;
-    let capability = capability_at(fields, version)?;
+    let capability = owed_capability_at(fields, version, version.owes_new_mode())?;
     let readonly = fields.flag()?;
     Ok(BorrowedCall::NodePublishVolume {
         id,
@@ -158,7 +191,7 @@ pub(crate) fn call_at<'a>(
         }
         Kind::NodeStageVolume => {
             let id = fields.id()?;
-            let capability = capability_at(fields, version)?;
+            let capability = owed_capability_at(fields, version, version.owes_new_mode())?;
             Ok(BorrowedCall::NodeStageVolume { id, capability })
         }
         Kind::NodeUnstageVolume => {

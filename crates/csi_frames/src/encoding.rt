@@ -7,10 +7,10 @@ ghost use Rattle.csi_types.specs.Limits.{IsNumber, IsAccess, IsCapability, IsCap
 ghost use Rattle.csi_types.specs.Replies.{reply_frame};
 ghost use Rattle.csi_types.specs.Status.{status_code};
 ghost use Rattle.csi_frames.specs.Appends.{Appends, HasRoom};
-ghost use Rattle.csi_frames.specs.Spelling.{word, text, flag, access, capability, party, reply_id, call_fields, reply_fields, body_fields, body_kind, head, frame_body, spelling, Spells};
+ghost use Rattle.csi_frames.specs.Spelling.{word, text, flag, access, capability, party, reply_id, call_fields, call_capabilities, reply_fields, body_fields, body_kind, body_version, has_new_mode, head, frame_body, spelling, Spells};
 
 use crate::body_kind::{kind_number, reply_kind_number};
-use crate::version::Version;
+use crate::version::{Version, is_new_mode};
 use crate::writing::{
     capabilities_len, capability_len, put, put_byte, put_capabilities, put_capability, put_flag,
     put_id, put_reply, put_text, put_word, reply_len, text_len,
@@ -170,13 +170,50 @@ fn kind_byte(from: &Body) -> u8
     }
 }
 
+// Whether one of them is in a mode that the first version hasn't.
+fn has_new_mode(capabilities: &[Capability]) -> bool
+    ensures { result ≡ has_new_mode capabilities.now }
+{
+    for one in capabilities {
+        if is_new_mode(one.mode) {
+            return true;
+        }
+    }
+    false
+}
+
+fn call_has_new_mode(from: &Call) -> bool
+    ensures { result ≡ has_new_mode (call_capabilities from.now) }
+{
+    match from {
+        Call::CreateVolume { capabilities, .. } => has_new_mode(capabilities.as_slice()),
+        Call::ControllerPublishVolume { capability, .. }
+        | Call::NodeStageVolume { capability, .. }
+        | Call::NodePublishVolume { capability, .. } => is_new_mode(capability.mode),
+        Call::DeleteVolume { .. }
+        | Call::ControllerUnpublishVolume { .. }
+        | Call::NodeUnstageVolume { .. }
+        | Call::NodeUnpublishVolume { .. } => false,
+    }
+}
+
+/// The version of a frame with this body: the second one exactly where a capability is in a mode that the first one hasn't.
+fn body_version(from: &Body) -> Version
+    ensures { result ≡ body_version from.now }
+{
+    match from {
+        Body::Call(call) => Version::with_new_mode(call_has_new_mode(call)),
+        Body::Reply(..) => Version::One,
+    }
+}
+
 // What stands before the party.
-fn head_bytes(size: u32, kind: u8, number: Number) -> [u8; 22]
-    ensures { result ≡ head size kind number }
+fn head_bytes(size: u32, version: Version, kind: u8, number: Number) -> [u8; 22]
+    ensures { result ≡ head size version kind number }
 {
     let mut head = [0; 22];
     BigEndian::write_u32(&mut head, size);
-    head[4] = Version::One.number();
+    head[4] = version.number();
     head[5] = kind;
     BigEndian::write_u64(&mut head[6..], number.session);
     BigEndian::write_u64(&mut head[14..], number.call);
@@ -186,13 +223,13 @@ fn head_bytes(size: u32, kind: u8, number: Number) -> [u8; 22]
 // What stands before the kind's fields: the length of the body, which has been counted, the version, the kind byte, the number
 // and the party.
 #[inline(always)]
-fn put_head(out: &mut Vec<u8>, size: u32, kind: u8, number: Number, from: &Party)
+fn put_head(out: &mut Vec<u8>, size: u32, version: Version, kind: u8, number: Number, from: &Party)
     requires { HasRoom out.old (22 + length (party from.now)) }
-    ensures appends { Appends out.old out.new (head size kind number ++ party from.now) }
+    ensures appends { Appends out.old out.new (head size version kind number ++ party from.now) }
     ensures number_fits { IsNumber number }
     ensures fits { IsParty from.now }
 {
-    put(out, &head_bytes(size, kind, number));
+    put(out, &head_bytes(size, version, kind, number));
     put_party(out, from);
 }
 
@@ -207,6 +244,7 @@ fn put_frame(out: &mut Vec<u8>, frame: &Frame, size: u32)
     put_head(
         out,
         size,
+        body_version(frame.body()),
         kind_byte(frame.body()),
         frame.number(),
         frame.party(),
@@ -244,7 +282,14 @@ pub fn encode_reply(
 {
     let size = HEAD + party_len(party) + reply_len(reply);
     out.reserve(4 + size)?;
-    put_head(out, size as u32, reply_kind_number(kind), number, party);
+    put_head(
+        out,
+        size as u32,
+        Version::One,
+        reply_kind_number(kind),
+        number,
+        party,
+    );
     put_reply(out, reply);
     Ok(())
 }

@@ -4,7 +4,7 @@ ghost use Rattle.std.specs.Prelude.{◌≡◌, true, is_ok};
 ghost use Rattle.csi_types.specs.Lent.{lent_access, lent_capability};
 ghost use Rattle.csi_frames.specs.Borrowed.{owned_call};
 ghost use Rattle.csi_frames.specs.Gives.{Gives, GivesAgain};
-ghost use Rattle.csi_frames.specs.Reading.{access_at, capability_at, create_at, call_at};
+ghost use Rattle.csi_frames.specs.Reading.{access_at, owed_capability_at, create_at, call_at};
 
 use crate::borrowed::{BorrowedCall, CapabilitiesRef};
 use crate::calls::{call_at, count_at, mode_at};
@@ -29,16 +29,17 @@ fn access<'a>(fields: &mut Fields<'a>) -> Result<AccessRef<'a>, Stop>
 
 /// A capability that was read before.
 #[inline(always)]
-#[tactic(auto, unfolding(crate::specs::Reading::capability_at))]
+#[tactic(auto, unfolding(crate::specs::Reading::owed_capability_at))]
 pub(crate) fn known_capability<'a>(
     fields: &mut Fields<'a>,
     version: Version,
+    owed: bool,
 ) -> Result<CapabilityRef<'a>, Stop>
-    requires { is_ok (capability_at version fields.old.bytes.now) ≡ true }
-    ensures { Gives lent_capability result fields.new (capability_at version fields.old.bytes.now) }
+    requires { is_ok (owed_capability_at version owed fields.old.bytes.now) ≡ true }
+    ensures { Gives lent_capability result fields.new (owed_capability_at version owed fields.old.bytes.now) }
 {
     let access = access(fields)?;
-    let mode = mode_at(fields, version)?;
+    let mode = mode_at(fields, version, owed)?;
     Ok(CapabilityRef { access, mode })
 }
 
@@ -76,7 +77,7 @@ fn controller_publish<'a>(
 {
     let id = fields.id()?;
     let node = fields.known_text(1, NodeId::MAX_LEN);
-    let capability = known_capability(fields, version)?;
+    let capability = known_capability(fields, version, version.owes_new_mode())?;
     let readonly = fields.flag()?;
     Ok(BorrowedCall::ControllerPublishVolume {
         id,

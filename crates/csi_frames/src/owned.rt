@@ -112,8 +112,10 @@ fn capabilities(alloc: Global, from: &CapabilitiesRef<'_>) -> Result<CapabilityL
 {
     let mut items = Vec::with_capacity(alloc, from.count as usize)?;
     let mut fields = Fields { bytes: from.bytes };
-    for _ in 0..from.count {
-        let Ok(one) = known_capability(&mut fields, from.version) else {
+    let mut left = from.count;
+    while left > 0 {
+        left -= 1;
+        let Ok(one) = known_capability(&mut fields, from.version, false) else {
             unreachable!();
         };
         items.push(capability(alloc, &one)?)?;

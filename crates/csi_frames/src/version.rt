@@ -1,15 +1,42 @@
 //! Versions of frames and of records. What a version has is told here and nowhere else.
-ghost use Rattle.std.specs.Prelude.{◌≡◌};
-ghost use Rattle.csi_frames.specs.Version.{version_number, version_from_number, has_mode, has_kind, least_count, mode_in, kind_in_version};
+ghost use Rattle.std.specs.Prelude.{◌≡◌, false};
+ghost use Rattle.csi_frames.specs.Version.{version_number, version_from_number, has_mode, is_new_mode, has_kind, least_count, owes_new_mode, version_with, takes_mode, mode_in, kind_in_version};
 
 use crate::body_kind::BodyKind;
-use csi_types::Mode;
+use csi_types::{Kind, Mode};
 
 /// A version of frames and of records. Their bytes say which one it is. This profile's own.
 #[derive(Clone, Copy, Debug, PartialEq, Eq)]
 pub enum Version {
     /// The first one.
     One,
+    /// The second one, which has all modes. A frame is written in it where one of its capabilities is in a mode that the first
+    /// version hasn't.
+    Two,
+}
+
+// Whether calls of this kind have capabilities.
+fn has_capabilities(kind: Kind) -> bool
+    ensures { result ≡ has_kind Version.Two (BodyKind.Call kind) }
+{
+    match kind {
+        Kind::CreateVolume
+        | Kind::ControllerPublishVolume
+        | Kind::NodeStageVolume
+        | Kind::NodePublishVolume => true,
+        Kind::DeleteVolume
+        | Kind::ControllerUnpublishVolume
+        | Kind::NodeUnstageVolume
+        | Kind::NodeUnpublishVolume => false,
+    }
+}
+
+/// Whether the first version hasn't this mode.
+#[inline]
+pub(crate) fn is_new_mode(mode: Mode) -> bool
+    ensures { result ≡ is_new_mode mode }
+{
+    !Version::One.has_mode(mode)
 }
 
 impl Version {
@@ -20,6 +47,7 @@ impl Version {
     {
         match self {
             Version::One => 1,
+            Version::Two => 2,
         }
     }
 
@@ -30,6 +58,7 @@ impl Version {
     {
         match number {
             1 => Some(Version::One),
+            2 => Some(Version::Two),
             _ => None,
         }
     }
@@ -45,16 +74,21 @@ impl Version {
             (Version::One, Mode::MultiNodeReaderOnly) => true,
             (Version::One, Mode::MultiNodeSingleWriter) => true,
             (Version::One, Mode::MultiNodeMultiWriter) => true,
+            (Version::One, Mode::SingleNodeSingleWriter) => false,
+            (Version::One, Mode::SingleNodeMultiWriter) => false,
+            (Version::Two, _) => true,
         }
     }
 
     // Whether a frame may have a body of this kind.
     #[inline]
-    fn has_kind(self, _kind: BodyKind) -> bool
-        ensures { result ≡ has_kind self _kind }
+    fn has_kind(self, kind: BodyKind) -> bool
+        ensures { result ≡ has_kind self kind }
     {
-        match self {
-            Version::One => true,
+        match (self, kind) {
+            (Version::One, _) => true,
+            (Version::Two, BodyKind::Call(kind)) => has_capabilities(kind),
+            (Version::Two, BodyKind::Reply(_)) => false,
         }
     }
 
@@ -65,18 +99,60 @@ impl Version {
     {
         match self {
             Version::One => 0,
+            Version::Two => 1,
+        }
+    }
+
+    /// Whether a frame owes a capability in a mode that the first version hasn't. It takes no memory.
+    #[inline]
+    pub(crate) fn owes_new_mode(self) -> bool
+        ensures { result ≡ owes_new_mode self }
+    {
+        match self {
+            Version::One => false,
+            Version::Two => true,
+        }
+    }
+
+    /// The version in which a frame is written, by whether one of its capabilities is in a mode that the first version hasn't. It
+    /// takes no memory.
+    #[inline]
+    pub(crate) fn with_new_mode(has_new_mode: bool) -> Version
+        ensures { result ≡ version_with has_new_mode }
+    {
+        if has_new_mode {
+            Version::Two
+        } else {
+            Version::One
+        }
+    }
+
+    // Whether a capability may be in this mode where a new one is owed, or isn't.
+    #[inline]
+    fn takes_mode(self, owed: bool, mode: Mode) -> bool
+        ensures { result ≡ takes_mode self owed mode }
+    {
+        self.has_mode(mode) && (!owed || is_new_mode(mode))
+    }
+
+    /// The mode of this number in CSI, if a capability may be in it where one that the first version hasn't is owed, or isn't. It
+    /// takes no memory.
+    #[inline]
+    pub(crate) fn mode_where(self, owed: bool, number: u8) -> Option<Mode>
+        ensures { result ≡ mode_in self owed number }
+    {
+        match Mode::from_number(number) {
+            Some(mode) if self.takes_mode(owed, mode) => Some(mode),
+            _ => None,
         }
     }
 
     /// The mode of this number in CSI, if the version has it. It takes no memory.
     #[inline]
     pub fn mode(self, number: u8) -> Option<Mode>
-        ensures { result ≡ mode_in self number }
+        ensures { result ≡ mode_in self false number }
     {
-        match Mode::from_number(number) {
-            Some(mode) if self.has_mode(mode) => Some(mode),
-            _ => None,
-        }
+        self.mode_where(false, number)
     }
 
     /// What a kind byte stands for, if the version has it.

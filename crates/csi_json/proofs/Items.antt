@@ -27,7 +27,9 @@ no_mode (suc (suc zero)) h = absurd (omega arith)
 no_mode (suc (suc (suc zero))) h = absurd (omega arith)
 no_mode (suc (suc (suc (suc zero)))) h = absurd (omega arith)
 no_mode (suc (suc (suc (suc (suc zero))))) h = absurd (omega arith)
-no_mode (suc (suc (suc (suc (suc (suc n)))))) h = refl
+no_mode (suc (suc (suc (suc (suc (suc zero)))))) h = absurd (omega arith)
+no_mode (suc (suc (suc (suc (suc (suc (suc zero))))))) h = absurd (omega arith)
+no_mode (suc (suc (suc (suc (suc (suc (suc (suc n)))))))) h = refl
 
 -- an object whose entries aren't one has no only member
 not_alone : (es : List Entry) → (length es ≡ 1 → ⊥) → None ≡ only_member (object (members_view es))

@@ -21,6 +21,10 @@ const B3: Mode = Mode::MultiNodeReaderOnly;
 
 const B4: Mode = Mode::MultiNodeSingleWriter;
 
+const B6: Mode = Mode::SingleNodeSingleWriter;
+
+const B7: Mode = Mode::SingleNodeMultiWriter;
+
 // What is answered where all is well and no volume was made.
 const DONE: Told = (Status::Ok, None, "");
 

@@ -18,6 +18,11 @@ const ONE: Mode = Mode::SingleNodeWriter;
 // A mode for several nodes, in which it may have more.
 const MANY: Mode = Mode::MultiNodeMultiWriter;
 
+// The two modes for one node that tell the writers there.
+const ONE_WRITER: Mode = Mode::SingleNodeSingleWriter;
+
+const TWO_WRITERS: Mode = Mode::SingleNodeMultiWriter;
+
 // A call, as a test writes it.
 #[derive(Clone, Copy)]
 enum Ask {

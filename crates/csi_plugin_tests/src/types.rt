@@ -1,5 +1,6 @@
 //! Values: that they are made with memory to spare, and worked ones.
 mod frames;
+mod modes;
 mod texts;
 
 use crate::values::{block, room};

@@ -10,7 +10,10 @@ use Rattle.csi_types.specs.declared.number.Number.{Number}
 use Rattle.csi_types.specs.Status.{status_code}
 use Rattle.csi_types.specs.Same.{kind_number}
 use Rattle.csi_types.specs.Text.{IsText}
-use Rattle.csi_types.specs.Limits.{IsWord, IsNumber, IsCapability}
+use Rattle.csi_types.specs.Limits.{IsWord, IsNumber}
+use Rattle.csi_frames.specs.declared.version.Version.{Version}
+use Rattle.csi_frames.specs.declared.version.Version.TheVariants.{One}
+use Rattle.csi_frames.specs.Version.{version_number, version_from_number}
 use Rattle.csi_frames.specs.declared.fault.FaultKind.TheVariants.{LengthDiffers, BadCount}
 use Rattle.csi_frames.specs.declared.fields.Stop.{Stop}
 use Rattle.csi_frames.specs.Grammar.{Grammar, End, any, at_most}
@@ -23,9 +26,10 @@ use Rattle.csi_frames.proofs.FieldReaders.{byte_agrees}
 use Rattle.csi_frames.proofs.Codes.{kind-back}
 use Rattle.csi_frames.proofs.CapabilityReaders.{any_word_agrees, any_text_agrees, flag_agrees, capability_agrees}
 use Rattle.csi_frames.proofs.ReplyReaders.{status_agrees}
-use Rattle.csi_frames.proofs.BodyReaders.{number_agrees, has_every_mode}
+use Rattle.csi_frames.proofs.BodyReaders.{number_agrees}
 use Rattle.csi_records.specs.Reading.{Reader, give, nothing, taken, as_in_frames, byte_in, code_in, count_in, word_in, text_in, flag_in, capability_in, status_in, number_in, tag_in, live_from, or_none}
-use Rattle.csi_records.specs.Spelling.{version, state_byte}
+use Rattle.csi_records.specs.Spelling.{state_byte}
+use Rattle.csi_records.specs.Records.{IsCapabilityIn}
 use Rattle.csi_records.proofs.Readers.{Took, Reads, some_is, Spelled, Always, in_words, then}
 
 -- ---- fields, as in frames
@@ -88,12 +92,12 @@ pub status_reads : Reads status_in (Spelled Always (λ status. status_code statu
 unfolding status_in
 status_reads = reads_of (status_agrees (λ _. End))
 
-pub capability_reads : Reads capability_in (Spelled IsCapability spelling.capability)
+pub capability_reads : (version : Version) → Reads (capability_in version) (Spelled (IsCapabilityIn version) spelling.capability)
 unfolding capability_in
-capability_reads =
-    in_words (Spelled IsCapability spelling.capability)
-    (λ c bytes s. record { fits = s.fits.fits; are = s.are })
-    (λ c bytes s. record { fits = record { fits = s.fits; in_mode = has_every_mode c.mode }; are = s.are })
+capability_reads version =
+    in_words (Spelled (IsCapabilityIn version) spelling.capability)
+    (λ c bytes s. record { fits = record { fits = s.fits.fits; in_mode = s.fits.in_mode }; are = s.are })
+    (λ c bytes s. record { fits = record { fits = s.fits.fits; in_mode = s.fits.in_mode }; are = s.are })
     (reads_of (capability_agrees version End))
 
 abbrev pub number_bytes : Number → List ℕ
@@ -175,6 +179,19 @@ kind-again kinds.NodeUnpublishVolume = refl
 -- the reader of a reply's kind byte reads what spells one
 pub kind_reads : Reads (code_in reply_kind_from) (Spelled Always (λ kind. (128 + kind_number kind) ∷ []))
 kind_reads = code_reads reply_kind_from (λ kind. 128 + kind_number kind) (record { back = λ b a e. kind-back-by b (ltb b 128) a refl e; again = kind-again })
+
+-- a byte that stands for a version is its number, and each version is found at its number
+version-back : (b : ℕ) (version : Version) → version_from_number b ≡ Some version → version_number version ≡ b
+version-back zero version e = absurd cc
+version-back (suc zero) One e = refl
+version-back (suc (suc n)) version e = absurd cc
+
+pub version-found : (version : Version) → version_from_number (version_number version) ≡ Some version
+version-found One = refl
+
+-- the reader of a version reads the byte that spells one
+pub version_reads : Reads (code_in version_from_number) (Spelled Always (λ version. version_number version ∷ []))
+version_reads = code_reads version_from_number version_number (record { back = version-back; again = version-found })
 
 -- ---- a byte of this number
 

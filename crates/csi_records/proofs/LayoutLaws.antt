@@ -1,19 +1,20 @@
--- The laws of records by any layout: bytes are read in one way, and one part at most is the first that is refused.
+-- The laws of records by any layouts, one for each version: bytes are read in one way, and one part at most is the first that is refused.
 use Rattle.std.proofs.Common.{◌≡◌, ◌⊎◌, ℕ, ◌≤◌, ◌<◌, ◌^◌, List, [], ◌∷◌, ◌++◌, length, take, map, refl, sym, ap, subst, ◌∙◌, inl, inr, append_assoc, arith}
 use Rattle.std.specs.Prelude.{◌≢◌}
 use Rattle.std.specs.List.{flat_map, AllByRecursion}
 use Rattle.std.proofs.lemmas.Bool.{cases_order}
 use Rattle.std.proofs.lemmas.List.{append-nil, append_cancel_left, length-append, length-map, take-map, take_at}
 use Rattle.csi_lists.proofs.Each.{each-map}
+use Rattle.csi_frames.specs.declared.version.Version.{Version}
 use Rattle.csi_stores.specs.Part.{StoredPart, IsPart}
 use Rattle.csi_records.specs.Spelling.{part_bytes, record_head, record_bytes}
-use Rattle.csi_records.specs.Records.{Layout, IsRecordOf, Begins, IsRefusedAt}
+use Rattle.csi_records.specs.Records.{Layout, IsRecordOf, IsInSome, Begins, IsRefusedAt}
 use Rattle.csi_records.specs.Places.{IsBadAt, no_head, bad_part, more_bytes}
 use Rattle.csi_records.specs.Laws.{HasOneReading, HasOneRefusal}
 use Rattle.csi_records.specs.Stopping.{HasNoHead}
 use Rattle.csi_records.proofs.Readers.{spelled-same}
 use Rattle.csi_records.proofs.Layouts.{IsOneToOne, each-take}
-use Rattle.csi_records.proofs.SplittingBytes.{part_reads, record_head_reads, part-inside}
+use Rattle.csi_records.proofs.SplittingBytes.{part_reads, record_head_reads, make_head, part-inside}
 
 -- what parts are, whatever they spell
 pub record ArePlain {H R : Type 0} (layout : Layout H R) : Type 0 where
@@ -22,13 +23,13 @@ pub record ArePlain {H R : Type 0} (layout : Layout H R) : Type 0 where
   pub few : (first : H) (rs : List R) → layout.are_rows first rs → length rs ≤ 4096
 
 -- the parts of a record fit, and are some, and few
-record FitParts (parts : List StoredPart) : Type 0 where
-  fit : AllByRecursion IsPart parts
-  some : 1 ≤ length parts
-  few : length parts < 2 ^ 32
+pub record FitParts (parts : List StoredPart) : Type 0 where
+  pub fit : AllByRecursion IsPart parts
+  pub some : 1 ≤ length parts
+  pub few : length parts < 2 ^ 32
 
 -- the parts of a record are within their limits, and there are some, and fewer than 2^32
-fit-parts : {H R : Type 0} (layout : Layout H R) → ArePlain layout → (parts : List StoredPart) → IsRecordOf layout parts → FitParts parts
+pub fit-parts : {H R : Type 0} (layout : Layout H R) → ArePlain layout → (parts : List StoredPart) → IsRecordOf layout parts → FitParts parts
 fit-parts layout plain parts is =
     let s = is.spelled in
     let few : length is.rows ≤ 4096 = plain.few is.first is.rows s.rules in
@@ -112,46 +113,55 @@ not-further {H} {R} layout one plain before many left right begins refuses begun
         let fits : AllByRecursion IsPart (before ++ p ∷ ps) = subst (AllByRecursion IsPart) are (begun-fit layout plain many begun) in
         refuses p (flat ps ++ right) (part-inside before p ps fits) (here ∙ append_assoc (part_bytes p) (flat ps) right) (begun-front layout one before p ps many are begun)
 
--- one number of parts stands in front of bytes
-heads-same : (a b : ℕ) (first second : List ℕ) → a < 2 ^ 32 → b < 2 ^ 32 → record_head a ++ first ≡ record_head b ++ second → (a ≡ b) × (first ≡ second)
-heads-same a b first second fits fit e = spelled-same record_head_reads a b first second (record { fits = fits }) (record { fits = fit }) e
+-- one version and number of parts stand in front of bytes
+heads-same : (v w : Version) (a b : ℕ) (first second : List ℕ) → a < 2 ^ 32 → b < 2 ^ 32 → record_head v a ++ first ≡ record_head w b ++ second → (v ≡ w) × (a ≡ b) × (first ≡ second)
+heads-same v w a b first second fits fit e =
+    let same = spelled-same record_head_reads (make_head v a) (make_head w b) first second (record { fits = fits }) (record { fits = fit }) e in
+    (ap (λ head. head.0) same.0, ap (λ head. head.1) same.0, same.1)
 
 -- how bytes that have a refused part are seen: no number of parts; or a front, and what is refused behind it, or no more parts
-record Bad {H R : Type 0} (layout : Layout H R) (bytes : List ℕ) (place : ℕ) : Type 0 where
+record Bad {H R : Type 0} (layouts : Version → Layout H R) (bytes : List ℕ) (place : ℕ) : Type 0 where
+  version : Version
   count : ℕ
   before : List StoredPart
   rest : List ℕ
   from : 1 ≤ count
   to : count < 2 ^ 32
-  are : bytes ≡ record_head count ++ (flat before ++ rest)
+  are : bytes ≡ record_head version count ++ (flat before ++ rest)
   here : length before ≡ place
-  begins : Begins (IsRecordOf layout) before
-  why : ((length before < count) × Refuses (IsRecordOf layout) before rest) ⊎ ((length before ≡ count) × (rest ≢ []) × IsRecordOf layout before)
+  begins : Begins (IsRecordOf (layouts version)) before
+  why : ((length before < count) × Refuses (IsRecordOf (layouts version)) before rest) ⊎ ((length before ≡ count) × (rest ≢ []) × IsRecordOf (layouts version) before)
+
+-- the records of each version
+abbrev Records : {H R : Type 0} → (Version → Layout H R) → Version → List StoredPart → Type 0
+Records layouts version = IsRecordOf (layouts version)
 
 -- bytes with a refused part have no number of parts and are refused at 0, or are as `Bad` says
-seen : {H R : Type 0} (layout : Layout H R) → ArePlain layout → (bytes : List ℕ) (place : ℕ) → IsBadAt (IsRecordOf layout) bytes place → ((place ≡ 0) × HasNoHead bytes) ⊎ Bad layout bytes place
-seen layout plain bytes _ (no_head none) = inl (refl, none)
-seen layout plain bytes _ (bad_part count before rest to below are begins refuses) =
+seen : {H R : Type 0} (layouts : Version → Layout H R) → ((version : Version) → ArePlain (layouts version)) → (bytes : List ℕ) (place : ℕ) → IsBadAt (Records layouts) bytes place → ((place ≡ 0) × HasNoHead bytes) ⊎ Bad layouts bytes place
+seen layouts plain bytes _ (no_head none) = inl (refl, none)
+seen layouts plain bytes _ (bad_part version count before rest to below are begins refuses) =
     inr (record {
+      version = version;
       count = count;
       before = before;
       rest = rest;
       from = omega (arith, below);
       to = to;
-      are = are ∙ append_assoc (record_head count) (flat before) rest;
+      are = are ∙ append_assoc (record_head version count) (flat before) rest;
       here = refl;
       begins = begins;
       why = inl (below, refuses);
     })
-seen layout plain bytes _ (more_bytes parts rest is some are) =
-    let fits = fit-parts layout plain parts is in
+seen layouts plain bytes _ (more_bytes version parts rest is some are) =
+    let fits = fit-parts (layouts version) (plain version) parts is in
     inr (record {
+      version = version;
       count = length parts;
       before = parts;
       rest = rest;
       from = fits.some;
       to = fits.few;
-      are = are ∙ append_assoc (record_head (length parts)) (flat parts) rest;
+      are = are ∙ append_assoc (record_head version (length parts)) (flat parts) rest;
       here = refl;
       begins = inr is;
       why = inr (refl, some, is);
@@ -162,16 +172,17 @@ no-rest : (parts : List StoredPart) (rest : List ℕ) → flat parts ++ [] ≡ f
 no-rest parts rest e = sym (append_cancel_left (flat parts) [] rest e)
 
 -- a record's bytes have no refused part
-spelled-clash : {H R : Type 0} (layout : Layout H R) → IsOneToOne layout → ArePlain layout → (bytes : List ℕ) (parts : List StoredPart) (place : ℕ) → IsRecordOf layout parts → bytes ≡ record_bytes parts → Bad layout bytes place → ⊥
-spelled-clash {H} {R} layout one plain bytes parts place is are bad =
-    let fits = fit-parts layout plain parts is in
-    let whole : record_head bad.count ++ (flat bad.before ++ bad.rest) ≡ record_head (length parts) ++ flat parts = sym bad.are ∙ are in
-    let same = heads-same bad.count (length parts) (flat bad.before ++ bad.rest) (flat parts) bad.to fits.few whole in
-    by fits.fit same.0 (same.1 ∙ sym (append-nil (flat parts))) bad.why
+spelled-clash : {H R : Type 0} (layouts : Version → Layout H R) → ((version : Version) → IsOneToOne (layouts version)) → ((version : Version) → ArePlain (layouts version)) → (version : Version) (bytes : List ℕ) (parts : List StoredPart) (place : ℕ)
+    → IsRecordOf (layouts version) parts → bytes ≡ record_bytes version parts → Bad layouts bytes place → ⊥
+spelled-clash {H} {R} layouts one plain version bytes parts place is are bad =
+    let fits = fit-parts (layouts version) (plain version) parts is in
+    let whole : record_head bad.version bad.count ++ (flat bad.before ++ bad.rest) ≡ record_head version (length parts) ++ flat parts = sym bad.are ∙ are in
+    let same = heads-same bad.version version bad.count (length parts) (flat bad.before ++ bad.rest) (flat parts) bad.to fits.few whole in
+    by (subst (λ (v : Version). IsRecordOf (layouts v) parts) (sym same.0) is) fits.fit same.1 (same.2 ∙ sym (append-nil (flat parts))) bad.why
   where
-    by : AllByRecursion IsPart parts → bad.count ≡ length parts → flat bad.before ++ bad.rest ≡ flat parts ++ [] → ((length bad.before < bad.count) × Refuses (IsRecordOf layout) bad.before bad.rest) ⊎ ((length bad.before ≡ bad.count) × (bad.rest ≢ []) × IsRecordOf layout bad.before) → ⊥
-    by fit count e (inl w) = not-further layout one plain bad.before parts bad.rest [] bad.begins w.1 (inr is) e (omega (arith, w.0, count))
-    by fit count e (inr w) = w.1 (ends (goes bad.before parts bad.rest [] (begun-fit layout plain bad.before bad.begins) fit e (omega (arith, w.0, count))))
+    by : IsRecordOf (layouts bad.version) parts → AllByRecursion IsPart parts → bad.count ≡ length parts → flat bad.before ++ bad.rest ≡ flat parts ++ [] → ((length bad.before < bad.count) × Refuses (IsRecordOf (layouts bad.version)) bad.before bad.rest) ⊎ ((length bad.before ≡ bad.count) × (bad.rest ≢ []) × IsRecordOf (layouts bad.version) bad.before) → ⊥
+    by same fit count e (inl w) = not-further (layouts bad.version) (one bad.version) (plain bad.version) bad.before parts bad.rest [] bad.begins w.1 (inr same) e (omega (arith, w.0, count))
+    by same fit count e (inr w) = w.1 (ends (goes bad.before parts bad.rest [] (begun-fit (layouts bad.version) (plain bad.version) bad.before bad.begins) fit e (omega (arith, w.0, count))))
       where
         ends : Goes bad.before parts bad.rest [] → bad.rest ≡ []
         ends g = none g.more g.are g.left_is
@@ -181,36 +192,36 @@ spelled-clash {H} {R} layout one plain bytes parts place is are bad =
             none (p ∷ ps) long here = absurd (omega (arith, w.0, count, ap length long ∙ length-append bad.before (p ∷ ps)))
 
 -- bytes that are refused at one place aren't refused at a later one
-same-place : {H R : Type 0} (layout : Layout H R) → IsOneToOne layout → ArePlain layout → (bytes : List ℕ) (a b : ℕ) → Bad layout bytes a → Bad layout bytes b → a < b → ⊥
-same-place {H} {R} layout one plain bytes a b p q less =
-    let whole : record_head p.count ++ (flat p.before ++ p.rest) ≡ record_head q.count ++ (flat q.before ++ q.rest) = sym p.are ∙ q.are in
-    let same = heads-same p.count q.count (flat p.before ++ p.rest) (flat q.before ++ q.rest) p.to q.to whole in
-    by same.0 same.1 p.why q.why
+same-place : {H R : Type 0} (layouts : Version → Layout H R) → ((version : Version) → IsOneToOne (layouts version)) → ((version : Version) → ArePlain (layouts version)) → (bytes : List ℕ) (a b : ℕ) → Bad layouts bytes a → Bad layouts bytes b → a < b → ⊥
+same-place {H} {R} layouts one plain bytes a b p q less =
+    let whole : record_head p.version p.count ++ (flat p.before ++ p.rest) ≡ record_head q.version q.count ++ (flat q.before ++ q.rest) = sym p.are ∙ q.are in
+    let same = heads-same p.version q.version p.count q.count (flat p.before ++ p.rest) (flat q.before ++ q.rest) p.to q.to whole in
+    by (subst (λ (v : Version). Begins (IsRecordOf (layouts v)) q.before) (sym same.0) q.begins) same.1 same.2 p.why q.why
   where
-    by : p.count ≡ q.count → flat p.before ++ p.rest ≡ flat q.before ++ q.rest → ((length p.before < p.count) × Refuses (IsRecordOf layout) p.before p.rest) ⊎ ((length p.before ≡ p.count) × (p.rest ≢ []) × IsRecordOf layout p.before)
-        → ((length q.before < q.count) × Refuses (IsRecordOf layout) q.before q.rest) ⊎ ((length q.before ≡ q.count) × (q.rest ≢ []) × IsRecordOf layout q.before) → ⊥
-    by count e (inl w) v = not-further layout one plain p.before q.before p.rest q.rest p.begins w.1 q.begins e (omega (arith, p.here, q.here, less))
-    by count e (inr w) (inl v) = omega (arith, p.here, q.here, less, w.0, count, v.0)
-    by count e (inr w) (inr v) = omega (arith, p.here, q.here, less, w.0, count, v.0)
+    by : Begins (IsRecordOf (layouts p.version)) q.before → p.count ≡ q.count → flat p.before ++ p.rest ≡ flat q.before ++ q.rest → ((length p.before < p.count) × Refuses (IsRecordOf (layouts p.version)) p.before p.rest) ⊎ ((length p.before ≡ p.count) × (p.rest ≢ []) × IsRecordOf (layouts p.version) p.before)
+        → ((length q.before < q.count) × Refuses (IsRecordOf (layouts q.version)) q.before q.rest) ⊎ ((length q.before ≡ q.count) × (q.rest ≢ []) × IsRecordOf (layouts q.version) q.before) → ⊥
+    by begun count e (inl w) v = not-further (layouts p.version) (one p.version) (plain p.version) p.before q.before p.rest q.rest p.begins w.1 begun e (omega (arith, p.here, q.here, less))
+    by begun count e (inr w) (inl v) = omega (arith, p.here, q.here, less, w.0, count, v.0)
+    by begun count e (inr w) (inr v) = omega (arith, p.here, q.here, less, w.0, count, v.0)
 
 -- bytes are a record's in one way, or are refused at one place at most, and not both
-pub one-reading : {H R : Type 0} (layout : Layout H R) → IsOneToOne layout → ArePlain layout → (bytes : List ℕ) → HasOneReading (IsRecordOf layout) bytes
-one-reading {H} {R} layout one plain bytes = record {
-  spelled = λ parts place is are bad. clash parts place is are (seen layout plain bytes place bad);
-  one_record = λ parts others is other are too. same-records parts others is other (sym are ∙ too);
-  one_place = λ a b first second. places a b (seen layout plain bytes a first) (seen layout plain bytes b second);
+pub one-reading : {H R : Type 0} (layouts : Version → Layout H R) → ((version : Version) → IsOneToOne (layouts version)) → ((version : Version) → ArePlain (layouts version)) → (bytes : List ℕ) → HasOneReading (λ version. IsRecordOf (layouts version)) bytes
+one-reading {H} {R} layouts one plain bytes = record {
+  spelled = λ version parts place is are bad. clash version parts place is are (seen layouts plain bytes place bad);
+  one_record = λ version another parts others is other are too. same-records version another parts others is other (sym are ∙ too);
+  one_place = λ a b first second. places a b (seen layouts plain bytes a first) (seen layouts plain bytes b second);
 }
   where
-    clash : (parts : List StoredPart) (place : ℕ) → IsRecordOf layout parts → bytes ≡ record_bytes parts → ((place ≡ 0) × HasNoHead bytes) ⊎ Bad layout bytes place → ⊥
-    clash parts place is are (inl none) = let fits = fit-parts layout plain parts is in none.1 (length parts) (flat parts) fits.some fits.few are
-    clash parts place is are (inr bad) = spelled-clash layout one plain bytes parts place is are bad
+    clash : (version : Version) (parts : List StoredPart) (place : ℕ) → IsRecordOf (layouts version) parts → bytes ≡ record_bytes version parts → ((place ≡ 0) × HasNoHead bytes) ⊎ Bad layouts bytes place → ⊥
+    clash version parts place is are (inl none) = let fits = fit-parts (layouts version) (plain version) parts is in none.1 version (length parts) (flat parts) fits.some fits.few are
+    clash version parts place is are (inr bad) = spelled-clash layouts one plain version bytes parts place is are bad
 
-    same-records : (parts others : List StoredPart) → IsRecordOf layout parts → IsRecordOf layout others → record_bytes parts ≡ record_bytes others → parts ≡ others
-    same-records parts others is other e =
-        let fits = fit-parts layout plain parts is in
-        let fit = fit-parts layout plain others other in
-        let same = heads-same (length parts) (length others) (flat parts) (flat others) fits.few fit.few e in
-        all (goes parts others [] [] fits.fit fit.fit (append-nil (flat parts) ∙ same.1 ∙ sym (append-nil (flat others))) (omega (arith, same.0))) same.0
+    same-records : (version another : Version) (parts others : List StoredPart) → IsRecordOf (layouts version) parts → IsRecordOf (layouts another) others → record_bytes version parts ≡ record_bytes another others → (version ≡ another) × (parts ≡ others)
+    same-records version another parts others is other e =
+        let fits = fit-parts (layouts version) (plain version) parts is in
+        let fit = fit-parts (layouts another) (plain another) others other in
+        let same = heads-same version another (length parts) (length others) (flat parts) (flat others) fits.few fit.few e in
+        (same.0, all (goes parts others [] [] fits.fit fit.fit (append-nil (flat parts) ∙ same.2 ∙ sym (append-nil (flat others))) (omega (arith, same.1))) same.1)
       where
         all : Goes parts others [] [] → length parts ≡ length others → parts ≡ others
         all g count = none g.more g.are
@@ -219,16 +230,16 @@ one-reading {H} {R} layout one plain bytes = record {
             none [] are = sym (are ∙ append-nil parts)
             none (p ∷ ps) are = absurd (omega (arith, count, ap length are ∙ length-append parts (p ∷ ps)))
 
-    places : (a b : ℕ) → ((a ≡ 0) × HasNoHead bytes) ⊎ Bad layout bytes a → ((b ≡ 0) × HasNoHead bytes) ⊎ Bad layout bytes b → a ≡ b
+    places : (a b : ℕ) → ((a ≡ 0) × HasNoHead bytes) ⊎ Bad layouts bytes a → ((b ≡ 0) × HasNoHead bytes) ⊎ Bad layouts bytes b → a ≡ b
     places a b (inl p) (inl q) = p.0 ∙ sym q.0
-    places a b (inl p) (inr q) = absurd (p.1 q.count (flat q.before ++ q.rest) q.from q.to q.are)
-    places a b (inr p) (inl q) = absurd (q.1 p.count (flat p.before ++ p.rest) p.from p.to p.are)
+    places a b (inl p) (inr q) = absurd (p.1 q.version q.count (flat q.before ++ q.rest) q.from q.to q.are)
+    places a b (inr p) (inl q) = absurd (q.1 p.version p.count (flat p.before ++ p.rest) p.from p.to p.are)
     places a b (inr p) (inr q) = by (cases_order a b)
       where
         by : (a ≡ b) ⊎ ((a < b) ⊎ (b < a)) → a ≡ b
         by (inl same) = same
-        by (inr (inl less)) = absurd (same-place layout one plain bytes a b p q less)
-        by (inr (inr more)) = absurd (same-place layout one plain bytes b a q p more)
+        by (inr (inl less)) = absurd (same-place layouts one plain bytes a b p q less)
+        by (inr (inr more)) = absurd (same-place layouts one plain bytes b a q p more)
 
 -- ---- the first part that is refused, among parts
 
@@ -247,20 +258,30 @@ goes-on (a ∷ front) (b ∷ bs) p q x y e less =
     let on = goes-on front bs p q x y rest (omega arith) in
     record { more = on.more; are = ap (λ (r : StoredPart). r ∷ bs) same ∙ ap (λ (rs : List StoredPart). a ∷ rs) on.are }
 
+-- these parts are a record of some version
+abbrev AreSome : {H R : Type 0} → (Version → Layout H R) → List StoredPart → Type 0
+AreSome layouts = IsInSome (λ version. IsRecordOf (layouts version))
+
+-- a front with one part more is a record of some version where the whole begins one
+some-front : {H R : Type 0} (layouts : Version → Layout H R) → ((version : Version) → IsOneToOne (layouts version)) → (front : List StoredPart) (p : StoredPart) (more whole : List StoredPart) → whole ≡ front ++ p ∷ more → Begins (AreSome layouts) whole
+    → AreSome layouts (front ++ p ∷ [])
+some-front layouts one front p more whole are (inl none) = absurd (omega (arith, ap length (sym none ∙ are), length-append front (p ∷ more)))
+some-front layouts one front p more whole are (inr is) = record { version = is.version; there = begun-front (layouts is.version) (one is.version) front p more whole are (inr is.there) }
+
 -- parts that are refused at one place aren't refused at a later one
-refused-clash : {H R : Type 0} (layout : Layout H R) → IsOneToOne layout → (parts : List StoredPart) (a b : ℕ) → IsRefusedAt (IsRecordOf layout) parts a → IsRefusedAt (IsRecordOf layout) parts b → a < b → ⊥
-refused-clash layout one parts a b first second less =
+refused-clash : {H R : Type 0} (layouts : Version → Layout H R) → ((version : Version) → IsOneToOne (layouts version)) → (parts : List StoredPart) (a b : ℕ) → IsRefusedAt (AreSome layouts) parts a → IsRefusedAt (AreSome layouts) parts b → a < b → ⊥
+refused-clash layouts one parts a b first second less =
     let on = goes-on first.before second.before first.part second.part first.after second.after (sym first.are ∙ second.are) (omega (arith, first.here, second.here, less)) in
-    first.refused (begun-front layout one first.before first.part on.more second.before on.are second.begins)
+    first.refused (some-front layouts one first.before first.part on.more second.before on.are second.begins)
 
 -- parts are a record's, or have one first part that is refused at most, and not both
-pub one-refusal : {H R : Type 0} (layout : Layout H R) → IsOneToOne layout → (parts : List StoredPart) → HasOneRefusal (IsRecordOf layout) parts
-one-refusal layout one parts = record {
-  none = λ place is at. at.refused (begun-front layout one at.before at.part at.after parts at.are (inr is));
+pub one-refusal : {H R : Type 0} (layouts : Version → Layout H R) → ((version : Version) → IsOneToOne (layouts version)) → (parts : List StoredPart) → HasOneRefusal (IsInSome (λ version. IsRecordOf (layouts version))) parts
+one-refusal {H} {R} layouts one parts = record {
+  none = λ place is at. at.refused (some-front layouts one at.before at.part at.after parts at.are (inr is));
   one_place = λ a b first second. by a b first second (cases_order a b);
 }
   where
-    by : (a b : ℕ) → IsRefusedAt (IsRecordOf layout) parts a → IsRefusedAt (IsRecordOf layout) parts b → (a ≡ b) ⊎ ((a < b) ⊎ (b < a)) → a ≡ b
+    by : (a b : ℕ) → IsRefusedAt (AreSome layouts) parts a → IsRefusedAt (AreSome layouts) parts b → (a ≡ b) ⊎ ((a < b) ⊎ (b < a)) → a ≡ b
     by a b first second (inl same) = same
-    by a b first second (inr (inl less)) = absurd (refused-clash layout one parts a b first second less)
-    by a b first second (inr (inr more)) = absurd (refused-clash layout one parts b a second first more)
+    by a b first second (inr (inl less)) = absurd (refused-clash layouts one parts a b first second less)
+    by a b first second (inr (inr more)) = absurd (refused-clash layouts one parts b a second first more)

@@ -6,6 +6,7 @@ pub mod PartReaders
 pub mod Layouts
 pub mod SplittingBytes
 pub mod LayoutLaws
+pub mod Versions
 pub mod PluginLayouts
 pub mod ValueSizes
 pub mod WritingPieces

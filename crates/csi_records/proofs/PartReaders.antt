@@ -8,7 +8,9 @@ use Rattle.csi_types.specs.declared.capability.Capability.{Capability}
 use Rattle.csi_types.specs.Fence.{Kept}
 use Rattle.csi_types.specs.Text.{IsName, IsNodeId}
 use Rattle.csi_types.specs.VolumeId.{IsVolumeId}
-use Rattle.csi_types.specs.Limits.{IsWord, IsCapability}
+use Rattle.csi_types.specs.Limits.{IsWord}
+use Rattle.csi_frames.specs.declared.version.Version.{Version}
+use Rattle.csi_frames.specs.Version.{version_number}
 use Rattle.csi_frames.specs.Bytes.{AreBytes}
 use Rattle.csi_frames.specs.Spelling as spelling
 use Rattle.csi_controller.specs.declared.row.NodeHolding.{NodeHolding}
@@ -19,8 +21,8 @@ use Rattle.csi_stores.specs.declared.part.Part.{Part}
 use Rattle.csi_stores.specs.Part.{StoredPart, stored_in, value_in}
 use Rattle.csi_records.specs.Reading.{Reader, go_on, ended, whole, IsReadWhole, byte_in, tag_in, volume_in, answered_in, controller_head_in, node_head_in}
 use Rattle.csi_frames.specs.Reading.{byte_at}
-use Rattle.csi_records.specs.Spelling.{version_byte, VolumeRow, state_byte, counted, holding_bytes, target_bytes, kept_bytes, staged_bytes, volume_part, answered_part, controller_head, node_head}
-use Rattle.csi_records.specs.Records.{IsKept, IsHolding, IsVolumeRow, IsTargetRow, IsStagedSo, IsAnsweredRow}
+use Rattle.csi_records.specs.Spelling.{VolumeRow, state_byte, counted, holding_bytes, target_bytes, kept_bytes, staged_bytes, volume_part, answered_part, controller_head, node_head}
+use Rattle.csi_records.specs.Records.{IsCapabilityIn, IsKept, IsHolding, IsVolumeRow, IsTargetRow, IsStagedSo, IsAnsweredRow}
 use Rattle.csi_records.proofs.Readers.{Reads, then, in_words, Spelled, After, Made, after, makes, Always}
 use Rattle.csi_records.proofs.FieldReaders.{live_reads, word_reads, text_reads, tag_reads, capability_reads}
 use Rattle.csi_records.proofs.ValueReaders.{AreFew, counted_reads, holding_reads, target_reads, kept_reads, staged_reads}
@@ -41,22 +43,22 @@ pub record IsRowOf {R : Type 0} (IsRow : R → Type 0) (id_of : R → ℕ) (id :
   pub has_id : id_of row ≡ id
   pub fits : IsRow row
 
-abbrev IsVolumeOf : ℕ → VolumeRow → Type 0
-IsVolumeOf = IsRowOf IsVolumeRow (λ row. row.volume.id)
+abbrev IsVolumeOf : Version → ℕ → VolumeRow → Type 0
+IsVolumeOf version = IsRowOf (IsVolumeRow version) (λ row. row.volume.id)
 
 -- the fields of a volume's row behind the version, one after another
-abbrev SaysVolume : ℕ → VolumeRow → List ℕ → Type 0
-SaysVolume id =
+abbrev SaysVolume : Version → ℕ → VolumeRow → List ℕ → Type 0
+SaysVolume version id =
     After Always (λ a. state_byte a ∷ []) (λ is_live.
     After IsName spelling.text (λ name.
     After IsWord spelling.word (λ capacity.
-    After (AreFew IsCapability 8) (counted spelling.capability) (λ capabilities.
-    After (AreFew IsHolding 64) (counted holding_bytes) (λ holdings.
+    After (AreFew (IsCapabilityIn version) 8) (counted spelling.capability) (λ capabilities.
+    After (AreFew (IsHolding version) 64) (counted holding_bytes) (λ holdings.
     Made IsKept kept_bytes (λ kept. make_volume id is_live name capacity capabilities holdings kept))))))
 
 -- the fields of a volume's row, one after another, are the row's spelling behind the version
-volume-there : (id : ℕ) → IsVolumeId id → (value : VolumeRow) (bytes : List ℕ) → SaysVolume id value bytes → Spelled (IsVolumeOf id) volume_body value bytes
-volume-there id is_id value bytes s =
+volume-there : (version : Version) (id : ℕ) → IsVolumeId id → (value : VolumeRow) (bytes : List ℕ) → SaysVolume version id value bytes → Spelled (IsVolumeOf version id) volume_body value bytes
+volume-there version id is_id value bytes s =
     let s1 = s.second in
     let s2 = s1.second in
     let s3 = s2.second in
@@ -68,11 +70,11 @@ volume-there id is_id value bytes s =
     let d : List ℕ = counted spelling.capability s3.before in
     let e : List ℕ = counted holding_bytes s4.before in
     let f : List ℕ = kept_bytes s5.before in
-    subst (λ (v : VolumeRow). Spelled (IsVolumeOf id) volume_body v bytes) (sym s5.same)
+    subst (λ (v : VolumeRow). Spelled (IsVolumeOf version id) volume_body v bytes) (sym s5.same)
     (record {
       fits = record {
         has_id = refl;
-        fits = record { id = is_id; name = s1.fits; capacity = s2.fits; capabilities = (s3.fits.few, s3.fits.each); count = s4.fits.few; holdings = s4.fits.each; kept = s5.fits };
+        fits = record { id = is_id; name = s1.fits; capacity = s2.fits; capability_count = s3.fits.few; capabilities = s3.fits.each; count = s4.fits.few; holdings = s4.fits.each; kept = s5.fits };
       };
       are = join6 bytes a b c d e f s.back s1.back s2.back s3.back s4.back s.parts s1.parts s2.parts s3.parts s4.parts s5.are;
     })
@@ -83,8 +85,8 @@ volume-there id is_id value bytes s =
         ∙ simp append_assoc
 
 -- a volume's row behind the version is spelled by its fields, one after another
-volume-back : (id : ℕ) (value : VolumeRow) (bytes : List ℕ) → Spelled (IsVolumeOf id) volume_body value bytes → SaysVolume id value bytes
-volume-back id value bytes s =
+volume-back : (version : Version) (id : ℕ) (value : VolumeRow) (bytes : List ℕ) → Spelled (IsVolumeOf version id) volume_body value bytes → SaysVolume version id value bytes
+volume-back version id value bytes s =
     let v = value.volume in
     let fits = s.fits.fits in
     let a : List ℕ = state_byte v.is_live ∷ [] in
@@ -110,7 +112,7 @@ volume-back id value bytes s =
           parts = refl;
           second = record {
             before = v.capabilities;
-            fits = record { few = fits.capabilities.0; each = fits.capabilities.1 };
+            fits = record { few = fits.capability_count; each = fits.capabilities };
             back = e ++ f;
             parts = refl;
             second = record {
@@ -129,15 +131,15 @@ volume-back id value bytes s =
     apart6 a b c d e f = simp append_assoc
 
 -- the reader of a volume's row reads what spells a row of this id behind the version
-volume_reads : (id : ℕ) → IsVolumeId id → Reads (volume_in id) (Spelled (IsVolumeOf id) volume_body)
+volume_reads : (version : Version) (id : ℕ) → IsVolumeId id → Reads (volume_in version id) (Spelled (IsVolumeOf version id) volume_body)
 unfolding volume_in
-volume_reads id is_id =
-    in_words (Spelled (IsVolumeOf id) volume_body) (volume-there id is_id) (volume-back id)
+volume_reads version id is_id =
+    in_words (Spelled (IsVolumeOf version id) volume_body) (volume-there version id is_id) (volume-back version id)
     (after live_reads (λ is_live.
     after (text_reads 1 128) (λ name.
     after word_reads (λ capacity.
-    after (counted_reads IsCapability spelling.capability 8 capability_reads) (λ capabilities.
-    after (counted_reads IsHolding holding_bytes 64 holding_reads) (λ holdings.
+    after (counted_reads (IsCapabilityIn version) spelling.capability 8 (capability_reads version)) (λ capabilities.
+    after (counted_reads (IsHolding version) holding_bytes 64 (holding_reads version)) (λ holdings.
     makes (λ kept. make_volume id is_live name capacity capabilities holdings kept) kept_reads))))))
 
 -- ---- a node's row, behind the version
@@ -148,20 +150,20 @@ answered_body row = staged_bytes row.staged ++ counted target_bytes row.targets 
 abbrev make_answered : ℕ → Option Capability → List NodeTarget → Kept → RowShown
 make_answered id staged targets kept = record { id = id; staged = staged; targets = targets; kept = kept }
 
-abbrev IsAnsweredOf : ℕ → RowShown → Type 0
-IsAnsweredOf = IsRowOf IsAnsweredRow (λ row. row.id)
+abbrev IsAnsweredOf : Version → ℕ → RowShown → Type 0
+IsAnsweredOf version = IsRowOf (IsAnsweredRow version) (λ row. row.id)
 
 -- the fields of a node's row behind the version, one after another
-abbrev SaysAnswered : ℕ → RowShown → List ℕ → Type 0
-SaysAnswered id =
-    After IsStagedSo staged_bytes (λ staged. After (AreFew IsTargetRow 16) (counted target_bytes) (λ targets. Made IsKept kept_bytes (λ kept. make_answered id staged targets kept)))
+abbrev SaysAnswered : Version → ℕ → RowShown → List ℕ → Type 0
+SaysAnswered version id =
+    After (IsStagedSo version) staged_bytes (λ staged. After (AreFew IsTargetRow 16) (counted target_bytes) (λ targets. Made IsKept kept_bytes (λ kept. make_answered id staged targets kept)))
 
 -- the fields of a node's row, one after another, are the row's spelling behind the version
-answered-there : (id : ℕ) → IsVolumeId id → (value : RowShown) (bytes : List ℕ) → SaysAnswered id value bytes → Spelled (IsAnsweredOf id) answered_body value bytes
-answered-there id is_id value bytes s =
+answered-there : (version : Version) (id : ℕ) → IsVolumeId id → (value : RowShown) (bytes : List ℕ) → SaysAnswered version id value bytes → Spelled (IsAnsweredOf version id) answered_body value bytes
+answered-there version id is_id value bytes s =
     let s1 = s.second in
     let s2 = s1.second in
-    subst (λ (v : RowShown). Spelled (IsAnsweredOf id) answered_body v bytes) (sym s2.same)
+    subst (λ (v : RowShown). Spelled (IsAnsweredOf version id) answered_body v bytes) (sym s2.same)
     (record {
       fits = record { has_id = refl; fits = record { id = is_id; staged = s.fits; count = s1.fits.few; targets = s1.fits.each; kept = s2.fits } };
       are = s.parts ∙ ap (λ (t : List ℕ). staged_bytes s.before ++ t) (s1.parts ∙ ap (λ (t : List ℕ). counted target_bytes s1.before ++ t) s2.are)
@@ -169,8 +171,8 @@ answered-there id is_id value bytes s =
     })
 
 -- a node's row behind the version is spelled by its fields, one after another
-answered-back : (id : ℕ) (value : RowShown) (bytes : List ℕ) → Spelled (IsAnsweredOf id) answered_body value bytes → SaysAnswered id value bytes
-answered-back id value bytes s =
+answered-back : (version : Version) (id : ℕ) (value : RowShown) (bytes : List ℕ) → Spelled (IsAnsweredOf version id) answered_body value bytes → SaysAnswered version id value bytes
+answered-back version id value bytes s =
     let fits = s.fits.fits in
     record {
       before = value.staged;
@@ -187,11 +189,11 @@ answered-back id value bytes s =
     }
 
 -- the reader of a node's row reads what spells a row of this id behind the version
-answered_reads : (id : ℕ) → IsVolumeId id → Reads (answered_in id) (Spelled (IsAnsweredOf id) answered_body)
+answered_reads : (version : Version) (id : ℕ) → IsVolumeId id → Reads (answered_in version id) (Spelled (IsAnsweredOf version id) answered_body)
 unfolding answered_in
-answered_reads id is_id =
-    in_words (Spelled (IsAnsweredOf id) answered_body) (answered-there id is_id) (answered-back id)
-    (after staged_reads (λ staged. after (counted_reads IsTargetRow target_bytes 16 target_reads) (λ targets. makes (λ kept. make_answered id staged targets kept) kept_reads)))
+answered_reads version id is_id =
+    in_words (Spelled (IsAnsweredOf version id) answered_body) (answered-there version id is_id) (answered-back version id)
+    (after (staged_reads version) (λ staged. after (counted_reads IsTargetRow target_bytes 16 target_reads) (λ targets. makes (λ kept. make_answered id staged targets kept) kept_reads)))
 
 -- ---- heads, behind the version
 
@@ -227,24 +229,25 @@ ended-more value [] some = absurd (some refl)
 ended-more value (b ∷ bytes) some = refl
 
 -- a whole value that is read is within its limits, and the bytes are the version and its spelling
-whole-takes : {A : Type 0} {read : Reader A} (Fits : A → Type 0) (spell : A → List ℕ) → Reads read (Spelled Fits spell) → (bytes : List ℕ) → AreBytes bytes → (value : A) → whole read bytes ≡ Some value
-    → Fits value × (bytes ≡ version_byte ∷ spell value)
+whole-takes : {A : Type 0} {read : Reader A} (version : Version) (Fits : A → Type 0) (spell : A → List ℕ) → Reads read (Spelled Fits spell) → (bytes : List ℕ) → AreBytes bytes → (value : A) → whole version read bytes ≡ Some value
+    → Fits value × (bytes ≡ version_number version ∷ spell value)
 unfolding whole
-whole-takes {A} {read} Fits spell one bytes fits value e =
-    let took = (tagged version_byte Fits spell one).takes bytes fits (value, []) (ended-some (go_on (tag_in version_byte bytes) (λ _. read)) value e) in
+whole-takes {A} {read} version Fits spell one bytes fits value e =
+    let took = (tagged (version_number version) Fits spell one).takes bytes fits (value, []) (ended-some (go_on (tag_in (version_number version) bytes) (λ _. read)) value e) in
     (took.says.fits, took.parts ∙ append-nil took.front ∙ took.says.are)
 
 -- a value within its limits is read from the version and its spelling
-whole-again : {A : Type 0} {read : Reader A} (Fits : A → Type 0) (spell : A → List ℕ) → Reads read (Spelled Fits spell) → (value : A) → Fits value → whole read (version_byte ∷ spell value) ≡ Some value
+whole-again : {A : Type 0} {read : Reader A} (version : Version) (Fits : A → Type 0) (spell : A → List ℕ) → Reads read (Spelled Fits spell) → (value : A) → Fits value → whole version read (version_number version ∷ spell value) ≡ Some value
 unfolding whole
-whole-again {A} {read} Fits spell one value fits =
-    let again : go_on (tag_in version_byte (version_byte ∷ spell value ++ [])) (λ _. read) ≡ Some (value, []) = (tagged version_byte Fits spell one).again value (version_byte ∷ spell value) [] (record { fits = fits; are = refl }) in
-    ap (λ (t : List ℕ). ended (go_on (tag_in version_byte (version_byte ∷ t)) (λ _. read))) (sym (append-nil (spell value))) ∙ ap ended again
+whole-again {A} {read} version Fits spell one value fits =
+    let b : ℕ = version_number version in
+    let again : go_on (tag_in b (b ∷ spell value ++ [])) (λ _. read) ≡ Some (value, []) = (tagged b Fits spell one).again value (b ∷ spell value) [] (record { fits = fits; are = refl }) in
+    ap (λ (t : List ℕ). ended (go_on (tag_in b (b ∷ t)) (λ _. read))) (sym (append-nil (spell value))) ∙ ap ended again
 
 -- no byte is no value
-pub nothing_read : {A : Type 0} (read : Reader A) → whole read [] ≡ None
+pub nothing_read : {A : Type 0} (version : Version) (read : Reader A) → whole version read [] ≡ None
 unfolding whole tag_in byte_in byte_at
-nothing_read read = refl
+nothing_read version read = refl
 
 -- ---- the rows and heads of parts
 
@@ -253,49 +256,50 @@ abbrev pub make_part : ℕ → List ℕ → StoredPart
 make_part key value = record { key = key; value = value }
 
 -- rows that are read behind the version, under their ids, are read as what spells them
-row_read : {R : Type 0} {row_in : ℕ → Reader R} (IsRow : R → Type 0) (id_of : R → ℕ) (body : R → List ℕ) → ((id : ℕ) → IsVolumeId id → Reads (row_in id) (Spelled (IsRowOf IsRow id_of id) body))
-    → ((row : R) → IsRow row → IsVolumeId (id_of row)) → IsReadWhole row_in IsVolumeId IsRow (λ row. make_part (id_of row) (version_byte ∷ body row))
-row_read IsRow id_of body reads ids = record {
+row_read : {R : Type 0} {row_in : ℕ → Reader R} (version : Version) (IsRow : R → Type 0) (id_of : R → ℕ) (body : R → List ℕ) → ((id : ℕ) → IsVolumeId id → Reads (row_in id) (Spelled (IsRowOf IsRow id_of id) body))
+    → ((row : R) → IsRow row → IsVolumeId (id_of row)) → IsReadWhole version row_in IsVolumeId IsRow (λ row. make_part (id_of row) (version_number version ∷ body row))
+row_read version IsRow id_of body reads ids = record {
   takes = λ id value row is_id fits e.
-      let read = whole-takes (IsRowOf IsRow id_of id) body (reads id is_id) value fits row e in
-      (read.0.fits, ap (λ k. make_part k (version_byte ∷ body row)) read.0.has_id ∙ ap (make_part id) (sym read.1));
+      let read = whole-takes version (IsRowOf IsRow id_of id) body (reads id is_id) value fits row e in
+      (read.0.fits, ap (λ k. make_part k (version_number version ∷ body row)) read.0.has_id ∙ ap (make_part id) (sym read.1));
   has_key = ids;
-  again = λ row fits. whole-again (IsRowOf IsRow id_of (id_of row)) body (reads (id_of row) (ids row fits)) row (record { has_id = refl; fits = fits });
+  again = λ row fits. whole-again version (IsRowOf IsRow id_of (id_of row)) body (reads (id_of row) (ids row fits)) row (record { has_id = refl; fits = fits });
 }
 
-pub volume_read : IsReadWhole volume_in IsVolumeId IsVolumeRow volume_part
-volume_read = row_read IsVolumeRow (λ row. row.volume.id) volume_body volume_reads (λ row fits. fits.id)
+pub volume_read : (version : Version) → IsReadWhole version (volume_in version) IsVolumeId (IsVolumeRow version) (volume_part version)
+volume_read version = row_read version (IsVolumeRow version) (λ row. row.volume.id) volume_body (volume_reads version) (λ row fits. fits.id)
 
-pub answered_read : IsReadWhole answered_in IsVolumeId IsAnsweredRow answered_part
-answered_read = row_read IsAnsweredRow (λ row. row.id) answered_body answered_reads (λ row fits. fits.id)
+pub answered_read : (version : Version) → IsReadWhole version (answered_in version) IsVolumeId (IsAnsweredRow version) (answered_part version)
+answered_read version = row_read version (IsAnsweredRow version) (λ row. row.id) answered_body (answered_reads version) (λ row fits. fits.id)
 
 -- the key of a head
 abbrev pub IsHeadKey : ℕ → Type 0
 IsHeadKey key = 0 ≡ key
 
 -- heads that are read behind the version are read as what spells them
-head_read : {H : Type 0} {read : Reader H} (IsHead : H → Type 0) (body : H → List ℕ) → Reads read (Spelled IsHead body) → IsReadWhole (λ key. read) IsHeadKey IsHead (λ first. make_part 0 (version_byte ∷ body first))
-head_read IsHead body reads = record {
+head_read : {H : Type 0} {read : Reader H} (version : Version) (IsHead : H → Type 0) (body : H → List ℕ) → Reads read (Spelled IsHead body)
+    → IsReadWhole version (λ key. read) IsHeadKey IsHead (λ first. make_part 0 (version_number version ∷ body first))
+head_read version IsHead body reads = record {
   takes = λ key value first is fits e.
-      let read = whole-takes IsHead body reads value fits first e in
+      let read = whole-takes version IsHead body reads value fits first e in
       (read.0, ap (make_part 0) (sym read.1) ∙ ap (λ k. make_part k value) is);
   has_key = λ first fits. refl;
-  again = λ first fits. whole-again IsHead body reads first fits;
+  again = λ first fits. whole-again version IsHead body reads first fits;
 }
 
-pub controller_head_read : IsReadWhole (λ key. controller_head_in) IsHeadKey IsWord controller_head
-controller_head_read = head_read IsWord (λ n. 0 ∷ spelling.word n) controller_head_reads
+pub controller_head_read : (version : Version) → IsReadWhole version (λ key. controller_head_in) IsHeadKey IsWord (controller_head version)
+controller_head_read version = head_read version IsWord (λ n. 0 ∷ spelling.word n) controller_head_reads
 
-pub node_head_read : IsReadWhole (λ key. node_head_in) IsHeadKey IsNodeId node_head
-node_head_read = head_read IsNodeId (λ n. 1 ∷ spelling.text n) node_head_reads
+pub node_head_read : (version : Version) → IsReadWhole version (λ key. node_head_in) IsHeadKey IsNodeId (node_head version)
+node_head_read version = head_read version IsNodeId (λ n. 1 ∷ spelling.text n) node_head_reads
 
-module _ {R : Type 0} {row_in : ℕ → Reader R} {IsKey : ℕ → Type 0} {IsRow : R → Type 0} {row_part : R → StoredPart} (is_read : IsReadWhole row_in IsKey IsRow row_part) where
+module _ {R : Type 0} {version : Version} {row_in : ℕ → Reader R} {IsKey : ℕ → Type 0} {IsRow : R → Type 0} {row_part : R → StoredPart} (is_read : IsReadWhole version row_in IsKey IsRow row_part) where
   -- what is read of a part's value, as a part tells it
   abbrev value_of : StoredPart → Option R
-  value_of part = whole (row_in part.key) part.value
+  value_of part = whole version (row_in part.key) part.value
 
   -- where nothing is read of a part, nothing has that part
-  pub unread : (part : StoredPart) → whole (row_in part.key) part.value ≡ None → (row : R) → IsRow row → row_part row ≡ part → ⊥
+  pub unread : (part : StoredPart) → whole version (row_in part.key) part.value ≡ None → (row : R) → IsRow row → row_part row ≡ part → ⊥
   unread part none row fits e = some_is_not_none row (sym (is_read.again row fits) ∙ ap value_of e ∙ none)
 
   -- what has equal parts is equal

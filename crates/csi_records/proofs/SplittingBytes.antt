@@ -8,20 +8,22 @@ use Rattle.std.proofs.lemmas.List.Concat.{flat_map-append}
 use Rattle.byteorder.specs.Endian.{big_bytes, big_number}
 use Rattle.byteorder.specs.Numbers.{big_from-lt}
 use Rattle.csi_types.specs.Limits.{IsWord}
+use Rattle.csi_frames.specs.declared.version.Version.{Version}
+use Rattle.csi_frames.specs.Version.{version_number}
 use Rattle.csi_frames.specs.Bytes.{AreBytes}
 use Rattle.csi_frames.specs.Spelling as spelling
 use Rattle.csi_frames.proofs.Bytes.{AreBytes-take, AreBytes-back, four-back, four-again, four-front}
 use Rattle.csi_lists.proofs.Each.{each-append_one}
 use Rattle.csi_stores.specs.Part.{StoredPart, IsPart}
-use Rattle.csi_records.specs.Spelling.{version_byte, part_bytes, record_head, record_bytes}
+use Rattle.csi_records.specs.Spelling.{part_bytes, record_head, record_bytes}
 use Rattle.csi_records.specs.Records.{Begins, IsRefusedAt}
 use Rattle.csi_records.specs.declared.fault.RecordStop.{RecordStop}
 use Rattle.csi_records.specs.declared.fault.RecordStop.TheVariants.{BadRecord, NoMemory}
 use Rattle.csi_records.specs.Places.{IsBadAt, bad_part, more_bytes, ReadsParts, ReadsBytes}
 use Rattle.csi_records.specs.Stopping.{AreSplit, SplitStops, HasNoHead}
 use Rattle.csi_records.specs.Reading.{long_in, bytes_in, part_in, record_head_in}
-use Rattle.csi_records.proofs.Readers.{Took, Reads, then, in_words, done, some_is, Spelled, spelled-same, spelled-none, After, Made, after, makes}
-use Rattle.csi_records.proofs.FieldReaders.{word_reads, tag_reads}
+use Rattle.csi_records.proofs.Readers.{Took, Reads, in_words, done, some_is, Spelled, spelled-same, spelled-none, After, Made, after, makes, Always}
+use Rattle.csi_records.proofs.FieldReaders.{word_reads, version_reads}
 use Rattle.csi_records.proofs.ValueReaders.{join3}
 use Rattle.csi_records.proofs.WritingPieces.{flat_map-push}
 
@@ -144,24 +146,47 @@ part_reads =
 
 -- ---- the number of parts
 
+-- what stands in front of a record's parts: a version and their number
+abbrev pub Head : Type 0
+Head = Version × ℕ
+
+abbrev pub IsHead : Head → Type 0
+IsHead head = IsLong head.1
+
+abbrev pub head_bytes : Head → List ℕ
+head_bytes head = record_head head.0 head.1
+
+abbrev pub make_head : Version → ℕ → Head
+make_head version count = (version, count)
+
+abbrev SaysHead : Head → List ℕ → Type 0
+SaysHead = After Always (λ version. version_number version ∷ []) (λ version. Made IsLong long (λ count. make_head version count))
+
+-- a version's byte and four of a number are the spelling of both
+head-there : (value : Head) (bytes : List ℕ) → SaysHead value bytes → Spelled IsHead head_bytes value bytes
+head-there value bytes s =
+    subst (λ (v : Head). Spelled IsHead head_bytes v bytes) (sym s.second.same)
+    (record { fits = s.second.fits; are = s.parts ∙ ap (λ (t : List ℕ). version_number s.before ∷ t) s.second.are })
+
+-- the spelling of a version and a number is the version's byte and four of the number
+head-back : (value : Head) (bytes : List ℕ) → Spelled IsHead head_bytes value bytes → SaysHead value bytes
+head-back value bytes s =
+    record { before = value.0; fits = tt; back = long value.1; parts = s.are; second = record { before = value.1; fits = s.fits; same = refl; are = refl } }
+
 -- the reader of a record's version and number of parts reads what spells them
-pub record_head_reads : Reads record_head_in (Spelled IsLong record_head)
+pub record_head_reads : Reads record_head_in (Spelled IsHead head_bytes)
 unfolding record_head_in
-record_head_reads =
-    in_words (Spelled IsLong record_head)
-    (λ value bytes s. record { fits = s.second.fits; are = s.parts ∙ ap (λ (t : List ℕ). t ++ s.back) s.first.one ∙ ap (λ (t : List ℕ). version_byte ∷ t) s.second.are })
-    (λ value bytes s. record { before = tt; front = version_byte ∷ []; back = long value; parts = s.are; first = record { one = refl }; second = record { fits = s.fits; are = refl } })
-    (then (tag_reads version_byte) (λ _. long_reads))
+record_head_reads = in_words (Spelled IsHead head_bytes) head-there head-back (after version_reads (λ version. makes (λ count. make_head version count) long_reads))
 
 -- where no version and number of parts are read, none stand in front
 pub no-head : (bytes : List ℕ) → record_head_in bytes ≡ None → HasNoHead bytes
-no-head bytes none = λ count rest from to are. spelled-none record_head_reads bytes none count rest (record { fits = to }) are
+no-head bytes none = λ version count rest from to are. spelled-none record_head_reads bytes none (make_head version count) rest (record { fits = to }) are
 
 -- where the number of parts that is read is 0, no number from 1 on stands in front
-pub zero-head : (bytes rest : List ℕ) (count : ℕ) → count ≡ 0 → record_head_in bytes ≡ Some (count, rest) → HasNoHead bytes
-zero-head bytes rest count is read = λ other more from to are.
-    let e = sym (record_head_reads.again other (record_head other) more (record { fits = record { fits = to }; are = refl })) ∙ ap record_head_in (sym are) ∙ read in
-    let same : other ≡ count = ap (λ p. p.0) (some_is other more (count, rest) e) in
+pub zero-head : (bytes rest : List ℕ) (head : Head) → head.1 ≡ 0 → record_head_in bytes ≡ Some (head, rest) → HasNoHead bytes
+zero-head bytes rest head is read = λ version other more from to are.
+    let e = sym (record_head_reads.again (make_head version other) (record_head version other) more (record { fits = record { fits = to }; are = refl })) ∙ ap record_head_in (sym are) ∙ read in
+    let same : other ≡ head.1 = ap (λ p. p.0.1) (some_is (make_head version other) more (head, rest) e) in
     absurd (omega (arith, same, is, from))
 
 -- ---- parts one after another
@@ -189,13 +214,13 @@ part-inside [] p after each = each.0
 part-inside (b ∷ bs) p after each = part-inside bs p after each.1
 
 -- a part that is refused among the parts is refused in the bytes
-pub bad-among : (Is : List StoredPart → Type 0) (bytes : List ℕ) (parts : List StoredPart) (all : Bool) (place : ℕ) → AreSplit bytes parts all → IsRefusedAt Is parts place → IsBadAt Is bytes place
-bad-among Is bytes parts all place split at =
+pub bad-among : (Is : Version → List StoredPart → Type 0) (version : Version) (bytes : List ℕ) (parts : List StoredPart) (all : Bool) (place : ℕ) → AreSplit version bytes parts all → IsRefusedAt (Is version) parts place → IsBadAt Is bytes place
+bad-among Is version bytes parts all place split at =
     subst (λ (n : ℕ). IsBadAt Is bytes n) at.here
-    (bad_part split.count at.before (part_bytes at.part ++ (flat_map part_bytes at.after ++ split.rest)) split.to below are at.begins
+    (bad_part version split.count at.before (part_bytes at.part ++ (flat_map part_bytes at.after ++ split.rest)) split.to below are at.begins
     (λ part more fits same.
     let one = spelled-same part_reads at.part part (flat_map part_bytes at.after ++ split.rest) more (part-inside at.before at.part at.after (subst (AllByRecursion IsPart) at.are split.fit)) fits same in
-    λ is. at.refused (subst (λ (p : StoredPart). Is (at.before ++ p ∷ [])) (sym one.0) is)))
+    λ is. at.refused (subst (λ (p : StoredPart). Is version (at.before ++ p ∷ [])) (sym one.0) is)))
   where
     counted : (stops : Bool) → SplitStops split.count parts split.rest stops → length parts ≤ split.count
     counted true h = omega (arith, h.0)
@@ -208,71 +233,74 @@ bad-among Is bytes parts all place split at =
         let most = counted all split.stops in
         omega (arith, long, most)
 
-    are : bytes ≡ record_head split.count ++ flat_map part_bytes at.before ++ (part_bytes at.part ++ (flat_map part_bytes at.after ++ split.rest))
+    are : bytes ≡ record_head version split.count ++ flat_map part_bytes at.before ++ (part_bytes at.part ++ (flat_map part_bytes at.after ++ split.rest))
     are =
-        split.are ∙ ap (λ (ps : List StoredPart). record_head split.count ++ (flat_map part_bytes ps ++ split.rest)) at.are
-        ∙ ap (λ (t : List ℕ). record_head split.count ++ (t ++ split.rest)) (flat_map-append part_bytes at.before (at.part ∷ at.after))
+        split.are ∙ ap (λ (ps : List StoredPart). record_head version split.count ++ (flat_map part_bytes ps ++ split.rest)) at.are
+        ∙ ap (λ (t : List ℕ). record_head version split.count ++ (t ++ split.rest)) (flat_map-append part_bytes at.before (at.part ∷ at.after))
         ∙ simp append_assoc
 
 -- all parts that are there are a record's, and more is to come, or to go
-pub bad-end : (Is : List StoredPart → Type 0) (bytes : List ℕ) (parts : List StoredPart) → AreSplit bytes parts false → Begins Is parts → IsBadAt Is bytes (length parts)
-bad-end Is bytes parts split begins = by split.stops begins
+pub bad-end : (Is : Version → List StoredPart → Type 0) (version : Version) (bytes : List ℕ) (parts : List StoredPart) → AreSplit version bytes parts false → Begins (Is version) parts → IsBadAt Is bytes (length parts)
+bad-end Is version bytes parts split begins = by split.stops begins
   where
-    whole : bytes ≡ record_head split.count ++ flat_map part_bytes parts ++ split.rest
-    whole = split.are ∙ sym (append_assoc (record_head split.count) (flat_map part_bytes parts) split.rest)
+    whole : bytes ≡ record_head version split.count ++ flat_map part_bytes parts ++ split.rest
+    whole = split.are ∙ sym (append_assoc (record_head version split.count) (flat_map part_bytes parts) split.rest)
 
-    by : SplitStops split.count parts split.rest false → Begins Is parts → IsBadAt Is bytes (length parts)
+    by : SplitStops split.count parts split.rest false → Begins (Is version) parts → IsBadAt Is bytes (length parts)
     by (inl h) (inl none) = absurd (omega (arith, h.0, ap length none, split.from))
-    by (inl h) (inr is) = more_bytes parts split.rest is h.1 (whole ∙ ap (λ (n : ℕ). record_head n ++ flat_map part_bytes parts ++ split.rest) (sym h.0))
-    by (inr h) here = bad_part split.count parts split.rest split.to h.0 whole here (λ part more fits same is. h.1 part more fits same)
+    by (inl h) (inr is) = more_bytes version parts split.rest is h.1 (whole ∙ ap (λ (n : ℕ). record_head version n ++ flat_map part_bytes parts ++ split.rest) (sym h.0))
+    by (inr h) here = bad_part version split.count parts split.rest split.to h.0 whole here (λ part more fits same is. h.1 part more fits same)
 
 -- the bytes are those of the parts
-pub whole-split : (bytes : List ℕ) (parts : List StoredPart) → AreSplit bytes parts true → bytes ≡ record_bytes parts
-whole-split bytes parts split =
-    split.are ∙ ap (λ (t : List ℕ). record_head split.count ++ (flat_map part_bytes parts ++ t)) split.stops.1 ∙ ap (λ (t : List ℕ). record_head split.count ++ t) (append-nil (flat_map part_bytes parts))
-    ∙ ap (λ (n : ℕ). record_head n ++ flat_map part_bytes parts) (sym split.stops.0)
+pub whole-split : (version : Version) (bytes : List ℕ) (parts : List StoredPart) → AreSplit version bytes parts true → bytes ≡ record_bytes version parts
+whole-split version bytes parts split =
+    split.are ∙ ap (λ (t : List ℕ). record_head version split.count ++ (flat_map part_bytes parts ++ t)) split.stops.1 ∙ ap (λ (t : List ℕ). record_head version split.count ++ t) (append-nil (flat_map part_bytes parts))
+    ∙ ap (λ (n : ℕ). record_head version n ++ flat_map part_bytes parts) (sym split.stops.0)
 
 -- ---- how splitting ends
 
 -- a number of parts that is read is of 32 bits, and stands in front behind the version
-head-found : (bytes rest : List ℕ) (count : ℕ) → AreBytes bytes → record_head_in bytes ≡ Some (count, rest) → (count < 2 ^ 32) × (bytes ≡ record_head count ++ rest)
-head-found bytes rest count fits read =
-    let took = record_head_reads.takes bytes fits (count, rest) read in
+head-found : (bytes rest : List ℕ) (head : Head) → AreBytes bytes → record_head_in bytes ≡ Some (head, rest) → (head.1 < 2 ^ 32) × (bytes ≡ head_bytes head ++ rest)
+head-found bytes rest head fits read =
+    let took = record_head_reads.takes bytes fits (head, rest) read in
     (took.says.fits.fits, took.parts ∙ ap (λ (t : List ℕ). t ++ rest) took.says.are)
 
 -- bytes of which the head and parts were read are split so far, where the splitting may stop there
-split-here : (bytes rest after : List ℕ) (count : ℕ) (parts : List StoredPart) (all : Bool) → AreBytes bytes → record_head_in bytes ≡ Some (count, rest) → 1 ≤ count → IsSoFar rest parts after → SplitStops count parts after all → AreSplit bytes parts all
-split-here bytes rest after count parts all fits read from so_far stops =
-    let head = head-found bytes rest count fits read in
-    record { count = count; rest = after; from = from; to = head.0; fit = so_far.fit; are = head.1 ∙ ap (λ (t : List ℕ). record_head count ++ t) so_far.are; stops = stops }
+split-here : (bytes rest after : List ℕ) (head : Head) (parts : List StoredPart) (all : Bool) → AreBytes bytes → record_head_in bytes ≡ Some (head, rest) → 1 ≤ head.1 → IsSoFar rest parts after → SplitStops head.1 parts after all
+    → AreSplit head.0 bytes parts all
+split-here bytes rest after head parts all fits read from so_far stops =
+    let found = head-found bytes rest head fits read in
+    record { count = head.1; rest = after; from = from; to = found.0; fit = so_far.fit; are = found.1 ∙ ap (λ (t : List ℕ). head_bytes head ++ t) so_far.are; stops = stops }
 
 -- where no part is read and fewer were than the head says, splitting stops there
-pub split-stopped : (bytes rest after : List ℕ) (count : ℕ) (parts : List StoredPart) → AreBytes bytes → record_head_in bytes ≡ Some (count, rest) → 1 ≤ count → IsSoFar rest parts after → length parts < count → part_in after ≡ None → AreSplit bytes parts false
-split-stopped bytes rest after count parts fits read from so_far fewer none = split-here bytes rest after count parts false fits read from so_far (inr (fewer, spelled-none part_reads after none))
+pub split-stopped : (bytes rest after : List ℕ) (head : Head) (parts : List StoredPart) → AreBytes bytes → record_head_in bytes ≡ Some (head, rest) → 1 ≤ head.1 → IsSoFar rest parts after → length parts < head.1 → part_in after ≡ None
+    → AreSplit head.0 bytes parts false
+split-stopped bytes rest after head parts fits read from so_far fewer none = split-here bytes rest after head parts false fits read from so_far (inr (fewer, spelled-none part_reads after none))
 
 -- where as many parts were read as the head says, splitting took all if no byte is left, and else not all
-pub split-ended : (bytes rest after : List ℕ) (count : ℕ) (parts : List StoredPart) (empty : Bool) → AreBytes bytes → record_head_in bytes ≡ Some (count, rest) → 1 ≤ count → IsSoFar rest parts after → length parts ≡ count → empty ≡ eqb (length after) 0 → AreSplit bytes parts empty
-split-ended bytes rest [] count parts true fits read from so_far all is = split-here bytes rest [] count parts true fits read from so_far (all, refl)
-split-ended bytes rest [] count parts false fits read from so_far all is = absurd cc
-split-ended bytes rest (b ∷ after) count parts true fits read from so_far all is = absurd (omega (arith, eqb-true (length (b ∷ after)) 0 (sym is)))
-split-ended bytes rest (b ∷ after) count parts false fits read from so_far all is = split-here bytes rest (b ∷ after) count parts false fits read from so_far (inl (all, λ e. cc))
+pub split-ended : (bytes rest after : List ℕ) (head : Head) (parts : List StoredPart) (empty : Bool) → AreBytes bytes → record_head_in bytes ≡ Some (head, rest) → 1 ≤ head.1 → IsSoFar rest parts after → length parts ≡ head.1 → empty ≡ eqb (length after) 0
+    → AreSplit head.0 bytes parts empty
+split-ended bytes rest [] head parts true fits read from so_far all is = split-here bytes rest [] head parts true fits read from so_far (all, refl)
+split-ended bytes rest [] head parts false fits read from so_far all is = absurd cc
+split-ended bytes rest (b ∷ after) head parts true fits read from so_far all is = absurd (omega (arith, eqb-true (length (b ∷ after)) 0 (sym is)))
+split-ended bytes rest (b ∷ after) head parts false fits read from so_far all is = split-here bytes rest (b ∷ after) head parts false fits read from so_far (inl (all, λ e. cc))
 
 -- what stands behind a record's head are bytes
-pub bytes-after : (bytes rest : List ℕ) (count : ℕ) → AreBytes bytes → record_head_in bytes ≡ Some (count, rest) → AreBytes rest
-bytes-after bytes rest count fits read = AreBytes-back (record_head count) rest (subst AreBytes (head-found bytes rest count fits read).1 fits)
+pub bytes-after : (bytes rest : List ℕ) (head : Head) → AreBytes bytes → record_head_in bytes ≡ Some (head, rest) → AreBytes rest
+bytes-after bytes rest head fits read = AreBytes-back (head_bytes head) rest (subst AreBytes (head-found bytes rest head fits read).1 fits)
 
 -- ---- what reading bytes answers
 
 -- the parts that are there are none of a record
-err-by : {X : Type 0} (Is : List StoredPart → Type 0) (parts_of : X → List StoredPart) (bytes : List ℕ) (parts : List StoredPart) (all : Bool) (place : ℕ) → AreSplit bytes parts all
-    → ((parts ≡ []) × (place ≡ 0)) ⊎ IsRefusedAt Is parts place → IsBadAt Is bytes place
-err-by Is parts_of bytes parts true place split (inl none) = absurd (omega (arith, split.stops.0, ap length none.0, split.from))
-err-by Is parts_of bytes parts false place split (inl none) =
-    subst (λ (n : ℕ). IsBadAt Is bytes n) (ap length none.0 ∙ sym none.1) (bad-end Is bytes parts split (inl none.0))
-err-by Is parts_of bytes parts all place split (inr at) = bad-among Is bytes parts all place split at
+err-by : (Is : Version → List StoredPart → Type 0) (version : Version) (bytes : List ℕ) (parts : List StoredPart) (all : Bool) (place : ℕ) → AreSplit version bytes parts all
+    → ((parts ≡ []) × (place ≡ 0)) ⊎ IsRefusedAt (Is version) parts place → IsBadAt Is bytes place
+err-by Is version bytes parts true place split (inl none) = absurd (omega (arith, split.stops.0, ap length none.0, split.from))
+err-by Is version bytes parts false place split (inl none) =
+    subst (λ (n : ℕ). IsBadAt Is bytes n) (ap length none.0 ∙ sym none.1) (bad-end Is version bytes parts split (inl none.0))
+err-by Is version bytes parts all place split (inr at) = bad-among Is version bytes parts all place split at
 
 -- a part that is refused among the parts of bytes is refused in the bytes
-pub err-bytes : {X : Type 0} (Is : List StoredPart → Type 0) (parts_of : X → List StoredPart) (bytes : List ℕ) (parts : List StoredPart) (all : Bool) (stop : RecordStop) → AreSplit bytes parts all
-    → ReadsParts Is parts_of parts (Err stop) → ReadsBytes Is parts_of bytes (Err stop)
-err-bytes Is parts_of bytes parts all (BadRecord place) split read = err-by Is parts_of bytes parts all place split read
-err-bytes Is parts_of bytes parts all NoMemory split read = tt
+pub err-bytes : {X : Type 0} (Is : Version → List StoredPart → Type 0) (parts_of : Version → X → List StoredPart) (version : Version) (bytes : List ℕ) (parts : List StoredPart) (all : Bool) (stop : RecordStop)
+    → AreSplit version bytes parts all → ReadsParts (Is version) (parts_of version) parts (Err stop) → ReadsBytes Is parts_of bytes (Err stop)
+err-bytes Is parts_of version bytes parts all (BadRecord place) split read = err-by Is version bytes parts all place split read
+err-bytes Is parts_of version bytes parts all NoMemory split read = tt

@@ -10,13 +10,14 @@ use Rattle.csi_types.specs.Status.{status_code}
 use Rattle.csi_types.specs.Same.{kind_number}
 use Rattle.csi_types.specs.Text.{IsText, IsNodeId, IsTarget}
 use Rattle.csi_types.specs.VolumeId.{IsVolumeId}
-use Rattle.csi_types.specs.Limits.{IsWord, IsNumber, IsCapability, IsReply}
+use Rattle.csi_types.specs.Limits.{IsWord, IsNumber, IsReply}
+use Rattle.csi_frames.specs.declared.version.Version.{Version}
 use Rattle.csi_frames.specs.Spelling as spelling
 use Rattle.csi_controller.specs.declared.row.NodeHolding.{NodeHolding}
 use Rattle.csi_node.specs.declared.row.NodeTarget.{NodeTarget}
 use Rattle.csi_records.specs.Reading.{Reader, items_in, counted_in, holding_in, target_in, reply_id_in, reply_in, kept_in, staged_in, id_from}
 use Rattle.csi_records.specs.Spelling.{counted, holding_bytes, target_bytes, kept_bytes, staged_bytes}
-use Rattle.csi_records.specs.Records.{IsKept, IsHolding, IsTargetRow, IsStagedSo}
+use Rattle.csi_records.specs.Records.{IsCapabilityIn, IsKept, IsHolding, IsTargetRow, IsStagedSo}
 use Rattle.csi_records.proofs.Readers.{Reads, Given, gives, in_words, Either, either, Spelled, After, Made, after, makes, Always}
 use Rattle.csi_records.proofs.FieldReaders.{flag_reads, capability_reads, number_bytes, number_reads, status_reads, kind_reads, count_reads, word_reads, text_reads, IsCount, one_byte}
 
@@ -116,23 +117,23 @@ counted_reads Fits spell most one =
 
 -- ---- holdings and targets
 
-abbrev SaysHolding : NodeHolding → List ℕ → Type 0
-SaysHolding = After IsNodeId spelling.text (λ node. After IsCapability spelling.capability (λ capability. Made Always spelling.flag (λ readonly. record { node = node; capability = capability; readonly = readonly })))
+abbrev SaysHolding : Version → NodeHolding → List ℕ → Type 0
+SaysHolding version = After IsNodeId spelling.text (λ node. After (IsCapabilityIn version) spelling.capability (λ capability. Made Always spelling.flag (λ readonly. record { node = node; capability = capability; readonly = readonly })))
 
 -- a node id, a capability and a flag are the spelling of a holding
-holding-there : (value : NodeHolding) (bytes : List ℕ) → SaysHolding value bytes → Spelled IsHolding holding_bytes value bytes
-holding-there value bytes s =
+holding-there : (version : Version) (value : NodeHolding) (bytes : List ℕ) → SaysHolding version value bytes → Spelled (IsHolding version) holding_bytes value bytes
+holding-there version value bytes s =
     let s1 = s.second in
     let s2 = s1.second in
-    subst (λ (v : NodeHolding). Spelled IsHolding holding_bytes v bytes) (sym s2.same)
+    subst (λ (v : NodeHolding). Spelled (IsHolding version) holding_bytes v bytes) (sym s2.same)
     (record {
       fits = record { node = s.fits; capability = s1.fits };
       are = join3 bytes (spelling.text s.before) (spelling.capability s1.before) (spelling.flag s2.before) s.back s.parts (s1.parts ∙ ap (λ (t : List ℕ). spelling.capability s1.before ++ t) s2.are);
     })
 
 -- the spelling of a holding is a node id, a capability and a flag
-holding-back : (value : NodeHolding) (bytes : List ℕ) → Spelled IsHolding holding_bytes value bytes → SaysHolding value bytes
-holding-back value bytes s =
+holding-back : (version : Version) (value : NodeHolding) (bytes : List ℕ) → Spelled (IsHolding version) holding_bytes value bytes → SaysHolding version value bytes
+holding-back version value bytes s =
     record {
       before = value.node;
       fits = s.fits.node;
@@ -148,11 +149,11 @@ holding-back value bytes s =
     }
 
 -- the reader of a holding reads what spells one
-pub holding_reads : Reads holding_in (Spelled IsHolding holding_bytes)
+pub holding_reads : (version : Version) → Reads (holding_in version) (Spelled (IsHolding version) holding_bytes)
 unfolding holding_in
-holding_reads =
-    in_words (Spelled IsHolding holding_bytes) holding-there holding-back
-    (after (text_reads 1 255) (λ node. after capability_reads (λ capability. makes (λ readonly. record { node = node; capability = capability; readonly = readonly }) flag_reads)))
+holding_reads version =
+    in_words (Spelled (IsHolding version) holding_bytes) (holding-there version) (holding-back version)
+    (after (text_reads 1 255) (λ node. after (capability_reads version) (λ capability. makes (λ readonly. record { node = node; capability = capability; readonly = readonly }) flag_reads)))
 
 abbrev SaysTarget : NodeTarget → List ℕ → Type 0
 SaysTarget = After IsTarget spelling.text (λ target. Made Always spelling.flag (λ readonly. record { target = target; readonly = readonly }))
@@ -283,24 +284,24 @@ kept_reads =
 -- ---- how a volume is staged
 
 -- what stands behind the flag that says whether a volume is staged, by the flag
-abbrev WasStaged : Bool → Option Capability → List ℕ → Type 0
-WasStaged b = Either b (Made IsCapability spelling.capability (λ c. Some c)) (Given None)
+abbrev WasStaged : Version → Bool → Option Capability → List ℕ → Type 0
+WasStaged version b = Either b (Made (IsCapabilityIn version) spelling.capability (λ c. Some c)) (Given None)
 
 -- a flag and what it asks for behind it are the spelling of how a volume is staged
-staged-by : (b : Bool) (value : Option Capability) (bytes back : List ℕ) → bytes ≡ spelling.flag b ++ back → WasStaged b value back → Spelled IsStagedSo staged_bytes value bytes
-staged-by true value bytes back parts s =
-    subst (λ (v : Option Capability). Spelled IsStagedSo staged_bytes v bytes) (sym s.same) (record { fits = s.fits; are = parts ∙ ap (λ (t : List ℕ). 1 ∷ t) s.are })
-staged-by false value bytes back parts s =
-    subst (λ (v : Option Capability). Spelled IsStagedSo staged_bytes v bytes) (sym s.same) (record { fits = tt; are = parts ∙ ap (λ (t : List ℕ). 0 ∷ t) s.none })
+staged-by : (version : Version) (b : Bool) (value : Option Capability) (bytes back : List ℕ) → bytes ≡ spelling.flag b ++ back → WasStaged version b value back → Spelled (IsStagedSo version) staged_bytes value bytes
+staged-by version true value bytes back parts s =
+    subst (λ (v : Option Capability). Spelled (IsStagedSo version) staged_bytes v bytes) (sym s.same) (record { fits = s.fits; are = parts ∙ ap (λ (t : List ℕ). 1 ∷ t) s.are })
+staged-by version false value bytes back parts s =
+    subst (λ (v : Option Capability). Spelled (IsStagedSo version) staged_bytes v bytes) (sym s.same) (record { fits = tt; are = parts ∙ ap (λ (t : List ℕ). 0 ∷ t) s.none })
 
 -- the spelling of how a volume is staged is a flag and what the flag asks for
-staged-back : (value : Option Capability) (bytes : List ℕ) → Spelled IsStagedSo staged_bytes value bytes → After Always spelling.flag WasStaged value bytes
-staged-back None bytes s = record { before = false; fits = tt; back = []; parts = s.are; second = record { same = refl; none = refl } }
-staged-back (Some c) bytes s = record { before = true; fits = tt; back = spelling.capability c; parts = s.are; second = record { before = c; fits = s.fits; same = refl; are = refl } }
+staged-back : (version : Version) (value : Option Capability) (bytes : List ℕ) → Spelled (IsStagedSo version) staged_bytes value bytes → After Always spelling.flag (WasStaged version) value bytes
+staged-back version None bytes s = record { before = false; fits = tt; back = []; parts = s.are; second = record { same = refl; none = refl } }
+staged-back version (Some c) bytes s = record { before = true; fits = tt; back = spelling.capability c; parts = s.are; second = record { before = c; fits = s.fits; same = refl; are = refl } }
 
 -- the reader of how a volume is staged reads what spells it
-pub staged_reads : Reads staged_in (Spelled IsStagedSo staged_bytes)
+pub staged_reads : (version : Version) → Reads (staged_in version) (Spelled (IsStagedSo version) staged_bytes)
 unfolding staged_in
-staged_reads =
-    in_words (Spelled IsStagedSo staged_bytes) (λ value bytes s. staged-by s.before value bytes s.back s.parts s.second) staged-back
-    (after flag_reads (λ b. either b (makes (λ c. Some c) capability_reads) (gives None)))
+staged_reads version =
+    in_words (Spelled (IsStagedSo version) staged_bytes) (λ value bytes s. staged-by version s.before value bytes s.back s.parts s.second) (staged-back version)
+    (after flag_reads (λ b. either b (makes (λ c. Some c) (capability_reads version)) (gives None)))

@@ -10,33 +10,35 @@ use Rattle.csi_types.specs.declared.reply.Reply.{Reply}
 use Rattle.csi_types.specs.Fence.{Kept}
 use Rattle.csi_types.specs.Mode.{mode_number}
 use Rattle.csi_types.specs.Same.{kind_number}
-use Rattle.csi_types.specs.Limits.{IsAccess, IsCapability, IsReply}
+use Rattle.csi_types.specs.Limits.{IsAccess, IsReply}
 use Rattle.csi_frames.specs.Spelling as spelling
+use Rattle.csi_frames.specs.declared.version.Version.{Version}
+use Rattle.csi_frames.specs.Version.{version_number}
 use Rattle.csi_controller.specs.declared.row.NodeHolding.{NodeHolding}
 use Rattle.csi_node.specs.declared.row.NodeTarget.{NodeTarget}
 use Rattle.csi_node.specs.OneRow.{RowShown}
-use Rattle.csi_records.specs.Spelling.{version_byte, VolumeRow, state_byte, counted, holding_bytes, target_bytes, kept_bytes, staged_bytes, volume_bytes, answered_bytes}
-use Rattle.csi_records.specs.Records.{IsHolding, IsTargetRow, IsStagedSo, IsKept, IsVolumeRow, IsAnsweredRow}
+use Rattle.csi_records.specs.Spelling.{VolumeRow, state_byte, counted, holding_bytes, target_bytes, kept_bytes, staged_bytes, volume_bytes, answered_bytes}
+use Rattle.csi_records.specs.Records.{IsCapabilityIn, IsHolding, IsTargetRow, IsStagedSo, IsKept, IsVolumeRow, IsAnsweredRow}
 
 -- how long the spelling of each value is at most
 access-size : (a : Access) → IsAccess a → length (spelling.access a) ≤ 130
 access-size Block fits = omega arith
 access-size (Mount fs_type) fits = omega (arith, fits.no_longer)
 
-capability-size : (c : Capability) → IsCapability c → length (spelling.capability c) ≤ 131
-capability-size c fits = omega (arith, access-size c.access fits, length-append (spelling.access c.access) (mode_number c.mode ∷ []))
+capability-size : (version : Version) (c : Capability) → IsCapabilityIn version c → length (spelling.capability c) ≤ 131
+capability-size version c fits = omega (arith, access-size c.access fits.fits, length-append (spelling.access c.access) (mode_number c.mode ∷ []))
 
-capabilities-size : (cs : List Capability) → AllByRecursion IsCapability cs → length (flat_map spelling.capability cs) ≤ 131 * length cs
-capabilities-size [] fits = omega arith
-capabilities-size (c ∷ cs) fits = omega (arith, capability-size c (fits.0), capabilities-size cs (fits.1), length-append (spelling.capability c) (flat_map spelling.capability cs))
+capabilities-size : (version : Version) (cs : List Capability) → AllByRecursion (IsCapabilityIn version) cs → length (flat_map spelling.capability cs) ≤ 131 * length cs
+capabilities-size version [] fits = omega arith
+capabilities-size version (c ∷ cs) fits = omega (arith, capability-size version c (fits.0), capabilities-size version cs (fits.1), length-append (spelling.capability c) (flat_map spelling.capability cs))
 
-holding-size : (h : NodeHolding) → IsHolding h → length (holding_bytes h) ≤ 388
-holding-size h fits =
-    omega (arith, fits.node.no_longer, capability-size h.capability fits.capability, length-append (spelling.text h.node) (spelling.capability h.capability), length-append (spelling.text h.node ++ spelling.capability h.capability) (spelling.flag h.readonly))
+holding-size : (version : Version) (h : NodeHolding) → IsHolding version h → length (holding_bytes h) ≤ 388
+holding-size version h fits =
+    omega (arith, fits.node.no_longer, capability-size version h.capability fits.capability, length-append (spelling.text h.node) (spelling.capability h.capability), length-append (spelling.text h.node ++ spelling.capability h.capability) (spelling.flag h.readonly))
 
-holdings-size : (hs : List NodeHolding) → AllByRecursion IsHolding hs → length (flat_map holding_bytes hs) ≤ 388 * length hs
-holdings-size [] fits = omega arith
-holdings-size (h ∷ hs) fits = omega (arith, holding-size h (fits.0), holdings-size hs (fits.1), length-append (holding_bytes h) (flat_map holding_bytes hs))
+holdings-size : (version : Version) (hs : List NodeHolding) → AllByRecursion (IsHolding version) hs → length (flat_map holding_bytes hs) ≤ 388 * length hs
+holdings-size version [] fits = omega arith
+holdings-size version (h ∷ hs) fits = omega (arith, holding-size version h (fits.0), holdings-size version hs (fits.1), length-append (holding_bytes h) (flat_map holding_bytes hs))
 
 target-size : (t : NodeTarget) → IsTargetRow t → length (target_bytes t) ≤ 257
 target-size t fits = omega (arith, fits.no_longer, length-append (spelling.text t.target) (spelling.flag t.readonly))
@@ -57,9 +59,9 @@ kept-size k fits =
     let words : List ℕ = spelling.word k.number.session ++ spelling.word k.number.call in
     omega (arith, reply-size k.reply fits.reply, length-append words ((128 + kind_number k.kind) ∷ spelling.reply_fields k.reply), length-append (spelling.word k.number.session) (spelling.word k.number.call))
 
-staged-size : (s : Option Capability) → IsStagedSo s → length (staged_bytes s) ≤ 132
-staged-size None fits = omega arith
-staged-size (Some c) fits = omega (arith, capability-size c fits)
+staged-size : (version : Version) (s : Option Capability) → IsStagedSo version s → length (staged_bytes s) ≤ 132
+staged-size version None fits = omega arith
+staged-size version (Some c) fits = omega (arith, capability-size version c fits)
 
 -- the length of six pieces, and below of three, is the sum of theirs
 length6 : (a b c d e f : List ℕ) → length (a ++ b ++ c ++ d ++ e ++ f) ≡ length a + length b + length c + length d + length e + length f
@@ -73,26 +75,26 @@ small : (n a b c d e f : ℕ) → n ≡ a + b + c + d + e + f → a ≤ 200 → 
 small n a b c d e f is ha hb hc hd he hf = omega arith
 
 -- the value of a volume's part, and below of a node's row, is shorter than 2^32 bytes
-pub volume_size : (row : VolumeRow) → IsVolumeRow row → length (volume_bytes row) < 2 ^ 32
-volume_size row fits =
-    let a : List ℕ = version_byte ∷ state_byte row.volume.is_live ∷ [] in
+pub volume_size : (version : Version) (row : VolumeRow) → IsVolumeRow version row → length (volume_bytes version row) < 2 ^ 32
+volume_size version row fits =
+    let a : List ℕ = version_number version ∷ state_byte row.volume.is_live ∷ [] in
     let b : List ℕ = spelling.text row.volume.name in
     let c : List ℕ = spelling.word row.volume.capacity in
     let d : List ℕ = counted spelling.capability row.volume.capabilities in
     let e : List ℕ = counted holding_bytes row.holdings in
-    small (length (volume_bytes row)) (length a) (length b) (length c) (length d) (length e) (length (kept_bytes row.volume.kept)) (length6 a b c d e (kept_bytes row.volume.kept))
-    (omega arith) (omega (arith, fits.name.no_longer)) (omega arith) (omega (arith, fits.capabilities.0, capabilities-size row.volume.capabilities (fits.capabilities.1)))
-    (omega (arith, fits.count, holdings-size row.holdings fits.holdings)) (fewer (length (kept_bytes row.volume.kept)) (kept-size row.volume.kept fits.kept))
+    small (length (volume_bytes version row)) (length a) (length b) (length c) (length d) (length e) (length (kept_bytes row.volume.kept)) (length6 a b c d e (kept_bytes row.volume.kept))
+    (omega arith) (omega (arith, fits.name.no_longer)) (omega arith) (omega (arith, fits.capability_count, capabilities-size version row.volume.capabilities fits.capabilities))
+    (omega (arith, fits.count, holdings-size version row.holdings fits.holdings)) (fewer (length (kept_bytes row.volume.kept)) (kept-size row.volume.kept fits.kept))
   where
     fewer : (n : ℕ) → n ≤ 282 → n ≤ 300
     fewer n h = omega arith
 
-pub answered_size : (row : RowShown) → IsAnsweredRow row → length (answered_bytes row) < 2 ^ 32
-answered_size row fits =
-    let a : List ℕ = version_byte ∷ staged_bytes row.staged in
+pub answered_size : (version : Version) (row : RowShown) → IsAnsweredRow version row → length (answered_bytes version row) < 2 ^ 32
+answered_size version row fits =
+    let a : List ℕ = version_number version ∷ staged_bytes row.staged in
     let b : List ℕ = counted target_bytes row.targets in
-    small (length (answered_bytes row)) (length a) 0 0 0 (length b) (length (kept_bytes row.kept)) (ordered (length a) (length b) (length (kept_bytes row.kept)) (length3 a b (kept_bytes row.kept)))
-    (omega (arith, staged-size row.staged fits.staged)) (omega arith) (omega arith) (omega arith)
+    small (length (answered_bytes version row)) (length a) 0 0 0 (length b) (length (kept_bytes row.kept)) (ordered (length a) (length b) (length (kept_bytes row.kept)) (length3 a b (kept_bytes row.kept)))
+    (omega (arith, staged-size version row.staged fits.staged)) (omega arith) (omega arith) (omega arith)
     (omega (arith, fits.count, targets-size row.targets fits.targets)) (fewer (length (kept_bytes row.kept)) (kept-size row.kept fits.kept))
   where
     fewer : (n : ℕ) → n ≤ 282 → n ≤ 300

@@ -1,11 +1,19 @@
 -- What was written piece by piece.
-use Rattle.std.proofs.Common.{◌≡◌, ℕ, ◌+◌, ◌<◌, List, [], ◌∷◌, ◌++◌, length, take, map, get_or, sym, ap, subst, ◌∙◌, append_assoc}
+use Rattle.std.proofs.Common.{◌≡◌, ℕ, zero, suc, ◌+◌, ◌<◌, List, [], ◌∷◌, ◌++◌, length, take, map, get_or, Some, None, refl, sym, ap, subst, ◌∙◌, append_assoc, arith}
+use Rattle.std.specs.Prelude.{Option}
+use Rattle.std.specs.Global.{Vec}
+use Rattle.std.proofs.lemmas.Option.{same_Some}
+use Rattle.csi_lists.proofs.Options.{some_is_not_none}
 use Rattle.std.specs.List.{flat_map, AllByRecursion}
 use Rattle.std.proofs.lemmas.List.{append-nil, map-append, take_more}
 use Rattle.std.proofs.lemmas.List.Concat.{flat_map-append}
 use Rattle.csi_lists.proofs.Each.{each-append_one}
-use Rattle.csi_stores.specs.Part.{StoredPart}
+use Rattle.csi_stores.specs.declared.part.Part.{Part}
+use Rattle.csi_stores.specs.Part.{StoredPart, IsPart, Change, put_all, change_of, stored_in, all_stored_in}
 use Rattle.csi_records.specs.Spelling.{part_bytes}
+
+abbrev make_part : ℕ → List ℕ → StoredPart
+make_part key value = record { key = key; value = value }
 
 -- what was written in two, three or four pieces is what was there before, and then the pieces
 pub written2 : (old a new x y : List ℕ) → a ≡ old ++ x → new ≡ a ++ y → new ≡ old ++ (x ++ y)
@@ -17,7 +25,33 @@ written3 old a b new x y z p q r = written2 old b new (x ++ y) z (written2 old a
 pub written4 : (old a b c new x y z w : List ℕ) → a ≡ old ++ x → b ≡ a ++ y → c ≡ b ++ z → new ≡ c ++ w → new ≡ old ++ (x ++ y ++ z ++ w)
 written4 old a b c new x y z w p q r s = written2 old c new (x ++ y ++ z) w (written3 old a b c x y z p q r) s
 
--- ---- rows that are written one after another
+-- ---- parts, and rows, that are written one after another
+
+-- of parts within their limits, the one at a place is
+pub part_at : (parts : List Part) (i : ℕ) (part : Part) → AllByRecursion IsPart (all_stored_in parts) → i < length parts → part ≡ get_or parts i part → IsPart (stored_in part)
+part_at [] i part each inside is = absurd (omega arith)
+part_at (p ∷ ps) zero part each inside is = subst (λ (q : Part). IsPart (stored_in q)) (sym is) each.0
+part_at (p ∷ ps) (suc i) part each inside is = part_at ps i part each.1 (omega arith) is
+
+-- parts that are put in with their values are those values under their keys
+pub stored_put : (parts : List Part) (stored : List StoredPart) → map change_of parts ≡ put_all stored → all_stored_in parts ≡ stored
+stored_put [] [] e = refl
+stored_put [] (q ∷ qs) e = absurd cc
+stored_put (p ∷ ps) [] e = absurd cc
+stored_put (p ∷ ps) (q ∷ qs) e =
+    let one : change_of p ≡ record { key = q.key; value = Some q.value } = cc in
+    let rest : map change_of ps ≡ put_all qs = cc in
+    ap (λ (s : StoredPart). s ∷ all_stored_in ps) (one_stored p q one) ∙ ap (λ (ss : List StoredPart). q ∷ ss) (stored_put ps qs rest)
+  where
+    by : (key : ℕ) (value : Option (Vec ℕ)) (q : StoredPart) → change_of (record { key = key; value = value }) ≡ record { key = q.key; value = Some q.value } → stored_in (record { key = key; value = value }) ≡ q
+    by key None q same = absurd (some_is_not_none q.value (sym (ap (λ (c : Change). c.value) same)))
+    by key (Some bytes) q same =
+        let k : key ≡ q.key = ap (λ (c : Change). c.key) same in
+        let v : bytes.items ≡ q.value = same_Some bytes.items q.value (ap (λ (c : Change). c.value) same) in
+        ap (λ (n : ℕ). make_part n bytes.items) k ∙ ap (make_part q.key) v
+
+    one_stored : (p : Part) (q : StoredPart) → change_of p ≡ record { key = q.key; value = Some q.value } → stored_in p ≡ q
+    one_stored p q same = by p.key p.value q same
 
 -- the first items and the next one are one more of the first
 one_more : {X : Type 0} (xs : List X) (i : ℕ) (x : X) → i < length xs → x ≡ get_or xs i x → take (i + 1) xs ≡ take i xs ++ x ∷ []
@@ -27,15 +61,28 @@ one_more xs i x inside is = take_more xs i x inside ∙ ap (λ y. take i xs ++ y
 pub flat_map-push : {X : Type 0} (f : X → List ℕ) (xs : List X) (x : X) → flat_map f (xs ++ x ∷ []) ≡ flat_map f xs ++ f x
 flat_map-push f xs x = flat_map-append f xs (x ∷ []) ∙ ap (λ (t : List ℕ). flat_map f xs ++ t) (append-nil (f x))
 
--- where the parts of the first rows were written and the next row's part is, those of one row more were
-pub one_more_row : {X R : Type 0} (shown : X → R) (part : R → StoredPart) (rows : List X) (i : ℕ) (row : X) (old before after : List ℕ) → i < length rows → row ≡ get_or rows i row
-    → before ≡ old ++ flat_map part_bytes (map part (map shown (take i rows))) → after ≡ before ++ part_bytes (part (shown row)) → after ≡ old ++ flat_map part_bytes (map part (map shown (take (i + 1) rows)))
-one_more_row shown part rows i row old before after inside is so_far one =
+-- where the first parts were written and the next one is, one part more was
+pub one_more_part : {X : Type 0} (part : X → StoredPart) (parts : List X) (i : ℕ) (next : X) (old before after : List ℕ) → i < length parts → next ≡ get_or parts i next
+    → before ≡ old ++ flat_map part_bytes (map part (take i parts)) → after ≡ before ++ part_bytes (part next) → after ≡ old ++ flat_map part_bytes (map part (take (i + 1) parts))
+one_more_part part parts i next old before after inside is so_far one =
+    let parts_so_far = map part (take i parts) in
+    let more : map part (take (i + 1) parts) ≡ parts_so_far ++ part next ∷ [] = ap (map part) (one_more parts i next inside is) ∙ map-append part (take i parts) (next ∷ []) in
+    one ∙ ap (λ (t : List ℕ). t ++ part_bytes (part next)) so_far ∙ append_assoc old (flat_map part_bytes parts_so_far) (part_bytes (part next))
+    ∙ ap (λ (t : List ℕ). old ++ t) (sym (flat_map-push part_bytes parts_so_far (part next))) ∙ ap (λ ps. old ++ flat_map part_bytes ps) (sym more)
+
+-- where the parts of the first rows are put in and the next row's part is, those of one row more are
+pub one_more_put : {X R : Type 0} (shown : X → R) (part : R → StoredPart) (rows : List X) (i : ℕ) (row : X) (old before after : List Change) → i < length rows → row ≡ get_or rows i row
+    → before ≡ old ++ put_all (map part (map shown (take i rows))) → after ≡ before ++ put_all (part (shown row) ∷ []) → after ≡ old ++ put_all (map part (map shown (take (i + 1) rows)))
+one_more_put shown part rows i row old before after inside is so_far one =
     let rows_so_far = map part (map shown (take i rows)) in
-    let more : map part (map shown (take (i + 1) rows)) ≡ rows_so_far ++ part (shown row) ∷ [] =
+    let last : List StoredPart = part (shown row) ∷ [] in
+    let more : map part (map shown (take (i + 1) rows)) ≡ rows_so_far ++ last =
     ap (λ xs. map part (map shown xs)) (one_more rows i row inside is) ∙ ap (map part) (map-append shown (take i rows) (row ∷ [])) ∙ map-append part (map shown (take i rows)) (shown row ∷ []) in
-    one ∙ ap (λ (t : List ℕ). t ++ part_bytes (part (shown row))) so_far ∙ append_assoc old (flat_map part_bytes rows_so_far) (part_bytes (part (shown row)))
-    ∙ ap (λ (t : List ℕ). old ++ t) (sym (flat_map-push part_bytes rows_so_far (part (shown row)))) ∙ ap (λ ps. old ++ flat_map part_bytes ps) (sym more)
+    one ∙ ap (λ (cs : List Change). cs ++ put_all last) so_far ∙ append_assoc old (put_all rows_so_far) (put_all last)
+    ∙ ap (λ (cs : List Change). old ++ cs) (sym (map-append (λ (p : StoredPart). put_one p) rows_so_far last)) ∙ ap (λ ps. old ++ put_all ps) (sym more)
+  where
+    put_one : StoredPart → Change
+    put_one p = record { key = p.key; value = Some p.value }
 
 -- where the first rows are as they should be and the next is, one row more is so
 pub one_more_fit : {X R : Type 0} (shown : X → R) (P : R → Type 0) (rows : List X) (i : ℕ) (row : X) → i < length rows → row ≡ get_or rows i row → AllByRecursion P (map shown (take i rows)) → P (shown row)

@@ -1,30 +1,35 @@
 -- Laws of records: parts tell the record, and bytes are read in one way. This profile's own.
 use Rattle.std.specs.Prelude.{◌≡◌, ℕ, List, Option}
+use Rattle.csi_frames.specs.declared.version.Version.{Version}
 use Rattle.csi_stores.specs.Part.{StoredPart}
 use Rattle.csi_records.specs.Spelling.{record_bytes}
-use Rattle.csi_records.specs.Records.{Layout, AreParts, IsRecordOf, IsRefusedAt, controller_layout, node_layout}
+use Rattle.csi_records.specs.Records.{Layout, AreParts, IsRecordOf, IsInSome, IsRefusedAt, controller_layout, node_layout}
 use Rattle.csi_records.specs.Places.{IsBadAt}
 
--- equal parts mean equal records
-abbrev pub PartsTell : {H R : Type 0} → Layout H R → Type 0
-PartsTell {H} {R} layout =
-    (first other : H) (rows others : List R) (parts : List StoredPart) → AreParts layout first rows parts → AreParts layout other others parts → (first ≡ other) × (rows ≡ others)
+-- equal parts mean equal records of one version
+abbrev pub PartsTell : {H R : Type 0} → (Version → Layout H R) → Type 0
+PartsTell {H} {R} layouts =
+    (version another : Version) (first other : H) (rows others : List R) (parts : List StoredPart) → AreParts (layouts version) first rows parts → AreParts (layouts another) other others parts
+    → (version ≡ another) × (first ≡ other) × (rows ≡ others)
 
 -- the bytes of a record have no part that is refused; other bytes have one such place at most
-pub record HasOneReading (Is : List StoredPart → Type 0) (bytes : List ℕ) : Type 0 where
-  pub spelled : (parts : List StoredPart) (place : ℕ) → Is parts → bytes ≡ record_bytes parts → IsBadAt Is bytes place → ⊥
-  pub one_record : (parts others : List StoredPart) → Is parts → Is others → bytes ≡ record_bytes parts → bytes ≡ record_bytes others → parts ≡ others
+pub record HasOneReading (Is : Version → List StoredPart → Type 0) (bytes : List ℕ) : Type 0 where
+  pub spelled : (version : Version) (parts : List StoredPart) (place : ℕ) → Is version parts → bytes ≡ record_bytes version parts → IsBadAt Is bytes place → ⊥
+  pub one_record : (version another : Version) (parts others : List StoredPart) → Is version parts → Is another others → bytes ≡ record_bytes version parts → bytes ≡ record_bytes another others
+      → (version ≡ another) × (parts ≡ others)
   pub one_place : (a b : ℕ) → IsBadAt Is bytes a → IsBadAt Is bytes b → a ≡ b
 
--- a record has no part that is refused; other parts have one first such part at most
+-- a record, of whatever version, has no part that is refused; other parts have one first such part at most
 pub record HasOneRefusal (Is : List StoredPart → Type 0) (parts : List StoredPart) : Type 0 where
   pub none : (place : ℕ) → Is parts → IsRefusedAt Is parts place → ⊥
   pub one_place : (a b : ℕ) → IsRefusedAt Is parts a → IsRefusedAt Is parts b → a ≡ b
 
+-- the laws of the records of one plugin
+pub record LawsOf {H R : Type 0} (layouts : Version → Layout H R) : Type 0 where
+  pub parts : PartsTell layouts
+  pub refusals : (parts : List StoredPart) → HasOneRefusal (IsInSome (λ version. IsRecordOf (layouts version))) parts
+  pub bytes : (bytes : List ℕ) → HasOneReading (λ version. IsRecordOf (layouts version)) bytes
+
 pub record RecordLaws : Type 0 where
-  pub controller_parts : PartsTell controller_layout
-  pub node_parts : (wanted : Option (List ℕ)) → PartsTell (node_layout wanted)
-  pub controller_refusals : (parts : List StoredPart) → HasOneRefusal (IsRecordOf controller_layout) parts
-  pub node_refusals : (wanted : Option (List ℕ)) (parts : List StoredPart) → HasOneRefusal (IsRecordOf (node_layout wanted)) parts
-  pub controller_bytes : (bytes : List ℕ) → HasOneReading (IsRecordOf controller_layout) bytes
-  pub node_bytes : (wanted : Option (List ℕ)) (bytes : List ℕ) → HasOneReading (IsRecordOf (node_layout wanted)) bytes
+  pub controller : LawsOf controller_layout
+  pub node : (wanted : Option (List ℕ)) → LawsOf (λ version. node_layout version wanted)

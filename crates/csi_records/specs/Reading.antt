@@ -13,11 +13,13 @@ use Rattle.csi_frames.specs.declared.fields.Stop.{Stop}
 use Rattle.csi_frames.specs.Grammar.{any, at_most}
 use Rattle.csi_frames.specs.Kinds.{reply_kind_from}
 use Rattle.csi_frames.specs.Reading as frames
+use Rattle.csi_frames.specs.declared.version.Version.{Version}
+use Rattle.csi_frames.specs.Version.{version_number, version_from_number}
 use Rattle.csi_controller.specs.declared.row.NodeHolding.{NodeHolding}
 use Rattle.csi_node.specs.declared.row.NodeTarget.{NodeTarget}
 use Rattle.csi_node.specs.OneRow.{RowShown}
 use Rattle.csi_stores.specs.Part.{StoredPart}
-use Rattle.csi_records.specs.Spelling.{version, version_byte, VolumeRow}
+use Rattle.csi_records.specs.Spelling.{VolumeRow}
 
 -- a value and the bytes after it, if one stands there
 abbrev pub Reader : Type 0 → Type 0
@@ -68,8 +70,8 @@ text_in least most = as_in_frames (frames.text_at least most)
 unfoldable pub flag_in : Reader Bool
 flag_in = as_in_frames frames.flag_at
 
-unfoldable pub capability_in : Reader Capability
-capability_in = as_in_frames (frames.capability_at version)
+unfoldable pub capability_in : Version → Reader Capability
+capability_in version = as_in_frames (frames.capability_at version)
 
 unfoldable pub status_in : Reader Status
 status_in = as_in_frames frames.status_at
@@ -111,10 +113,10 @@ counted_in most read = do
   count ← count_in most
   items_in read count
 
-unfoldable pub holding_in : Reader NodeHolding
-holding_in = do
+unfoldable pub holding_in : Version → Reader NodeHolding
+holding_in version = do
   node ← text_in 1 255
-  capability ← capability_in
+  capability ← capability_in version
   readonly ← flag_in
   give (record { node = node; capability = capability; readonly = readonly })
 
@@ -143,28 +145,28 @@ kept_in = do
   reply ← reply_in
   give (record { number = number; kind = kind; reply = reply })
 
-unfoldable pub staged_in : Reader (Option Capability)
-staged_in = do
+unfoldable pub staged_in : Version → Reader (Option Capability)
+staged_in version = do
   is_staged ← flag_in
   if is_staged then (do
-    capability ← capability_in
+    capability ← capability_in version
     give (Some capability)) else give None
 
 -- ---- the values of parts, behind the version
 
-unfoldable pub volume_in : ℕ → Reader VolumeRow
-volume_in id = do
+unfoldable pub volume_in : Version → ℕ → Reader VolumeRow
+volume_in version id = do
   is_live ← code_in live_from
   name ← text_in 1 128
   capacity ← word_in
-  capabilities ← counted_in 8 capability_in
-  holdings ← counted_in 64 holding_in
+  capabilities ← counted_in 8 (capability_in version)
+  holdings ← counted_in 64 (holding_in version)
   kept ← kept_in
   give (record { volume = record { id = id; name = name; capacity = capacity; capabilities = capabilities; is_live = is_live; kept = kept }; holdings = holdings })
 
-unfoldable pub answered_in : ℕ → Reader RowShown
-answered_in id = do
-  staged ← staged_in
+unfoldable pub answered_in : Version → ℕ → Reader RowShown
+answered_in version id = do
+  staged ← staged_in version
   targets ← counted_in 16 target_in
   kept ← kept_in
   give (record { id = id; staged = staged; targets = targets; kept = kept })
@@ -202,24 +204,35 @@ part_in = do
   give (record { key = key; value = value })
 
 -- the version and the number of parts
-unfoldable pub record_head_in : Reader ℕ
+unfoldable pub record_head_in : Reader (Version × ℕ)
 record_head_in = do
-  there ← tag_in version_byte
-  long_in
+  version ← code_in version_from_number
+  count ← long_in
+  give (version, count)
 
--- ---- a whole value: the version, what stands behind it, and no byte more
+-- ---- a whole value: the version's byte, what stands behind it, and no byte more
 
 abbrev pub ended : {A : Type 0} → Option (A × List ℕ) → Option A
 ended (Some (value, [])) = Some value
 ended (Some (value, b ∷ bytes)) = None
 ended None = None
 
-unfoldable pub whole : {A : Type 0} → Reader A → List ℕ → Option A
-whole read bytes = ended (go_on (tag_in version_byte bytes) (λ _. read))
+unfoldable pub whole : {A : Type 0} → Version → Reader A → List ℕ → Option A
+whole version read bytes = ended (go_on (tag_in (version_number version) bytes) (λ _. read))
 
--- The values of parts under such keys are read as what spells them: what is read of bytes is within its limits and has that part,
--- and what is within its limits has such a key and is read of its part.
-pub record IsReadWhole {R : Type 0} (row_in : ℕ → Reader R) (IsKey : ℕ → Type 0) (IsRow : R → Type 0) (row_part : R → StoredPart) : Type 0 where
-  pub takes : (key : ℕ) (value : List ℕ) (row : R) → IsKey key → AreBytes value → whole (row_in key) value ≡ Some row → IsRow row × (row_part row ≡ record { key = key; value = value })
+-- The values of parts of this version, under such keys, are read as what spells them: what is read of bytes is within its limits and
+-- has that part, and what is within its limits has such a key and is read of its part.
+pub record IsReadWhole {R : Type 0} (version : Version) (row_in : ℕ → Reader R) (IsKey : ℕ → Type 0) (IsRow : R → Type 0) (row_part : R → StoredPart) : Type 0 where
+  pub takes : (key : ℕ) (value : List ℕ) (row : R) → IsKey key → AreBytes value → whole version (row_in key) value ≡ Some row → IsRow row × (row_part row ≡ record { key = key; value = value })
   pub has_key : (row : R) → IsRow row → IsKey (row_part row).key
-  pub again : (row : R) → IsRow row → whole (row_in (row_part row).key) (row_part row).value ≡ Some row
+  pub again : (row : R) → IsRow row → whole version (row_in (row_part row).key) (row_part row).value ≡ Some row
+
+-- ---- the version of parts: that of the byte with which the first value begins
+
+abbrev pub version_in_value : List ℕ → Option Version
+version_in_value [] = None
+version_in_value (b ∷ bytes) = version_from_number b
+
+abbrev pub version_in_parts : List StoredPart → Option Version
+version_in_parts [] = None
+version_in_parts (part ∷ parts) = version_in_value part.value

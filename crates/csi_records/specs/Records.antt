@@ -1,11 +1,13 @@
 -- Which parts are a record, and the first part that is refused. This profile's own.
-use Rattle.std.specs.Prelude.{◌≡◌, ◌⊎◌, ℕ, ◌≤◌, List, [], ◌∷◌, ◌++◌, length, map, Option, IfSome}
+use Rattle.std.specs.Prelude.{◌≡◌, ◌⊎◌, ℕ, ◌≤◌, true, List, [], ◌∷◌, ◌++◌, length, map, Option, IfSome}
 use Rattle.std.specs.List.{AllByRecursion}
 use Rattle.csi_types.specs.declared.capability.Capability.{Capability}
-use Rattle.csi_types.specs.Limits.{IsWord, IsNumber, IsCapability, IsCapabilityList, IsReply}
+use Rattle.csi_types.specs.Limits.{IsWord, IsNumber, IsCapability, IsReply}
 use Rattle.csi_types.specs.Text.{IsName, IsNodeId, IsTarget}
 use Rattle.csi_types.specs.VolumeId.{IsVolumeId}
 use Rattle.csi_types.specs.Fence.{Kept}
+use Rattle.csi_frames.specs.declared.version.Version.{Version}
+use Rattle.csi_frames.specs.Version.{has_mode}
 use Rattle.csi_controller.specs.declared.row.ControllerRow.{ControllerRow}
 use Rattle.csi_controller.specs.declared.row.NodeHolding.{NodeHolding}
 use Rattle.csi_controller.specs.Core.{IsSound}
@@ -17,32 +19,38 @@ use Rattle.csi_records.specs.Spelling.{VolumeRow, volume_row, controller_head, v
 
 -- ---- the limits of what stands in a part, each by itself
 
+-- a capability, in a mode that the version has
+pub record IsCapabilityIn (version : Version) (capability : Capability) : Type 0 where
+  pub fits : IsCapability capability
+  pub in_mode : has_mode version capability.mode ≡ true
+
 pub record IsKept (kept : Kept) : Type 0 where
   pub number : IsNumber kept.number
   pub reply : IsReply kept.reply
 
-pub record IsHolding (holding : NodeHolding) : Type 0 where
+pub record IsHolding (version : Version) (holding : NodeHolding) : Type 0 where
   pub node : IsNodeId holding.node
-  pub capability : IsCapability holding.capability
+  pub capability : IsCapabilityIn version holding.capability
 
-pub record IsVolumeRow (row : VolumeRow) : Type 0 where
+pub record IsVolumeRow (version : Version) (row : VolumeRow) : Type 0 where
   pub id : IsVolumeId row.volume.id
   pub name : IsName row.volume.name
   pub capacity : IsWord row.volume.capacity
-  pub capabilities : IsCapabilityList row.volume.capabilities
+  pub capability_count : length row.volume.capabilities ≤ 8
+  pub capabilities : AllByRecursion (IsCapabilityIn version) row.volume.capabilities
   pub count : length row.holdings ≤ 64
-  pub holdings : AllByRecursion IsHolding row.holdings
+  pub holdings : AllByRecursion (IsHolding version) row.holdings
   pub kept : IsKept row.volume.kept
 
-abbrev pub IsStagedSo : Option Capability → Type 0
-IsStagedSo staged = IfSome staged IsCapability
+abbrev pub IsStagedSo : Version → Option Capability → Type 0
+IsStagedSo version staged = IfSome staged (IsCapabilityIn version)
 
 abbrev pub IsTargetRow : NodeTarget → Type 0
 IsTargetRow target = IsTarget target.target
 
-pub record IsAnsweredRow (row : RowShown) : Type 0 where
+pub record IsAnsweredRow (version : Version) (row : RowShown) : Type 0 where
   pub id : IsVolumeId row.id
-  pub staged : IsStagedSo row.staged
+  pub staged : IsStagedSo version row.staged
   pub count : length row.targets ≤ 16
   pub targets : AllByRecursion IsTargetRow row.targets
   pub kept : IsKept row.kept
@@ -75,15 +83,33 @@ pub record IsRecordOf {H R : Type 0} (layout : Layout H R) (parts : List StoredP
 abbrev pub AreVolumeRows : ℕ → List VolumeRow → Type 0
 AreVolumeRows next_id shown = (rows : List ControllerRow) × (map volume_row rows ≡ shown) × IsSound next_id rows
 
-abbrev pub controller_layout : Layout ℕ VolumeRow
-controller_layout = record { head = controller_head; row = volume_part; is_head = IsWord; is_row = IsVolumeRow; are_rows = AreVolumeRows }
+abbrev pub controller_layout : Version → Layout ℕ VolumeRow
+controller_layout version = record { head = controller_head version; row = volume_part version; is_head = IsWord; is_row = IsVolumeRow version; are_rows = AreVolumeRows }
 
 -- a node's: its id, which may be asked for, and the rows of the volumes for which it answered a call, which keep a node's rules
 abbrev pub IsNodeHead : Option (List ℕ) → List ℕ → Type 0
 IsNodeHead wanted node = IsNodeId node × IfSome wanted (λ id. node ≡ id)
 
-abbrev pub node_layout : Option (List ℕ) → Layout (List ℕ) RowShown
-node_layout wanted = record { head = node_head; row = answered_part; is_head = IsNodeHead wanted; is_row = IsAnsweredRow; are_rows = λ node rows. IsNodeSound rows }
+abbrev pub node_layout : Version → Option (List ℕ) → Layout (List ℕ) RowShown
+node_layout version wanted =
+    record { head = node_head version; row = answered_part version; is_head = IsNodeHead wanted; is_row = IsAnsweredRow version; are_rows = λ node rows. IsNodeSound rows }
+
+-- ---- records of any version: all version bytes of one are alike, since all its parts are of one version
+
+-- these are the parts of a record, in some version
+pub record IsInSome (Is : Version → List StoredPart → Type 0) (parts : List StoredPart) : Type 0 where
+  pub version : Version
+  pub there : Is version parts
+
+-- these are the parts of a controller's record
+abbrev pub IsControllerRecord : List StoredPart → Type 0
+IsControllerRecord = IsInSome (λ version. IsRecordOf (controller_layout version))
+
+-- these are the parts of a node's record, of the node that may be asked for
+abbrev pub IsNodeRecord : Option (List ℕ) → List StoredPart → Type 0
+IsNodeRecord wanted = IsInSome (λ version. IsRecordOf (node_layout version wanted))
+
+-- ---- the first part that is refused
 
 -- nothing yet, or a record
 abbrev pub Begins : (List StoredPart → Type 0) → List StoredPart → Type 0

@@ -1,5 +1,5 @@
 -- The spelling of records: their parts, and the bytes of a whole record. Texts, capabilities, flags, ids and replies are spelled
--- as in frames. This profile's own.
+-- as in frames, and in each version alike; the version byte tells one from another. This profile's own.
 use Rattle.std.specs.Prelude.{ℕ, ◌+◌, Bool, if◌then◌else◌, List, [], ◌∷◌, ◌++◌, length, map, Option, Some, None}
 use Rattle.std.specs.List.{flat_map}
 use Rattle.byteorder.specs.Endian.{big_bytes}
@@ -19,12 +19,9 @@ use Rattle.csi_node.specs.declared.row.NodeTarget.{NodeTarget}
 use Rattle.csi_node.specs.OneRow.{RowShown}
 use Rattle.csi_stores.specs.Part.{StoredPart}
 
--- every value begins with its version
-abbrev pub version : Version
-version = One
-
-abbrev pub version_byte : ℕ
-version_byte = version_number version
+-- the version in which records are written; every value begins with the byte of its record's version
+abbrev pub present : Version
+present = One
 
 -- so many, and each in its spelling
 abbrev pub counted : {A : Type 0} → (A → List ℕ) → List A → List ℕ
@@ -45,8 +42,8 @@ pub record VolumeRow : Type 0 where
   pub volume : Volume
   pub holdings : List NodeHolding
 
-abbrev pub controller_head : ℕ → StoredPart
-controller_head next_id = record { key = 0; value = version_byte ∷ 0 ∷ word next_id }
+abbrev pub controller_head : Version → ℕ → StoredPart
+controller_head version next_id = record { key = 0; value = version_number version ∷ 0 ∷ word next_id }
 
 -- 1 where it is live, 2 where it was deleted
 abbrev pub state_byte : Bool → ℕ
@@ -55,16 +52,16 @@ state_byte is_live = if is_live then 1 else 2
 abbrev pub holding_bytes : NodeHolding → List ℕ
 holding_bytes holding = text holding.node ++ capability holding.capability ++ flag holding.readonly
 
-abbrev pub volume_bytes : VolumeRow → List ℕ
-volume_bytes row =
-    version_byte ∷ state_byte row.volume.is_live ∷ text row.volume.name ++ word row.volume.capacity ++ counted capability row.volume.capabilities
+abbrev pub volume_bytes : Version → VolumeRow → List ℕ
+volume_bytes version row =
+    version_number version ∷ state_byte row.volume.is_live ∷ text row.volume.name ++ word row.volume.capacity ++ counted capability row.volume.capabilities
     ++ counted holding_bytes row.holdings ++ kept_bytes row.volume.kept
 
-abbrev pub volume_part : VolumeRow → StoredPart
-volume_part row = record { key = row.volume.id; value = volume_bytes row }
+abbrev pub volume_part : Version → VolumeRow → StoredPart
+volume_part version row = record { key = row.volume.id; value = volume_bytes version row }
 
-abbrev pub controller_parts : ℕ → List VolumeRow → List StoredPart
-controller_parts next_id rows = controller_head next_id ∷ map volume_part rows
+abbrev pub controller_parts : Version → ℕ → List VolumeRow → List StoredPart
+controller_parts version next_id rows = controller_head version next_id ∷ map (volume_part version) rows
 
 -- a row as the controller has it
 abbrev pub volume_row : ControllerRow → VolumeRow
@@ -79,8 +76,8 @@ rows_of state = map (λ volume. record { volume = volume; holdings = map node_ho
 
 -- ---- the node's parts: a head with its id, and a row for each volume, under the volume's id
 
-abbrev pub node_head : List ℕ → StoredPart
-node_head node = record { key = 0; value = version_byte ∷ 1 ∷ text node }
+abbrev pub node_head : Version → List ℕ → StoredPart
+node_head version node = record { key = 0; value = version_number version ∷ 1 ∷ text node }
 
 -- 0, or 1 and how it is staged
 abbrev pub staged_bytes : Option Capability → List ℕ
@@ -90,14 +87,14 @@ staged_bytes (Some staged) = 1 ∷ capability staged
 abbrev pub target_bytes : NodeTarget → List ℕ
 target_bytes target = text target.target ++ flag target.readonly
 
-abbrev pub answered_bytes : RowShown → List ℕ
-answered_bytes row = version_byte ∷ staged_bytes row.staged ++ counted target_bytes row.targets ++ kept_bytes row.kept
+abbrev pub answered_bytes : Version → RowShown → List ℕ
+answered_bytes version row = version_number version ∷ staged_bytes row.staged ++ counted target_bytes row.targets ++ kept_bytes row.kept
 
-abbrev pub answered_part : RowShown → StoredPart
-answered_part row = record { key = row.id; value = answered_bytes row }
+abbrev pub answered_part : Version → RowShown → StoredPart
+answered_part version row = record { key = row.id; value = answered_bytes version row }
 
-abbrev pub node_parts : List ℕ → List RowShown → List StoredPart
-node_parts node rows = node_head node ∷ map answered_part rows
+abbrev pub node_parts : Version → List ℕ → List RowShown → List StoredPart
+node_parts version node rows = node_head version node ∷ map (answered_part version) rows
 
 -- ---- a whole record: the version, the number of parts, and of each part the key, the length of its value and the value
 
@@ -105,8 +102,8 @@ abbrev pub part_bytes : StoredPart → List ℕ
 part_bytes part = word part.key ++ big_bytes 4 (length part.value) ++ part.value
 
 -- what stands before so many parts
-abbrev pub record_head : ℕ → List ℕ
-record_head count = version_byte ∷ big_bytes 4 count
+abbrev pub record_head : Version → ℕ → List ℕ
+record_head version count = version_number version ∷ big_bytes 4 count
 
-abbrev pub record_bytes : List StoredPart → List ℕ
-record_bytes parts = record_head (length parts) ++ flat_map part_bytes parts
+abbrev pub record_bytes : Version → List StoredPart → List ℕ
+record_bytes version parts = record_head version (length parts) ++ flat_map part_bytes parts

@@ -1,6 +1,7 @@
 -- How far the rows of a record were read, one part after another: what the private functions that read answer.
 use Rattle.std.specs.Prelude.{◌≡◌, ◌≢◌, ◌⊎◌, ◌<◌, ◌≤◌, ◌^◌, ℕ, Bool, true, false, List, [], ◌∷◌, ◌++◌, length, map}
 use Rattle.std.specs.List.{flat_map, AllByRecursion}
+use Rattle.csi_frames.specs.declared.version.Version.{Version}
 use Rattle.csi_stores.specs.Part.{StoredPart, IsPart}
 use Rattle.csi_records.specs.Spelling.{part_bytes, record_head}
 
@@ -21,16 +22,16 @@ SplitStops count parts rest true = (length parts ≡ count) × (rest ≡ [])
 SplitStops count parts rest false =
     ((length parts ≡ count) × (rest ≢ [])) ⊎ ((length parts < count) × ((part : StoredPart) (more : List ℕ) → IsPart part → rest ≡ part_bytes part ++ more → ⊥))
 
--- how far bytes were read as parts
-pub record AreSplit (bytes : List ℕ) (parts : List StoredPart) (all : Bool) : Type 0 where
+-- how far bytes were read as parts, behind this version
+pub record AreSplit (version : Version) (bytes : List ℕ) (parts : List StoredPart) (all : Bool) : Type 0 where
   pub count : ℕ
   pub rest : List ℕ
   pub from : 1 ≤ count
   pub to : count < 2 ^ 32
   pub fit : AllByRecursion IsPart parts
-  pub are : bytes ≡ record_head count ++ (flat_map part_bytes parts ++ rest)
+  pub are : bytes ≡ record_head version count ++ (flat_map part_bytes parts ++ rest)
   pub stops : SplitStops count parts rest all
 
 -- no version and number of parts, from 1 on, stand in front of the bytes
 abbrev pub HasNoHead : List ℕ → Type 0
-HasNoHead bytes = (count : ℕ) (rest : List ℕ) → 1 ≤ count → count < 2 ^ 32 → bytes ≡ record_head count ++ rest → ⊥
+HasNoHead bytes = (version : Version) (count : ℕ) (rest : List ℕ) → 1 ≤ count → count < 2 ^ 32 → bytes ≡ record_head version count ++ rest → ⊥

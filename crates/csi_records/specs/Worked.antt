@@ -10,7 +10,7 @@ use Rattle.csi_types.specs.Replies.{call_frame}
 use Rattle.csi_controller.specs.State.{ControllerState, empty_controller}
 use Rattle.csi_controller.specs.Fenced.{after_frames}
 use Rattle.csi_stores.specs.Part.{StoredPart}
-use Rattle.csi_records.specs.Spelling.{controller_parts, rows_of, node_parts, record_bytes}
+use Rattle.csi_records.specs.Spelling.{present, controller_parts, rows_of, node_parts, record_bytes}
 
 -- no nodes, and volumes of at most 1,000 bytes
 abbrev pub no_nodes : Config
@@ -22,18 +22,18 @@ create = call_frame (record { session = 1; call = 1 }) Controller (CreateVolume 
 
 -- the parts of the record of a controller that knows this
 abbrev pub parts_of_state : ControllerState → List StoredPart
-parts_of_state state = controller_parts state.next_id (rows_of state)
+parts_of_state state = controller_parts present state.next_id (rows_of state)
 
 -- the record of a controller that made its first volume: 82 bytes
 pub record CreatedRow : Type 0 where
-  pub bytes : record_bytes (parts_of_state (after_frames no_nodes empty_controller (create ∷ [])))
+  pub bytes : record_bytes present (parts_of_state (after_frames no_nodes empty_controller (create ∷ [])))
       ≡ 1 ∷ 0 ∷ 0 ∷ 0 ∷ 2
       ∷ 0 ∷ 0 ∷ 0 ∷ 0 ∷ 0 ∷ 0 ∷ 0 ∷ 0 ∷ 0 ∷ 0 ∷ 0 ∷ 10 ∷ 1 ∷ 0 ∷ 0 ∷ 0 ∷ 0 ∷ 0 ∷ 0 ∷ 0 ∷ 0 ∷ 2
       ∷ 0 ∷ 0 ∷ 0 ∷ 0 ∷ 0 ∷ 0 ∷ 0 ∷ 1 ∷ 0 ∷ 0 ∷ 0 ∷ 43 ∷ 1 ∷ 1 ∷ 1 ∷ 118 ∷ 0 ∷ 0 ∷ 0 ∷ 0 ∷ 0 ∷ 0 ∷ 0 ∷ 10 ∷ 1 ∷ 0 ∷ 1 ∷ 0
       ∷ 0 ∷ 0 ∷ 0 ∷ 0 ∷ 0 ∷ 0 ∷ 0 ∷ 1 ∷ 0 ∷ 0 ∷ 0 ∷ 0 ∷ 0 ∷ 0 ∷ 0 ∷ 1 ∷ 129 ∷ 0 ∷ 0 ∷ 0 ∷ 0 ∷ 0 ∷ 0 ∷ 0 ∷ 0 ∷ 1 ∷ 0 ∷ []
-  pub count : length (record_bytes (parts_of_state (after_frames no_nodes empty_controller (create ∷ [])))) ≡ 82
+  pub count : length (record_bytes present (parts_of_state (after_frames no_nodes empty_controller (create ∷ [])))) ≡ 82
 
 -- a controller that answered nothing has its head alone, and so does a node
 pub record EmptyRow : Type 0 where
   pub controller : parts_of_state empty_controller ≡ record { key = 0; value = 1 ∷ 0 ∷ 0 ∷ 0 ∷ 0 ∷ 0 ∷ 0 ∷ 0 ∷ 0 ∷ 1 ∷ [] } ∷ []
-  pub node : node_parts (codes "n1") [] ≡ record { key = 0; value = 1 ∷ 1 ∷ 2 ∷ 110 ∷ 49 ∷ [] } ∷ []
+  pub node : node_parts present (codes "n1") [] ≡ record { key = 0; value = 1 ∷ 1 ∷ 2 ∷ 110 ∷ 49 ∷ [] } ∷ []

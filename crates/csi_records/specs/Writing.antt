@@ -1,5 +1,7 @@
--- What rows keep so that they can be written: the counts of their lists are bytes.
-use Rattle.std.specs.Prelude.{◌≤◌, length}
+-- What rows and parts keep so that they can be written: the counts of a row's lists are bytes, and so many parts have a number of 32 bits.
+use Rattle.std.specs.Prelude.{◌≤◌, ◌<◌, ◌^◌, List, length}
+use Rattle.std.specs.List.{AllByRecursion}
+use Rattle.csi_stores.specs.Part.{StoredPart, IsPart}
 use Rattle.csi_controller.specs.declared.row.ControllerRow.{ControllerRow}
 use Rattle.csi_node.specs.declared.row.NodeRow.{NodeRow}
 
@@ -8,3 +10,7 @@ AreHeldFew row = length row.holdings.items ≤ 64
 
 abbrev pub ArePublishedFew : NodeRow → Type 0
 ArePublishedFew row = length row.targets.items ≤ 16
+
+pub record CanBeWritten (parts : List StoredPart) : Type 0 where
+  pub each : AllByRecursion IsPart parts
+  pub few : length parts < 2 ^ 32

@@ -2,15 +2,15 @@
 ghost use Rattle.std.specs.Prelude.{◌≡◌, ◌≤◌, Some, None, IfOk, OnErr};
 ghost use Rattle.csi_types.specs.Lent.{lent_capability};
 ghost use Rattle.csi_frames.specs.Kinds.{reply_kind_from};
-ghost use Rattle.csi_records.specs.Spelling.{version_byte};
+ghost use Rattle.csi_frames.specs.Version.{version_from_number};
 ghost use Rattle.csi_records.specs.Reading.{byte_in, code_in, count_in, word_in, text_in, flag_in, capability_in, status_in, number_in, tag_in, live_from};
 
 use crate::fault::Stop;
 use csi_frames::{FaultKind, Fields, Version, capability_at, number_at, reply_kind, status_at};
 use csi_types::{CapabilityRef, Kind, Number, Status};
 
-/// The version of records.
-pub(crate) const VERSION: Version = Version::One;
+/// The version in which records are written.
+pub(crate) const PRESENT: Version = Version::One;
 
 // Any byte.
 #[tactic(auto, unfolding(crate::specs::Reading::byte_in))]
@@ -34,12 +34,14 @@ pub(crate) fn tag(fields: &mut Fields<'_>, n: u8) -> Result<(), Stop>
     if byte == n { Ok(()) } else { Err(Stop::Bad) }
 }
 
-/// The version byte.
-pub(crate) fn version(fields: &mut Fields<'_>) -> Result<(), Stop>
-    ensures read { IfOk result (λ u. tag_in version_byte fields.old.bytes.now ≡ Some (tt, fields.new.bytes.now)) }
-    ensures bad { OnErr result (tag_in version_byte fields.old.bytes.now ≡ None) }
+/// A version.
+#[tactic(auto, unfolding(crate::specs::Reading::code_in))]
+pub(crate) fn version(fields: &mut Fields<'_>) -> Result<Version, Stop>
+    ensures read { IfOk result (λ version. code_in version_from_number fields.old.bytes.now ≡ Some (version, fields.new.bytes.now)) }
+    ensures bad { OnErr result (code_in version_from_number fields.old.bytes.now ≡ None) }
 {
-    tag(fields, VERSION.number())
+    let byte = byte(fields)?;
+    Version::from_number(byte).ok_or(Stop::Bad)
 }
 
 /// A byte of at most `most`.
@@ -93,11 +95,14 @@ pub(crate) fn flag(fields: &mut Fields<'_>) -> Result<bool, Stop>
 
 /// A capability, in a mode that the version has.
 #[tactic(auto, unfolding(crate::specs::Reading::capability_in))]
-pub(crate) fn capability<'a>(fields: &mut Fields<'a>) -> Result<CapabilityRef<'a>, Stop>
-    ensures read { IfOk result (λ lent. capability_in fields.old.bytes.now ≡ Some (lent_capability lent, fields.new.bytes.now)) }
-    ensures bad { OnErr result (capability_in fields.old.bytes.now ≡ None) }
+pub(crate) fn capability<'a>(
+    fields: &mut Fields<'a>,
+    version: Version,
+) -> Result<CapabilityRef<'a>, Stop>
+    ensures read { IfOk result (λ lent. capability_in version fields.old.bytes.now ≡ Some (lent_capability lent, fields.new.bytes.now)) }
+    ensures bad { OnErr result (capability_in version fields.old.bytes.now ≡ None) }
 {
-    match capability_at(fields, VERSION) {
+    match capability_at(fields, version) {
         Ok(capability) => Ok(capability),
         Err(_) => Err(Stop::Bad),
     }

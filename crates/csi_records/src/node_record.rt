@@ -2,15 +2,16 @@
 ghost use Rattle.std.specs.Prelude.{◌≡◌, ◌↔◌, None, map, IfOk, IfSome, IsTrue};
 ghost use Rattle.std.specs.Option.{option_copied};
 ghost use Rattle.csi_node.specs.OneRow.{shown};
-ghost use Rattle.csi_stores.specs.Part.{all_stored_in};
-ghost use Rattle.csi_records.specs.Spelling.{node_parts};
-ghost use Rattle.csi_records.specs.Records.{node_layout, IsRecordOf};
-ghost use Rattle.csi_records.specs.Places.{RecordSpells, ReadsParts};
+ghost use Rattle.csi_stores.specs.Part.{all_stored_in, change_of, put_all};
+ghost use Rattle.csi_records.specs.Spelling.{present, node_parts};
+ghost use Rattle.csi_records.specs.Records.{node_layout, AreParts, IsRecordOf};
+ghost use Rattle.csi_records.specs.Places.{ReadsParts};
 
 use crate::answered::node_of;
 use crate::fault::{RecordStop, Stop};
-use crate::plugin_rows::{ReadRows, bytes_of, rows_of};
+use crate::plugin_rows::{ReadRows, parts_with, rows_of};
 use crate::row_values::node_head_value;
+use csi_frames::Version;
 use csi_node::{NodeRecord, RecordFault};
 use csi_stores::Part;
 use csi_types::{NoMemory, NodeId};
@@ -26,18 +27,19 @@ fn is_wanted(wanted: Option<&NodeId>, node: &NodeId) -> bool
     }
 }
 
-/// The node's record of these parts, of the node that is asked for, if one is; or the first of them that is refused.
+/// The node's record of these parts, in this version, of the node that is asked for, if one is; or the first of them that is refused.
 pub(crate) fn node_record(
     alloc: Global,
+    version: Version,
     wanted: Option<&NodeId>,
     parts: &[Part],
 ) -> Result<NodeRecord, RecordStop>
-    ensures { ReadsParts (IsRecordOf (node_layout (option_copied wanted.entry))) (λ made. node_parts made.id (map shown made.rows)) (all_stored_in parts.now) result }
+    ensures { ReadsParts (IsRecordOf (node_layout version (option_copied wanted.entry))) (λ made. node_parts version made.id (map shown made.rows)) (all_stored_in parts.now) result }
 {
     let [head, others @ ..] = parts else {
         return Err(RecordStop::BadRecord(0));
     };
-    let node = match node_of(alloc, head) {
+    let node = match node_of(alloc, version, head) {
         Ok(node) => node,
         Err(Stop::Bad) => return Err(RecordStop::BadRecord(0)),
         Err(Stop::NoMemory) => return Err(RecordStop::NoMemory),
@@ -45,7 +47,7 @@ pub(crate) fn node_record(
     if !is_wanted(wanted, &node) {
         return Err(RecordStop::BadRecord(0));
     }
-    let ReadRows { rows, all } = rows_of(alloc, others)?;
+    let ReadRows { rows, all } = rows_of(alloc, version, others)?;
     let place = rows.len() as u64 + 1;
     match NodeRecord::try_new(node, rows) {
         Ok(record) if all => Ok(record),
@@ -55,10 +57,11 @@ pub(crate) fn node_record(
     }
 }
 
-/// The bytes of a node's record.
-pub(crate) fn node_bytes(alloc: Global, kept: &NodeRecord) -> Result<Vec<u8>, NoMemory>
-    ensures { IfOk result (λ bytes. RecordSpells (node_layout None) kept.now.id (map shown kept.now.rows) bytes.items) }
+/// The parts of a node's record.
+pub(crate) fn node_parts(alloc: Global, kept: &NodeRecord) -> Result<Vec<Part>, NoMemory>
+    ensures changes { IfOk result (λ parts. map change_of parts.items ≡ put_all (node_parts present kept.now.id (map shown kept.now.rows))) }
+    ensures parts { IfOk result (λ parts. AreParts (node_layout present None) kept.now.id (map shown kept.now.rows) (node_parts present kept.now.id (map shown kept.now.rows))) }
 {
     let head = node_head_value(alloc, kept.id())?;
-    bytes_of(alloc, &head, kept.rows())
+    parts_with(alloc, head, kept.rows())
 }

@@ -1,37 +1,66 @@
 //! Records of either plugin: as parts, as bytes, and back.
-ghost use Rattle.std.specs.Prelude.{◌≡◌, List, None, map, IfOk, length};
+ghost use Rattle.std.specs.Prelude.{◌≡◌, List, Some, None, map, IfOk};
+ghost use Rattle.csi_frames.specs.declared.version.Version.{Version};
+ghost use Rattle.std.specs.Option.{option_copied};
 ghost use Rattle.csi_node.specs.OneRow.{shown};
-ghost use Rattle.csi_stores.specs.Part.{StoredPart, all_stored_in};
-ghost use Rattle.csi_records.specs.Spelling.{controller_parts, node_parts, volume_row, record_bytes};
-ghost use Rattle.csi_records.specs.Records.{controller_layout, node_layout, IsRecordOf};
-ghost use Rattle.csi_records.specs.Places.{ReadsParts, ReadsBytes};
+ghost use Rattle.csi_stores.specs.Part.{StoredPart, all_stored_in, change_of, put_all};
+ghost use Rattle.csi_records.specs.Spelling.{present, node_parts, record_bytes};
+ghost use Rattle.csi_records.specs.Records.{node_layout, IsRecordOf};
+ghost use Rattle.csi_records.specs.Reading.{version_in_parts};
+ghost use Rattle.csi_records.specs.Places.{ReadsParts, ReadsStored, ReadsBytes};
+ghost use Rattle.csi_records.specs.Writing.{CanBeWritten};
 
-use crate::controller_record::{controller_bytes, controller_record};
+use crate::controller_record::{controller_parts, controller_record};
 use crate::fault::{RecordStop, Stop};
-use crate::node_record::{node_bytes, node_record};
+use crate::node_record::{node_parts, node_record};
 use crate::splitting::{SplitParts, split};
+use crate::stored::Stored;
+use crate::writing::bytes_of;
 use csi_controller::ControllerRecord;
+use csi_frames::Version;
 use csi_node::NodeRecord;
 use csi_stores::Part;
 use csi_types::{NoMemory, NodeId};
 use std::alloc::Global;
 
-/// A plugin's record, which is known by its parts. This profile's own.
+/// A plugin's record, which is known by its parts. It is read in any version, and written in the present one. This profile's own.
 pub trait Record: Drop {
-    /// These are the parts of such a record.
-    ghost is_record: { List StoredPart → Type 0 };
+    /// These are the parts of such a record, in this version.
+    ghost is_record: { Version → List StoredPart → Type 0 };
 
-    /// The record's parts, by rising key.
-    ghost parts_of: { Self → List StoredPart };
+    /// The record's parts in this version, by rising key.
+    ghost parts_of: { Version → Self → List StoredPart };
 
-    /// The record's bytes.
-    fn to_bytes(&self, alloc: Global) -> Result<Vec<u8>, NoMemory>
-        ensures bytes { IfOk result (λ bytes. bytes.items ≡ record_bytes (parts_of self.now)) }
-        ensures parts { IfOk result (λ bytes. is_record (parts_of self.now)) };
+    /// The record's parts in the present version, by rising key: what puts each of them into a store.
+    fn to_parts(&self, alloc: Global) -> Result<Vec<Part>, NoMemory>
+        ensures changes { IfOk result (λ parts. map change_of parts.items ≡ put_all (parts_of present self.now)) }
+        ensures stored { IfOk result (λ parts. all_stored_in parts.items ≡ parts_of present self.now) }
+        ensures parts { IfOk result (λ parts. is_record present (parts_of present self.now)) }
+        ensures writable { IfOk result (λ parts. CanBeWritten (parts_of present self.now)) };
 
-    /// The record of these parts, or the first of them that is refused.
-    fn of_parts(alloc: Global, parts: &[Part]) -> Result<Self, RecordStop>
-        ensures { ReadsParts is_record parts_of (all_stored_in parts.now) result };
+    /// The record of these parts in this version, or the first of them that is refused.
+    fn in_version(alloc: Global, version: Version, parts: &[Part]) -> Result<Self, RecordStop>
+        ensures { ReadsParts (is_record version) (parts_of version) (all_stored_in parts.now) result };
+
+    /// The record of these parts, and their version, which the head tells; or the first of them that is refused.
+    fn of_parts(alloc: Global, parts: &[Part]) -> Result<Stored<Self>, RecordStop>
+        ensures { ReadsStored is_record parts_of (all_stored_in parts.now) result };
+}
+
+// The version of the head.
+fn version_of(parts: &[Part]) -> Option<Version>
+    ensures { result ≡ version_in_parts (all_stored_in parts.now) }
+{
+    let [head, ..] = parts else {
+        return None;
+    };
+    let Some(value) = &head.value else {
+        return None;
+    };
+    let [byte, ..] = value.as_slice() else {
+        return None;
+    };
+    Version::from_number(*byte)
 }
 
 impl Record for ControllerRecord {
@@ -39,16 +68,30 @@ impl Record for ControllerRecord {
     ghost use Rattle.csi_records.specs.Spelling.{controller_parts, volume_row};
     ghost use Rattle.csi_records.specs.Records.{controller_layout, IsRecordOf};
 
-    ghost is_record = { IsRecordOf controller_layout };
+    ghost is_record = { λ version. IsRecordOf (controller_layout version) };
 
-    ghost parts_of = { λ kept. controller_parts kept.next_id (map volume_row kept.rows) };
+    ghost parts_of = { λ version kept. controller_parts version kept.next_id (map volume_row kept.rows) };
 
-    fn to_bytes(&self, alloc: Global) -> Result<Vec<u8>, NoMemory> {
-        controller_bytes(alloc, self)
+    fn to_parts(&self, alloc: Global) -> Result<Vec<Part>, NoMemory> {
+        controller_parts(alloc, self)
     }
 
-    fn of_parts(alloc: Global, parts: &[Part]) -> Result<ControllerRecord, RecordStop> {
-        controller_record(alloc, parts)
+    fn in_version(
+        alloc: Global,
+        version: Version,
+        parts: &[Part],
+    ) -> Result<ControllerRecord, RecordStop> {
+        controller_record(alloc, version, parts)
+    }
+
+    fn of_parts(alloc: Global, parts: &[Part]) -> Result<Stored<ControllerRecord>, RecordStop> {
+        let Some(version) = version_of(parts) else {
+            return Err(RecordStop::BadRecord(0));
+        };
+        match controller_record(alloc, version, parts) {
+            Ok(kept) => Ok(Stored { kept, version }),
+            Err(stop) => Err(stop),
+        }
     }
 }
 
@@ -58,49 +101,83 @@ impl Record for NodeRecord {
     ghost use Rattle.csi_records.specs.Spelling.{node_parts};
     ghost use Rattle.csi_records.specs.Records.{node_layout, IsRecordOf};
 
-    ghost is_record = { IsRecordOf (node_layout None) };
+    ghost is_record = { λ version. IsRecordOf (node_layout version None) };
 
-    ghost parts_of = { λ kept. node_parts kept.id (map shown kept.rows) };
+    ghost parts_of = { λ version kept. node_parts version kept.id (map shown kept.rows) };
 
-    fn to_bytes(&self, alloc: Global) -> Result<Vec<u8>, NoMemory> {
-        node_bytes(alloc, self)
+    fn to_parts(&self, alloc: Global) -> Result<Vec<Part>, NoMemory> {
+        node_parts(alloc, self)
     }
 
-    fn of_parts(alloc: Global, parts: &[Part]) -> Result<NodeRecord, RecordStop> {
-        node_record(alloc, None, parts)
+    fn in_version(
+        alloc: Global,
+        version: Version,
+        parts: &[Part],
+    ) -> Result<NodeRecord, RecordStop> {
+        node_record(alloc, version, None, parts)
+    }
+
+    fn of_parts(alloc: Global, parts: &[Part]) -> Result<Stored<NodeRecord>, RecordStop> {
+        node_of_parts(alloc, None, parts)
     }
 }
 
-/// The bytes of a whole record: a version, the number of parts, and of each part the key, the length of its value and the value
-/// (this profile's own). A refusal is one of memory.
-pub fn write_record<T: Record>(alloc: Global, kept: &T) -> Result<Vec<u8>, NoMemory>
-    ensures bytes { IfOk result (λ bytes. bytes.items ≡ record_bytes (T.parts_of kept.now)) }
-    ensures parts { IfOk result (λ bytes. T.is_record (T.parts_of kept.now)) }
+// The record of a node, of the one that is asked for, if one is, and the version of its parts.
+fn node_of_parts(
+    alloc: Global,
+    wanted: Option<&NodeId>,
+    parts: &[Part],
+) -> Result<Stored<NodeRecord>, RecordStop>
+    ensures { ReadsStored (λ version. IsRecordOf (node_layout version (option_copied wanted.entry))) (λ version kept. node_parts version kept.id (map shown kept.rows)) (all_stored_in parts.now) result }
 {
-    kept.to_bytes(alloc)
+    let Some(version) = version_of(parts) else {
+        return Err(RecordStop::BadRecord(0));
+    };
+    match node_record(alloc, version, wanted, parts) {
+        Ok(kept) => Ok(Stored { kept, version }),
+        Err(stop) => Err(stop),
+    }
 }
 
-/// The record whose bytes these are, all of them, or the place of the first part that is refused (this profile's own).
-pub fn read_record<T: Record>(alloc: Global, bytes: &[u8]) -> Result<T, RecordStop>
+/// The bytes of a whole record, in the present version: its byte, the number of parts, and of each part the key, the length of its
+/// value and the value (this profile's own). A refusal is one of memory.
+pub fn write_record<T: Record>(alloc: Global, kept: &T) -> Result<Vec<u8>, NoMemory>
+    ensures bytes { IfOk result (λ bytes. bytes.items ≡ record_bytes present (T.parts_of present kept.now)) }
+    ensures parts { IfOk result (λ bytes. T.is_record present (T.parts_of present kept.now)) }
+{
+    let parts = kept.to_parts(alloc)?;
+    bytes_of(alloc, &parts)
+}
+
+/// The record whose bytes these are, all of them, and their version; or the place of the first part that is refused (this profile's own).
+pub fn read_record<T: Record>(alloc: Global, bytes: &[u8]) -> Result<Stored<T>, RecordStop>
     ensures { ReadsBytes T.is_record T.parts_of bytes.now result }
 {
-    let SplitParts { parts, all } = match split(alloc, bytes) {
+    let SplitParts {
+        version,
+        parts,
+        all,
+    } = match split(alloc, bytes) {
         Ok(read) => read,
         Err(Stop::Bad) => return Err(RecordStop::BadRecord(0)),
         Err(Stop::NoMemory) => return Err(RecordStop::NoMemory),
     };
     let place = parts.len() as u64;
-    match T::of_parts(alloc, &parts) {
-        Ok(kept) if all => Ok(kept),
+    match T::in_version(alloc, version, &parts) {
+        Ok(kept) if all => Ok(Stored { kept, version }),
         Ok(_) => Err(RecordStop::BadRecord(place)),
         Err(stop) => Err(stop),
     }
 }
 
-/// The record of the node of this id whose parts these are, or the first of them that is refused: the head, where it is another
-/// node's (this profile's own).
-pub fn record_of_node(alloc: Global, id: &NodeId, parts: &[Part]) -> Result<NodeRecord, RecordStop>
-    ensures { ReadsParts (IsRecordOf (node_layout (Some id.now))) (λ kept. node_parts kept.id (map shown kept.rows)) (all_stored_in parts.now) result }
+/// The record of the node of this id whose parts these are, and their version; or the first of them that is refused: the head, where it
+/// is another node's (this profile's own).
+pub fn record_of_node(
+    alloc: Global,
+    id: &NodeId,
+    parts: &[Part],
+) -> Result<Stored<NodeRecord>, RecordStop>
+    ensures { ReadsStored (λ version. IsRecordOf (node_layout version (Some id.now))) (λ version kept. node_parts version kept.id (map shown kept.rows)) (all_stored_in parts.now) result }
 {
-    node_record(alloc, Some(id), parts)
+    node_of_parts(alloc, Some(id), parts)
 }

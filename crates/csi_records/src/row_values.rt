@@ -1,12 +1,12 @@
-//! The values of parts, written: of heads and of rows.
+//! The values of parts, written in the present version: of heads and of rows.
 ghost use Rattle.std.specs.Prelude.{◌≡◌, ◌<◌, ◌++◌, IfOk, OnOk};
 ghost use Rattle.csi_types.specs.Text.{IsNodeId};
 ghost use Rattle.csi_node.specs.OneRow.{shown};
-ghost use Rattle.csi_records.specs.Spelling.{volume_row, staged_bytes, volume_bytes, answered_bytes, controller_head, node_head};
+ghost use Rattle.csi_records.specs.Spelling.{present, volume_row, staged_bytes, volume_bytes, answered_bytes, controller_head, node_head};
 ghost use Rattle.csi_records.specs.Writing.{AreHeldFew, ArePublishedFew};
 ghost use Rattle.csi_records.specs.Records.{IsVolumeRow, IsStagedSo, IsAnsweredRow};
 
-use crate::fields::VERSION;
+use crate::fields::PRESENT;
 use crate::items::{Item, put_list};
 use crate::writing::put_kept;
 use csi_controller::ControllerRow;
@@ -17,7 +17,7 @@ use std::alloc::Global;
 
 fn put_staged(out: &mut Vec<u8>, from: &Option<Capability>) -> Result<(), NoMemory>
     ensures written { OnOk result (out.new.items ≡ out.old.items ++ staged_bytes from.now) }
-    ensures fits { OnOk result (IsStagedSo from.now) }
+    ensures fits { OnOk result (IsStagedSo present from.now) }
 {
     match from {
         None => append_byte(out, 0),
@@ -32,12 +32,12 @@ fn put_staged(out: &mut Vec<u8>, from: &Option<Capability>) -> Result<(), NoMemo
 /// capabilities, holdings, and the last call with its reply (this profile's own).
 pub fn volume_value(alloc: Global, row: &ControllerRow) -> Result<Vec<u8>, NoMemory>
     requires { AreHeldFew row.now }
-    ensures value { IfOk result (λ value. value.items ≡ volume_bytes (volume_row row.now)) }
-    ensures fits { IfOk result (λ value. IsVolumeRow (volume_row row.now)) }
+    ensures value { IfOk result (λ value. value.items ≡ volume_bytes present (volume_row row.now)) }
+    ensures fits { IfOk result (λ value. IsVolumeRow present (volume_row row.now)) }
 {
     let _id = row.id.number();
     let mut out = Vec::new(alloc);
-    append_byte(&mut out, VERSION.number())?;
+    append_byte(&mut out, PRESENT.number())?;
     append_byte(&mut out, if row.live { 1 } else { 2 })?;
     append_name(&mut out, &row.name)?;
     append_word(&mut out, row.capacity)?;
@@ -51,12 +51,12 @@ pub fn volume_value(alloc: Global, row: &ControllerRow) -> Result<Vec<u8>, NoMem
 /// was kept (this profile's own).
 pub fn answered_value(alloc: Global, row: &NodeRow) -> Result<Vec<u8>, NoMemory>
     requires { ArePublishedFew row.now }
-    ensures value { IfOk result (λ value. value.items ≡ answered_bytes (shown row.now)) }
-    ensures fits { IfOk result (λ value. IsAnsweredRow (shown row.now)) }
+    ensures value { IfOk result (λ value. value.items ≡ answered_bytes present (shown row.now)) }
+    ensures fits { IfOk result (λ value. IsAnsweredRow present (shown row.now)) }
 {
     let _id = row.id.number();
     let mut out = Vec::new(alloc);
-    append_byte(&mut out, VERSION.number())?;
+    append_byte(&mut out, PRESENT.number())?;
     put_staged(&mut out, &row.staged)?;
     put_list(&mut out, &row.targets)?;
     put_kept(&mut out, row.last, row.kind, &row.reply)?;
@@ -65,10 +65,10 @@ pub fn answered_value(alloc: Global, row: &NodeRow) -> Result<Vec<u8>, NoMemory>
 
 /// The value of the head of a controller's record: a version, the plugin and the next id (this profile's own).
 pub fn controller_head_value(alloc: Global, next_id: u64) -> Result<Vec<u8>, NoMemory>
-    ensures { IfOk result (λ value. value.items ≡ (controller_head next_id).value) }
+    ensures { IfOk result (λ value. value.items ≡ (controller_head present next_id).value) }
 {
     let mut out = Vec::new(alloc);
-    append_byte(&mut out, VERSION.number())?;
+    append_byte(&mut out, PRESENT.number())?;
     append_byte(&mut out, 0)?;
     append_word(&mut out, next_id)?;
     Ok(out)
@@ -76,11 +76,11 @@ pub fn controller_head_value(alloc: Global, next_id: u64) -> Result<Vec<u8>, NoM
 
 /// The value of the head of a node's record: a version, the plugin and the node's id (this profile's own).
 pub fn node_head_value(alloc: Global, node: &NodeId) -> Result<Vec<u8>, NoMemory>
-    ensures value { IfOk result (λ value. value.items ≡ (node_head node.now).value) }
+    ensures value { IfOk result (λ value. value.items ≡ (node_head present node.now).value) }
     ensures fits { IfOk result (λ value. IsNodeId node.now) }
 {
     let mut out = Vec::new(alloc);
-    append_byte(&mut out, VERSION.number())?;
+    append_byte(&mut out, PRESENT.number())?;
     append_byte(&mut out, 1)?;
     append_node_id(&mut out, node)?;
     Ok(out)

@@ -7,14 +7,15 @@ ghost use Rattle.csi_records.specs.Stopping.{AreSplit, HasNoHead};
 use crate::fault::Stop;
 use crate::fields::{version, word};
 use byteorder::{BigEndian, ByteOrder};
-use csi_frames::Fields;
+use csi_frames::{Fields, Version};
 use csi_stores::Part;
 use csi_types::NoMemory;
 use std::alloc::Global;
 
-/// The parts that bytes have, and whether the bytes are all of them.
+/// The version and the parts that bytes have, and whether the bytes are all of them.
 #[derive(Drop)]
 pub(crate) struct SplitParts {
+    pub version: Version,
     pub parts: Vec<Part>,
     pub all: bool,
 }
@@ -63,23 +64,24 @@ fn part(fields: &mut Fields<'_>, alloc: Global) -> Result<Part, Stop>
     })
 }
 
-// The number of parts, behind the version.
+// The version, and the number of parts.
 #[tactic(auto, unfolding(crate::specs::Reading::record_head_in))]
-fn count_of(fields: &mut Fields<'_>) -> Result<u32, Stop>
-    ensures read { IfOk result (λ count. record_head_in fields.old.bytes.now ≡ Some (count, fields.new.bytes.now)) }
+fn head_of(fields: &mut Fields<'_>) -> Result<(Version, u32), Stop>
+    ensures read { IfOk result (λ head. record_head_in fields.old.bytes.now ≡ Some (head, fields.new.bytes.now)) }
     ensures bad { OnErr result (record_head_in fields.old.bytes.now ≡ None) }
 {
-    version(fields)?;
-    long(fields)
+    let version = version(fields)?;
+    let count = long(fields)?;
+    Ok((version, count))
 }
 
 /// The parts of bytes, until one is none; `Bad` where no version and number of parts stand in front.
 pub(crate) fn split(alloc: Global, bytes: &[u8]) -> Result<SplitParts, Stop>
-    ensures split { IfOk result (λ split. AreSplit bytes.now (all_stored_in split.parts.items) split.all) }
+    ensures split { IfOk result (λ split. AreSplit split.version bytes.now (all_stored_in split.parts.items) split.all) }
     ensures bad { IsErrOf result Stop.Bad → HasNoHead bytes.now }
 {
     let mut fields = Fields { bytes };
-    let count = count_of(&mut fields)?;
+    let (version, count) = head_of(&mut fields)?;
     if count == 0 {
         return Err(Stop::Bad);
     }
@@ -87,11 +89,18 @@ pub(crate) fn split(alloc: Global, bytes: &[u8]) -> Result<SplitParts, Stop>
     for _ in 0..count {
         match part(&mut fields, alloc) {
             Ok(one) => parts.push(one)?,
-            Err(Stop::Bad) => return Ok(SplitParts { parts, all: false }),
+            Err(Stop::Bad) => {
+                return Ok(SplitParts {
+                    version,
+                    parts,
+                    all: false,
+                });
+            }
             Err(Stop::NoMemory) => return Err(Stop::NoMemory),
         }
     }
     Ok(SplitParts {
+        version,
         parts,
         all: fields.bytes.is_empty(),
     })

@@ -6,20 +6,24 @@ use crate::fault::Stop;
 use crate::fields::{flag, status, word};
 use crate::items::Item;
 use crate::texts::detail;
-use csi_frames::Fields;
+use csi_frames::{Fields, Version};
 use csi_types::{Capability, Reply, VolumeId};
 use std::alloc::Global;
 
 /// How a volume is staged, if it is.
 #[tactic(auto, unfolding(crate::specs::Reading::staged_in))]
-pub(crate) fn staged(fields: &mut Fields<'_>, alloc: Global) -> Result<Option<Capability>, Stop>
-    ensures read { IfOk result (λ staged. staged_in fields.old.bytes.now ≡ Some (staged, fields.new.bytes.now)) }
-    ensures bad { IsErrOf result Stop.Bad → staged_in fields.old.bytes.now ≡ None }
+pub(crate) fn staged(
+    fields: &mut Fields<'_>,
+    alloc: Global,
+    version: Version,
+) -> Result<Option<Capability>, Stop>
+    ensures read { IfOk result (λ staged. staged_in version fields.old.bytes.now ≡ Some (staged, fields.new.bytes.now)) }
+    ensures bad { IsErrOf result Stop.Bad → staged_in version fields.old.bytes.now ≡ None }
 {
     if !flag(fields)? {
         return Ok(None);
     }
-    let capability = Capability::read(fields, alloc)?;
+    let capability = Capability::read(fields, alloc, version)?;
     Ok(Some(capability))
 }
 

@@ -1,12 +1,17 @@
 //! What records have beside fields, written as bytes. Reading a value shows that it is within its limits.
-ghost use Rattle.std.specs.Prelude.{◌≡◌, ◌<◌, ◌++◌, ◌^◌, length, OnOk};
+ghost use Rattle.std.specs.Prelude.{◌≡◌, ◌<◌, ◌++◌, ◌^◌, length, IfOk, OnOk};
 ghost use Rattle.byteorder.specs.Endian.{big_bytes};
-ghost use Rattle.csi_records.specs.Spelling.{kept_bytes, part_bytes};
+ghost use Rattle.csi_stores.specs.Part.{IsPart, stored_in, all_stored_in};
+ghost use Rattle.csi_records.specs.Spelling.{present, kept_bytes, part_bytes, record_bytes};
 ghost use Rattle.csi_records.specs.Records.{IsKept};
+ghost use Rattle.csi_records.specs.Writing.{CanBeWritten};
 
+use crate::fields::PRESENT;
 use byteorder::{BigEndian, ByteOrder};
 use csi_frames::{append_byte, append_reply, append_word, reply_kind_number};
+use csi_stores::Part;
 use csi_types::{Kind, NoMemory, Number, Reply};
+use std::alloc::Global;
 
 // Bytes as they are.
 fn put(out: &mut Vec<u8>, bytes: &[u8]) -> Result<(), NoMemory>
@@ -16,8 +21,8 @@ fn put(out: &mut Vec<u8>, bytes: &[u8]) -> Result<(), NoMemory>
     Ok(())
 }
 
-/// A number in four bytes.
-pub(crate) fn put_count(out: &mut Vec<u8>, number: u32) -> Result<(), NoMemory>
+// A number in four bytes.
+fn put_count(out: &mut Vec<u8>, number: u32) -> Result<(), NoMemory>
     ensures { OnOk result (out.new.items ≡ out.old.items ++ big_bytes 4 number) }
 {
     let mut four = [0; 4];
@@ -41,12 +46,37 @@ pub(crate) fn put_kept(
     append_reply(out, reply)
 }
 
-/// A part of a whole record.
-pub(crate) fn put_part(out: &mut Vec<u8>, key: u64, value: &[u8]) -> Result<(), NoMemory>
+// The key and the value of a part of a whole record.
+fn put_value(out: &mut Vec<u8>, key: u64, value: &[u8]) -> Result<(), NoMemory>
     requires { length value.now < 2 ^ 32 }
     ensures { OnOk result (out.new.items ≡ out.old.items ++ part_bytes (record { key = key; value = value.now })) }
 {
     append_word(out, key)?;
     put_count(out, value.len() as u32)?;
     put(out, value)
+}
+
+// A part of a whole record.
+fn put_part(out: &mut Vec<u8>, part: &Part) -> Result<(), NoMemory>
+    requires { IsPart (stored_in part.now) }
+    ensures { OnOk result (out.new.items ≡ out.old.items ++ part_bytes (stored_in part.now)) }
+{
+    match &part.value {
+        Some(value) => put_value(out, part.key, value),
+        None => put_value(out, part.key, &[]),
+    }
+}
+
+/// The bytes of the record with these parts.
+pub(crate) fn bytes_of(alloc: Global, parts: &[Part]) -> Result<Vec<u8>, NoMemory>
+    requires { CanBeWritten (all_stored_in parts.now) }
+    ensures { IfOk result (λ bytes. bytes.items ≡ record_bytes present (all_stored_in parts.now)) }
+{
+    let mut out = Vec::new(alloc);
+    append_byte(&mut out, PRESENT.number())?;
+    put_count(&mut out, parts.len() as u32)?;
+    for part in parts {
+        put_part(&mut out, part)?;
+    }
+    Ok(out)
 }

@@ -6,6 +6,7 @@ mod files;
 mod flushes;
 mod growths;
 mod limited;
+mod older;
 mod pieces;
 mod playing;
 mod plugins;
@@ -34,18 +35,32 @@ const CREATE: &[u8] = &[
 
 // The record of a controller that carried it out.
 const RECORD: &[u8] = &[
+    2, 0, 0, 0, 2, 0, 0, 0, 0, 0, 0, 0, 0, 0, 0, 0, 10, 2, 0, 0, 0, 0, 0, 0, 0, 0, 2, 0, 0, 0, 0,
+    0, 0, 0, 1, 0, 0, 0, 43, 2, 1, 1, 118, 0, 0, 0, 0, 0, 0, 0, 10, 1, 0, 1, 0, 0, 0, 0, 0, 0, 0,
+    0, 1, 0, 0, 0, 0, 0, 0, 0, 1, 129, 0, 0, 0, 0, 0, 0, 0, 0, 1, 0,
+];
+
+// The same record in version 1.
+const OLD_RECORD: &[u8] = &[
     1, 0, 0, 0, 2, 0, 0, 0, 0, 0, 0, 0, 0, 0, 0, 0, 10, 1, 0, 0, 0, 0, 0, 0, 0, 0, 2, 0, 0, 0, 0,
     0, 0, 0, 1, 0, 0, 0, 43, 1, 1, 1, 118, 0, 0, 0, 0, 0, 0, 0, 10, 1, 0, 1, 0, 0, 0, 0, 0, 0, 0,
     0, 1, 0, 0, 0, 0, 0, 0, 0, 1, 129, 0, 0, 0, 0, 0, 0, 0, 0, 1, 0,
 ];
 
 // The heads of a new controller and of a new node `n1`.
-const CONTROLLER_HEAD: &[u8] = &[1, 0, 0, 0, 0, 0, 0, 0, 0, 1];
+const CONTROLLER_HEAD: &[u8] = &[2, 0, 0, 0, 0, 0, 0, 0, 0, 1];
 
-const NODE_HEAD: &[u8] = &[1, 1, 2, 110, 49];
+const NODE_HEAD: &[u8] = &[2, 1, 2, 110, 49];
 
 // The record of a node `n1` that staged volume 1 and published it at `/a`.
 const NODE_RECORD: &[u8] = &[
+    2, 0, 0, 0, 2, 0, 0, 0, 0, 0, 0, 0, 0, 0, 0, 0, 5, 2, 1, 2, 110, 49, 0, 0, 0, 0, 0, 0, 0, 1, 0,
+    0, 0, 36, 2, 1, 0, 1, 1, 2, 47, 97, 0, 0, 0, 0, 0, 0, 0, 0, 1, 0, 0, 0, 0, 0, 0, 0, 2, 135, 0,
+    0, 0, 0, 0, 0, 0, 0, 0, 0,
+];
+
+// The same record in version 1.
+const OLD_NODE_RECORD: &[u8] = &[
     1, 0, 0, 0, 2, 0, 0, 0, 0, 0, 0, 0, 0, 0, 0, 0, 5, 1, 1, 2, 110, 49, 0, 0, 0, 0, 0, 0, 0, 1, 0,
     0, 0, 36, 1, 1, 0, 1, 1, 2, 47, 97, 0, 0, 0, 0, 0, 0, 0, 0, 1, 0, 0, 0, 0, 0, 0, 0, 2, 135, 0,
     0, 0, 0, 0, 0, 0, 0, 0, 0,
@@ -118,14 +133,21 @@ fn write_record_succeeds_with_memory(rt: HostRuntime) {
     drop(bytes);
 }
 
+// Whether the bytes are read as a record that is written as these.
+fn is_written_as(rt: &(impl Abort + AllocGlobal), bytes: &[u8], wanted: &[u8]) -> bool {
+    let record: ControllerRecord = read_record(rt.alloc(), bytes).expect(rt, "a record");
+    let is_volume = record.next_id() == 2 && record.rows().len() == 1;
+    let bytes = written(rt, &record);
+    drop(record);
+    let is_written = bytes.as_slice() == wanted;
+    drop(bytes);
+    is_volume && is_written
+}
+
 #[test]
 fn a_record_is_read_as_it_was_written(rt: HostRuntime) {
-    let record: ControllerRecord = read_record(rt.alloc(), RECORD).expect(&rt, "a record");
-    assert!(&rt; record.next_id() == 2 && record.rows().len() == 1);
-    let bytes = written(&rt, &record);
-    drop(record);
-    assert!(&rt; bytes.as_slice() == RECORD);
-    drop(bytes);
+    assert!(&rt; is_written_as(&rt, RECORD, RECORD));
+    assert!(&rt; is_written_as(&rt, OLD_RECORD, RECORD));
 }
 
 // A record with one byte in place of another.
@@ -139,17 +161,21 @@ fn changed(rt: &(impl Abort + AllocGlobal), record: &[u8], at: usize, byte: u8) 
 
 // A byte that is changed, and the part that is refused for it.
 const CHANGES: &[(usize, u8, u64)] = &[
-    // the version, and the number of parts
-    (0, 2, 0),
+    // the version of all and of the head, and the number of parts
+    (0, 1, 0),
+    (0, 3, 0),
+    (17, 1, 0),
+    (17, 3, 0),
     (4, 3, 2),
     // a node's head, and a next id that is given already
     (18, 1, 0),
     (26, 1, 1),
-    // a row of version 2, neither live nor deleted, with capacity 0, in mode 6
-    (39, 2, 1),
+    // a row of another version, neither live nor deleted, with capacity 0, in mode 8
+    (39, 1, 1),
+    (39, 3, 1),
     (40, 3, 1),
     (50, 0, 1),
-    (53, 6, 1),
+    (53, 8, 1),
     // no name, one that is no UTF-8, no capability, 65 nodes, and a detail that isn't there
     (41, 0, 1),
     (42, 255, 1),
@@ -160,29 +186,49 @@ const CHANGES: &[(usize, u8, u64)] = &[
     (71, 0x85, 1),
 ];
 
-#[test]
-fn a_record_is_refused_at_its_first_bad_part(rt: HostRuntime) {
-    for (at, byte, place) in CHANGES {
-        let bytes = changed(&rt, RECORD, *at, *byte);
+// The same of a record of version 1: the versions, a volume in mode 6, and what is refused in both.
+const OLD_CHANGES: &[(usize, u8, u64)] = &[
+    (0, 2, 0),
+    (17, 2, 0),
+    (39, 2, 1),
+    (53, 6, 1),
+    (4, 3, 2),
+    (18, 1, 0),
+    (26, 1, 1),
+    (50, 0, 1),
+    (71, 0x85, 1),
+];
+
+// A record is refused for each of these changes.
+fn are_refused(rt: &(impl Abort + AllocGlobal), record: &[u8], changes: &[(usize, u8, u64)]) {
+    for (at, byte, place) in changes {
+        let bytes = changed(rt, record, *at, *byte);
         let refused = refused_at(rt.alloc(), bytes.as_slice());
         drop(bytes);
-        assert!(&rt; refused == Some(*place));
+        assert!(rt; refused == Some(*place), "{byte} at {at}");
     }
+}
+
+#[test]
+fn a_record_is_refused_at_its_first_bad_part(rt: HostRuntime) {
+    are_refused(&rt, RECORD, CHANGES);
+    are_refused(&rt, OLD_RECORD, OLD_CHANGES);
 }
 
 // A byte of a node's record that is changed, and the part that is refused for it.
 const NODE_CHANGES: &[(usize, u8, u64)] = &[
-    // the version, and the number of parts
-    (0, 2, 0),
+    // the version of all and of the head, and the number of parts
+    (0, 1, 0),
+    (17, 1, 0),
     (4, 3, 2),
     // a controller's head, an empty node id, and a key that is there already
     (18, 0, 0),
     (19, 0, 0),
     (29, 0, 1),
-    // a row of version 2, neither staged nor not, in mode 6, with no target of one, with a flag of 2
-    (34, 2, 1),
+    // a row of another version, neither staged nor not, in mode 8, with no target of one, with a flag of 2
+    (34, 1, 1),
     (35, 2, 1),
-    (37, 6, 1),
+    (37, 8, 1),
     (38, 0, 1),
     (42, 2, 1),
     // a reply of the controller's, with a status above 16, and with an id
@@ -199,6 +245,7 @@ const NODE_CHANGES: &[(usize, u8, u64)] = &[
 #[test]
 fn a_node_record_is_refused_at_its_first_bad_part(rt: HostRuntime) {
     assert!(&rt; node_refused_at(rt.alloc(), NODE_RECORD).is_none());
+    assert!(&rt; node_refused_at(rt.alloc(), OLD_NODE_RECORD).is_none());
     for (at, byte, place) in NODE_CHANGES {
         let bytes = changed(&rt, NODE_RECORD, *at, *byte);
         let refused = node_refused_at(rt.alloc(), bytes.as_slice());

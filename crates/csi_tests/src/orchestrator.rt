@@ -22,6 +22,11 @@ const WRITER: Mode = Mode::MultiNodeSingleWriter;
 
 const MANY: Mode = Mode::MultiNodeMultiWriter;
 
+// Modes for one node, at which one writes, or several do.
+const ONE_WRITER: Mode = Mode::SingleNodeSingleWriter;
+
+const TWO_WRITERS: Mode = Mode::SingleNodeMultiWriter;
+
 const OK: Status = Status::Ok;
 
 // A call that an orchestrator sends, as a test writes it: about volume 1, for a block device. `Create` is of at least 10

@@ -21,6 +21,11 @@ const WRITER: Mode = Mode::MultiNodeSingleWriter;
 
 const MANY: Mode = Mode::MultiNodeMultiWriter;
 
+// Modes for one node, at which one writes, or several do.
+const ONE_WRITER: Mode = Mode::SingleNodeSingleWriter;
+
+const TWO_WRITERS: Mode = Mode::SingleNodeMultiWriter;
+
 // What happens to the volume `v`, of at least 10 bytes and for a block device; node and target are told where they matter.
 #[derive(Clone, Copy)]
 enum Does {

@@ -4,7 +4,7 @@ use Rattle.std.specs.Prelude.{IsTrue, ◌==◌, ◌&&◌}
 use Rattle.std.specs.Cmp.Lexicographic.{bytes_decides}
 use Rattle.std.proofs.lemmas.Bool.{and_parts, and_from, eqb-true, eq-eqb, false≢true}
 use Rattle.csi_types.specs.declared.mode.Mode.{Mode}
-use Rattle.csi_types.specs.declared.mode.Mode.TheVariants.{SingleNodeWriter, SingleNodeReaderOnly, MultiNodeReaderOnly, MultiNodeSingleWriter, MultiNodeMultiWriter}
+use Rattle.csi_types.specs.declared.mode.Mode.TheVariants.{SingleNodeWriter, SingleNodeReaderOnly, MultiNodeReaderOnly, MultiNodeSingleWriter, MultiNodeMultiWriter, SingleNodeSingleWriter, SingleNodeMultiWriter}
 use Rattle.csi_types.specs.declared.capability.Access.{Access}
 use Rattle.csi_types.specs.declared.capability.Access.TheVariants.{Block, Mount}
 use Rattle.csi_types.specs.declared.capability.Capability.{Capability}
@@ -40,6 +40,8 @@ mode_number-then SingleNodeReaderOnly SingleNodeReaderOnly h = refl
 mode_number-then MultiNodeReaderOnly MultiNodeReaderOnly h = refl
 mode_number-then MultiNodeSingleWriter MultiNodeSingleWriter h = refl
 mode_number-then MultiNodeMultiWriter MultiNodeMultiWriter h = refl
+mode_number-then SingleNodeSingleWriter SingleNodeSingleWriter h = refl
+mode_number-then SingleNodeMultiWriter SingleNodeMultiWriter h = refl
 mode_number-then a b h = cc
 
 same_access-then : (a b : Access) → same_access a b ≡ true → a ≡ b

@@ -1,7 +1,7 @@
 -- Access modes by their numbers in CSI's spec.md, "CreateVolume". 0, UNKNOWN, is the number of no mode.
 use Rattle.std.specs.Prelude.{ℕ, zero, suc, Option, Some, None}
 use Rattle.csi_types.specs.declared.mode.Mode.{Mode}
-use Rattle.csi_types.specs.declared.mode.Mode.TheVariants.{SingleNodeWriter, SingleNodeReaderOnly, MultiNodeReaderOnly, MultiNodeSingleWriter, MultiNodeMultiWriter}
+use Rattle.csi_types.specs.declared.mode.Mode.TheVariants.{SingleNodeWriter, SingleNodeReaderOnly, MultiNodeReaderOnly, MultiNodeSingleWriter, MultiNodeMultiWriter, SingleNodeSingleWriter, SingleNodeMultiWriter}
 
 abbrev pub mode_number : Mode → ℕ
 mode_number SingleNodeWriter = 1
@@ -9,6 +9,8 @@ mode_number SingleNodeReaderOnly = 2
 mode_number MultiNodeReaderOnly = 3
 mode_number MultiNodeSingleWriter = 4
 mode_number MultiNodeMultiWriter = 5
+mode_number SingleNodeSingleWriter = 6
+mode_number SingleNodeMultiWriter = 7
 
 abbrev pub mode_from_number : ℕ → Option Mode
 mode_from_number zero = None
@@ -17,4 +19,6 @@ mode_from_number (suc (suc zero)) = Some SingleNodeReaderOnly
 mode_from_number (suc (suc (suc zero))) = Some MultiNodeReaderOnly
 mode_from_number (suc (suc (suc (suc zero)))) = Some MultiNodeSingleWriter
 mode_from_number (suc (suc (suc (suc (suc zero))))) = Some MultiNodeMultiWriter
-mode_from_number (suc (suc (suc (suc (suc (suc n)))))) = None
+mode_from_number (suc (suc (suc (suc (suc (suc zero)))))) = Some SingleNodeSingleWriter
+mode_from_number (suc (suc (suc (suc (suc (suc (suc zero))))))) = Some SingleNodeMultiWriter
+mode_from_number (suc (suc (suc (suc (suc (suc (suc (suc n)))))))) = None

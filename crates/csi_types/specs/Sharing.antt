@@ -2,7 +2,7 @@
 -- several targets. Of the definitions, a change of the modes touches these and `Mode`.
 use Rattle.std.specs.Prelude.{Bool, true, false, not, ◌&&◌, ◌||◌}
 use Rattle.csi_types.specs.declared.mode.Mode.{Mode}
-use Rattle.csi_types.specs.declared.mode.Mode.TheVariants.{SingleNodeWriter, SingleNodeReaderOnly, MultiNodeReaderOnly, MultiNodeSingleWriter, MultiNodeMultiWriter}
+use Rattle.csi_types.specs.declared.mode.Mode.TheVariants.{SingleNodeWriter, SingleNodeReaderOnly, MultiNodeReaderOnly, MultiNodeSingleWriter, MultiNodeMultiWriter, SingleNodeSingleWriter, SingleNodeMultiWriter}
 
 -- a volume in this mode is at one node at a time
 abbrev pub is_single_node : Mode → Bool
@@ -11,6 +11,8 @@ is_single_node SingleNodeReaderOnly = true
 is_single_node MultiNodeReaderOnly = false
 is_single_node MultiNodeSingleWriter = false
 is_single_node MultiNodeMultiWriter = false
+is_single_node SingleNodeSingleWriter = true
+is_single_node SingleNodeMultiWriter = true
 
 -- a volume in this mode may be at several nodes
 abbrev pub is_multi_node : Mode → Bool
@@ -23,6 +25,8 @@ is_single_writer SingleNodeReaderOnly = false
 is_single_writer MultiNodeReaderOnly = false
 is_single_writer MultiNodeSingleWriter = true
 is_single_writer MultiNodeMultiWriter = false
+is_single_writer SingleNodeSingleWriter = false
+is_single_writer SingleNodeMultiWriter = false
 
 -- the mode lets its holder write
 abbrev pub is_writer : Mode → Bool
@@ -31,6 +35,8 @@ is_writer SingleNodeReaderOnly = false
 is_writer MultiNodeReaderOnly = false
 is_writer MultiNodeSingleWriter = true
 is_writer MultiNodeMultiWriter = true
+is_writer SingleNodeSingleWriter = true
+is_writer SingleNodeMultiWriter = true
 
 -- a holder in this mode, published readonly or not, may write
 abbrev pub writes : Mode → Bool → Bool
@@ -48,3 +54,5 @@ allows_one_target SingleNodeReaderOnly = true
 allows_one_target MultiNodeReaderOnly = false
 allows_one_target MultiNodeSingleWriter = false
 allows_one_target MultiNodeMultiWriter = false
+allows_one_target SingleNodeSingleWriter = true
+allows_one_target SingleNodeMultiWriter = false

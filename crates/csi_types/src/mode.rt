@@ -16,6 +16,10 @@ pub enum Mode {
     MultiNodeSingleWriter = 4,
     /// Published at several nodes, all of which may write.
     MultiNodeMultiWriter = 5,
+    /// Published at one node and at one target there, for reading and writing.
+    SingleNodeSingleWriter = 6,
+    /// Published at one node and at several targets there, for reading and writing.
+    SingleNodeMultiWriter = 7,
 }
 
 impl Mode {
@@ -36,6 +40,8 @@ impl Mode {
             3 => Some(Mode::MultiNodeReaderOnly),
             4 => Some(Mode::MultiNodeSingleWriter),
             5 => Some(Mode::MultiNodeMultiWriter),
+            6 => Some(Mode::SingleNodeSingleWriter),
+            7 => Some(Mode::SingleNodeMultiWriter),
             _ => None,
         }
     }

@@ -10,7 +10,10 @@ pub fn single_node(mode: Mode) -> bool
     ensures { result ≡ is_single_node mode }
 {
     match mode {
-        Mode::SingleNodeWriter | Mode::SingleNodeReaderOnly => true,
+        Mode::SingleNodeWriter
+        | Mode::SingleNodeReaderOnly
+        | Mode::SingleNodeSingleWriter
+        | Mode::SingleNodeMultiWriter => true,
         Mode::MultiNodeReaderOnly | Mode::MultiNodeSingleWriter | Mode::MultiNodeMultiWriter => {
             false
         }
@@ -27,7 +30,9 @@ pub fn single_writer(mode: Mode) -> bool
         Mode::SingleNodeWriter
         | Mode::SingleNodeReaderOnly
         | Mode::MultiNodeReaderOnly
-        | Mode::MultiNodeMultiWriter => false,
+        | Mode::MultiNodeMultiWriter
+        | Mode::SingleNodeSingleWriter
+        | Mode::SingleNodeMultiWriter => false,
     }
 }
 
@@ -36,9 +41,11 @@ pub fn writes(mode: Mode, readonly: bool) -> bool
     ensures { result ≡ writes_in mode readonly }
 {
     match mode {
-        Mode::SingleNodeWriter | Mode::MultiNodeSingleWriter | Mode::MultiNodeMultiWriter => {
-            !readonly
-        }
+        Mode::SingleNodeWriter
+        | Mode::MultiNodeSingleWriter
+        | Mode::MultiNodeMultiWriter
+        | Mode::SingleNodeSingleWriter
+        | Mode::SingleNodeMultiWriter => !readonly,
         Mode::SingleNodeReaderOnly | Mode::MultiNodeReaderOnly => false,
     }
 }
@@ -49,10 +56,11 @@ pub fn allows_one_target(mode: Mode) -> bool
     ensures { result ≡ allows_one mode }
 {
     match mode {
-        Mode::SingleNodeReaderOnly | Mode::SingleNodeWriter => true,
-        Mode::MultiNodeMultiWriter | Mode::MultiNodeSingleWriter | Mode::MultiNodeReaderOnly => {
-            false
-        }
+        Mode::SingleNodeReaderOnly | Mode::SingleNodeWriter | Mode::SingleNodeSingleWriter => true,
+        Mode::MultiNodeMultiWriter
+        | Mode::MultiNodeSingleWriter
+        | Mode::MultiNodeReaderOnly
+        | Mode::SingleNodeMultiWriter => false,
     }
 }
 

@@ -127,6 +127,29 @@ const READERS_AND_A_WRITER: &str =
 const READERS_AND_A_WRITER_REPORT: &str =
     "{\"attached\":[{\"id\":1,\"mode\":4,\"node\":\"n1\",\"readonly\":false},{\"id\":1,\"mode\":4,\"node\":\"n2\",\"readonly\":true},{\"id\":1,\"mode\":4,\"node\":\"n3\",\"readonly\":true}],\"events\":[\"sent 1\",\"answered 2\",\"taken\",\"sent 3\",\"answered 4\",\"taken, sent 5\",\"answered 6\",\"taken, sent 7\",\"answered 8\",\"taken\",\"sent 9\",\"answered 10\",\"taken, sent 11\",\"answered 12\",\"taken, sent 13\",\"answered 14\",\"taken\",\"refused 8 WriterElsewhere\",\"sent 15\",\"answered 16\",\"taken, sent 17\",\"answered 18\",\"taken, sent 19\",\"answered 20\",\"taken\"],\"frames\":20,\"known\":[{\"known\":\"yes\",\"name\":\"v\",\"thing\":\"exists\"},{\"known\":\"yes\",\"name\":\"v\",\"node\":\"n1\",\"thing\":\"attached\"},{\"known\":\"yes\",\"name\":\"v\",\"node\":\"n1\",\"thing\":\"staged\"},{\"known\":\"yes\",\"name\":\"v\",\"node\":\"n1\",\"target\":\"/a\",\"thing\":\"published\"},{\"known\":\"yes\",\"name\":\"v\",\"node\":\"n2\",\"thing\":\"attached\"},{\"known\":\"yes\",\"name\":\"v\",\"node\":\"n2\",\"thing\":\"staged\"},{\"known\":\"yes\",\"name\":\"v\",\"node\":\"n2\",\"target\":\"/a\",\"thing\":\"published\"},{\"known\":\"yes\",\"name\":\"v\",\"node\":\"n3\",\"thing\":\"attached\"},{\"known\":\"yes\",\"name\":\"v\",\"node\":\"n3\",\"thing\":\"staged\"},{\"known\":\"yes\",\"name\":\"v\",\"node\":\"n3\",\"target\":\"/a\",\"thing\":\"published\"}],\"published\":[{\"id\":1,\"node\":\"n1\",\"readonly\":false,\"target\":\"/a\"},{\"id\":1,\"node\":\"n2\",\"readonly\":true,\"target\":\"/a\"},{\"id\":1,\"node\":\"n3\",\"readonly\":true,\"target\":\"/a\"}],\"safe\":true,\"session\":1,\"staged\":[{\"id\":1,\"mode\":4,\"node\":\"n1\"},{\"id\":1,\"mode\":4,\"node\":\"n2\"},{\"id\":1,\"mode\":4,\"node\":\"n3\"}],\"volumes\":[{\"capacity\":10,\"id\":1,\"name\":\"v\"}]}\n";
 
+const ONE_NODE_TWO_TARGETS: &str =
+    "{\"config\":{\"greatest\":1000,\"nodes\":[{\"id\":\"n1\",\"slots\":4},{\"id\":\"n2\",\"slots\":4}]},
+ \"events\":[
+  {\"create\":{\"capabilities\":[{\"access\":\"block\",\"mode\":7}],\"limit\":0,\"name\":\"v\",\"required\":10}},
+  {\"deliver\":1},
+  {\"deliver\":2},
+  {\"use\":{\"capability\":{\"access\":\"block\",\"mode\":7},\"name\":\"v\",\"node\":\"n1\",\"readonly\":false,\"target\":\"/a\"}},
+  {\"deliver\":3},
+  {\"deliver\":4},
+  {\"deliver\":5},
+  {\"deliver\":6},
+  {\"deliver\":7},
+  {\"deliver\":8},
+  {\"use\":{\"capability\":{\"access\":\"block\",\"mode\":7},\"name\":\"v\",\"node\":\"n1\",\"readonly\":false,\"target\":\"/b\"}},
+  {\"deliver\":9},
+  {\"deliver\":10},
+  {\"use\":{\"capability\":{\"access\":\"block\",\"mode\":7},\"name\":\"v\",\"node\":\"n2\",\"readonly\":false,\"target\":\"/a\"}}
+]}
+";
+
+const ONE_NODE_TWO_TARGETS_REPORT: &str =
+    "{\"attached\":[{\"id\":1,\"mode\":7,\"node\":\"n1\",\"readonly\":false}],\"events\":[\"sent 1\",\"answered 2\",\"taken\",\"sent 3\",\"answered 4\",\"taken, sent 5\",\"answered 6\",\"taken, sent 7\",\"answered 8\",\"taken\",\"sent 9\",\"answered 10\",\"taken\",\"refused 7 HeldElsewhere\"],\"frames\":10,\"known\":[{\"known\":\"yes\",\"name\":\"v\",\"thing\":\"exists\"},{\"known\":\"yes\",\"name\":\"v\",\"node\":\"n1\",\"thing\":\"attached\"},{\"known\":\"yes\",\"name\":\"v\",\"node\":\"n1\",\"thing\":\"staged\"},{\"known\":\"yes\",\"name\":\"v\",\"node\":\"n1\",\"target\":\"/a\",\"thing\":\"published\"},{\"known\":\"yes\",\"name\":\"v\",\"node\":\"n1\",\"target\":\"/b\",\"thing\":\"published\"}],\"published\":[{\"id\":1,\"node\":\"n1\",\"readonly\":false,\"target\":\"/a\"},{\"id\":1,\"node\":\"n1\",\"readonly\":false,\"target\":\"/b\"}],\"safe\":true,\"session\":1,\"staged\":[{\"id\":1,\"mode\":7,\"node\":\"n1\"}],\"volumes\":[{\"capacity\":10,\"id\":1,\"name\":\"v\"}]}\n";
+
 const REFUSALS: &str =
     "{\"config\":{\"greatest\":1000,\"nodes\":[{\"id\":\"n1\",\"slots\":4},{\"id\":\"n2\",\"slots\":4}]},
  \"events\":[
@@ -201,6 +224,18 @@ fn readers_and_a_writer_has_its_report(rt: HostRuntime) {
         &[Case::Runs(
             READERS_AND_A_WRITER,
             READERS_AND_A_WRITER_REPORT,
+            Ending::Done,
+        )],
+    );
+}
+
+#[test]
+fn one_node_two_targets_has_its_report(rt: HostRuntime) {
+    run_all(
+        &rt,
+        &[Case::Runs(
+            ONE_NODE_TWO_TARGETS,
+            ONE_NODE_TWO_TARGETS_REPORT,
             Ending::Done,
         )],
     );

@@ -1,7 +1,8 @@
 //! Files of frames, answered by a new controller.
 use super::running::run_all;
 use super::{
-    CONTROLLER_PUBLISH, CREATE, CREATED, Case, DAMAGED, DELETE, DELETED, NO_NODE, NODE_PUBLISH,
+    CONTROLLER_PUBLISH, CREATE, CREATE_SIX, CREATED, Case, DAMAGED, DELETE, DELETED, NO_NODE,
+    NODE_PUBLISH,
 };
 use csi_endings::Ending;
 use csi_frames::FaultKind;
@@ -11,6 +12,7 @@ const DONE: Ending = Ending::Done;
 const ANSWERED: &[Case] = &[
     Case::Answers(&[DELETE], &[DELETED], DONE),
     Case::Answers(&[CREATE], &[CREATED], DONE),
+    Case::Answers(&[CREATE_SIX], &[CREATED], DONE),
     Case::Answers(&[], &[], DONE),
 ];
 
@@ -44,6 +46,39 @@ const FAULTS: &[Case] = &[
         Ending::FrameFault(FaultKind::Short, 10),
     ),
     Case::Answers(&[MODE_6], &[], Ending::FrameFault(FaultKind::BadMode, 43)),
+    // in version 2: no mode of 6 or 7, mode 8, another kind, and no capability; and version 3
+    Case::Answers(
+        &[
+            "00000028 02 01 0000000000000001 0000000000000001 00 0176 000000000000000a 0000000000000000 01 00 01",
+        ],
+        &[],
+        Ending::FrameFault(FaultKind::BadMode, 43),
+    ),
+    Case::Answers(
+        &[
+            CREATE_SIX,
+            "00000028 02 01 0000000000000001 0000000000000001 00 0176 000000000000000a 0000000000000000 01 00 08",
+        ],
+        &[CREATED],
+        Ending::FrameFault(FaultKind::BadMode, 87),
+    ),
+    Case::Answers(
+        &["0000001b 02 02 0000000000000001 0000000000000002 00 0000000000000001"],
+        &[],
+        Ending::FrameFault(FaultKind::BadKind, 5),
+    ),
+    Case::Answers(
+        &[
+            "00000026 02 01 0000000000000001 0000000000000001 00 0176 000000000000000a 0000000000000000 00",
+        ],
+        &[],
+        Ending::FrameFault(FaultKind::BadCount, 41),
+    ),
+    Case::Answers(
+        &["0000001b 03 02 0000000000000001 0000000000000002 00 0000000000000001"],
+        &[],
+        Ending::FrameFault(FaultKind::BadVersion, 4),
+    ),
 ];
 
 #[test]

@@ -1,7 +1,7 @@
 //! Schedules that are run to their reports, and bytes that are no schedule.
 use super::running::{gives, run_all};
 use super::schedules::with_objects;
-use super::{CREATE, CREATED, Case};
+use super::{CREATE, CREATE_SIX, CREATED, Case};
 use csi_endings::{Ending, FileCommand, ScheduleCommand};
 use csi_schedules::{MAX_EVENTS, ScheduleFault};
 
@@ -13,6 +13,13 @@ const USED: &str =
 
 const USED_REPORT: &str =
     "{\"attached\":[{\"id\":1,\"mode\":1,\"node\":\"n1\",\"readonly\":false}],\"events\":[\"sent 1\",\"answered 2\",\"taken\",\"sent 3\",\"answered 4\",\"taken, sent 5\",\"answered 6\",\"taken, sent 7\",\"answered 8\",\"taken\"],\"frames\":8,\"known\":[{\"known\":\"yes\",\"name\":\"v\",\"thing\":\"exists\"},{\"known\":\"yes\",\"name\":\"v\",\"node\":\"n1\",\"thing\":\"attached\"},{\"known\":\"yes\",\"name\":\"v\",\"node\":\"n1\",\"thing\":\"staged\"},{\"known\":\"yes\",\"name\":\"v\",\"node\":\"n1\",\"target\":\"/a\",\"thing\":\"published\"}],\"published\":[{\"id\":1,\"node\":\"n1\",\"readonly\":false,\"target\":\"/a\"}],\"safe\":true,\"session\":1,\"staged\":[{\"id\":1,\"mode\":1,\"node\":\"n1\"}],\"volumes\":[{\"capacity\":10,\"id\":1,\"name\":\"v\"}]}\n";
+
+// The same in mode 6, and two uses that are refused: a second target, and another node.
+const ALONE: &str =
+    "{\"config\":{\"greatest\":1000,\"nodes\":[{\"id\":\"n1\",\"slots\":4},{\"id\":\"n2\",\"slots\":4}]},\"events\":[{\"create\":{\"capabilities\":[{\"access\":\"block\",\"mode\":6}],\"limit\":0,\"name\":\"v\",\"required\":10}},{\"deliver\":1},{\"deliver\":2},{\"use\":{\"capability\":{\"access\":\"block\",\"mode\":6},\"name\":\"v\",\"node\":\"n1\",\"readonly\":false,\"target\":\"/a\"}},{\"deliver\":3},{\"deliver\":4},{\"deliver\":5},{\"deliver\":6},{\"deliver\":7},{\"deliver\":8},{\"use\":{\"capability\":{\"access\":\"block\",\"mode\":6},\"name\":\"v\",\"node\":\"n1\",\"readonly\":false,\"target\":\"/b\"}},{\"use\":{\"capability\":{\"access\":\"block\",\"mode\":6},\"name\":\"v\",\"node\":\"n2\",\"readonly\":true,\"target\":\"/a\"}}]}";
+
+const ALONE_REPORT: &str =
+    "{\"attached\":[{\"id\":1,\"mode\":6,\"node\":\"n1\",\"readonly\":false}],\"events\":[\"sent 1\",\"answered 2\",\"taken\",\"sent 3\",\"answered 4\",\"taken, sent 5\",\"answered 6\",\"taken, sent 7\",\"answered 8\",\"taken\",\"refused 10 TargetTaken\",\"refused 7 HeldElsewhere\"],\"frames\":8,\"known\":[{\"known\":\"yes\",\"name\":\"v\",\"thing\":\"exists\"},{\"known\":\"yes\",\"name\":\"v\",\"node\":\"n1\",\"thing\":\"attached\"},{\"known\":\"yes\",\"name\":\"v\",\"node\":\"n1\",\"thing\":\"staged\"},{\"known\":\"yes\",\"name\":\"v\",\"node\":\"n1\",\"target\":\"/a\",\"thing\":\"published\"}],\"published\":[{\"id\":1,\"node\":\"n1\",\"readonly\":false,\"target\":\"/a\"}],\"safe\":true,\"session\":1,\"staged\":[{\"id\":1,\"mode\":6,\"node\":\"n1\"}],\"volumes\":[{\"capacity\":10,\"id\":1,\"name\":\"v\"}]}\n";
 
 const NO_FRAME: &str =
     "{\"config\":{\"greatest\":1000,\"nodes\":[]},\"events\":[{\"deliver\":99}]}";
@@ -34,6 +41,7 @@ const ESCAPED_REPORT: &str =
 
 const RUNS: &[Case] = &[
     Case::Runs(USED, USED_REPORT, DONE),
+    Case::Runs(ALONE, ALONE_REPORT, DONE),
     Case::Runs(NO_FRAME, NO_FRAME_REPORT, DONE),
     Case::Runs(NO_EVENT, NO_EVENT_REPORT, DONE),
     Case::Runs(ESCAPED, ESCAPED_REPORT, DONE),
@@ -48,8 +56,13 @@ fn a_schedule_is_run_to_its_report(rt: HostRuntime) {
 const ASKED: &str =
     "{\"config\":{\"greatest\":1000,\"nodes\":[]},\"events\":[{\"create\":{\"capabilities\":[{\"access\":\"block\",\"mode\":1}],\"limit\":0,\"name\":\"v\",\"required\":10}},{\"deliver\":1}]}";
 
+// The same in mode 6: the call is of version 2, and the reply of version 1.
+const ASKED_ALONE: &str =
+    "{\"config\":{\"greatest\":1000,\"nodes\":[]},\"events\":[{\"create\":{\"capabilities\":[{\"access\":\"block\",\"mode\":6}],\"limit\":0,\"name\":\"v\",\"required\":10}},{\"deliver\":1}]}";
+
 const SENT: &[Case] = &[
     Case::Sends(ASKED, &[CREATE, CREATED], DONE),
+    Case::Sends(ASKED_ALONE, &[CREATE_SIX, CREATED], DONE),
     Case::Sends(NO_EVENT, &[], DONE),
     Case::Sends("{", &[], Ending::ScheduleFault(ScheduleFault::NotJson)),
 ];

@@ -203,7 +203,13 @@ fn fault_of_objects(rt: &(impl Abort + AllocGlobal), count: usize) -> Fault {
 const MODES: &[(Text, Fault)] = &[
     (
         Text::Events(
-            "[{\"create\":{\"capabilities\":[{\"access\":\"block\",\"mode\":5}],\"limit\":0,\"name\":\"v\",\"required\":10}}]",
+            "[{\"create\":{\"capabilities\":[{\"access\":\"block\",\"mode\":5},{\"access\":\"block\",\"mode\":6}],\"limit\":0,\"name\":\"v\",\"required\":10}}]",
+        ),
+        NONE,
+    ),
+    (
+        Text::Events(
+            "[{\"use\":{\"capability\":{\"access\":\"mount\",\"fs\":\"ext4\",\"mode\":7},\"name\":\"v\",\"node\":\"n1\",\"readonly\":false,\"target\":\"/a\"}}]",
         ),
         NONE,
     ),
@@ -215,7 +221,7 @@ const MODES: &[(Text, Fault)] = &[
     ),
     (
         Text::Events(
-            "[{\"create\":{\"capabilities\":[{\"access\":\"block\",\"mode\":1},{\"access\":\"block\",\"mode\":6}],\"limit\":0,\"name\":\"v\",\"required\":10}}]",
+            "[{\"create\":{\"capabilities\":[{\"access\":\"block\",\"mode\":1},{\"access\":\"block\",\"mode\":8}],\"limit\":0,\"name\":\"v\",\"required\":10}}]",
         ),
         (2, 1),
     ),
@@ -227,14 +233,14 @@ const MODES: &[(Text, Fault)] = &[
     ),
     (
         Text::Events(
-            "[{\"delete\":\"v\"},{\"use\":{\"capability\":{\"access\":\"block\",\"mode\":6},\"name\":\"v\",\"node\":\"n1\",\"readonly\":false,\"target\":\"/a\"}}]",
+            "[{\"delete\":\"v\"},{\"use\":{\"capability\":{\"access\":\"block\",\"mode\":8},\"name\":\"v\",\"node\":\"n1\",\"readonly\":false,\"target\":\"/a\"}}]",
         ),
         (2, 2),
     ),
 ];
 
 #[test]
-fn modes_are_1_to_5(rt: HostRuntime) {
+fn modes_are_1_to_7(rt: HostRuntime) {
     all_judged(&rt, MODES);
 }
 

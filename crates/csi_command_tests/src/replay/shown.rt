@@ -1,6 +1,6 @@
 //! Files of frames, shown in lines.
 use super::running::run_all;
-use super::{CONTROLLER_PUBLISH, CREATE, Case, DAMAGED, DELETE, DELETED, NODE_PUBLISH};
+use super::{CONTROLLER_PUBLISH, CREATE, CREATE_SIX, Case, DAMAGED, DELETE, DELETED, NODE_PUBLISH};
 use csi_endings::Ending;
 use csi_frames::FaultKind;
 
@@ -15,6 +15,14 @@ const SHOWN: &[Case] = &[
     Case::Shows(
         &[CREATE],
         "0 1.1 controller CreateVolume \"v\" 10 0 block/1\n",
+        DONE,
+    ),
+    Case::Shows(
+        &[
+            CREATE_SIX,
+            "00000025 02 05 0000000000000001 0000000000000003 01 026e31 0000000000000001 01 0465787434 07",
+        ],
+        "0 1.1 controller CreateVolume \"v\" 10 0 block/6\n44 1.3 node:\"n1\" NodeStageVolume 1 mount:\"ext4\"/7\n",
         DONE,
     ),
     Case::Shows(&[], "", DONE),

@@ -1,6 +1,6 @@
 //! Calls that are drawn by a linear congruence, the same ones in every run.
 use super::plain::PlainRow;
-use super::{Ask, B1, B3, B4};
+use super::{Ask, B1, B3, B4, B6, B7};
 use csi_types::{Mode, Number};
 
 const B2: Mode = Mode::SingleNodeReaderOnly;
@@ -16,7 +16,7 @@ const NAMES: &[&str] = &[
 
 const NODE_IDS: &[&str] = &["n1", "n2", "n3", "n4", "n5", "n6", "n7", "n8"];
 
-const MODES: &[Mode] = &[B1, B2, B3, B4, B5];
+const MODES: &[Mode] = &[B1, B2, B3, B4, B5, B6, B7];
 
 const LISTS: &[&[Mode]] = &[
     &[],
@@ -29,7 +29,10 @@ const LISTS: &[&[Mode]] = &[
     &[B4, B5],
     &[B3, B4, B5],
     &[B2, B3, B5],
-    &[B1, B2, B3, B4, B5],
+    &[B6],
+    &[B7],
+    &[B5, B7],
+    &[B1, B2, B3, B4, B5, B6, B7],
 ];
 
 // What a volume is to have at least and at most.

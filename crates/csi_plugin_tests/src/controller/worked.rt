@@ -16,9 +16,31 @@ const ONE_NODE: &[Step] = &[
     (4, Ask::Publish(1, "n2", B3, false), AT_N1),
 ];
 
+// Two writers at one node are at one node still.
+const TWO_WRITERS: &[Step] = &[
+    (1, Ask::Create("v", 10, 0, &[B7]), FIRST),
+    (2, Ask::Publish(1, "n1", B7, false), DONE),
+    (3, Ask::Publish(1, "n2", B7, false), AT_N1),
+    (4, Ask::Publish(1, "n2", B7, true), AT_N1),
+];
+
+const ONE_WRITER_THERE: &[Step] = &[
+    (1, Ask::Create("v", 10, 0, &[B3, B6]), FIRST),
+    (2, Ask::Publish(1, "n1", B6, false), DONE),
+    (3, Ask::Publish(1, "n2", B6, true), AT_N1),
+    (4, Ask::Publish(1, "n2", B3, true), AT_N1),
+    (
+        5,
+        Ask::Publish(1, "n2", B7, false),
+        (Status::InvalidArgument, None, "capability"),
+    ),
+];
+
 #[test]
 fn one_node_at_a_time(rt: HostRuntime) {
-    plays(&rt, &[("n1", 4), ("n2", 4)], ONE_NODE);
+    for steps in [ONE_NODE, TWO_WRITERS, ONE_WRITER_THERE] {
+        plays(&rt, &[("n1", 4), ("n2", 4)], steps);
+    }
 }
 
 const ONE_WRITER: &[Step] = &[

@@ -231,3 +231,21 @@ fn a_damaged_worked_publish(rt: HostRuntime) {
     damage(&rt, &PUBLISH);
     damage(&rt, &NO_NODE);
 }
+
+#[test]
+fn a_damaged_create_of_version_2(rt: HostRuntime) {
+    damage(&rt, &CREATE_SIX);
+    damage(&rt, &CREATE_SEVEN_LAST);
+}
+
+#[test]
+fn a_damaged_create_with_a_later_mode_first(rt: HostRuntime) {
+    damage(&rt, &CREATE_SEVEN_FIRST);
+    damage(&rt, &ATTACH_SEVEN);
+}
+
+#[test]
+fn a_damaged_use_of_version_2(rt: HostRuntime) {
+    damage(&rt, &STAGE_SIX);
+    damage(&rt, &PUBLISH_SEVEN);
+}

@@ -1,6 +1,6 @@
 //! Frames that come in pieces, with memory to spare.
 use super::read;
-use super::spelled::{OF_CONTROLLER, OF_NODE, Vector, WORKED};
+use super::spelled::{OF_CONTROLLER, OF_NODE, OF_VERSION_2, Vector, WORKED};
 use super::vectors::{CREATE, DELETE, LONGER_DELETE};
 use csi_frames::{FaultKind, Splitter, encode};
 use csi_types::Frame;
@@ -100,7 +100,7 @@ fn comes_in_bytes(rt: &(impl Abort + AllocGlobal), bytes: &[u8], frame: &Frame) 
     has_waited && is_given
 }
 
-const VECTORS: &[&[Vector]] = &[WORKED, OF_CONTROLLER, OF_NODE];
+const VECTORS: &[&[Vector]] = &[WORKED, OF_CONTROLLER, OF_NODE, OF_VERSION_2];
 
 // A frame in any two pieces.
 fn come_in_two(rt: &(impl Abort + AllocGlobal), bytes: &[u8]) {
@@ -198,7 +198,7 @@ fn a_fault_stays(rt: HostRuntime) {
 #[test]
 fn what_is_judged_before_it_is_whole(rt: HostRuntime) {
     // a body of the wrong version, which isn't whole
-    let mut early = fed(&rt, &[&[0, 0, 0, 0x1b, 2, 9]]);
+    let mut early = fed(&rt, &[&[0, 0, 0, 0x1b, 3, 9]]);
     assert!(rt; waits(&mut early) && ends_short(&early, 6));
     drop(early);
     // a length of 1281, as soon as it is there

@@ -56,11 +56,14 @@ const CALLS: &[(u8, &[Field])] = &[
 
 const REPLY: &[Field] = &[Field::StatusAndId, Field::Text(0, 255)];
 
-// A body, and how far it was read. Places count from the frame's first byte, so the body begins at 4.
+// A body, how far it was read, whether it is of version 2, and whether a mode of that version alone is still to come. Places count
+// from the frame's first byte, so the body begins at 4.
 #[derive(Drop)]
 struct Reader<'a> {
     body: &'a [u8],
     at: usize,
+    is_later: bool,
+    is_owed: bool,
 }
 
 impl<'a> Reader<'a> {
@@ -116,20 +119,36 @@ impl<'a> Reader<'a> {
         }
     }
 
-    fn capability(&mut self) -> Result<(), Fault> {
-        if self.byte(1, 8)? == 1 {
-            self.text(0, 128)?;
-        }
+    // A mode, the last of its frame or not.
+    fn mode(&mut self, is_last: bool) -> Result<(), Fault> {
         let place = self.place();
-        match self.byte(5, 7)? {
-            0 => Err((7, place)),
-            _ => Ok(()),
+        let most = if self.is_later { 7 } else { 5 };
+        let mode = self.byte(most, 7)?;
+        if mode > 5 {
+            self.is_owed = false;
+        }
+        if mode == 0 || is_last && self.is_owed {
+            Err((7, place))
+        } else {
+            Ok(())
         }
     }
 
+    fn capability(&mut self, is_last: bool) -> Result<(), Fault> {
+        if self.byte(1, 8)? == 1 {
+            self.text(0, 128)?;
+        }
+        self.mode(is_last)
+    }
+
     fn capabilities(&mut self) -> Result<(), Fault> {
-        for _ in 0..self.byte(8, 12)? {
-            self.capability()?;
+        let place = self.place();
+        let count = self.byte(8, 12)?;
+        if count == 0 && self.is_later {
+            return Err((12, place));
+        }
+        for index in 1..=count {
+            self.capability(index == count)?;
         }
         Ok(())
     }
@@ -142,7 +161,7 @@ impl<'a> Reader<'a> {
                 Ok(())
             }
             Field::Id => self.id(true),
-            Field::Capability => self.capability(),
+            Field::Capability => self.capability(true),
             Field::Capabilities => self.capabilities(),
             Field::Flag => {
                 self.byte(1, 9)?;
@@ -155,13 +174,23 @@ impl<'a> Reader<'a> {
         }
     }
 
+    // The version.
+    fn version(&mut self) -> Result<(), Fault> {
+        match self.byte(2, 3)? {
+            0 => Err((3, 4)),
+            version => {
+                self.is_later = version == 2;
+                self.is_owed = version == 2;
+                Ok(())
+            }
+        }
+    }
+
     // Version, kind, session, call and party: the kind.
     fn head(&mut self) -> Result<u8, Fault> {
-        if self.byte(1, 3)? == 0 {
-            return Err((3, 4));
-        }
+        self.version()?;
         let kind = self.byte(255, 4)?;
-        if fields_of(kind).is_none() {
+        if fields_of(kind).is_none() || self.is_later && !has_capabilities(kind) {
             return Err((4, 5));
         }
         self.word()?;
@@ -176,6 +205,11 @@ impl<'a> Reader<'a> {
         }
         Ok(kind)
     }
+}
+
+// Whether it is a call with capabilities, the kinds that version 2 has.
+fn has_capabilities(kind: u8) -> bool {
+    matches!(kind, 1 | 3 | 5 | 7)
 }
 
 // The fields of a kind, if there is such a kind.
@@ -193,7 +227,12 @@ fn fields_of(kind: u8) -> Option<&'static [Field]> {
 
 // The fault of a body, if it has one.
 fn body_fault(body: &[u8]) -> Result<(), Fault> {
-    let mut reader = Reader { body, at: 0 };
+    let mut reader = Reader {
+        body,
+        at: 0,
+        is_later: false,
+        is_owed: false,
+    };
     let kind = reader.head()?;
     if let Some(fields) = fields_of(kind) {
         for field in fields {

@@ -49,6 +49,12 @@ const B1: Use = Use::Block(Mode::SingleNodeWriter);
 
 const M5: Use = Use::Mount("ext4", Mode::MultiNodeMultiWriter);
 
+const B6: Use = Use::Block(Mode::SingleNodeSingleWriter);
+
+const B7: Use = Use::Block(Mode::SingleNodeMultiWriter);
+
+const M7: Use = Use::Mount("ext4", Mode::SingleNodeMultiWriter);
+
 const OK: Told = (Status::Ok, None, "");
 
 const MADE: Told = (Status::Ok, Some(1), "");
@@ -184,6 +190,41 @@ pub(super) const OF_NODE: &[Vector] = &[
     ),
 ];
 
+/// Each kind that version 2 has; of a create, with a mode of that version alone, last and first.
+pub(super) const OF_VERSION_2: &[Vector] = &[
+    (
+        &CREATE_SIX,
+        1,
+        None,
+        Said::Asks(Ask::Create("v", 10, 0, &[B6])),
+    ),
+    (
+        &CREATE_SEVEN_LAST,
+        1,
+        None,
+        Said::Asks(Ask::Create("v", 10, 0, &[B1, M7])),
+    ),
+    (
+        &CREATE_SEVEN_FIRST,
+        1,
+        None,
+        Said::Asks(Ask::Create("v", 10, 0, &[B7, M5])),
+    ),
+    (
+        &ATTACH_SEVEN,
+        2,
+        None,
+        Said::Asks(Ask::Attach(1, "n1", B7, false)),
+    ),
+    (&STAGE_SIX, 3, N1, Said::Asks(Ask::Stage(1, B6))),
+    (
+        &PUBLISH_SEVEN,
+        4,
+        N1,
+        Said::Asks(Ask::Publish(1, "/a", B7, true)),
+    ),
+];
+
 fn capability(rt: &(impl Abort + AllocGlobal), used: Use) -> Capability {
     match used {
         Use::Block(mode) => block(mode),
@@ -302,7 +343,7 @@ fn is_spelled(rt: &(impl Abort + AllocGlobal), vector: Vector) -> bool {
 
 #[test]
 fn each_vector_spells_its_frame(rt: HostRuntime) {
-    for vectors in [WORKED, OF_CONTROLLER, OF_NODE] {
+    for vectors in [WORKED, OF_CONTROLLER, OF_NODE, OF_VERSION_2] {
         for vector in vectors {
             assert!(rt; is_spelled(&rt, *vector), "call {}", vector.1);
         }

@@ -28,9 +28,27 @@ fn node(rt: &(impl Abort + AllocGlobal)) -> Node {
     node
 }
 
-// Whether a mode is for one node.
-fn is_single(mode: Mode) -> bool {
-    mode == Mode::SingleNodeWriter || mode == Mode::SingleNodeReaderOnly
+// The modes for one node, and those of them in which a node has one target.
+const OF_ONE_NODE: &[Mode] = &[
+    Mode::SingleNodeWriter,
+    Mode::SingleNodeReaderOnly,
+    Mode::SingleNodeSingleWriter,
+    Mode::SingleNodeMultiWriter,
+];
+
+const OF_ONE_TARGET: &[Mode] = &[
+    Mode::SingleNodeWriter,
+    Mode::SingleNodeReaderOnly,
+    Mode::SingleNodeSingleWriter,
+];
+
+fn is_among(mode: Mode, modes: &[Mode]) -> bool {
+    for one in modes {
+        if *one == mode {
+            return true;
+        }
+    }
+    false
 }
 
 // Whether the capability is in the list.
@@ -50,7 +68,7 @@ fn are_held(row: &ControllerRow, holdings: &[NodeHolding]) -> bool {
         if !is_listed(row.capabilities.as_slice(), capability) {
             return false;
         }
-        if is_single(capability.mode) && holdings.len() > 1 {
+        if is_among(capability.mode, OF_ONE_NODE) && holdings.len() > 1 {
             return false;
         }
     }
@@ -87,7 +105,7 @@ fn are_paths(targets: &[NodeTarget]) -> bool {
 // Whether the row keeps the rules of a node.
 fn is_staged(row: &NodeRow) -> bool {
     let fits = match &row.staged {
-        Some(capability) => row.targets.len() <= 1 || !is_single(capability.mode),
+        Some(capability) => row.targets.len() <= 1 || !is_among(capability.mode, OF_ONE_TARGET),
         None => row.targets.is_empty(),
     };
     fits && are_paths(&row.targets)

@@ -48,9 +48,32 @@ const BY_MODE: &[Step] = &[
     (12, Ask::Unstage(1), Status::Ok, ""),
 ];
 
+// Modes for one node: two targets where several write there, and else one.
+const BY_WRITERS: &[Step] = &[
+    (1, Ask::Stage(1, TWO_WRITERS), Status::Ok, ""),
+    (2, Ask::Publish(1, "/a", TWO_WRITERS, false), Status::Ok, ""),
+    (3, Ask::Publish(1, "/b", TWO_WRITERS, false), Status::Ok, ""),
+    (4, Ask::Stage(2, ONE_WRITER), Status::Ok, ""),
+    (5, Ask::Publish(2, "/a", ONE_WRITER, false), Status::Ok, ""),
+    (
+        6,
+        Ask::Publish(2, "/b", ONE_WRITER, false),
+        Status::FailedPrecondition,
+        "/a",
+    ),
+    (
+        7,
+        Ask::Publish(2, "/b", TWO_WRITERS, false),
+        Status::FailedPrecondition,
+        "staged otherwise",
+    ),
+    (8, Ask::Unstage(1), Status::FailedPrecondition, "/a"),
+];
+
 #[test]
 fn publishes_by_the_mode(rt: HostRuntime) {
     plays(&rt, BY_MODE);
+    plays(&rt, BY_WRITERS);
 }
 
 // An undoing call opens a row, and the call that it undid is stale.

@@ -1,6 +1,6 @@
 //! The record of a controller that made a volume, cut short at each of its bytes, longer by one, and with values that no record has:
-//! from its bytes, and from stores.
-use super::{RECORD, changed, controller_fault, part, refused_at};
+//! from its bytes, and from stores; in both versions.
+use super::{OLD_RECORD, RECORD, changed, controller_fault, part, refused_at};
 use csi_service::{Keep, KeepFault, MemoryKeep};
 use csi_sqlite::SqliteKeep;
 use sqlite::Connection;
@@ -11,9 +11,9 @@ use std::process::Abort;
 const BEFORE_ROW: usize = 27;
 
 // Whether so many bytes of the record are refused, at the part that they end in.
-fn is_cut(alloc: Global, count: usize) -> bool {
+fn is_cut(alloc: Global, record: &[u8], count: usize) -> bool {
     let place = if count < BEFORE_ROW { 0 } else { 1 };
-    match RECORD.get(..count) {
+    match record.get(..count) {
         Some(front) => refused_at(alloc, front) == Some(place),
         None => false,
     }
@@ -21,11 +21,13 @@ fn is_cut(alloc: Global, count: usize) -> bool {
 
 #[test]
 fn each_beginning_of_a_record_is_refused(rt: HostRuntime) {
-    assert!(&rt; RECORD.len() == 82);
-    for count in 0..82usize {
-        assert!(&rt; is_cut(rt.alloc(), count), "{count} bytes");
+    for record in [RECORD, OLD_RECORD] {
+        assert!(&rt; record.len() == 82);
+        for count in 0..82usize {
+            assert!(&rt; is_cut(rt.alloc(), record, count), "{count} bytes");
+        }
+        assert!(&rt; refused_at(rt.alloc(), record).is_none());
     }
-    assert!(&rt; refused_at(rt.alloc(), RECORD).is_none());
 }
 
 // The versions and counts of records with 2^32 - 1 parts, with none, and with one, and no part behind them.
@@ -33,6 +35,9 @@ const COUNTS: &[(&[u8], u64)] = &[
     (&[1, 255, 255, 255, 255], 0),
     (&[1, 0, 0, 0, 0], 0),
     (&[1, 0, 0, 0, 1], 0),
+    (&[2, 255, 255, 255, 255], 0),
+    (&[2, 0, 0, 0, 0], 0),
+    (&[2, 0, 0, 0, 1], 0),
 ];
 
 #[test]
@@ -68,47 +73,60 @@ fn fault_of<K: Keep>(
     controller_fault(rt, keep)
 }
 
-// Whether a store is refused at its head where that has so many bytes of its ten.
-fn is_head_cut<K: Keep>(rt: &(impl Abort + AllocGlobal), keep: &mut K, count: usize) -> bool {
-    let head = head_of(RECORD).get(..count).unwrap_or(&[]);
-    fault_of(rt, keep, head, row_of(RECORD)) == Some(KeepFault::BadRecord(0))
+// Whether a store of the record is refused at its head where that has so many bytes of its ten.
+fn is_head_cut<K: Keep>(
+    rt: &(impl Abort + AllocGlobal),
+    keep: &mut K,
+    record: &[u8],
+    count: usize,
+) -> bool {
+    let head = head_of(record).get(..count).unwrap_or(&[]);
+    fault_of(rt, keep, head, row_of(record)) == Some(KeepFault::BadRecord(0))
 }
 
 // Whether it is refused at its row where that has so many bytes of its 43.
-fn is_row_cut<K: Keep>(rt: &(impl Abort + AllocGlobal), keep: &mut K, count: usize) -> bool {
-    let row = row_of(RECORD).get(..count).unwrap_or(&[]);
-    fault_of(rt, keep, head_of(RECORD), row) == Some(KeepFault::BadRecord(1))
+fn is_row_cut<K: Keep>(
+    rt: &(impl Abort + AllocGlobal),
+    keep: &mut K,
+    record: &[u8],
+    count: usize,
+) -> bool {
+    let row = row_of(record).get(..count).unwrap_or(&[]);
+    fault_of(rt, keep, head_of(record), row) == Some(KeepFault::BadRecord(1))
 }
 
 // Whether a store of the record with one byte changed is refused at this part.
 fn is_changed<K: Keep>(
     rt: &(impl Abort + AllocGlobal),
     keep: &mut K,
+    record: &[u8],
     (at, byte, place): (usize, u8, u64),
 ) -> bool {
-    let bytes = changed(rt, RECORD, at, byte);
+    let bytes = changed(rt, record, at, byte);
     let fault = fault_of(rt, keep, head_of(&bytes), row_of(&bytes));
     drop(bytes);
     fault == Some(KeepFault::BadRecord(place))
 }
 
-// A store is refused at each beginning of its head and of its row, and for each of the values that no record has.
-fn refuses_all<K: Keep>(rt: &(impl Abort + AllocGlobal), keep: &mut K) {
+// A store of the record is refused at each beginning of its head and of its row, and for each of the values that no record has.
+fn refuses_all<K: Keep>(rt: &(impl Abort + AllocGlobal), keep: &mut K, record: &[u8]) {
     for count in 0..10usize {
-        assert!(rt; is_head_cut(rt, keep, count), "a head of {count} bytes");
+        let is_cut = is_head_cut(rt, keep, record, count);
+        assert!(rt; is_cut, "a head of {count} bytes");
     }
     for count in 0..43usize {
-        assert!(rt; is_row_cut(rt, keep, count), "a row of {count} bytes");
+        let is_cut = is_row_cut(rt, keep, record, count);
+        assert!(rt; is_cut, "a row of {count} bytes");
     }
     for change in CHANGES {
-        assert!(rt; is_changed(rt, keep, *change));
+        assert!(rt; is_changed(rt, keep, record, *change));
     }
-    assert!(rt; fault_of(rt, keep, head_of(RECORD), row_of(RECORD)).is_none());
+    assert!(rt; fault_of(rt, keep, head_of(record), row_of(record)).is_none());
 }
 
 // Whether a store of the record is refused at a head, a row or a list of parts that is longer by one.
 fn refuses_longer<K: Keep>(rt: &(impl Abort + AllocGlobal), keep: &mut K) {
-    let head = [1, 0, 0, 0, 0, 0, 0, 0, 0, 2, 0];
+    let head = [2, 0, 0, 0, 0, 0, 0, 0, 0, 2, 0];
     assert!(rt; fault_of(rt, keep, &head, row_of(RECORD)) == Some(KeepFault::BadRecord(0)));
     let mut row = Vec::from_slice(rt.alloc(), row_of(RECORD)).expect(rt, "memory");
     row.push(0).expect(rt, "memory");
@@ -124,7 +142,8 @@ fn refuses_longer<K: Keep>(rt: &(impl Abort + AllocGlobal), keep: &mut K) {
 #[test]
 fn a_damaged_store_in_memory_is_refused(rt: HostRuntime) {
     let mut keep = MemoryKeep::new(rt.alloc(), 1000);
-    refuses_all(&rt, &mut keep);
+    refuses_all(&rt, &mut keep, OLD_RECORD);
+    refuses_all(&rt, &mut keep, RECORD);
     refuses_longer(&rt, &mut keep);
     assert!(&rt; keep.faults() == 0);
     drop(keep);
@@ -136,7 +155,8 @@ fn a_damaged_store_in_a_database_is_refused(rt: HostRuntime) {
     let Ok(mut keep) = SqliteKeep::new(rt.alloc(), connection) else {
         return assert!(&rt; false);
     };
-    refuses_all(&rt, &mut keep);
+    refuses_all(&rt, &mut keep, OLD_RECORD);
+    refuses_all(&rt, &mut keep, RECORD);
     refuses_longer(&rt, &mut keep);
     assert!(&rt; keep.faults() == 0);
     drop(keep);

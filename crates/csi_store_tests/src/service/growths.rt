@@ -1,12 +1,14 @@
 //! Refused growths of records, stores and services. With memory to spare each test compares the whole answers. Run with one
 //! allocation refused, each in turn (`tools/refusals`), the call that sees it wants memory, and is then
 //! answered in full, for `open` and `serve` after opening again.
+use super::older::{OLD, parts_of};
 use super::playing::{
     CREATED, Content, ENDS, End, FRAMES, NOTHING, REPLIES, SCRIPT, are_parts, has_parts, is_after,
     is_replied, is_slice, may_have, played,
 };
 use super::{
-    CONTROLLER_HEAD, CREATE, NODE_HEAD, NODE_RECORD, RECORD, controller, is_part, node, part,
+    CONTROLLER_HEAD, CREATE, NODE_HEAD, NODE_RECORD, OLD_RECORD, RECORD, controller,
+    controller_fault, is_part, node, part,
 };
 use csi_controller::ControllerRecord;
 use csi_frames::decode;
@@ -49,6 +51,8 @@ fn record_of<T: Record>(rt: &(impl Abort + AllocGlobal), bytes: &[u8]) -> T {
 fn records_in_want_of_memory(rt: HostRuntime) {
     let of_controller: ControllerRecord = record_of(&rt, RECORD);
     assert!(&rt; is_written(&rt, of_controller, RECORD));
+    let of_version_1: ControllerRecord = record_of(&rt, OLD_RECORD);
+    assert!(&rt; is_written(&rt, of_version_1, RECORD));
     let of_node: NodeRecord = record_of(&rt, NODE_RECORD);
     assert!(&rt; is_written(&rt, of_node, NODE_RECORD));
 }
@@ -155,7 +159,7 @@ const STAGE: &[u8] = &[
 
 // Its row then.
 const STAGED: &[u8] = &[
-    1, 1, 0, 1, 0, 0, 0, 0, 0, 0, 0, 0, 1, 0, 0, 0, 0, 0, 0, 0, 1, 133, 0, 0, 0, 0, 0, 0, 0, 0, 0,
+    2, 1, 0, 1, 0, 0, 0, 0, 0, 0, 0, 0, 1, 0, 0, 0, 0, 0, 0, 0, 1, 133, 0, 0, 0, 0, 0, 0, 0, 0, 0,
     0,
 ];
 
@@ -197,6 +201,25 @@ fn services_are_opened_again_in_want_of_memory(rt: HostRuntime) {
     drop(parts);
     drop(opened_node(&rt, &mut other));
     drop(other);
+}
+
+// Whether the controller of a store of version 1 isn't opened for want of memory alone, which leaves the store in one version or the other.
+fn is_wanting(rt: &(impl Abort + AllocGlobal), keep: &mut MemoryKeep) -> bool {
+    match controller_fault(rt, keep) {
+        Some(fault) => fault == KeepFault::NoMemory && (has_parts(keep, OLD) || is_after(keep, 6)),
+        None => true,
+    }
+}
+
+#[test]
+fn a_store_of_version_1_is_rewritten_in_want_of_memory(rt: HostRuntime) {
+    let mut keep = MemoryKeep::new(rt.alloc(), 1000);
+    let parts = parts_of(&rt, OLD);
+    commits(&rt, &mut keep, &parts, (NOTHING, OLD));
+    drop(parts);
+    assert!(&rt; is_wanting(&rt, &mut keep));
+    assert!(&rt; controller_fault(&rt, &mut keep).is_none() && is_after(&mut keep, 6));
+    drop(keep);
 }
 
 // How many frames were served in a run of the script that ended so, by a store that doesn't fail.

@@ -15,18 +15,37 @@ type Told = (&'static [&'static [u8]], &'static str, Ending);
 
 // A deleted volume with two capabilities, of which one is a mount.
 const GONE: &[u8] = &[
-    1, 2, 2, 60, 34, 0, 0, 0, 0, 0, 0, 0, 10, 2, 0, 1, 1, 4, 101, 120, 116, 52, 5, 0, 0, 0, 0, 0,
+    2, 2, 2, 60, 34, 0, 0, 0, 0, 0, 0, 0, 10, 2, 0, 1, 1, 4, 101, 120, 116, 52, 5, 0, 0, 0, 0, 0,
     0, 0, 0, 3, 0, 0, 0, 0, 0, 0, 0, 5, 130, 0, 0, 0, 0, 0, 0, 0, 0, 0, 0,
 ];
 
 // A volume that is staged and published at two targets, the second readonly; and one that isn't staged.
 const AT_TWO: &[u8] = &[
-    1, 1, 0, 3, 2, 2, 47, 97, 0, 2, 47, 98, 1, 0, 0, 0, 0, 0, 0, 0, 1, 0, 0, 0, 0, 0, 0, 0, 3, 135,
+    2, 1, 0, 3, 2, 2, 47, 97, 0, 2, 47, 98, 1, 0, 0, 0, 0, 0, 0, 0, 1, 0, 0, 0, 0, 0, 0, 0, 3, 135,
     0, 0, 0, 0, 0, 0, 0, 0, 0, 0,
 ];
 
 const NOT_STAGED: &[u8] = &[
-    1, 0, 0, 0, 0, 0, 0, 0, 0, 0, 2, 0, 0, 0, 0, 0, 0, 0, 5, 134, 0, 0, 0, 0, 0, 0, 0, 0, 0, 0,
+    2, 0, 0, 0, 0, 0, 0, 0, 0, 0, 2, 0, 0, 0, 0, 0, 0, 0, 5, 134, 0, 0, 0, 0, 0, 0, 0, 0, 0, 0,
+];
+
+// A volume that is staged in mode 7 and published at two targets for writing; and one likewise in mode 6, which has one.
+const TWO_WRITERS: &[u8] = &[
+    2, 1, 0, 7, 2, 2, 47, 97, 0, 2, 47, 98, 0, 0, 0, 0, 0, 0, 0, 0, 1, 0, 0, 0, 0, 0, 0, 0, 3, 135,
+    0, 0, 0, 0, 0, 0, 0, 0, 0, 0,
+];
+
+const ONE_WRITER: &[u8] = &[
+    2, 1, 0, 6, 2, 2, 47, 97, 0, 2, 47, 98, 0, 0, 0, 0, 0, 0, 0, 0, 1, 0, 0, 0, 0, 0, 0, 0, 3, 135,
+    0, 0, 0, 0, 0, 0, 0, 0, 0, 0,
+];
+
+// A controller's head and row, and a node's row, of version 1.
+const OLD_HEAD: &[u8] = &[1, 0, 0, 0, 0, 0, 0, 0, 0, 2];
+
+const OLD_HELD: &[u8] = &[
+    1, 1, 1, 118, 0, 0, 0, 0, 0, 0, 0, 10, 1, 0, 1, 1, 2, 110, 49, 0, 1, 0, 0, 0, 0, 0, 0, 0, 0, 1,
+    0, 0, 0, 0, 0, 0, 0, 2, 131, 0, 0, 0, 0, 0, 0, 0, 0, 0, 0,
 ];
 
 const TOLD: &[Told] = &[
@@ -38,6 +57,11 @@ const TOLD: &[Told] = &[
     ),
     (
         &[ONE_MADE, HELD],
+        "{\"next_id\":2,\"plugin\":\"controller\",\"volumes\":[{\"attached\":[{\"capability\":{\"access\":\"block\",\"mode\":1},\"node\":\"n1\",\"readonly\":false}],\"capabilities\":[{\"access\":\"block\",\"mode\":1}],\"capacity\":10,\"id\":1,\"last\":{\"call\":2,\"session\":1},\"live\":true,\"name\":\"v\"}]}\n",
+        Ending::Done,
+    ),
+    (
+        &[OLD_HEAD, OLD_HELD],
         "{\"next_id\":2,\"plugin\":\"controller\",\"volumes\":[{\"attached\":[{\"capability\":{\"access\":\"block\",\"mode\":1},\"node\":\"n1\",\"readonly\":false}],\"capabilities\":[{\"access\":\"block\",\"mode\":1}],\"capacity\":10,\"id\":1,\"last\":{\"call\":2,\"session\":1},\"live\":true,\"name\":\"v\"}]}\n",
         Ending::Done,
     ),
@@ -56,6 +80,14 @@ const TOLD: &[Told] = &[
         "{\"node\":\"n1\",\"plugin\":\"node\",\"volumes\":[{\"id\":1,\"last\":{\"call\":3,\"session\":1},\"published\":[{\"readonly\":false,\"target\":\"/a\"},{\"readonly\":true,\"target\":\"/b\"}],\"staged\":{\"access\":\"block\",\"mode\":3}},{\"id\":2,\"last\":{\"call\":5,\"session\":2},\"published\":[],\"staged\":null}]}\n",
         Ending::Done,
     ),
+    (
+        &[NODE_HEAD, TWO_WRITERS],
+        "{\"node\":\"n1\",\"plugin\":\"node\",\"volumes\":[{\"id\":1,\"last\":{\"call\":3,\"session\":1},\"published\":[{\"readonly\":false,\"target\":\"/a\"},{\"readonly\":false,\"target\":\"/b\"}],\"staged\":{\"access\":\"block\",\"mode\":7}}]}\n",
+        Ending::Done,
+    ),
+    (&[NODE_HEAD, ONE_WRITER], "", Ending::RecordFault(1)),
+    (&[OLD_HEAD, HELD], "", Ending::RecordFault(1)),
+    (&[ONE_MADE, OLD_HELD], "", Ending::RecordFault(1)),
     (&[&[2]], "", Ending::RecordFault(0)),
     (&[HELD], "", Ending::RecordFault(0)),
     (&[ONE_MADE, AT_TWO], "", Ending::RecordFault(1)),

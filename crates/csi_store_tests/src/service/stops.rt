@@ -28,14 +28,22 @@ fn each_beginning_of_the_script_leaves_its_parts(rt: HostRuntime) {
     }
 }
 
-// What a log and a database file hold.
+/// What a log and a database file hold.
 #[derive(Drop)]
-struct Image {
+pub(super) struct Image {
     log: Vec<u8>,
     db: Vec<u8>,
 }
 
-type Disks = FileStore<Fuse<Memory>>;
+pub(super) type Disks = FileStore<Fuse<Memory>>;
+
+/// That of new files.
+pub(super) fn new_image(rt: &impl AllocGlobal) -> Image {
+    Image {
+        log: Vec::new(rt.alloc()),
+        db: Vec::new(rt.alloc()),
+    }
+}
 
 // What the files hold, or, where the power failed, what was synced.
 fn image_of(
@@ -53,10 +61,10 @@ fn image_of(
     }
 }
 
-// How many calls the log answers and how many the database file, and whether the power fails then.
-type Stop = (u64, u64, bool);
+/// How many calls the log answers and how many the database file, and whether the power fails then.
+pub(super) type Stop = (u64, u64, bool);
 
-const NO_STOP: Stop = (u64::MAX, u64::MAX, false);
+pub(super) const NO_STOP: Stop = (u64::MAX, u64::MAX, false);
 
 // A database in files that hold this.
 fn connected(
@@ -78,8 +86,8 @@ fn connected(
     }
 }
 
-// What a connection leaves that nobody closes.
-fn left_by(
+/// What a connection leaves that nobody closes.
+pub(super) fn left_by(
     rt: &(impl Abort + AllocGlobal),
     connection: Connection<Disks>,
     power_fails: bool,
@@ -87,8 +95,8 @@ fn left_by(
     image_of(rt, connection.into_store().close(), power_fails)
 }
 
-// A store in files that hold this.
-fn opened(
+/// A store in files that hold this.
+pub(super) fn opened(
     rt: &(impl Abort + AllocGlobal),
     image: &Image,
     stop: Stop,
@@ -103,8 +111,8 @@ fn opened(
     }
 }
 
-// What a store leaves that is closed, and whether its log could be put back.
-fn left_closed(
+/// What a store leaves that is closed, and whether its log could be put back.
+pub(super) fn left_closed(
     rt: &(impl Abort + AllocGlobal),
     keep: SqliteKeep<Disks>,
     power_fails: bool,
@@ -125,10 +133,7 @@ struct Run {
 
 // Serves the script over new files that stop so; then the store is closed, or isn't.
 fn stopped(rt: &(impl Abort + AllocGlobal), stop: Stop, is_closed: bool) -> Run {
-    let new = Image {
-        log: Vec::new(rt.alloc()),
-        db: Vec::new(rt.alloc()),
-    };
+    let new = new_image(rt);
     let mut keep = match opened(rt, &new, stop) {
         Ok(keep) => keep,
         Err(image) => {
@@ -197,18 +202,18 @@ fn a_store_that_is_closed_needs_no_log(rt: HostRuntime) {
     drop(alone);
 }
 
-// The file that stops.
+/// The file that stops.
 #[derive(Clone, Copy)]
-enum Stopping {
+pub(super) enum Stopping {
     Log,
     Database,
 }
 
-// The file that stops, and whether the power fails then, so that what wasn't synced may be lost.
-type Way = (Stopping, bool);
+/// The file that stops, and whether the power fails then, so that what wasn't synced may be lost.
+pub(super) type Way = (Stopping, bool);
 
-// A stop after so many calls.
-fn stop_of(way: Way, calls: u64) -> Stop {
+/// A stop after so many calls.
+pub(super) fn stop_of(way: Way, calls: u64) -> Stop {
     match way.0 {
         Stopping::Log => (calls, u64::MAX, way.1),
         Stopping::Database => (u64::MAX, calls, way.1),
@@ -256,10 +261,10 @@ fn ends(rt: &(impl Abort + AllocGlobal), way: Way, first: u64, behind: u64) -> b
     false
 }
 
-// More calls than a run makes. Each test has a part of them, since its time is bounded.
-const MANY: u64 = 1000;
+/// More calls than a run makes. Each test has a part of them, since its time is bounded.
+pub(super) const MANY: u64 = 1000;
 
-const LOG: Way = (Stopping::Log, false);
+pub(super) const LOG: Way = (Stopping::Log, false);
 
 #[test]
 fn stops_of_the_log_from_0_on_leave_a_record(rt: HostRuntime) {
@@ -286,7 +291,7 @@ fn stops_of_the_log_from_48_on_leave_a_record(rt: HostRuntime) {
     assert!(&rt; ends(&rt, LOG, 48, MANY));
 }
 
-const DATABASE: Way = (Stopping::Database, false);
+pub(super) const DATABASE: Way = (Stopping::Database, false);
 
 #[test]
 fn stops_of_the_database_file_from_0_on_leave_a_record(rt: HostRuntime) {
@@ -298,8 +303,8 @@ fn stops_of_the_database_file_from_10_on_leave_a_record(rt: HostRuntime) {
     assert!(&rt; ends(&rt, DATABASE, 10, MANY));
 }
 
-// As above, and what was not synced is lost.
-const LOST_LOG: Way = (Stopping::Log, true);
+/// As above, and what was not synced is lost.
+pub(super) const LOST_LOG: Way = (Stopping::Log, true);
 
 #[test]
 fn stops_of_the_log_from_0_on_that_lose_bytes_leave_a_record(rt: HostRuntime) {
@@ -326,7 +331,7 @@ fn stops_of_the_log_from_48_on_that_lose_bytes_leave_a_record(rt: HostRuntime) {
     assert!(&rt; ends(&rt, LOST_LOG, 48, MANY));
 }
 
-const LOST_DATABASE: Way = (Stopping::Database, true);
+pub(super) const LOST_DATABASE: Way = (Stopping::Database, true);
 
 #[test]
 fn stops_of_the_database_file_from_0_on_that_lose_bytes_leave_a_record(rt: HostRuntime) {

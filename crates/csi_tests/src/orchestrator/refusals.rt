@@ -1,6 +1,6 @@
 //! What is refused.
 use super::playing::{new, plays};
-use super::{Ask, Gives, MANY, OK, ONE, Sent, Step, WRITER};
+use super::{Ask, Fact, Gives, MANY, OK, ONE, ONE_WRITER, Sent, Step, TWO_WRITERS, WRITER};
 use crate::values::{blocks, name};
 use csi_orchestrator::{Known, OrchFault, Orchestrator};
 use std::alloc::Global;
@@ -44,6 +44,44 @@ const HELD: &[Step] = &[
 #[test]
 fn a_volume_in_a_mode_for_one_node_is_held_there(rt: HostRuntime) {
     plays(&rt, HELD);
+}
+
+const ALONE: &[Step] = &[
+    Step::Makes(ONE_WRITER),
+    Step::Publishes(2, "n1", ONE_WRITER, false),
+    Step::On(
+        Ask::Use("n1", "/b", ONE_WRITER, false),
+        Gives::Refuses(OrchFault::TargetTaken),
+    ),
+    Step::On(
+        Ask::Use("n2", "/a", ONE_WRITER, true),
+        Gives::Refuses(OrchFault::HeldElsewhere),
+    ),
+    Step::KnowsOfEach(Known::Yes),
+];
+
+const BESIDE: Sent = Sent::Publish("n1", "/b", TWO_WRITERS, false);
+
+const TOGETHER: &[Step] = &[
+    Step::Makes(TWO_WRITERS),
+    Step::Publishes(2, "n1", TWO_WRITERS, false),
+    Step::On(
+        Ask::Use("n2", "/a", TWO_WRITERS, false),
+        Gives::Refuses(OrchFault::HeldElsewhere),
+    ),
+    Step::On(
+        Ask::Use("n1", "/b", TWO_WRITERS, false),
+        Gives::Sends(1, 5, BESIDE),
+    ),
+    Step::On(Ask::Hear(1, 5, BESIDE, OK), Gives::Nothing),
+    Step::Knows(Fact::Published("v", "n1", "/b"), Known::Yes),
+    Step::KnowsOfEach(Known::Yes),
+];
+
+#[test]
+fn a_second_target_of_one_node_goes_by_its_writers(rt: HostRuntime) {
+    plays(&rt, ALONE);
+    plays(&rt, TOGETHER);
 }
 
 const WRITERS: &[Step] = &[

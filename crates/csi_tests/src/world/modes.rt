@@ -1,6 +1,6 @@
 //! Several nodes, by the mode of the volume.
 use super::playing::plays;
-use super::{Does, MANY, NODES, ONE, Step, WRITER};
+use super::{Does, MANY, NODES, ONE, ONE_WRITER, Step, TWO_WRITERS, WRITER};
 use csi_orchestrator::{Known, OrchFault};
 use csi_types::Mode;
 use csi_world::Outcome;
@@ -26,6 +26,50 @@ const ONE_NODE: &[Step] = &[
 #[test]
 fn one_node_writes(rt: HostRuntime) {
     plays(&rt, NODES, &[ONE_NODE]);
+}
+
+const ONE_WRITER_THERE: &[Step] = &[
+    Step::Makes(ONE_WRITER),
+    Step::Publishes(3, "n1", ONE_WRITER, false),
+    Step::On(
+        Does::Use("n1", "/b", ONE_WRITER, false),
+        Outcome::Refused(OrchFault::TargetTaken),
+    ),
+    Step::On(Does::Use("n2", "/a", ONE_WRITER, false), HELD),
+    Step::Has(1, "n1", 1, 1),
+    Step::Frames(8),
+];
+
+// Two targets of one node, of which the first is left, and then the last, with the node.
+const TWO_WRITERS_THERE: &[Step] = &[
+    Step::Makes(TWO_WRITERS),
+    Step::Publishes(3, "n1", TWO_WRITERS, false),
+    Step::On(Does::Use("n1", "/b", TWO_WRITERS, false), Outcome::Sent(9)),
+    Step::On(Does::Deliver(9), Outcome::Answered(10)),
+    Step::On(Does::Deliver(10), Outcome::Taken(None)),
+    Step::Has(1, "n1", 1, 2),
+    Step::On(Does::Use("n2", "/a", TWO_WRITERS, false), HELD),
+    Step::On(Does::Stop("n1", "/a"), Outcome::Sent(11)),
+    Step::On(Does::Deliver(11), Outcome::Answered(12)),
+    Step::On(Does::Deliver(12), Outcome::Taken(None)),
+    Step::Has(1, "n1", 1, 1),
+    Step::On(Does::Use("n2", "/a", TWO_WRITERS, false), HELD),
+    Step::On(Does::Stop("n1", "/b"), Outcome::Sent(13)),
+    Step::On(Does::Deliver(13), Outcome::Answered(14)),
+    Step::On(Does::Deliver(14), Outcome::Taken(Some(15))),
+    Step::On(Does::Deliver(15), Outcome::Answered(16)),
+    Step::On(Does::Deliver(16), Outcome::Taken(Some(17))),
+    Step::On(Does::Deliver(17), Outcome::Answered(18)),
+    Step::On(Does::Deliver(18), Outcome::Taken(None)),
+    Step::Has(0, "n1", 0, 0),
+    Step::Publishes(19, "n2", TWO_WRITERS, true),
+    Step::Has(1, "n2", 1, 1),
+];
+
+#[test]
+fn one_node_has_a_target_for_each_writer(rt: HostRuntime) {
+    plays(&rt, NODES, &[ONE_WRITER_THERE]);
+    plays(&rt, NODES, &[TWO_WRITERS_THERE]);
 }
 
 const ONE_READER: &[Step] = &[

@@ -136,15 +136,21 @@ fn deleted(row: &PlainRow) -> Told {
 
 // ---- ControllerPublishVolume
 
+const OF_ONE_NODE: &[Mode] = &[
+    Mode::SingleNodeWriter,
+    Mode::SingleNodeReaderOnly,
+    Mode::SingleNodeSingleWriter,
+    Mode::SingleNodeMultiWriter,
+];
+
+const READERS: &[Mode] = &[Mode::SingleNodeReaderOnly, Mode::MultiNodeReaderOnly];
+
 fn is_single(mode: Mode) -> bool {
-    mode == Mode::SingleNodeWriter || mode == Mode::SingleNodeReaderOnly
+    has_mode(OF_ONE_NODE, mode)
 }
 
 fn writes(held: Held) -> bool {
-    let has_writer = held.mode == Mode::SingleNodeWriter
-        || held.mode == Mode::MultiNodeSingleWriter
-        || held.mode == Mode::MultiNodeMultiWriter;
-    !held.readonly && has_writer
+    !held.readonly && !has_mode(READERS, held.mode)
 }
 
 // Whether a volume can be held so at two nodes.

@@ -12,10 +12,10 @@ pub returns-in-Err-BadRow : goal.returns-in-Err-BadRow
 returns-in-Err-BadRow c =
     let others = all_stored_in (take (length c.args.parts.now - 1) (drop 1 c.args.parts.now)) in
     let split = stored-split c.args.parts.now c.head-item.result c.in-len1-up.len_at_least c.head-item.is in
-    let is : all_stored_in c.args.parts.now ≡ controller_head c.in-Some.next_id ∷ others = split ∙ ap (λ (h : StoredPart). h ∷ others) (sym c.in-Some.ensures.head) in
+    let is : all_stored_in c.args.parts.now ≡ controller_head c.args.version c.in-Some.next_id ∷ others = split ∙ ap (λ (h : StoredPart). h ∷ others) (sym c.in-Some.ensures.head) in
     let first : IsFirstRefused c.in-Some.next_id c.in_ok-rows.field-0.rows.items c.in-Err-BadRow.bad = subst (IsRefusal c.in-Some.next_id c.in_ok-rows.field-0.rows.items) c.in-Err-BadRow.field-0-is c.in-Err-BadRow.ensures.refused in
-    inr (subst (λ (ps : List StoredPart). IsRefusedAt (IsRecordOf controller_layout) ps c.in-Err-BadRow.bad) (sym is)
-    (rows-refused controller_layout controller_one volume_row c.in-Some.next_id c.in_ok-rows.field-0.rows.items others c.in_ok-rows.field-0.all c.in-Err-BadRow.bad c.in-Some.ensures.fits c.in_ok-rows.ensures
+    inr (subst (λ (ps : List StoredPart). IsRefusedAt (IsRecordOf (controller_layout c.args.version)) ps c.in-Err-BadRow.bad) (sym is)
+    (rows-refused (controller_layout c.args.version) (controller_one c.args.version) volume_row c.in-Some.next_id c.in_ok-rows.field-0.rows.items others c.in_ok-rows.field-0.all c.in-Err-BadRow.bad c.in-Some.ensures.fits c.in_ok-rows.ensures
     first.from first.to (_, refl, first.before) (λ are. first.refused (sound-shown c.in-Some.next_id _ are))))
 
 pub returns-in-Ok-2 : goal.returns-in-Ok-2
@@ -23,9 +23,9 @@ returns-in-Ok-2 c =
     let others = all_stored_in (take (length c.args.parts.now - 1) (drop 1 c.args.parts.now)) in
     let rows = c.in_ok-rows.field-0.rows.items in
     let split = stored-split c.args.parts.now c.head-item.result c.in-len1-up.len_at_least c.head-item.is in
-    let is : all_stored_in c.args.parts.now ≡ controller_head c.in-Some.next_id ∷ others = split ∙ ap (λ (h : StoredPart). h ∷ others) (sym c.in-Some.ensures.head) in
-    let read : AreRead volume_part IsVolumeRow others _ _ = c.in_ok-rows.ensures in
+    let is : all_stored_in c.args.parts.now ≡ controller_head c.args.version c.in-Some.next_id ∷ others = split ∙ ap (λ (h : StoredPart). h ∷ others) (sym c.in-Some.ensures.head) in
+    let read : AreRead (volume_part c.args.version) (IsVolumeRow c.args.version) others _ _ = c.in_ok-rows.ensures in
     let place : length rows + 1 ≡ c.len.result + 1 = omega (arith, c.len.ensures) in
-    inr (subst (λ (ps : List StoredPart). IsRefusedAt (IsRecordOf controller_layout) ps (c.len.result + 1)) (sym is)
-    (subst (λ (n : ℕ). IsRefusedAt (IsRecordOf controller_layout) (controller_head c.in-Some.next_id ∷ others) n) place
-    (rows-unread controller_layout volume_row c.in-Some.next_id rows others c.in-Some.ensures.fits (subst (AreRead volume_part IsVolumeRow others _) c.if-all.false read) (rows, refl, c.in-Ok-2.ensures.sound))))
+    inr (subst (λ (ps : List StoredPart). IsRefusedAt (IsRecordOf (controller_layout c.args.version)) ps (c.len.result + 1)) (sym is)
+    (subst (λ (n : ℕ). IsRefusedAt (IsRecordOf (controller_layout c.args.version)) (controller_head c.args.version c.in-Some.next_id ∷ others) n) place
+    (rows-unread (controller_layout c.args.version) volume_row c.in-Some.next_id rows others c.in-Some.ensures.fits (subst (AreRead (volume_part c.args.version) (IsVolumeRow c.args.version) others _) c.if-all.false read) (rows, refl, c.in-Ok-2.ensures.sound))))

@@ -8,15 +8,15 @@ use Rattle.csi_records.proofs.items.items.Goals as goal
 pub returns-in_err-one-clause-bad : goal.returns-in_err-one-clause-bad
 returns-in_err-one-clause-bad g c = λ is.
     let p = err_from_is_err_and c.from_residual-in_err-one.result c.from_residual-in_err-one.ensures.1 in
-    ends g.T.Item.item_in c.loop.list.items c.args.count c.loop.counter c.loop.fields.bytes.now _ c.loop-test.true
+    ends (g.T.Item.item_in c.args.version) c.loop.list.items c.args.count c.loop.counter c.loop.fields.bytes.now _ c.loop-test.true
     (c.in_err-one.ensures.bad (same_error c.from_residual-in_err-one.result _ _ Bad p.1 p.2 is)) c.loop.invariant.rest
 
 pub loop-preserved : goal.loop-preserved
 loop-preserved g c =
     record {
       few = rw c.in_ok-push.ensures.items (omega (arith, length-append c.loop.list.items (c.in_ok-one.one ∷ []), c.loop.invariant.few));
-      rest = rw c.in_ok-push.ensures.items (goes_on g.T.Item.item_in c.loop.list.items c.args.count c.loop.counter c.loop.fields.bytes.now c.in_ok-one.one c.read.new.fields.bytes.now _ c.loop-test.true c.in_ok-one.ensures.read c.loop.invariant.rest);
+      rest = rw c.in_ok-push.ensures.items (goes_on (g.T.Item.item_in c.args.version) c.loop.list.items c.args.count c.loop.counter c.loop.fields.bytes.now c.in_ok-one.one c.read.new.fields.bytes.now _ c.loop-test.true c.in_ok-one.ensures.read c.loop.invariant.rest);
     }
 
 pub returns-clause-read : goal.returns-clause-read
-returns-clause-read g c = is_done g.T.Item.item_in c.loop.list.items c.args.count c.loop.counter c.loop.fields.bytes.now _ c.loop-test.false c.loop.invariant.rest
+returns-clause-read g c = is_done (g.T.Item.item_in c.args.version) c.loop.list.items c.args.count c.loop.counter c.loop.fields.bytes.now _ c.loop-test.false c.loop.invariant.rest

@@ -8,5 +8,5 @@ abbrev pub invariant-loop : goal.invariant-loop
 invariant-loop g l =
     record {
       few : length l.list.items ≡ l.counter;
-      rest : with_front l.list.items (items_in g.T.Item.item_in (l.count - l.counter) l.fields.bytes.now) ≡ items_in g.T.Item.item_in l.count l.initial.fields.bytes.now;
+      rest : with_front l.list.items (items_in (g.T.Item.item_in l.version) (l.count - l.counter) l.fields.bytes.now) ≡ items_in (g.T.Item.item_in l.version) l.count l.initial.fields.bytes.now;
     }

@@ -1,5 +1,6 @@
 use Rattle.std.proofs.Common.{◌≡◌, ◌++◌, take}
 use Rattle.std.specs.List.{flat_map, AllByRecursion}
+use Rattle.csi_records.specs.Spelling.{present}
 use Rattle.csi_records.proofs.items.put_list.Given as goal
 
 -- the items so far were written, and are within their limits
@@ -7,5 +8,5 @@ abbrev pub invariant-loop-one : goal.invariant-loop-one
 invariant-loop-one g l =
     record {
       so_far : l.out.items ≡ l.initial.out.items ++ flat_map g.T.Item.item_bytes (take l.one-index l.from);
-      each : AllByRecursion g.T.Item.is_item (take l.one-index l.from);
+      each : AllByRecursion (g.T.Item.is_item present) (take l.one-index l.from);
     }

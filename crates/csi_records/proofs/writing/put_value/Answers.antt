@@ -3,7 +3,7 @@ use Rattle.byteorder.specs.Endian.{big_bytes}
 use Rattle.csi_frames.specs.Spelling.{word}
 use Rattle.std.proofs.Common.{length}
 use Rattle.csi_records.proofs.WritingPieces.{written3}
-use Rattle.csi_records.proofs.writing.put_part.Goals as goal
+use Rattle.csi_records.proofs.writing.put_value.Goals as goal
 
 pub returns : goal.returns
 returns c =

@@ -1,7 +1,0 @@
-use Rattle.std.proofs.Common.{◌∙◌, ◌<◌, ◌^◌, List, ℕ, length, sym, subst}
-use Rattle.csi_records.specs.Spelling.{volume_row}
-use Rattle.csi_records.proofs.ValueSizes.{volume_size}
-use Rattle.csi_records.proofs.volumes.ControllerRowRow.put.Goals as goal
-
-pub put_part-requires : goal.put_part-requires
-put_part-requires c = subst (λ (bytes : List ℕ). length bytes < 2 ^ 32) (sym (c.deref.ensures.value ∙ c.in_ok-value.ensures.value)) (volume_size (volume_row c.args.self.now) c.in_ok-value.ensures.fits)
