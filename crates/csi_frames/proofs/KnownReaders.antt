@@ -2,6 +2,7 @@
 use Rattle.std.proofs.Common.{◌≡◌, ℕ, zero, suc, ◌-◌, ◌≤◌, cond, Bool, true, false, not, ◌&&◌, List, [], ◌∷◌, take, drop, length, slice_index_or, Option, Some, None, Result, Ok, Err, is_ok, refl, sym, ap, subst, ◌∙◌, arith}
 use Rattle.std.specs.Prelude.{◌==◌, nat_le, nat_lt, is_some}
 use Rattle.std.specs.Str.{IsUtf8, is_utf8}
+use Rattle.byteorder.specs.Endian.{big_number}
 use Rattle.std.proofs.Math.Seq.{take-length}
 use Rattle.std.proofs.lemmas.Bool.{ltb-false}
 use Rattle.std.proofs.lemmas.Str.{IsUtf8-from_is_utf8}
@@ -19,9 +20,10 @@ use Rattle.csi_frames.specs.declared.fields.Fields.{Fields}
 use Rattle.csi_frames.specs.declared.version.Version.{Version}
 use Rattle.csi_frames.specs.Version.{has_mode, is_new_mode, takes_mode, only}
 use Rattle.csi_frames.specs.Codes.{is_mode, mode_of}
+use Rattle.csi_frames.specs.Grammar.{any}
 use Rattle.csi_frames.specs.Borrowed.{body_in, list_in}
 use Rattle.csi_frames.specs.Gives.{Gives, GivesAgain}
-use Rattle.csi_frames.specs.Reading.{Reader, go_on, ◌>>=◌, give, stopped, byte_at, text_at, access_at, mode_at, owed_capability_at, capabilities_at, call_at, fields_at}
+use Rattle.csi_frames.specs.Reading.{Reader, go_on, ◌>>=◌, give, stopped, byte_at, word_at, id_at, text_at, access_at, mode_at, owed_capability_at, capabilities_at, call_at, fields_at}
 use Rattle.csi_frames.proofs.Readers.{done}
 
 -- where all of two readings was read, the first one was
@@ -33,6 +35,42 @@ first_ok (Err stop) next ok = absurd cc
 pub never_stops : {A : Type 0} (read : Result (A × List ℕ) Stop) (stop : Stop) → is_ok read ≡ true → read ≡ Err stop → ⊥
 never_stops (Ok x) stop ok e = absurd cc
 never_stops (Err s) stop ok e = absurd cc
+
+-- ---- a number
+
+-- where the second of two tests alone leads to a value, and it is there, the tests came out so
+chosen_second : {A : Type 0} (a b : Bool) (r s : Stop) (x : A) → is_ok (cond a (Err r) (cond b (Ok x) (Err s))) ≡ true → (a ≡ false) × (b ≡ true)
+chosen_second true b r s x ok = absurd cc
+chosen_second false false r s x ok = absurd cc
+chosen_second false true r s x ok = (refl, refl)
+
+enough : {A : Type 0} (a : Bool) (r : Stop) (x : A) → is_ok (cond a (Err r) (Ok x)) ≡ true → a ≡ false
+enough true r x ok = absurd cc
+enough false r x ok = refl
+
+-- a number that was read, of the eight bytes at the front of these
+pub record KnownWord (bytes : List ℕ) : Type 0 where
+  pub long : 8 ≤ length bytes
+  pub read : word_at any bytes ≡ Ok (big_number 8 bytes, drop 8 bytes)
+
+pub known_word : (bytes : List ℕ) → is_ok (word_at any bytes) ≡ true → KnownWord bytes
+unfolding word_at
+known_word bytes ok =
+    let so = enough (nat_lt (length bytes) 8) _ (big_number 8 bytes, drop 8 bytes) ok in
+    record { long = ltb-false (length bytes) 8 so; read = rw so refl }
+
+-- an id that was read is a number that was read, and the same one
+pub id_ok : (bytes : List ℕ) → is_ok (id_at bytes) ≡ true → is_ok (word_at any bytes) ≡ true
+unfolding id_at word_at
+id_ok bytes ok =
+    let so = chosen_second (nat_lt (length bytes) 8) (nat_lt 0 (big_number 8 bytes)) _ _ (big_number 8 bytes, drop 8 bytes) ok in
+    rw so.0 refl
+
+pub id_is : (bytes : List ℕ) (x : ℕ × List ℕ) → is_ok (id_at bytes) ≡ true → word_at any bytes ≡ Ok x → id_at bytes ≡ Ok x
+unfolding id_at word_at
+id_is bytes x ok read =
+    let so = chosen_second (nat_lt (length bytes) 8) (nat_lt 0 (big_number 8 bytes)) _ _ (big_number 8 bytes, drop 8 bytes) ok in
+    rw (so.0, so.1) (rw so.0 at read)
 
 -- ---- a text
 

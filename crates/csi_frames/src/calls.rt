@@ -31,7 +31,7 @@ fn access_at<'a>(fields: &mut Fields<'a>) -> Result<AccessRef<'a>, Stop>
 
 #[inline(always)]
 #[tactic(auto, unfolding(crate::specs::Reading::byte_at, crate::specs::Reading::mode_at))]
-pub(crate) fn mode_at(fields: &mut Fields<'_>, version: Version, owed: bool) -> Result<Mode, Stop>
+fn mode_at(fields: &mut Fields<'_>, version: Version, owed: bool) -> Result<Mode, Stop>
     ensures { Gives (λ mode. mode) result fields.new (mode_at version owed fields.old.bytes.now) }
 {
     let bad = fields.stop(FaultKind::BadMode);
@@ -106,7 +106,7 @@ fn capabilities_at<'a>(
 
 // The count of a CreateVolume's capabilities.
 #[inline(always)]
-pub(crate) fn count_at(fields: &mut Fields<'_>, version: Version) -> Result<u8, Stop>
+fn count_at(fields: &mut Fields<'_>, version: Version) -> Result<u8, Stop>
     ensures { Gives (λ n. n) result fields.new (byte_at (is_count version) FaultKind.BadCount fields.old.bytes.now) }
 {
     fields.count(version.least_count(), 8)

@@ -137,6 +137,26 @@ impl<'a> Fields<'a> {
         }
     }
 
+    /// Any number of 64 bits that was read before, so that reading it again stops nowhere.
+    #[inline(always)]
+    pub(crate) fn known_word(&mut self) -> u64
+        requires { is_ok (word_at any self.old.bytes.now) ≡ true }
+        ensures { word_at any self.old.bytes.now ≡ Ok (result, self.new.bytes.now) }
+    {
+        let (front, rest) = self.bytes.split_at(8);
+        self.bytes = rest;
+        BigEndian::read_u64(front)
+    }
+
+    /// An id that was read before. It isn't judged again.
+    #[inline(always)]
+    pub(crate) fn known_id(&mut self) -> u64
+        requires { is_ok (id_at self.old.bytes.now) ≡ true }
+        ensures { id_at self.old.bytes.now ≡ Ok (result, self.new.bytes.now) }
+    {
+        self.known_word()
+    }
+
     /// A text of `least` to `most` bytes that was read before, so that reading it again stops nowhere. It isn't judged again.
     #[inline(always)]
     pub(crate) fn known_text(&mut self, least: usize, most: usize) -> &'a str

@@ -12,7 +12,7 @@ use Rattle.csi_types.specs.Same.{kind_number}
 use Rattle.csi_types.specs.Text.{IsText}
 use Rattle.csi_types.specs.Limits.{IsWord, IsNumber}
 use Rattle.csi_frames.specs.declared.version.Version.{Version}
-use Rattle.csi_frames.specs.declared.version.Version.TheVariants.{One}
+use Rattle.csi_frames.specs.declared.version.Version.TheVariants.{One, Two}
 use Rattle.csi_frames.specs.Version.{version_number, version_from_number}
 use Rattle.csi_frames.specs.declared.fault.FaultKind.TheVariants.{LengthDiffers, BadCount}
 use Rattle.csi_frames.specs.declared.fields.Stop.{Stop}
@@ -184,10 +184,14 @@ kind_reads = code_reads reply_kind_from (λ kind. 128 + kind_number kind) (recor
 version-back : (b : ℕ) (version : Version) → version_from_number b ≡ Some version → version_number version ≡ b
 version-back zero version e = absurd cc
 version-back (suc zero) One e = refl
-version-back (suc (suc n)) version e = absurd cc
+version-back (suc zero) Two e = absurd cc
+version-back (suc (suc zero)) One e = absurd cc
+version-back (suc (suc zero)) Two e = refl
+version-back (suc (suc (suc n))) version e = absurd cc
 
 pub version-found : (version : Version) → version_from_number (version_number version) ≡ Some version
 version-found One = refl
+version-found Two = refl
 
 -- the reader of a version reads the byte that spells one
 pub version_reads : Reads (code_in version_from_number) (Spelled Always (λ version. version_number version ∷ []))

@@ -8,7 +8,7 @@ use Rattle.csi_types.specs.declared.holding.Holding.{Holding}
 use Rattle.csi_types.specs.Fence.{Kept}
 use Rattle.csi_types.specs.Same.{kind_number}
 use Rattle.csi_frames.specs.declared.version.Version.{Version}
-use Rattle.csi_frames.specs.declared.version.Version.TheVariants.{One}
+use Rattle.csi_frames.specs.declared.version.Version.TheVariants.{Two}
 use Rattle.csi_frames.specs.Version.{version_number}
 use Rattle.csi_frames.specs.Spelling.{word, text, flag, capability, reply_fields}
 use Rattle.csi_controller.specs.declared.row.ControllerRow.{ControllerRow}
@@ -21,7 +21,7 @@ use Rattle.csi_stores.specs.Part.{StoredPart}
 
 -- the version in which records are written; every value begins with the byte of its record's version
 abbrev pub present : Version
-present = One
+present = Two
 
 -- so many, and each in its spelling
 abbrev pub counted : {A : Type 0} → (A → List ℕ) → List A → List ℕ

@@ -7,6 +7,7 @@ use Rattle.csi_types.specs.declared.call.Party.TheVariants.{Controller}
 use Rattle.csi_types.specs.Config.{Config}
 use Rattle.csi_types.specs.Frame.{Frame}
 use Rattle.csi_types.specs.Replies.{call_frame}
+use Rattle.csi_frames.specs.declared.version.Version.TheVariants.{One}
 use Rattle.csi_controller.specs.State.{ControllerState, empty_controller}
 use Rattle.csi_controller.specs.Fenced.{after_frames}
 use Rattle.csi_stores.specs.Part.{StoredPart}
@@ -24,16 +25,25 @@ create = call_frame (record { session = 1; call = 1 }) Controller (CreateVolume 
 abbrev pub parts_of_state : ControllerState → List StoredPart
 parts_of_state state = controller_parts present state.next_id (rows_of state)
 
--- the record of a controller that made its first volume: 82 bytes
+-- what such a controller knows
+abbrev pub created : ControllerState
+created = after_frames no_nodes empty_controller (create ∷ [])
+
+-- the record of a controller that made its first volume: 82 bytes; and in version 1, in which it is read still
 pub record CreatedRow : Type 0 where
-  pub bytes : record_bytes present (parts_of_state (after_frames no_nodes empty_controller (create ∷ [])))
+  pub bytes : record_bytes present (parts_of_state created)
+      ≡ 2 ∷ 0 ∷ 0 ∷ 0 ∷ 2
+      ∷ 0 ∷ 0 ∷ 0 ∷ 0 ∷ 0 ∷ 0 ∷ 0 ∷ 0 ∷ 0 ∷ 0 ∷ 0 ∷ 10 ∷ 2 ∷ 0 ∷ 0 ∷ 0 ∷ 0 ∷ 0 ∷ 0 ∷ 0 ∷ 0 ∷ 2
+      ∷ 0 ∷ 0 ∷ 0 ∷ 0 ∷ 0 ∷ 0 ∷ 0 ∷ 1 ∷ 0 ∷ 0 ∷ 0 ∷ 43 ∷ 2 ∷ 1 ∷ 1 ∷ 118 ∷ 0 ∷ 0 ∷ 0 ∷ 0 ∷ 0 ∷ 0 ∷ 0 ∷ 10 ∷ 1 ∷ 0 ∷ 1 ∷ 0
+      ∷ 0 ∷ 0 ∷ 0 ∷ 0 ∷ 0 ∷ 0 ∷ 0 ∷ 1 ∷ 0 ∷ 0 ∷ 0 ∷ 0 ∷ 0 ∷ 0 ∷ 0 ∷ 1 ∷ 129 ∷ 0 ∷ 0 ∷ 0 ∷ 0 ∷ 0 ∷ 0 ∷ 0 ∷ 0 ∷ 1 ∷ 0 ∷ []
+  pub count : length (record_bytes present (parts_of_state created)) ≡ 82
+  pub older : record_bytes One (controller_parts One created.next_id (rows_of created))
       ≡ 1 ∷ 0 ∷ 0 ∷ 0 ∷ 2
       ∷ 0 ∷ 0 ∷ 0 ∷ 0 ∷ 0 ∷ 0 ∷ 0 ∷ 0 ∷ 0 ∷ 0 ∷ 0 ∷ 10 ∷ 1 ∷ 0 ∷ 0 ∷ 0 ∷ 0 ∷ 0 ∷ 0 ∷ 0 ∷ 0 ∷ 2
       ∷ 0 ∷ 0 ∷ 0 ∷ 0 ∷ 0 ∷ 0 ∷ 0 ∷ 1 ∷ 0 ∷ 0 ∷ 0 ∷ 43 ∷ 1 ∷ 1 ∷ 1 ∷ 118 ∷ 0 ∷ 0 ∷ 0 ∷ 0 ∷ 0 ∷ 0 ∷ 0 ∷ 10 ∷ 1 ∷ 0 ∷ 1 ∷ 0
       ∷ 0 ∷ 0 ∷ 0 ∷ 0 ∷ 0 ∷ 0 ∷ 0 ∷ 1 ∷ 0 ∷ 0 ∷ 0 ∷ 0 ∷ 0 ∷ 0 ∷ 0 ∷ 1 ∷ 129 ∷ 0 ∷ 0 ∷ 0 ∷ 0 ∷ 0 ∷ 0 ∷ 0 ∷ 0 ∷ 1 ∷ 0 ∷ []
-  pub count : length (record_bytes present (parts_of_state (after_frames no_nodes empty_controller (create ∷ [])))) ≡ 82
 
 -- a controller that answered nothing has its head alone, and so does a node
 pub record EmptyRow : Type 0 where
-  pub controller : parts_of_state empty_controller ≡ record { key = 0; value = 1 ∷ 0 ∷ 0 ∷ 0 ∷ 0 ∷ 0 ∷ 0 ∷ 0 ∷ 0 ∷ 1 ∷ [] } ∷ []
-  pub node : node_parts present (codes "n1") [] ≡ record { key = 0; value = 1 ∷ 1 ∷ 2 ∷ 110 ∷ 49 ∷ [] } ∷ []
+  pub controller : parts_of_state empty_controller ≡ record { key = 0; value = 2 ∷ 0 ∷ 0 ∷ 0 ∷ 0 ∷ 0 ∷ 0 ∷ 0 ∷ 0 ∷ 1 ∷ [] } ∷ []
+  pub node : node_parts present (codes "n1") [] ≡ record { key = 0; value = 2 ∷ 1 ∷ 2 ∷ 110 ∷ 49 ∷ [] } ∷ []

@@ -10,7 +10,7 @@ use csi_frames::{FaultKind, Fields, Version, capability_at, number_at, reply_kin
 use csi_types::{CapabilityRef, Kind, Number, Status};
 
 /// The version in which records are written.
-pub(crate) const PRESENT: Version = Version::One;
+pub(crate) const PRESENT: Version = Version::Two;
 
 // Any byte.
 #[tactic(auto, unfolding(crate::specs::Reading::byte_in))]
