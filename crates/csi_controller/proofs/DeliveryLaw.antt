@@ -21,9 +21,9 @@ use Rattle.csi_types.specs.declared.status.Status.TheVariants.{Ok, Aborted}
 use Rattle.csi_types.specs.declared.reply.Reply.{Reply}
 use Rattle.csi_types.specs.Call.{kind_of, is_party_of}
 use Rattle.csi_types.specs.Config.{Config}
-use Rattle.csi_types.specs.Delivery.{Delivery, Acts, Rests, Becomes, IsSameView, IsDelivered, IsEmpty, IsClosed, last_of}
+use Rattle.csi_types.specs.Delivery.{Delivery, Acts, Rests, Misses, Becomes, IsSameView, IsDelivered, IsEmpty, IsClosed, last_of}
 use Rattle.csi_types.specs.Fence.{Kept, is_spent}
-use Rattle.csi_types.specs.Key.{Key, Exists, Attached, Staged, Published, HasId}
+use Rattle.csi_types.specs.Key.{Key, Exists, Attached, Staged, Published, HasId, asked}
 use Rattle.csi_types.specs.Number.{is_before}
 use Rattle.csi_types.specs.Replies.{stale_reply}
 use Rattle.csi_types.specs.Reply.{has_id_by_rule}
@@ -89,9 +89,9 @@ later_spent kept old new number (inl same) spent = subst (λ (o : Option Kept). 
 later_spent kept old new number (inr this) spent = subst (λ (o : Option Kept). IsTrue (is_spent (last_of o) number)) (sym this.0) (spent_on old kept number this.1 spent)
 
 -- what is kept later is what was kept, or the new call
-either_kept : (kept : Kept) (old new : Option Kept) → IsLater kept old new → (new ≡ old) ⊎ (new ≡ Some kept)
+either_kept : (kept : Kept) (old new : Option Kept) → IsLater kept old new → (new ≡ old) ⊎ (new ≡ Some kept) ⊎ (new ≡ None)
 either_kept kept old new (inl same) = inl same
-either_kept kept old new (inr this) = inr this.0
+either_kept kept old new (inr this) = inr (inl this.0)
 
 -- a number spends itself
 own_spent : (number : Number) → is_spent (Some number) number ≡ true
@@ -216,6 +216,34 @@ leaves state number call outcome none stays =
     ap (λ (change : Change). keep call kept (changed state kept change)) stays
     ∙ ap (λ (volumes : List Volume). record state { volumes = volumes }) (map-none (is_row_for call) (kept_in call kept) state.volumes (kept_in_other call kept) none)
 
+-- a call of a thing that isn't known asks for nothing, where it gets an OK
+asks_nothing : (config : Config) (state : ControllerState) (call : Call) (outcome : Outcome) → IsOrderly state → row_for call state ≡ None → key_of state call ≡ None
+    → Move config state call outcome → outcome.reply.status ≡ Ok → asked call outcome.reply ≡ None
+asks_nothing config state call outcome orderly none key (was_refused _ status detail not_ok) ok = absurd (not_ok ok)
+asks_nothing config state call outcome orderly none key (was_found name required limit first others volume range named live serving) ok = absurd (none-some (Exists name) (sym key))
+asks_nothing config state call outcome orderly none key (was_made name required limit first others range unnamed) ok = absurd (none-some (Exists name) (sym key))
+asks_nothing config state call outcome orderly none key (was_ended id volume live free) ok = refl
+asks_nothing config state call outcome orderly none key (was_ended_before id dead) ok = refl
+asks_nothing config state call outcome orderly none key (was_attached holding volume can free fits) ok =
+    absurd (none-some volume (sym none ∙ live_with_id state holding.volume volume orderly can.live))
+asks_nothing config state call outcome orderly none key (was_attached_before holding volume can held) ok =
+    absurd (none-some volume (sym none ∙ live_with_id state holding.volume volume orderly can.live))
+asks_nothing config state call outcome orderly none key (was_detached id node held there) ok = refl
+asks_nothing config state call outcome orderly none key (was_detached_before id node free) ok = refl
+
+-- a call of a thing that isn't known leaves the state, so it misses
+misses : (config : Config) (state : ControllerState) (number : Number) (call : Call) (outcome : Outcome) → IsOrderly state → row_for call state ≡ None → key_of state call ≡ None
+    → Move config state call outcome → Misses (told number call outcome.reply) (view_of state) (view_of state)
+misses config state number call outcome orderly none key move =
+    record {
+      of_its_kind = refl;
+      with_id = λ ok. with_id config state call outcome move ok;
+      undoes = λ ok. asks_nothing config state call outcome orderly none key move ok;
+      held = λ other. refl;
+      stays_spent = λ other number spent. spent;
+      keeps = λ other. inl refl;
+    }
+
 -- a call that is carried out, by its thing
 carried_becomes : (config : Config) (state : ControllerState) (number : Number) (call : Call) (outcome : Outcome) (o : Option Key) → IsOrderly state → IsExclusive state
     → IsTrue (is_party_of (kind_of call) Controller) → key_of state call ≡ o → Move config state call outcome → is_spent (last_of (kept_for call state)) number ≡ false
@@ -223,14 +251,16 @@ carried_becomes : (config : Config) (state : ControllerState) (number : Number) 
 carried_becomes config state number call outcome (Some key) orderly safe party is move fresh = inl (acts config state number call key outcome orderly is move fresh)
 carried_becomes config state number call outcome None orderly safe party is move fresh =
     let none = row_unknown state call party is in
-    subst (λ (after : ControllerState). IsSameView (view_of state) (view_of after)) (sym (leaves state number call outcome none (unknown_stays config state call outcome orderly safe party none is move))) (same_view state)
+    subst (λ (after : ControllerState). Misses (told number call outcome.reply) (view_of state) (view_of after))
+    (sym (leaves state number call outcome none (unknown_stays config state call outcome orderly safe party none is move))) (misses config state number call outcome orderly none is move)
 
 -- a call that isn't, by its thing
-spent_becomes : (state : ControllerState) (number : Number) (call : Call) (row : Volume) (kind : Kind) (reply : Reply) (o : Option Key) → IsOrderly state → key_of state call ≡ o → row_for call state ≡ Some row
+spent_becomes : (state : ControllerState) (number : Number) (call : Call) (row : Volume) (kind : Kind) (reply : Reply) (o : Option Key) → IsOrderly state → IsTrue (is_party_of (kind_of call) Controller)
+    → key_of state call ≡ o → row_for call state ≡ Some row
     → is_spent (Some row.kept.number) number ≡ true → (reply.status ≡ Ok → row.kept ≡ record { number = number; kind = kind; reply = reply })
     → Becomes o (record { number = number; call = call; kind = kind; reply = reply }) (view_of state) (view_of state)
-spent_becomes state number call row kind reply None orderly is own spent kept = same_view state
-spent_becomes state number call row kind reply (Some key) orderly is own spent kept = inr (rests state number call key row kind reply orderly is own spent kept)
+spent_becomes state number call row kind reply None orderly party is own spent kept = absurd (none-some row (sym (row_unknown state call party is) ∙ own))
+spent_becomes state number call row kind reply (Some key) orderly party is own spent kept = inr (rests state number call key row kind reply orderly is own spent kept)
 
 -- whatever the fence says
 judged_delivered : (config : Config) (state : ControllerState) (number : Number) (call : Call) (after : Fenced) → IsOrderly state → IsExclusive state → IsTrue (is_party_of (kind_of call) Controller)
@@ -253,13 +283,13 @@ judged_delivered config state number call after orderly safe party (was_repeated
   kind = row.kept.kind;
   reply = row.kept.reply;
   is_answer = refl;
-  becomes = spent_becomes state number call row row.kept.kind row.kept.reply (key_of state call) orderly refl own spent (λ ok. renumbered row.kept number same);
+  becomes = spent_becomes state number call row row.kept.kind row.kept.reply (key_of state call) orderly party refl own spent (λ ok. renumbered row.kept number same);
 }
 judged_delivered config state number call after orderly safe party (was_stale row own spent) = record {
   kind = kind_of call;
   reply = stale_reply;
   is_answer = refl;
-  becomes = spent_becomes state number call row (kind_of call) stale_reply (key_of state call) orderly refl own spent (λ ok. absurd (aborted ok));
+  becomes = spent_becomes state number call row (kind_of call) stale_reply (key_of state call) orderly party refl own spent (λ ok. absurd (aborted ok));
 }
 
 -- whichever call comes to a controller whose state is orderly and exclusive, it is delivered as the laws say

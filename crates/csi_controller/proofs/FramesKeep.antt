@@ -36,3 +36,25 @@ frame_keeps I config keeps state frame so = parts_keep I config keeps state fram
 pub frames_keep : (I : ControllerState → Type 0) (config : Config) → IsKeptByCalls I config → (state : ControllerState) (frames : List Frame) → I state → I (after_frames config state frames)
 frames_keep I config keeps state [] so = so
 frames_keep I config keeps state (frame ∷ frames) so = frames_keep I config keeps (fenced config state frame).state frames (frame_keeps I config keeps state frame so)
+
+-- what is so of a state and itself, and of a state and the one after a call that is carried out, is so of a state and the one after any frame
+judged_leads : (R : ControllerState → ControllerState → Type 0) (config : Config) → ((state : ControllerState) → R state state)
+    → ((state : ControllerState) (number : Number) (call : Call) → R state (carried_out state number call (controller_row config state call)).state)
+    → (state : ControllerState) (number : Number) (call : Call) (after : Fenced) → Judgement config state number call after → R state after.state
+judged_leads R config stays goes state number call after (was_first none) = goes state number call
+judged_leads R config stays goes state number call after (was_fresh row is fresh) = goes state number call
+judged_leads R config stays goes state number call after (was_repeated row is spent same) = stays state
+judged_leads R config stays goes state number call after (was_stale row is spent) = stays state
+
+parts_lead : (R : ControllerState → ControllerState → Type 0) (config : Config) → ((state : ControllerState) → R state state)
+    → ((state : ControllerState) (number : Number) (call : Call) → R state (carried_out state number call (controller_row config state call)).state)
+    → (state : ControllerState) (number : Number) (party : Party) (body : Body) → R state (fenced_parts config state number party body).state
+parts_lead R config stays goes state number Controller (bodies.Call call) =
+    judged_leads R config stays goes state number call (fenced_call config state number call (kept_for call state)) (was_judged config state number call)
+parts_lead R config stays goes state number Controller (bodies.Reply kind reply) = stays state
+parts_lead R config stays goes state number (Node id) body = stays state
+
+pub frame_leads : (R : ControllerState → ControllerState → Type 0) (config : Config) → ((state : ControllerState) → R state state)
+    → ((state : ControllerState) (number : Number) (call : Call) → R state (carried_out state number call (controller_row config state call)).state)
+    → (state : ControllerState) (frame : Frame) → R state (fenced config state frame).state
+frame_leads R config stays goes state frame = parts_lead R config stays goes state frame.number frame.party frame.body

@@ -1,10 +1,11 @@
--- Names and ids belong together, and a name that got an id keeps it.
-use Rattle.std.proofs.Common.{◌≡◌, ℕ, List, ◌<◌, map, refl, ◌∙◌, ap, subst}
+-- Names and ids belong together, and do so as before: each volume was there under its id and name, or was made under the next id.
+use Rattle.std.proofs.Common.{◌≡◌, ◌⊎◌, ℕ, ◌+◌, List, [], ◌∷◌, ◌++◌, ◌<◌, ◌≤◌, map, Bool, true, false, cond, refl, sym, ◌∙◌, ap, subst, inl, inr, arith}
 use Rattle.std.specs.Prelude.{Option, Some, None, option_map, ◌==◌, ◌&&◌}
 use Rattle.std.proofs.lemmas.Bool.{and_parts, eqb-true}
+use Rattle.std.proofs.lemmas.Option.{none-some, same_Some}
 use Rattle.std.specs.Option.{option_or}
 use Rattle.csi_lists.proofs.Members.{among-find}
-use Rattle.csi_lists.proofs.Options.{option_map-map, option_or-some}
+use Rattle.csi_lists.proofs.Options.{option_or-none, option_or-some, some-from_map}
 use Rattle.csi_lists.proofs.Searches.{find-append, find-map, find-passes}
 use Rattle.csi_types.specs.declared.number.Number.{Number}
 use Rattle.csi_types.specs.declared.call.Call.{Call}
@@ -12,12 +13,14 @@ use Rattle.csi_types.specs.Config.{Config}
 use Rattle.csi_types.specs.Fence.{Kept}
 use Rattle.csi_types.specs.Frame.{Frame}
 use Rattle.csi_types.specs.Same.{same_text}
-use Rattle.csi_controller.specs.State.{Volume, ControllerState, empty_controller, volume_named}
-use Rattle.csi_controller.specs.Table.{Change, Stays, Makes, Ends, Attaches, Detaches, changed, ended, controller_row}
+use Rattle.csi_controller.specs.State.{Volume, ControllerState, empty_controller, volume_named, volume_with_id}
+use Rattle.csi_controller.specs.Table.{Outcome, Change, Stays, Makes, Ends, Attaches, Detaches, changed, ended, controller_row}
 use Rattle.csi_controller.specs.Fenced.{fenced, carried_out, kept_in, after_frames}
-use Rattle.csi_controller.specs.View.{AreNamed, id_named}
-use Rattle.csi_controller.proofs.FramesKeep.{frame_keeps}
-use Rattle.csi_controller.proofs.OrderlyStates.{IsOrderly, reached_orderly, named_by_id, with_id_by_name, is_named, LeavesNames, keep_leaves, end_leaves}
+use Rattle.csi_controller.specs.View.{AreNamed, live_named, HasVolume, WasMade, KeepsNames}
+use Rattle.csi_controller.proofs.FramesKeep.{frame_leads}
+use Rattle.csi_controller.proofs.Moves.{Move, was_refused, was_found, was_made, was_ended, was_ended_before, was_attached, was_attached_before, was_detached, was_detached_before, moved}
+use Rattle.csi_controller.proofs.OrderlyStates.{IsOrderly, reached_orderly, named_by_id, with_id_by_name, is_named, LeavesNames, kept_same, keep_leaves, end_leaves}
+use Rattle.csi_controller.proofs.ThingMoves.{none_named}
 
 -- in an orderly state names and ids belong together
 are_named : (state : ControllerState) → IsOrderly state → AreNamed state
@@ -34,35 +37,120 @@ are_named state orderly = record {
 pub reached_named : (config : Config) (frames : List Frame) → AreNamed (after_frames config empty_controller frames)
 reached_named config frames = are_named (after_frames config empty_controller frames) (reached_orderly config frames)
 
--- the name has this id
-abbrev HasIdOf : List ℕ → ℕ → ControllerState → Type 0
-HasIdOf name id state = id_named name state ≡ Some id
+-- a volume of a state was there, or was made
+abbrev Comes : ControllerState → Volume → Type 0
+Comes old volume = HasVolume old volume ⊎ WasMade old volume
 
--- a change of volumes that leaves ids and names leaves the id of each name
-mapped_id : (f : Volume → Volume) → LeavesNames f → (name : List ℕ) (state : ControllerState) → id_named name (record state { volumes = map f state.volumes }) ≡ id_named name state
-mapped_id f leaves name state =
-    ap (option_map (λ (v : Volume). v.id)) (find-map (λ (v : Volume). same_text v.name name) f state.volumes (λ v. ap (λ n. same_text n name) (leaves.names v)))
-    ∙ option_map-map (λ (v : Volume). v.id) f (volume_named name state) leaves.ids
+-- what is found by an id has it
+own_id : (state : ControllerState) (id : ℕ) (volume : Volume) → volume_with_id id state ≡ Some volume → volume.id ≡ id
+own_id state id volume is = eqb-true volume.id id (find-passes (λ (v : Volume). v.id == id) state.volumes volume is)
 
--- an id that was found is found still, where another search comes after it
-still : (o other : Option Volume) (id : ℕ) → option_map (λ (v : Volume). v.id) o ≡ Some id → option_map (λ (v : Volume). v.id) (option_or o other) ≡ Some id
-still None other id h = cc
-still (Some v) other id h = ap (option_map (λ (u : Volume). u.id)) (option_or-some (Some v) other v refl) ∙ h
+-- a volume of a state is there
+was_there : (state : ControllerState) (id : ℕ) (volume : Volume) → volume_with_id id state ≡ Some volume → HasVolume state volume
+was_there state id volume is = record { there = volume; is_found = subst (λ n. volume_with_id n state ≡ Some volume) (sym (own_id state id volume is)) is; same_name = refl }
 
--- a name that has an id has it after any change
-changed_id : (name : List ℕ) (id : ℕ) (state : ControllerState) (kept : Kept) (change : Change) → HasIdOf name id state → HasIdOf name id (changed state kept change)
-changed_id name id state kept Stays h = h
-changed_id name id state kept (Makes made capacity capabilities) h =
-    ap (option_map (λ (v : Volume). v.id)) (find-append (λ (v : Volume). same_text v.name name) state.volumes _) ∙ still (volume_named name state) _ id h
-changed_id name id state kept (Ends other) h = mapped_id (ended other) (end_leaves other) name state ∙ h
-changed_id name id state kept (Attaches holding) h = h
-changed_id name id state kept (Detaches other node) h = h
+-- a volume comes so after a change that leaves ids and names, if it did before
+mapped_comes : (old : ControllerState) (f : Volume → Volume) → LeavesNames f → ((v : Volume) → v.is_live ≡ true → (f v).is_live ≡ true) → (v : Volume) → Comes old v → Comes old (f v)
+mapped_comes old f leaves lives v (inl was) =
+    inl (record { there = was.there; is_found = subst (λ n. volume_with_id n old ≡ Some was.there) (sym (leaves.ids v)) was.is_found; same_name = was.same_name ∙ sym (leaves.names v) })
+mapped_comes old f leaves lives v (inr made) =
+    inr (record { has_next = leaves.ids v ∙ made.has_next; is_live = lives v made.is_live; was_free = subst (λ n. live_named n old ≡ None) (sym (leaves.names v)) made.was_free })
 
--- and after any call that is carried out
-carried_id : (name : List ℕ) (id : ℕ) (config : Config) (state : ControllerState) (number : Number) (call : Call) → HasIdOf name id state → HasIdOf name id (carried_out state number call (controller_row config state call)).state
-carried_id name id config state number call h =
-    mapped_id (kept_in call _) (keep_leaves call _) name (changed state _ (controller_row config state call).change) ∙ changed_id name id state _ (controller_row config state call).change h
+-- so does each volume of a state, if each did before such a change
+all_mapped : (old state : ControllerState) (f : Volume → Volume) → LeavesNames f → ((v : Volume) → v.is_live ≡ true → (f v).is_live ≡ true)
+    → ((id : ℕ) (v : Volume) → volume_with_id id state ≡ Some v → Comes old v) → (id : ℕ) (w : Volume) → volume_with_id id (record state { volumes = map f state.volumes }) ≡ Some w → Comes old w
+all_mapped old state f leaves lives all id w is =
+    let mapped = sym (find-map (λ (v : Volume). v.id == id) f state.volumes (λ v. ap (λ n. n == id) (leaves.ids v))) ∙ is in
+    let found = some-from_map f (volume_with_id id state) w mapped in
+    subst (Comes old) found.2 (mapped_comes old f leaves lives found.0 (all id found.0 found.1))
 
--- and after any frame
-pub keeps_id : (config : Config) (state : ControllerState) (frame : Frame) (name : List ℕ) (id : ℕ) → id_named name state ≡ Some id → id_named name (fenced config state frame).state ≡ Some id
-keeps_id config state frame name id h = frame_keeps (HasIdOf name id) config (carried_id name id config) state frame h
+-- what was there is there once a volume is deleted
+ended_there : (state : ControllerState) (other id : ℕ) (w : Volume) → volume_with_id id (record state { volumes = map (ended other) state.volumes }) ≡ Some w → Comes state w
+ended_there state other id w is =
+    let mapped = sym (find-map (λ (v : Volume). v.id == id) (ended other) state.volumes (λ v. ap (λ n. n == id) ((end_leaves other).ids v))) ∙ is in
+    let found = some-from_map (ended other) (volume_with_id id state) w mapped in
+    let was = was_there state id found.0 found.1 in
+    subst (Comes state) found.2
+    (inl (record {
+      there = was.there;
+      is_found = subst (λ n. volume_with_id n state ≡ Some was.there) (sym ((end_leaves other).ids found.0)) was.is_found;
+      same_name = was.same_name ∙ sym ((end_leaves other).names found.0);
+    }))
+
+-- a volume was there, or is the one that was added
+added_comes : (state : ControllerState) (made : Volume) → made.id ≡ state.next_id → made.is_live ≡ true → volume_named made.name state ≡ None → (id : ℕ) (w : Volume)
+    → volume_with_id id (record state { volumes = state.volumes ++ made ∷ []; next_id = state.next_id + 1 }) ≡ Some w → Comes state w
+added_comes state made is_next live unnamed id w is = by (volume_with_id id state) refl (sym (find-append (λ (v : Volume). v.id == id) state.volumes made) ∙ is)
+  where
+    this : (b : Bool) → cond b (Some made) None ≡ Some w → made ≡ w
+    this true e = same_Some made w e
+    this false e = absurd (none-some w e)
+
+    by : (o : Option Volume) → volume_with_id id state ≡ o → option_or o (cond (made.id == id) (Some made) None) ≡ Some w → Comes state w
+    by (Some v) there e = subst (Comes state) (same_Some v w e) (inl (was_there state id v there))
+    by None none e =
+        subst (Comes state) (this (made.id == id) (sym (option_or-none None (cond (made.id == id) (Some made) None) refl) ∙ e))
+        (inr (record { has_next = is_next; is_live = live; was_free = none_named state made.name unnamed }))
+
+-- so it is after each change that the table makes
+changed_comes : (config : Config) (state : ControllerState) (call : Call) (outcome : Outcome) (kept : Kept) → Move config state call outcome
+    → (id : ℕ) (w : Volume) → volume_with_id id (changed state kept outcome.change) ≡ Some w → Comes state w
+changed_comes config state call outcome kept (was_refused _ status detail not_ok) id w is = inl (was_there state id w is)
+changed_comes config state call outcome kept (was_found name required limit first others volume range named live serving) id w is = inl (was_there state id w is)
+changed_comes config state call outcome kept (was_made name required limit first others range unnamed) id w is = added_comes state _ refl refl unnamed id w is
+changed_comes config state call outcome kept (was_ended other volume live free) id w is = ended_there state other id w is
+changed_comes config state call outcome kept (was_ended_before other none) id w is = inl (was_there state id w is)
+changed_comes config state call outcome kept (was_attached holding volume can free fits) id w is = inl (was_there state id w is)
+changed_comes config state call outcome kept (was_attached_before holding volume can held) id w is = inl (was_there state id w is)
+changed_comes config state call outcome kept (was_detached other node held there) id w is = inl (was_there state id w is)
+changed_comes config state call outcome kept (was_detached_before other node none) id w is = inl (was_there state id w is)
+
+-- the next id only grows
+changed_grows : (state : ControllerState) (kept : Kept) (change : Change) → state.next_id ≤ (changed state kept change).next_id
+changed_grows state kept Stays = omega arith
+changed_grows state kept (Makes made capacity capabilities) = omega arith
+changed_grows state kept (Ends other) = omega arith
+changed_grows state kept (Attaches holding) = omega arith
+changed_grows state kept (Detaches other node) = omega arith
+
+-- what is kept leaves a live volume live
+keep_lives : (call : Call) (kept : Kept) (v : Volume) → v.is_live ≡ true → (kept_in call kept v).is_live ≡ true
+keep_lives call kept v live = ap (λ (w : Volume). w.is_live) (kept_same call kept kept v) ∙ live
+
+-- a volume is there still after a change that leaves ids and names
+mapped_stays : (state : ControllerState) (f : Volume → Volume) → LeavesNames f → (volume : Volume) → HasVolume state volume → HasVolume (record state { volumes = map f state.volumes }) volume
+mapped_stays state f leaves volume has =
+    record {
+      there = f has.there;
+      is_found = find-map (λ (v : Volume). v.id == volume.id) f state.volumes (λ v. ap (λ n. n == volume.id) (leaves.ids v)) ∙ ap (option_map f) has.is_found;
+      same_name = leaves.names has.there ∙ has.same_name;
+    }
+
+-- and after each change that the table makes
+changed_stays : (state : ControllerState) (kept : Kept) (change : Change) (volume : Volume) → HasVolume state volume → HasVolume (changed state kept change) volume
+changed_stays state kept Stays volume has = has
+changed_stays state kept (Makes made capacity capabilities) volume has =
+    record {
+      there = has.there;
+      is_found = find-append (λ (v : Volume). v.id == volume.id) state.volumes _ ∙ option_or-some (volume_with_id volume.id state) _ has.there has.is_found;
+      same_name = has.same_name;
+    }
+changed_stays state kept (Ends other) volume has = mapped_stays state (ended other) (end_leaves other) volume has
+changed_stays state kept (Attaches holding) volume has = record { there = has.there; is_found = has.is_found; same_name = has.same_name }
+changed_stays state kept (Detaches other node) volume has = record { there = has.there; is_found = has.is_found; same_name = has.same_name }
+
+-- names and ids stay as they are under any call that is carried out
+carried_names : (config : Config) (state : ControllerState) (number : Number) (call : Call) → KeepsNames state (carried_out state number call (controller_row config state call)).state
+carried_names config state number call =
+    record {
+      grows = changed_grows state _ (controller_row config state call).change;
+      comes = all_mapped state (changed state _ (controller_row config state call).change) (kept_in call _) (keep_leaves call _) (keep_lives call _)
+          (changed_comes config state call (controller_row config state call) _ (moved config state call));
+      stays = λ id volume is live. mapped_stays (changed state _ (controller_row config state call).change) (kept_in call _) (keep_leaves call _) volume
+          (changed_stays state _ (controller_row config state call).change volume (was_there state id volume is));
+    }
+
+-- and under any frame
+pub keeps_names : (config : Config) (state : ControllerState) (frame : Frame) → KeepsNames state (fenced config state frame).state
+keeps_names config state frame =
+    frame_leads KeepsNames config (λ s. record { grows = omega arith; comes = λ id w is. inl (was_there s id w is); stays = λ id w is live. was_there s id w is }) (carried_names config) state frame

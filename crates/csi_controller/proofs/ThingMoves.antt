@@ -46,7 +46,7 @@ second_fails true b f = f refl
 second_fails false b f = refl
 
 -- a name that no volume has no live volume has
-none_named : (state : ControllerState) (name : List ℕ) → volume_named name state ≡ None → live_named name state ≡ None
+pub none_named : (state : ControllerState) (name : List ℕ) → volume_named name state ≡ None → live_named name state ≡ None
 none_named state name none =
     find-none (λ (v : Volume). same_text v.name name && v.is_live) state.volumes
     (λ v among. and_left (same_text v.name name) v.is_live (none_passes (λ (u : Volume). same_text u.name name) state.volumes v none among))

@@ -1,6 +1,6 @@
 -- A controller seen thing by thing, and what a call that is delivered to it does there: what is safe of a world is
 -- told by this alone. This profile's own.
-use Rattle.std.specs.Prelude.{◌≡◌, ◌<◌, ℕ, List, ◌&&◌, find, Option, Some, None, option_map, IsTrue}
+use Rattle.std.specs.Prelude.{◌≡◌, ◌⊎◌, ◌<◌, ◌≤◌, ℕ, true, List, ◌&&◌, find, Option, Some, None, option_map, IsTrue}
 use Rattle.csi_types.specs.declared.number.Number.{Number}
 use Rattle.csi_types.specs.declared.call.Call.{Call}
 use Rattle.csi_types.specs.declared.call.Call.TheVariants as calls
@@ -70,13 +70,26 @@ pub record AreNamed (state : ControllerState) : Type 0 where
   pub live : (name : List ℕ) (volume : Volume) → live_named name state ≡ Some volume → volume_named name state ≡ Some volume
   pub given : (id : ℕ) (volume : Volume) → volume_with_id id state ≡ Some volume → id < state.next_id
 
--- the id that a name got, if it got one
-abbrev pub id_named : List ℕ → ControllerState → Option ℕ
-id_named name state = option_map (λ volume. volume.id) (volume_named name state)
+-- a volume of this id and name is there
+pub record HasVolume (state : ControllerState) (volume : Volume) : Type 0 where
+  pub there : Volume
+  pub is_found : volume_with_id volume.id state ≡ Some there
+  pub same_name : there.name ≡ volume.name
 
--- in every state that frames lead to, names and ids belong together; and a name that got an id keeps it, whatever frame
--- comes
+-- the volume was made: it is live, under the id that was the next one, and no live volume had its name
+pub record WasMade (old : ControllerState) (volume : Volume) : Type 0 where
+  pub has_next : volume.id ≡ old.next_id
+  pub is_live : volume.is_live ≡ true
+  pub was_free : live_named volume.name old ≡ None
+
+-- the next id only grows; each volume was there under its id and name, or was made; and one that was live stays under them, if
+-- only as one that is deleted now
+pub record KeepsNames (old new : ControllerState) : Type 0 where
+  pub grows : old.next_id ≤ new.next_id
+  pub comes : (id : ℕ) (volume : Volume) → volume_with_id id new ≡ Some volume → HasVolume old volume ⊎ WasMade old volume
+  pub stays : (id : ℕ) (volume : Volume) → volume_with_id id old ≡ Some volume → volume.is_live ≡ true → HasVolume new volume
+
+-- in every state that frames lead to, names and ids belong together; and they do so as before, whatever frame comes
 pub record ControllerNamesLaw : Type 0 where
   pub named : (config : Config) (frames : List Frame) → AreNamed (after_frames config empty_controller frames)
-  pub keeps_ids : (config : Config) (state : ControllerState) (frame : Frame) (name : List ℕ) (id : ℕ)
-      → id_named name state ≡ Some id → id_named name (fenced config state frame).state ≡ Some id
+  pub keeps_names : (config : Config) (state : ControllerState) (frame : Frame) → KeepsNames state (fenced config state frame).state

@@ -35,8 +35,9 @@ pub fn delivery_law()
 {}
 
 /// A law, and nothing that runs: in every state that frames lead to, a volume that is found by its name is found
-/// by its id, and the other way round, and a name that got an id keeps it, whatever frame comes (this profile's
-/// own).
+/// by its id, and the other way round; and whatever frame comes, each volume that is there then was there under its
+/// id and name, or was made under the next id, for a name that no live volume had, and a live volume keeps both
+/// (this profile's own).
 pub fn names_law()
     ensures { ControllerNamesLaw }
 {}

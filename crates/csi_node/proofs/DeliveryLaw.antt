@@ -152,9 +152,9 @@ module _ (node : List ℕ) (state : NodeState) (number : Number) (call : Call) (
     still other earlier (inl same) spent = spent_by earlier same ∙ spent
     still other earlier (inr e) spent = spent_by earlier e.0 ∙ spent_still (last_of (kept_for call state)) number earlier fresh (sym (spent_by earlier e.1) ∙ spent)
 
-    keeps : (other : Key) → IsKept other → (kept_on node after other ≡ kept_on node state other) ⊎ (kept_on node after other ≡ Some kept)
+    keeps : (other : Key) → IsKept other → (kept_on node after other ≡ kept_on node state other) ⊎ (kept_on node after other ≡ Some kept) ⊎ (kept_on node after other ≡ None)
     keeps other (inl same) = inl same
-    keeps other (inr e) = inr e.0
+    keeps other (inr e) = inr (inl e.0)
 
     acts : Acts key (replied (kind_of call) (lifecycle_row state call).reply) (view_of node state) (view_of node after)
     acts =

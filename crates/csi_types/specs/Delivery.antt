@@ -44,7 +44,7 @@ kept_of delivery = record { number = delivery.number; kind = delivery.kind; repl
 
 -- the call was carried out. Its number wasn't spent. After an OK, which has an id where it must, its thing is as asked
 -- and the number is spent; after a refusal the thing is as it was. Other things are as they were, and what was spent
--- stays so. What is kept then was kept before, or is this reply
+-- stays so. What is kept then was kept before, or is this reply; or nothing is kept any more
 pub record Acts (key : Key) (delivery : Delivery) (old new : View) : Type 0 where
   pub of_its_kind : delivery.kind ≡ kind_of delivery.call
   pub with_id : delivery.reply.status ≡ Ok → IsTrue (has_id_by_rule delivery.kind delivery.reply)
@@ -54,7 +54,7 @@ pub record Acts (key : Key) (delivery : Delivery) (old new : View) : Type 0 wher
   pub refused : delivery.reply.status ≢ Ok → new.held key ≡ old.held key
   pub others : (other : Key) → same_key other key ≡ false → new.held other ≡ old.held other
   pub stays_spent : (other : Key) (number : Number) → IsTrue (old.is_spent other number) → IsTrue (new.is_spent other number)
-  pub keeps : (other : Key) → (new.kept other ≡ old.kept other) ⊎ (new.kept other ≡ Some (kept_of delivery))
+  pub keeps : (other : Key) → (new.kept other ≡ old.kept other) ⊎ (new.kept other ≡ Some (kept_of delivery)) ⊎ (new.kept other ≡ None)
 
 -- nothing changes
 pub record IsSameView (old new : View) : Type 0 where
@@ -69,9 +69,19 @@ pub record Rests (key : Key) (delivery : Delivery) (old new : View) : Type 0 whe
   pub was_kept : delivery.reply.status ≡ Ok → old.kept key ≡ Some (kept_of delivery)
   pub same : IsSameView old new
 
--- what becomes of a call: by its thing, if the plugin knows its volume; else nothing changes
+-- the plugin has no volume of the call. Things are as they were, what was spent stays so, and what is kept was kept before,
+-- or nothing is kept any more. An OK, which has an id where it must, asks for nothing
+pub record Misses (delivery : Delivery) (old new : View) : Type 0 where
+  pub of_its_kind : delivery.kind ≡ kind_of delivery.call
+  pub with_id : delivery.reply.status ≡ Ok → IsTrue (has_id_by_rule delivery.kind delivery.reply)
+  pub undoes : delivery.reply.status ≡ Ok → asked delivery.call delivery.reply ≡ None
+  pub held : (key : Key) → new.held key ≡ old.held key
+  pub stays_spent : (key : Key) (number : Number) → IsTrue (old.is_spent key number) → IsTrue (new.is_spent key number)
+  pub keeps : (key : Key) → (new.kept key ≡ old.kept key) ⊎ (new.kept key ≡ None)
+
+-- what becomes of a call: by its thing, if the plugin has its volume; else it misses it
 abbrev pub Becomes : Option Key → Delivery → View → View → Type 0
-Becomes None delivery old new = IsSameView old new
+Becomes None delivery old new = Misses delivery old new
 Becomes (Some key) delivery old new = Acts key delivery old new ⊎ Rests key delivery old new
 
 -- what came before a spent number is spent

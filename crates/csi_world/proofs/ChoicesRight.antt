@@ -23,11 +23,15 @@ use Rattle.csi_orchestrator.proofs.Numbers.{open-sent}
 use Rattle.csi_world.specs.World.{World, empty_world, node_state, with_history}
 use Rattle.csi_world.specs.Step.{Choice, Sends, Closes, Takes, Notes, Starts, Answers, frame_of, MaySend, MayTake, MayChoose, MayChooseAll, chosen, chosen_all}
 use Rattle.csi_world.proofs.WorldView.{party_of, node_view, plugin_view, view_of}
+use Rattle.csi_world.proofs.GivenIds.{GivenId}
 use Rattle.csi_world.proofs.KeyedCalls.{IsOwn, IsAnsweredOk, Named}
+use Rattle.csi_world.proofs.CreatesFirst.{first-sent, first-noted}
+use Rattle.csi_world.proofs.NotLive.{ended-sent, ended-noted}
+use Rattle.csi_world.proofs.Forgotten.{told_by, closed-told}
 use Rattle.csi_world.proofs.HeardReplies.{WasSent, sent-more}
 use Rattle.csi_world.proofs.RepliesTold.{Truth, unanswered, before_call, truth-sent}
 use Rattle.csi_world.proofs.StagedAttached.{stands-sent, stands-noted}
-use Rattle.csi_world.proofs.GuardedCalls.{own-guarded, leaves-guarded, stages-guarded}
+use Rattle.csi_world.proofs.GuardedCalls.{IsSoFar, own-guarded, leaves-guarded, stages-guarded}
 use Rattle.csi_world.proofs.RecordedRight.{IsWell}
 use Rattle.csi_world.proofs.PluginsReached.{found-at, knows-nothing, empty-reached, still-reached, answered-history}
 use Rattle.csi_world.proofs.Deliveries.{PluginLaws, all-closed, IsGood, frame-got}
@@ -60,8 +64,14 @@ IsTold world item = Unit {0}
 
 -- a world of which all is so that is kept of every world
 module _ (config : Config) (world : World) (right : IsRight config world) where
-  abbrev well : IsWell world
+  abbrev given : List GivenId
+  given = right.good.given
+
+  abbrev well : IsWell world given
   well = right.good.well
+
+  abbrev so_far : IsSoFar world.history world.frames (told_by given world) given
+  so_far = well.so_far
 
   abbrev issued : List Issued
   issued = issued_in world.history.items
@@ -72,28 +82,34 @@ module _ (config : Config) (world : World) (right : IsRight config world) where
       let guarded = may.allowed.guarded in
       let frames : List Frame = world.frames ++ frame_of call ∷ [] in
       let later = after-all world.history call.number right.last may.numbered.later in
-      let own = own-guarded world.history world.frames (view_of world) world.controller well call.name call.party call.call guarded in
+      let own = own-guarded world.history world.frames (told_by given world) given so_far call.name call.party call.call guarded in
       record {
         good = record {
           reached = still-reached config world frames (with_items world.history (Sent call ∷ [])) right.good.reached;
+          given = given;
           well = record {
-            truth = truth-sent issued world.frames (view_of world) call well.truth later;
-            closed = all-closed laws world;
-            named = record {
-              own = λ other among. ⊎_elim (λ e. subst (λ (x : Issued). IsOwn world.controller x.name x.party x.call) (sym e) own) (well.named.own other) among;
-              made = λ other reply id create required limit capabilities among is ok given.
-                  ⊎_elim (λ e. absurd (unanswered issued world.frames (view_of world) call reply well.truth later (subst (λ (x : Issued). IsAnsweredOk frames x reply) e ok)))
-                  (λ there.
-                  let before = before_call world.frames call other.number other.party (kind_of other.call) reply ok.0 in
-                  well.named.made other reply id create required limit capabilities there is (before, ok.1) given) among;
+            so_far = record {
+              truth = truth-sent issued world.frames (told_by given world) call so_far.truth later;
+              closed = closed-told given world (all-closed laws world);
+              named = record {
+                own = λ other among. ⊎_elim (λ e. subst (λ (x : Issued). IsOwn given x.name x.party x.call) (sym e) own) (so_far.named.own other) among;
+                made = λ other reply id create required limit capabilities among is ok has_id.
+                    ⊎_elim (λ e. absurd (unanswered issued world.frames (told_by given world) call reply so_far.truth later (subst (λ (x : Issued). IsAnsweredOk frames x reply) e ok)))
+                    (λ there.
+                    let before = before_call world.frames call other.number other.party (kind_of other.call) reply ok.0 in
+                    so_far.named.made other reply id create required limit capabilities there is (before, ok.1) has_id) among;
+              };
+              are_given = so_far.are_given;
+              heard = λ number status id among.
+                  ⊎_elim (λ e. absurd (clash number status id call e))
+                  (λ there. sent-more issued (call ∷ issued) world.frames (frame_of call) number status id (λ c among. inr among) (so_far.heard number status id there)) among;
+              stands = stands-sent world.history.items call (told_by given world) so_far.stands
+                  (leaves-guarded world.history world.frames (told_by given world) given so_far call guarded)
+                  (stages-guarded world.history world.frames (told_by given world) given so_far call guarded);
             };
-            names = well.names;
-            heard = λ number status id among.
-                ⊎_elim (λ e. absurd (clash number status id call e))
-                (λ there. sent-more issued (call ∷ issued) world.frames (frame_of call) number status id (λ c among. inr among) (well.heard number status id there)) among;
-            stands = stands-sent world.history.items call (view_of world) well.stands
-                (leaves-guarded world.history world.frames (view_of world) world.controller well call guarded)
-                (stages-guarded world.history world.frames (view_of world) world.controller well call guarded);
+            of_controller = well.of_controller;
+            creates = first-sent world.history call well.creates guarded later;
+            ended = ended-sent given world.history (view_of world) call guarded well.ended;
           };
         };
         last = λ other among. ⊎_elim (λ e. inl (ap (λ (x : Issued). x.number) e)) (λ there. inr (later other there)) among;
@@ -108,15 +124,21 @@ module _ (config : Config) (world : World) (right : IsRight config world) where
       record {
         good = record {
           reached = still-reached config world world.frames (with_items world.history (item ∷ [])) right.good.reached;
+          given = given;
           well = record {
-            truth = subst (λ (list : List Issued). Truth list world.frames (view_of world)) (sym same) well.truth;
-            closed = well.closed;
-            named = subst (λ (list : List Issued). Named list world.frames world.controller) (sym same) well.named;
-            names = well.names;
-            heard = λ number status id among.
-                subst (λ (list : List Issued). WasSent list world.frames number status id) (sym same)
-                (⊎_elim (λ e. subst (IsTold world) (sym e) told) (well.heard number status id) among);
-            stands = stands-noted world.history.items item (view_of world) same well.stands;
+            so_far = record {
+              truth = subst (λ (list : List Issued). Truth list world.frames (told_by given world)) (sym same) so_far.truth;
+              closed = so_far.closed;
+              named = subst (λ (list : List Issued). Named list world.frames given) (sym same) so_far.named;
+              are_given = so_far.are_given;
+              heard = λ number status id among.
+                  subst (λ (list : List Issued). WasSent list world.frames number status id) (sym same)
+                  (⊎_elim (λ e. subst (IsTold world) (sym e) told) (so_far.heard number status id) among);
+              stands = stands-noted world.history.items item (told_by given world) same so_far.stands;
+            };
+            of_controller = well.of_controller;
+            creates = first-noted world.history.items item same well.creates;
+            ended = ended-noted given world.history.items item (view_of world) same well.ended;
           };
         };
         last = last;
@@ -169,22 +191,28 @@ empty-right laws config =
     record {
       good = record {
         reached = empty-reached config;
+        given = [];
         well = record {
-          truth = record {
-            calls = λ frame c among is. absurd among;
-            replies = λ number party kind reply among. absurd among;
-            ids = λ number party kind reply among ok. absurd among;
-            kept = λ key k is. absurd (none-some k (sym (empty.kept key) ∙ is));
-            numbers = tt;
-            spent = λ call key reply among of ok. absurd among;
-            told = λ call key reply found ok. absurd (none-some call found);
-            untouched = λ key none. empty.held key;
+          so_far = record {
+            truth = record {
+              calls = λ frame c among is. absurd among;
+              replies = λ number party kind reply among. absurd among;
+              ids = λ number party kind reply among ok. absurd among;
+              kept = λ key k is. absurd (none-some k (sym (empty.kept key) ∙ is));
+              numbers = tt;
+              spent = λ call key reply among of ok. absurd among;
+              told = λ call key reply found ok. absurd (none-some call found);
+              untouched = λ key none. empty.held key;
+            };
+            closed = closed-told [] (empty_world config) (all-closed laws (empty_world config));
+            named = record { own = λ call among. absurd among; made = λ call reply id create required limit capabilities among is ok has_id. absurd among };
+            are_given = record { one_id = λ name i j has had. absurd has; one_name = λ a b id has had. absurd has };
+            heard = λ number status id among. absurd among;
+            stands = λ id node capability standing. absurd (⊎_elim (λ held. none-some (StagedAs capability) (sym (empty.held (Staged id node)) ∙ held)) (λ may. may.among) standing);
           };
-          closed = all-closed laws (empty_world config);
-          named = record { own = λ call among. absurd among; made = λ call reply id create required limit capabilities among is ok given. absurd among };
-          names = laws.names.named config [];
-          heard = λ number status id among. absurd among;
-          stands = λ id node capability standing. absurd (⊎_elim (λ held. none-some (StagedAs capability) (sym (empty.held (Staged id node)) ∙ held)) (λ may. may.among) standing);
+          of_controller = record { names = laws.names.named config []; below = λ name id has. absurd has; listed = λ id volume is. absurd (none-some volume is) };
+          creates = record { known = λ call among not_making. absurd among; first = λ create other there too. absurd there };
+          ended = λ name id has none. absurd has;
         };
       };
       last = λ call among. absurd among;

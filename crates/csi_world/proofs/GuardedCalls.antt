@@ -16,8 +16,6 @@ use Rattle.csi_lists.proofs.Searches.{find-passes, find-same_among}
 use Rattle.std.proofs.lemmas.Option.{none-some, same_Some}
 use Rattle.csi_types.specs.Same.{same_text}
 use Rattle.csi_types.proofs.Equality.{same_text-tells}
-use Rattle.csi_controller.specs.State.{ControllerState}
-use Rattle.csi_controller.specs.View as controllers
 use Rattle.csi_orchestrator.specs.declared.thing.Thing.{Thing}
 use Rattle.csi_orchestrator.specs.declared.thing.Thing.TheVariants as things
 use Rattle.csi_orchestrator.specs.declared.thing.Known.TheVariants.{Yes, No}
@@ -25,17 +23,18 @@ use Rattle.csi_orchestrator.specs.Thing.{Issued, touches, is_thing, thing_at, is
 use Rattle.csi_orchestrator.specs.History.{Held, History}
 use Rattle.csi_orchestrator.specs.Readings.{newest, issued_in, known, held_by, held}
 use Rattle.csi_orchestrator.specs.Guards.{IsGuarded, HasId}
-use Rattle.csi_world.proofs.KeyedCalls.{HasName, IsAnsweredOk, IsOwn, IsOne, Attachment, Staging, key_at, is_key, is_of, latest-last, Named, touches-key}
+use Rattle.csi_world.proofs.GivenIds.{GivenId, HasName, AreGiven}
+use Rattle.csi_world.proofs.KeyedCalls.{IsAnsweredOk, IsOwn, IsOne, Attachment, Staging, key_at, is_key, is_of, latest-last, Named, touches-key}
 use Rattle.csi_world.proofs.HeardReplies.{IsHeard, IsLatest, success-ok, id-given, known-yes, known-no, latest-known}
 use Rattle.csi_world.proofs.RepliesTold.{Truth}
 use Rattle.csi_world.proofs.StagedAttached.{staging, IsStanding, IsAttachedSo, Stands}
 
--- what is so of a history, the frames that were sent, the things, and the controller
-pub record IsSoFar (history : History) (frames : List Frame) (view : View) (controller : ControllerState) : Type 0 where
+-- what is so of a history, the frames that were sent, the things, and the ids that were given
+pub record IsSoFar (history : History) (frames : List Frame) (view : View) (given : List GivenId) : Type 0 where
   pub truth : Truth (issued_in history.items) frames view
   pub closed : IsClosed view
-  pub named : Named (issued_in history.items) frames controller
-  pub names : controllers.AreNamed controller
+  pub named : Named (issued_in history.items) frames given
+  pub are_given : AreGiven given
   pub heard : IsHeard history.items (issued_in history.items) frames
   pub stands : Stands history.items view
 
@@ -112,13 +111,13 @@ held-latest name node id call here (x ∷ xs) publishes found = by (touches (thi
     by false e found rest = skip (same_text x.name name) refl e (rest found)
 
 -- what is so of a history and of what came of it
-module _ (history : History) (frames : List Frame) (view : View) (controller : ControllerState) (so : IsSoFar history frames view controller) where
-  -- an id that the orchestrator heard for a name is the one that the controller gave it
-  pub given-id : (name : List ℕ) (id : ℕ) → HasId history name id → HasName controller name id
-  given-id name id has = id-given history frames controller name id so.heard so.truth.numbers so.named has
+module _ (history : History) (frames : List Frame) (view : View) (given : List GivenId) (so : IsSoFar history frames view given) where
+  -- an id that the orchestrator heard for a name is the one that it was given
+  pub given-id : (name : List ℕ) (id : ℕ) → HasId history name id → HasName given name id
+  given-id name id has = id-given history frames given name id so.heard so.truth.numbers so.named has
 
   -- a guarded call is for its own volume
-  pub own-guarded : (name : List ℕ) (party : Party) (call : Call) → IsGuarded history name party call → IsOwn controller name party call
+  pub own-guarded : (name : List ℕ) (party : Party) (call : Call) → IsGuarded history name party call → IsOwn given name party call
   own-guarded name Controller (calls.CreateVolume create required limit capabilities) guard = guard.own_name
   own-guarded name Controller (calls.DeleteVolume id) guard = given-id name id guard.0
   own-guarded name Controller (calls.ControllerPublishVolume id node capability readonly) guard = given-id name id guard.0
@@ -130,19 +129,19 @@ module _ (history : History) (frames : List Frame) (view : View) (controller : C
   own-guarded name party call guard = absurd guard
 
   -- the latest call of a thing, by its name and by its id
-  pub found-one : (thing : Thing) (key : Key) → IsOne controller thing key → find (touches thing) (issued_in history.items) ≡ find (is_of key) (issued_in history.items)
+  pub found-one : (thing : Thing) (key : Key) → IsOne given thing key → find (touches thing) (issued_in history.items) ≡ find (is_of key) (issued_in history.items)
   found-one thing key one =
-      find-same_among (touches thing) (is_of key) (issued_in history.items) (λ call among. touches-key controller thing key call so.names one (so.named.own call among))
+      find-same_among (touches thing) (is_of key) (issued_in history.items) (λ call among. touches-key given thing key call so.are_given one (so.named.own call among))
 
   -- what stands is known to be attached
-  attached-known : (name node : List ℕ) (id : ℕ) (capability : Capability) → HasName controller name id → IsAttachedSo history.items id node capability
+  attached-known : (name node : List ℕ) (id : ℕ) (capability : Capability) → HasName given name id → IsAttachedSo history.items id node capability
       → known history (things.Attached name node) ≡ Yes
   attached-known name node id capability has attached =
       latest-known history (things.Attached name node) attached.call
       (record { found = found-one (things.Attached name node) (Attached id node) (Attachment name node id has) ∙ attached.found; success = attached.success; is_so = ap is_doing attached.publishes })
 
   -- the latest call of a thing, where its success was heard, was answered OK and left the thing as it asks
-  pub latest-told : (thing : Thing) (key : Key) (call : Issued) (doing : Bool) → IsOne controller thing key → IsLatest history.items thing call doing
+  pub latest-told : (thing : Thing) (key : Key) (call : Issued) (doing : Bool) → IsOne given thing key → IsLatest history.items thing call doing
       → (reply : Reply) × IsAnsweredOk frames call reply × (find (is_of key) (issued_in history.items) ≡ Some call) × (view.held key ≡ asked call.call reply)
   latest-told thing key call doing one latest =
       let found = sym (found-one thing key one) ∙ latest.found in
@@ -150,14 +149,14 @@ module _ (history : History) (frames : List Frame) (view : View) (controller : C
       (ok.0, ok.1, found, so.truth.told call key ok.0 found ok.1)
 
   -- what is known not to be so isn't there
-  pub not-there : (thing : Thing) (key : Key) → IsOne controller thing key → known history thing ≡ No → view.held key ≡ None
+  pub not-there : (thing : Thing) (key : Key) → IsOne given thing key → known history thing ≡ No → view.held key ≡ None
   not-there thing key one is_no =
       ⊎_elim (λ none. so.truth.untouched key (sym (found-one thing key one) ∙ none)) (λ latest.
       let told = latest-told thing key latest.0 false one latest.1 in
       told.3 ∙ asked-undoing (latest.0).call told.0 latest.1.is_so) (known-no history thing is_no)
 
   -- where a volume is known not to be staged at a node, nothing stands there
-  none-stands : (name node : List ℕ) (id : ℕ) (capability : Capability) → HasName controller name id
+  none-stands : (name node : List ℕ) (id : ℕ) (capability : Capability) → HasName given name id
       → known history (things.Staged name node) ≡ No → IsStanding (issued_in history.items) view id node capability → ⊥
   none-stands name node id capability has is_no (inl held) =
       none-some (StagedAs capability) (sym (not-there (things.Staged name node) (Staged id node) (Staging name node id has) is_no) ∙ held)
@@ -175,7 +174,7 @@ module _ (history : History) (frames : List Frame) (view : View) (controller : C
       thing : Thing
       thing = things.Staged name node
 
-      one : IsOne controller thing (Staged id node)
+      one : IsOne given thing (Staged id node)
       one = Staging name node id has
 
       call : Issued
@@ -201,11 +200,11 @@ module _ (history : History) (frames : List Frame) (view : View) (controller : C
       by : (party : Party) (c : Call) → IsGuarded history call.name party c → is_key (Attached id node) (key_at call.name party c) ≡ false
       by Controller (calls.ControllerPublishVolume i there other readonly) guard =
           apart i there (λ volume at.
-          let has : HasName controller call.name id = subst (HasName controller call.name) (sym volume) (given-id call.name i guard.0) in
+          let has : HasName given call.name id = subst (HasName given call.name) (sym volume) (given-id call.name i guard.0) in
           guard.1.not_attached (subst (λ n. known history (things.Attached call.name n) ≡ Yes) at (attached-known call.name node id capability has (so.stands id node capability standing))))
       by Controller (calls.ControllerUnpublishVolume i there) guard =
           apart i there (λ volume at.
-          let has : HasName controller call.name id = subst (HasName controller call.name) (sym volume) (given-id call.name i guard.0) in
+          let has : HasName given call.name id = subst (HasName given call.name) (sym volume) (given-id call.name i guard.0) in
           none-stands call.name node id capability has (subst (λ n. known history (things.Staged call.name n) ≡ No) (sym at) guard.1.not_staged) standing)
       by (Node here) (calls.ControllerPublishVolume i there other readonly) guard = absurd guard
       by (Node here) (calls.ControllerUnpublishVolume i there) guard = absurd guard
@@ -216,7 +215,7 @@ module _ (history : History) (frames : List Frame) (view : View) (controller : C
       → (id : ℕ) (node : List ℕ) (capability : Capability) → call.party ≡ Node node → call.call ≡ calls.NodeStageVolume id capability → IsAttachedSo history.items id node capability
   stages-guarded call guard id node capability of_node stages =
       let own = subst (λ c. IsGuarded history call.name (Node node) c) stages (subst (λ p. IsGuarded history call.name p call.call) of_node guard) in
-      let has : HasName controller call.name id = given-id call.name id own.0 in
+      let has : HasName given call.name id = given-id call.name id own.0 in
       let latest = known-yes history (things.Attached call.name node) own.1.attached in
       let found = sym (found-one (things.Attached call.name node) (Attached id node) (Attachment call.name node id has)) ∙ latest.1.found in
       let by = attached-call latest.0.name latest.0.party latest.0.call id node (find-passes (is_of (Attached id node)) (issued_in history.items) latest.0 found) latest.1.is_so in

@@ -19,13 +19,13 @@ use Rattle.csi_types.specs.Reply.{is_ok_status}
 use Rattle.csi_types.specs.Replies.{reply_frame}
 use Rattle.csi_types.specs.Same.{same_text, same_number}
 use Rattle.csi_types.proofs.Equality.{same_number-tells, same_text-tells}
-use Rattle.csi_controller.specs.State.{ControllerState}
 use Rattle.csi_orchestrator.specs.declared.thing.Thing.{Thing}
 use Rattle.csi_orchestrator.specs.declared.thing.Known.TheVariants.{Yes, No, Maybe}
 use Rattle.csi_orchestrator.specs.Thing.{Issued, touches, is_doing, is_yes, is_no}
 use Rattle.csi_orchestrator.specs.History.{Item, Accepted, History}
 use Rattle.csi_orchestrator.specs.Readings.{newest, issued_in, issued_of, is_success_of, has_success, known_by, known, id_in, id_by, id_of}
-use Rattle.csi_world.proofs.KeyedCalls.{HasName, IsAnsweredOk, ComesAfter, one-number, Named}
+use Rattle.csi_world.proofs.GivenIds.{GivenId, HasName}
+use Rattle.csi_world.proofs.KeyedCalls.{IsAnsweredOk, ComesAfter, one-number, Named}
 
 -- a reply like this was sent to a sent call of this number
 pub record WasSent (issued : List Issued) (frames : List Frame) (number : Number) (status : Status) (id : Option ℕ) : Type 0 where
@@ -78,31 +78,31 @@ among-get (y ∷ ys) zero x e = inl (sym (same_Some y x e))
 among-get (y ∷ ys) (suc place) x e = inr (among-get ys place x e)
 
 -- the newest of what is found
-newest-found : {X Y : Type 0} (f : X → Option Y) (xs : List X) (y : Y) → newest (filter_map f xs) ≡ Some y → (x : X) × IsAmong x xs × (f x ≡ Some y)
+pub newest-found : {X Y : Type 0} (f : X → Option Y) (xs : List X) (y : Y) → newest (filter_map f xs) ≡ Some y → (x : X) × IsAmong x xs × (f x ≡ Some y)
 newest-found f xs y h = among-filter_map f xs y (among-get (filter_map f xs) 0 y h)
 
--- an id that was heard for a name is the one that the controller gave it
-pub id-given : (history : History) (frames : List Frame) (controller : ControllerState) (name : List ℕ) (id : ℕ) → IsHeard history.items (issued_in history.items) frames → EachTwo ComesAfter (issued_in history.items)
-    → Named (issued_in history.items) frames controller → id_of history name ≡ Some id → HasName controller name id
-id-given history frames controller name id heard numbers named h =
+-- an id that was heard for a name is the one that it was given
+pub id-given : (history : History) (frames : List Frame) (given : List GivenId) (name : List ℕ) (id : ℕ) → IsHeard history.items (issued_in history.items) frames → EachTwo ComesAfter (issued_in history.items)
+    → Named (issued_in history.items) frames given → id_of history name ≡ Some id → HasName given name id
+id-given history frames given name id heard numbers named h =
     let of_name : Issued → Bool = λ issued. same_text issued.name name in
     let found = newest-found (λ (issued : Issued). id_by history.items issued issued.call) (issued_of history name) id h in
     let call : Issued = found.0 in
     let kept = among-kept of_name (issued_in history.items) call found.1 in
-    subst (λ n. HasName controller n id) ((same_text-tells call.name name).0 kept.1) (by call kept.0 call.call refl found.2)
+    subst (λ n. HasName given n id) ((same_text-tells call.name name).0 kept.1) (by call kept.0 call.call refl found.2)
   where
     accepted : (call : Issued) → IsAmong call (issued_in history.items) → (create : List ℕ) (required limit : ℕ) (capabilities : List Capability) → call.call ≡ calls.CreateVolume create required limit capabilities
-        → (item : Item) → IsAmong item history.items → id_in call.number item ≡ Some id → HasName controller call.name id
-    accepted call there create required limit capabilities is (Accepted other status given) among h = at (same_number other call.number && is_ok_status status) refl h
+        → (item : Item) → IsAmong item history.items → id_in call.number item ≡ Some id → HasName given call.name id
+    accepted call there create required limit capabilities is (Accepted other status heard_id) among h = at (same_number other call.number && is_ok_status status) refl h
       where
-        at : (b : Bool) → (same_number other call.number && is_ok_status status) ≡ b → cond b given None ≡ Some id → HasName controller call.name id
+        at : (b : Bool) → (same_number other call.number && is_ok_status status) ≡ b → cond b heard_id None ≡ Some id → HasName given call.name id
         at false e h = absurd (none-some id h)
         at true e h =
-            let ok = heard-ok history.items (issued_in history.items) frames call other status given heard numbers there among e in
+            let ok = heard-ok history.items (issued_in history.items) frames call other status heard_id heard numbers there among e in
             named.made call ok.0 id create required limit capabilities there is ok.1 (ok.2 ∙ h)
     accepted call there create required limit capabilities is item among h = absurd (none-some id h)
 
-    by : (call : Issued) → IsAmong call (issued_in history.items) → (c : Call) → call.call ≡ c → id_by history.items call c ≡ Some id → HasName controller call.name id
+    by : (call : Issued) → IsAmong call (issued_in history.items) → (c : Call) → call.call ≡ c → id_by history.items call c ≡ Some id → HasName given call.name id
     by call there (calls.CreateVolume create required limit capabilities) is h =
         let found = newest-found (id_in call.number) history.items id h in accepted call there create required limit capabilities is found.0 found.1 found.2
     by call there c is h = absurd (none-some id h)

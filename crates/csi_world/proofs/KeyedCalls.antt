@@ -1,7 +1,7 @@
--- The thing that a sent call does or undoes, by its id: each sent call is for the volume of its name, a name has one id, and
+-- The thing that a sent call does or undoes, by its id: each sent call is for the volume of its name, a name was given one id, and
 -- lists of sent calls are searched for a thing by either.
-use Rattle.std.proofs.Common.{◌≡◌, ◌⊎◌, ℕ, List, [], ◌∷◌, Bool, true, false, cond, Option, Some, None, option_map, find, IsTrue, refl, sym, ◌∙◌, ap, subst, inl, inr, arith, ◌==◌, ◌&&◌}
-use Rattle.std.proofs.lemmas.Bool.{false≢true, eqb-true, eq-eqb}
+use Rattle.std.proofs.Common.{◌≡◌, ◌⊎◌, ℕ, List, [], ◌∷◌, Bool, true, false, cond, Option, Some, None, find, IsTrue, refl, sym, ◌∙◌, ap, subst, inl, inr, arith, ◌&&◌}
+use Rattle.std.proofs.lemmas.Bool.{false≢true}
 use Rattle.std.proofs.lemmas.Bool.Decides.{nat_tests}
 use Rattle.std.proofs.lemmas.Option.{same_Some}
 use Rattle.csi_types.specs.declared.number.Number.{Number}
@@ -16,21 +16,15 @@ use Rattle.csi_types.specs.Frame.{Frame}
 use Rattle.csi_types.specs.Key.{Key, Exists, Attached, Staged, Published, same_key}
 use Rattle.csi_lists.specs.Members.{IsAmong, EachTwo}
 use Rattle.csi_lists.proofs.Members.{each_of}
-use Rattle.csi_lists.proofs.Options.{some-from_map}
-use Rattle.csi_lists.proofs.Searches.{find-passes}
 use Rattle.csi_types.specs.Number.{is_before, IsBefore}
 use Rattle.csi_types.specs.Replies.{reply_frame}
 use Rattle.csi_types.specs.Same.{same_text}
-use Rattle.csi_types.proofs.Equality.{same_text-tells}
-use Rattle.csi_controller.specs.State.{Volume, ControllerState, volume_named, volume_with_id}
-use Rattle.csi_controller.specs.View as controllers
-use Rattle.csi_node.specs.View as nodes
 use Rattle.csi_orchestrator.specs.declared.thing.Thing.{Thing}
 use Rattle.csi_orchestrator.specs.declared.thing.Thing.TheVariants as things
 use Rattle.csi_orchestrator.specs.Thing.{Issued, thing_at, same_thing, is_thing, touches}
 use Rattle.csi_world.proofs.WorldView.{party_of}
 use Rattle.csi_types.specs.declared.capability.Capability.{Capability}
-use Rattle.csi_lists.proofs.Tests.{alike}
+use Rattle.csi_world.proofs.GivenIds.{GivenId, HasName, AreGiven, GivesMore, names-ids}
 
 -- the thing of a call to this plugin, by its id
 abbrev pub key_at : List ℕ → Party → Call → Option Key
@@ -53,85 +47,65 @@ is_key key (Some other) = same_key key other
 abbrev pub is_of : Key → Issued → Bool
 is_of key issued = is_key key (key_at issued.name issued.party issued.call)
 
--- the controller gave the name this id
-abbrev pub HasName : ControllerState → List ℕ → ℕ → Type 0
-HasName controller name id = controllers.id_named name controller ≡ Some id
-
 -- the call is for the plugin of its kind, and for the volume of the name
-abbrev pub IsOwn : ControllerState → List ℕ → Party → Call → Type 0
-IsOwn controller name Controller (calls.CreateVolume create required limit capabilities) = create ≡ name
-IsOwn controller name Controller (calls.DeleteVolume id) = HasName controller name id
-IsOwn controller name Controller (calls.ControllerPublishVolume id node capability readonly) = HasName controller name id
-IsOwn controller name Controller (calls.ControllerUnpublishVolume id node) = HasName controller name id
-IsOwn controller name (Node node) (calls.NodeStageVolume id capability) = HasName controller name id
-IsOwn controller name (Node node) (calls.NodeUnstageVolume id) = HasName controller name id
-IsOwn controller name (Node node) (calls.NodePublishVolume id target capability readonly) = HasName controller name id
-IsOwn controller name (Node node) (calls.NodeUnpublishVolume id target) = HasName controller name id
-IsOwn controller name party call = ⊥
+abbrev pub IsOwn : List GivenId → List ℕ → Party → Call → Type 0
+IsOwn given name Controller (calls.CreateVolume create required limit capabilities) = create ≡ name
+IsOwn given name Controller (calls.DeleteVolume id) = HasName given name id
+IsOwn given name Controller (calls.ControllerPublishVolume id node capability readonly) = HasName given name id
+IsOwn given name Controller (calls.ControllerUnpublishVolume id node) = HasName given name id
+IsOwn given name (Node node) (calls.NodeStageVolume id capability) = HasName given name id
+IsOwn given name (Node node) (calls.NodeUnstageVolume id) = HasName given name id
+IsOwn given name (Node node) (calls.NodePublishVolume id target capability readonly) = HasName given name id
+IsOwn given name (Node node) (calls.NodeUnpublishVolume id target) = HasName given name id
+IsOwn given name party call = ⊥
 
--- the thing that a plugin sees in a call
-abbrev pub key_seen : ControllerState → Party → Call → Option Key
-key_seen controller Controller call = controllers.key_of controller call
-key_seen controller (Node node) call = nodes.key_of node call
+-- the call makes a volume
+abbrev pub is_making : Call → Bool
+is_making (calls.CreateVolume name required limit capabilities) = true
+is_making (calls.DeleteVolume id) = false
+is_making (calls.ControllerPublishVolume id node capability readonly) = false
+is_making (calls.ControllerUnpublishVolume id node) = false
+is_making (calls.NodeStageVolume id capability) = false
+is_making (calls.NodeUnstageVolume id) = false
+is_making (calls.NodePublishVolume id target capability readonly) = false
+is_making (calls.NodeUnpublishVolume id target) = false
 
--- a thing by its name, and by the id that the controller gave the name
-pub data IsOne (controller : ControllerState) : Thing → Key → Type 0 where
-  Existence : (name : List ℕ) → IsOne controller (things.Exists name) (Exists name)
-  Attachment : (name node : List ℕ) (id : ℕ) → HasName controller name id → IsOne controller (things.Attached name node) (Attached id node)
-  Staging : (name node : List ℕ) (id : ℕ) → HasName controller name id → IsOne controller (things.Staged name node) (Staged id node)
-  Publication : (name node target : List ℕ) (id : ℕ) → HasName controller name id → IsOne controller (things.Published name node target) (Published id node target)
+-- a thing by its name, and by the id that the name was given
+pub data IsOne (given : List GivenId) : Thing → Key → Type 0 where
+  Existence : (name : List ℕ) → IsOne given (things.Exists name) (Exists name)
+  Attachment : (name node : List ℕ) (id : ℕ) → HasName given name id → IsOne given (things.Attached name node) (Attached id node)
+  Staging : (name node : List ℕ) (id : ℕ) → HasName given name id → IsOne given (things.Staged name node) (Staged id node)
+  Publication : (name node target : List ℕ) (id : ℕ) → HasName given name id → IsOne given (things.Published name node target) (Published id node target)
 
--- a call of a volume by its id, where names and ids belong together
-pub record IsKeyed (controller : ControllerState) (name : List ℕ) (party : Party) (call : Call) : Type 0 where
+-- a call of a volume by its id
+pub record IsKeyed (given : List GivenId) (name : List ℕ) (party : Party) (call : Call) : Type 0 where
   pub thing : Thing
   pub key : Key
-  pub one : IsOne controller thing key
+  pub one : IsOne given thing key
   pub by_thing : thing_at name party call ≡ Some thing
   pub by_name : key_at name party call ≡ Some key
-  pub seen : key_seen controller party call ≡ Some key
   pub of_party : party_of key ≡ party
   pub of_kind : IsTrue (is_party_of (kind_of call) party)
 
--- the name that has an id is a volume's, of that id
-pub named-found : (controller : ControllerState) (name : List ℕ) (id : ℕ) → HasName controller name id → (volume : Volume) × (volume_named name controller ≡ Some volume) × (volume.id ≡ id)
-named-found controller name id h = some-from_map (λ (v : Volume). v.id) (volume_named name controller) id h
-
--- the id of a name is a volume's, of that name
-pub id-found : (controller : ControllerState) (name : List ℕ) (id : ℕ) → controllers.AreNamed controller → HasName controller name id
-    → (volume : Volume) × (volume_with_id id controller ≡ Some volume) × (volume.name ≡ name)
-id-found controller name id names h =
-    let found = named-found controller name id h in
-    let volume : Volume = found.0 in
-    let passes : same_text volume.name name ≡ true = find-passes (λ (v : Volume). same_text v.name name) controller.volumes volume found.1 in
-    (volume, subst (λ n. volume_with_id n controller ≡ Some volume) found.2 (names.by_id name volume found.1), (same_text-tells volume.name name).0 passes)
-
--- an attachment by the id of a name is of a volume that was made
-attached-keyed : (controller : ControllerState) (name node : List ℕ) (id : ℕ) → controllers.AreNamed controller → HasName controller name id
-    → option_map (λ (volume : Volume). Attached id node) (volume_with_id id controller) ≡ Some (Attached id node)
-attached-keyed controller name node id names h =
-    ap (option_map (λ (volume : Volume). Attached id node)) (id-found controller name id names h).1
-
--- a call for the volume of a name has one thing, by its name, by its id, and as the plugin sees it
-pub keyed : (controller : ControllerState) (name : List ℕ) (party : Party) (call : Call) → controllers.AreNamed controller → IsOwn controller name party call → IsKeyed controller name party call
-keyed controller name Controller (calls.CreateVolume create required limit capabilities) names own =
-    record { thing = things.Exists name; key = Exists name; one = Existence name; by_thing = refl; by_name = refl; seen = ap (λ k. Some (Exists k)) own; of_party = refl; of_kind = refl }
-keyed controller name Controller (calls.DeleteVolume id) names own =
-    let found = id-found controller name id names own in
-    let seen = ap (option_map (λ (volume : Volume). Exists volume.name)) found.1 ∙ ap (λ k. Some (Exists k)) found.2 in
-    record { thing = things.Exists name; key = Exists name; one = Existence name; by_thing = refl; by_name = refl; seen = seen; of_party = refl; of_kind = refl }
-keyed controller name Controller (calls.ControllerPublishVolume id node capability readonly) names own =
-    record { thing = _; key = _; one = Attachment name node id own; by_thing = refl; by_name = refl; seen = attached-keyed controller name node id names own; of_party = refl; of_kind = refl }
-keyed controller name Controller (calls.ControllerUnpublishVolume id node) names own =
-    record { thing = _; key = _; one = Attachment name node id own; by_thing = refl; by_name = refl; seen = attached-keyed controller name node id names own; of_party = refl; of_kind = refl }
-keyed controller name (Node node) (calls.NodeStageVolume id capability) names own =
-    record { thing = _; key = _; one = Staging name node id own; by_thing = refl; by_name = refl; seen = refl; of_party = refl; of_kind = refl }
-keyed controller name (Node node) (calls.NodeUnstageVolume id) names own =
-    record { thing = _; key = _; one = Staging name node id own; by_thing = refl; by_name = refl; seen = refl; of_party = refl; of_kind = refl }
-keyed controller name (Node node) (calls.NodePublishVolume id target capability readonly) names own =
-    record { thing = _; key = _; one = Publication name node target id own; by_thing = refl; by_name = refl; seen = refl; of_party = refl; of_kind = refl }
-keyed controller name (Node node) (calls.NodeUnpublishVolume id target) names own =
-    record { thing = _; key = _; one = Publication name node target id own; by_thing = refl; by_name = refl; seen = refl; of_party = refl; of_kind = refl }
-keyed controller name party call names own = absurd own
+-- a call for the volume of a name has one thing, by its name and by its id
+pub keyed : (given : List GivenId) (name : List ℕ) (party : Party) (call : Call) → IsOwn given name party call → IsKeyed given name party call
+keyed given name Controller (calls.CreateVolume create required limit capabilities) own =
+    record { thing = things.Exists name; key = Exists name; one = Existence name; by_thing = refl; by_name = refl; of_party = refl; of_kind = refl }
+keyed given name Controller (calls.DeleteVolume id) own =
+    record { thing = things.Exists name; key = Exists name; one = Existence name; by_thing = refl; by_name = refl; of_party = refl; of_kind = refl }
+keyed given name Controller (calls.ControllerPublishVolume id node capability readonly) own =
+    record { thing = _; key = _; one = Attachment name node id own; by_thing = refl; by_name = refl; of_party = refl; of_kind = refl }
+keyed given name Controller (calls.ControllerUnpublishVolume id node) own =
+    record { thing = _; key = _; one = Attachment name node id own; by_thing = refl; by_name = refl; of_party = refl; of_kind = refl }
+keyed given name (Node node) (calls.NodeStageVolume id capability) own =
+    record { thing = _; key = _; one = Staging name node id own; by_thing = refl; by_name = refl; of_party = refl; of_kind = refl }
+keyed given name (Node node) (calls.NodeUnstageVolume id) own =
+    record { thing = _; key = _; one = Staging name node id own; by_thing = refl; by_name = refl; of_party = refl; of_kind = refl }
+keyed given name (Node node) (calls.NodePublishVolume id target capability readonly) own =
+    record { thing = _; key = _; one = Publication name node target id own; by_thing = refl; by_name = refl; of_party = refl; of_kind = refl }
+keyed given name (Node node) (calls.NodeUnpublishVolume id target) own =
+    record { thing = _; key = _; one = Publication name node target id own; by_thing = refl; by_name = refl; of_party = refl; of_kind = refl }
+keyed given name party call own = absurd own
 
 -- an OK to the call was sent
 abbrev pub IsAnsweredOk : List Frame → Issued → Reply → Type 0
@@ -171,53 +145,34 @@ latest-last key (i ∷ is) latest other two found at of = by (is_of key i) refl 
 -- ---- names and ids
 
 -- each sent call is for the volume of its name, and an OK to CreateVolume has the id of its name
-pub record Named (issued : List Issued) (frames : List Frame) (controller : ControllerState) : Type 0 where
-  pub own : (call : Issued) → IsAmong call issued → IsOwn controller call.name call.party call.call
+pub record Named (issued : List Issued) (frames : List Frame) (given : List GivenId) : Type 0 where
+  pub own : (call : Issued) → IsAmong call issued → IsOwn given call.name call.party call.call
   pub made : (call : Issued) (reply : Reply) (id : ℕ) (create : List ℕ) (required limit : ℕ) (capabilities : List Capability) → IsAmong call issued
-      → call.call ≡ calls.CreateVolume create required limit capabilities → IsAnsweredOk frames call reply → reply.id ≡ Some id → HasName controller call.name id
+      → call.call ≡ calls.CreateVolume create required limit capabilities → IsAnsweredOk frames call reply → reply.id ≡ Some id → HasName given call.name id
 
--- a name that has an id keeps it
-abbrev pub KeepsIds : ControllerState → ControllerState → Type 0
-KeepsIds old new = (name : List ℕ) (id : ℕ) → HasName old name id → HasName new name id
-
--- a call for the volume of a name is so still, where each name keeps its id
-pub own-kept : (old new : ControllerState) (name : List ℕ) (party : Party) (call : Call) → KeepsIds old new → IsOwn old name party call → IsOwn new name party call
-own-kept old new name Controller (calls.CreateVolume create required limit capabilities) keeps own = own
-own-kept old new name Controller (calls.DeleteVolume id) keeps own = keeps name id own
-own-kept old new name Controller (calls.ControllerPublishVolume id node capability readonly) keeps own = keeps name id own
-own-kept old new name Controller (calls.ControllerUnpublishVolume id node) keeps own = keeps name id own
-own-kept old new name (Node node) (calls.NodeStageVolume id capability) keeps own = keeps name id own
-own-kept old new name (Node node) (calls.NodeUnstageVolume id) keeps own = keeps name id own
-own-kept old new name (Node node) (calls.NodePublishVolume id target capability readonly) keeps own = keeps name id own
-own-kept old new name (Node node) (calls.NodeUnpublishVolume id target) keeps own = keeps name id own
-own-kept old new name party call keeps own = absurd own
-
--- two names are one exactly where their ids are
-pub names-ids : (controller : ControllerState) (a b : List ℕ) (i j : ℕ) → controllers.AreNamed controller → HasName controller a i → HasName controller b j → same_text a b ≡ (i == j)
-names-ids controller a b i j names ha hb =
-    alike (same_text a b) (i == j) (λ p. eq-eqb i j (ids ((same_text-tells a b).0 p))) (λ q. (same_text-tells a b).1 (texts (eqb-true i j q)))
-  where
-    ids : a ≡ b → i ≡ j
-    ids e = same_Some i j (sym ha ∙ ap (λ n. controllers.id_named n controller) e ∙ hb)
-
-    texts : i ≡ j → a ≡ b
-    texts e =
-        let va = id-found controller a i names ha in
-        let vb = id-found controller b j names hb in
-        let one : va.0 ≡ vb.0 = same_Some va.0 vb.0 (sym va.1 ∙ ap (λ n. volume_with_id n controller) e ∙ vb.1) in
-        sym va.2 ∙ ap (λ (v : Volume). v.name) one ∙ vb.2
+-- a call for the volume of a name is so still, where no less was given
+pub own-kept : (given more : List GivenId) (name : List ℕ) (party : Party) (call : Call) → GivesMore given more → IsOwn given name party call → IsOwn more name party call
+own-kept given more name Controller (calls.CreateVolume create required limit capabilities) wider own = own
+own-kept given more name Controller (calls.DeleteVolume id) wider own = wider name id own
+own-kept given more name Controller (calls.ControllerPublishVolume id node capability readonly) wider own = wider name id own
+own-kept given more name Controller (calls.ControllerUnpublishVolume id node) wider own = wider name id own
+own-kept given more name (Node node) (calls.NodeStageVolume id capability) wider own = wider name id own
+own-kept given more name (Node node) (calls.NodeUnstageVolume id) wider own = wider name id own
+own-kept given more name (Node node) (calls.NodePublishVolume id target capability readonly) wider own = wider name id own
+own-kept given more name (Node node) (calls.NodeUnpublishVolume id target) wider own = wider name id own
+own-kept given more name party call wider own = absurd own
 
 -- two things are one by their names exactly where they are by their ids
-same-one : (controller : ControllerState) (t u : Thing) (k l : Key) → controllers.AreNamed controller → IsOne controller t k → IsOne controller u l → same_thing t u ≡ same_key k l
-same-one controller _ _ _ _ names (Existence name) (Existence other) = refl
-same-one controller _ _ _ _ names (Attachment name node i has) (Attachment other there j given) = ap (λ b. b && same_text node there) (names-ids controller name other i j names has given)
-same-one controller _ _ _ _ names (Staging name node i has) (Staging other there j given) = ap (λ b. b && same_text node there) (names-ids controller name other i j names has given)
-same-one controller _ _ _ _ names (Publication name node target i has) (Publication other there aim j given) =
-    ap (λ b. b && same_text node there && same_text target aim) (names-ids controller name other i j names has given)
-same-one controller _ _ _ _ names one other = refl
+pub same-one : (given : List GivenId) (t u : Thing) (k l : Key) → AreGiven given → IsOne given t k → IsOne given u l → same_thing t u ≡ same_key k l
+same-one given _ _ _ _ are (Existence name) (Existence other) = refl
+same-one given _ _ _ _ are (Attachment name node i has) (Attachment other there j had) = ap (λ b. b && same_text node there) (names-ids given name other i j are has had)
+same-one given _ _ _ _ are (Staging name node i has) (Staging other there j had) = ap (λ b. b && same_text node there) (names-ids given name other i j are has had)
+same-one given _ _ _ _ are (Publication name node target i has) (Publication other there aim j had) =
+    ap (λ b. b && same_text node there && same_text target aim) (names-ids given name other i j are has had)
+same-one given _ _ _ _ are one other = refl
 
 -- and so is a call of a thing
-pub touches-key : (controller : ControllerState) (thing : Thing) (key : Key) (call : Issued) → controllers.AreNamed controller → IsOne controller thing key → IsOwn controller call.name call.party call.call → touches thing call ≡ is_of key call
-touches-key controller thing key call names one own =
-    let keyed_call = keyed controller call.name call.party call.call names own in
-    ap (is_thing thing) keyed_call.by_thing ∙ same-one controller thing keyed_call.thing key keyed_call.key names one keyed_call.one ∙ ap (is_key key) (sym keyed_call.by_name)
+pub touches-key : (given : List GivenId) (thing : Thing) (key : Key) (call : Issued) → AreGiven given → IsOne given thing key → IsOwn given call.name call.party call.call → touches thing call ≡ is_of key call
+touches-key given thing key call are one own =
+    let keyed_call = keyed given call.name call.party call.call own in
+    ap (is_thing thing) keyed_call.by_thing ∙ same-one given thing keyed_call.thing key keyed_call.key are one keyed_call.one ∙ ap (is_key key) (sym keyed_call.by_name)

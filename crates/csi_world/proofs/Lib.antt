@@ -6,10 +6,15 @@ pub mod ThingsHeld
 pub mod AssembledNodes
 pub mod PluginSafety
 pub mod WorldView
+pub mod GivenIds
 pub mod KeyedCalls
+pub mod SeenCalls
 pub mod RepliesTold
 pub mod HeardReplies
 pub mod StagedAttached
+pub mod CreatesFirst
+pub mod NotLive
+pub mod Forgotten
 pub mod GuardedCalls
 pub mod RecordedRight
 pub mod PluginsReached

@@ -1,21 +1,22 @@
 -- What the replies that were sent tell of the things: the latest call of a thing, if it was answered OK, left the thing
 -- as it asks, and its number is spent. It is kept by a call that is sent, and by one that a plugin gets.
-use Rattle.std.proofs.Common.{◌≡◌, ◌⊎◌, List, [], ◌∷◌, ◌++◌, Bool, true, false, cond, Option, Some, None, find, IsTrue, refl, sym, ◌∙◌, ap, subst, inl, inr, ⊎_elim}
+use Rattle.std.proofs.Common.{◌≡◌, ◌⊎◌, List, [], ◌∷◌, ◌++◌, Bool, true, false, cond, Option, Some, None, find, is_some, IsTrue, refl, sym, ◌∙◌, ap, subst, inl, inr, ⊎_elim}
 use Rattle.std.proofs.lemmas.Bool.{false≢true}
 use Rattle.std.proofs.lemmas.Option.{same_Some}
-use Rattle.csi_lists.proofs.Options.{some_is_not_none}
+use Rattle.csi_lists.proofs.Options.{some_is_not_none, is_some-map}
 use Rattle.csi_types.specs.declared.number.Number.{Number}
 use Rattle.csi_types.specs.declared.call.Call.{Call}
+use Rattle.csi_types.specs.declared.call.Call.TheVariants as calls
 use Rattle.csi_types.specs.declared.call.Kind.{Kind}
 use Rattle.csi_types.specs.declared.call.Party.{Party}
 use Rattle.csi_types.specs.declared.frame.Body.TheVariants as bodies
 use Rattle.csi_types.specs.declared.reply.Reply.{Reply}
 use Rattle.csi_types.specs.declared.status.Status.TheVariants.{Ok}
 use Rattle.csi_types.specs.Call.{kind_of}
-use Rattle.csi_types.specs.Delivery.{View, Delivery, Acts, Rests, IsClosed, kept_of}
+use Rattle.csi_types.specs.Delivery.{View, Delivery, Acts, Rests, Misses, IsClosed}
 use Rattle.csi_types.specs.Fence.{Kept}
 use Rattle.csi_types.specs.Frame.{Frame}
-use Rattle.csi_types.specs.Key.{Key, same_key, asked}
+use Rattle.csi_types.specs.Key.{Key, HasId, same_key, asked}
 use Rattle.csi_lists.specs.Members.{IsAmong, EachTwo}
 use Rattle.csi_lists.proofs.Members.{all_of, among-append, among-either, among-find, none_passes}
 use Rattle.csi_lists.proofs.Searches.{find-passes}
@@ -23,7 +24,7 @@ use Rattle.csi_types.specs.Number.{IsBefore}
 use Rattle.csi_types.specs.Reply.{is_ok_status, has_id_by_rule}
 use Rattle.csi_types.specs.Replies.{reply_frame}
 use Rattle.csi_types.proofs.Equality.{same_key-tells}
-use Rattle.csi_orchestrator.specs.Thing.{Issued}
+use Rattle.csi_orchestrator.specs.Thing.{Issued, is_doing}
 use Rattle.csi_world.specs.Step.{frame_of}
 use Rattle.csi_world.proofs.WorldView.{party_of}
 use Rattle.csi_world.proofs.HeardReplies.{is_ok-then}
@@ -129,72 +130,116 @@ one-key call a b p q = by (key_at call.name call.party call.call) p q
 reply-parts : (a b : Number) (p q : Party) (k l : Kind) (r s : Reply) → reply_frame a p k r ≡ reply_frame b q l s → (k ≡ l) × (r ≡ s)
 reply-parts a b p q k l r s e = let body : bodies.Reply k r ≡ bodies.Reply l s = ap (λ (f : Frame). f.body) e in (cc, cc)
 
+is_ok : (reply : Reply) → reply.status ≡ Ok → is_ok_status reply.status ≡ true
+is_ok reply ok = ap is_ok_status ok
+
+-- a call that brings its thing about asks for it
+pub asked-doing : (c : Call) (reply : Reply) → is_doing c ≡ true → reply.status ≡ Ok → IsTrue (has_id_by_rule (kind_of c) reply) → is_some (asked c reply) ≡ true
+asked-doing (calls.CreateVolume create required limit capabilities) reply doing ok rule =
+    is_some-map HasId reply.id ∙ (let given : cond (is_ok_status reply.status) (is_some reply.id) _ ≡ true = rule in rw (is_ok reply ok) at given)
+asked-doing (calls.ControllerPublishVolume id node capability readonly) reply doing ok rule = refl
+asked-doing (calls.NodeStageVolume id capability) reply doing ok rule = refl
+asked-doing (calls.NodePublishVolume id target capability readonly) reply doing ok rule = refl
+asked-doing c reply doing ok rule = absurd (false≢true doing)
+
 -- a sent call that a plugin answered, and the things before and after it
 module _ (issued : List Issued) (frames : List Frame) (old new : View) (call : Issued) (key : Key) (kind : Kind) (reply : Reply) where
-  -- what became of the things: the call's own is as it asks, where it was carried out; what is kept was sent; and an OK was
-  -- sent before, or the call was carried out
+  -- the call was carried out: its number wasn't spent, it was answered OK, and its thing is as it asks
+  pub record IsChanged (k : Key) : Type 0 where
+    pub same : k ≡ key
+    pub its_kind : kind ≡ kind_of call.call
+    pub fresh : old.is_spent key call.number ≡ false
+    pub ok : reply.status ≡ Ok
+    pub now : new.held k ≡ asked call.call reply
+    pub spent : IsTrue (new.is_spent key call.number)
+
+  -- what became of the things: the call's own is as it asks, where it was carried out, and all others are as they were; and what is kept
+  -- was sent
   pub record IsEffect : Type 0 where
     pub among : IsAmong call issued
     pub of : is_of key call ≡ true
     pub rule : reply.status ≡ Ok → IsTrue (has_id_by_rule kind reply)
     pub kept : (other : Key) (k : Kept) → new.kept other ≡ Some k → IsAmong (reply_frame k.number (party_of other) k.kind k.reply) (frames ++ answer_to call kind reply ∷ [])
     pub spent : (other : Key) (number : Number) → IsTrue (old.is_spent other number) → IsTrue (new.is_spent other number)
-    pub ok : reply.status ≡ Ok → IsAmong (answer_to call kind reply) frames ⊎ ((new.held key ≡ asked call.call reply) × IsTrue (new.is_spent key call.number))
-    pub held : (k : Key) → (new.held k ≡ old.held k) ⊎ ((k ≡ key) × (old.is_spent key call.number ≡ false) × (new.held k ≡ asked call.call reply))
+    pub held : (k : Key) → (new.held k ≡ old.held k) ⊎ IsChanged k
+
+  -- an OK was sent before, or the call's thing is as it asks, and its number is spent
+  abbrev pub IsMet : Type 0
+  IsMet = reply.status ≡ Ok → IsAmong (answer_to call kind reply) frames ⊎ ((new.held key ≡ asked call.call reply) × IsTrue (new.is_spent key call.number))
+
+  -- what was kept was sent
+  abbrev pub WasKept : Type 0
+  WasKept = (other : Key) (k : Kept) → old.kept other ≡ Some k → IsAmong (reply_frame k.number (party_of other) k.kind k.reply) frames
+
+  -- what is kept was kept before, or was sent
+  abbrev pub IsKeptStill : Type 0
+  IsKeptStill = (other : Key) (k : Kept) → new.kept other ≡ Some k
+      → (old.kept other ≡ Some k) ⊎ IsAmong (reply_frame k.number (party_of other) k.kind k.reply) (frames ++ answer_to call kind reply ∷ [])
+
+  -- so all that is kept was sent
+  kept-sent : WasKept → IsKeptStill → (other : Key) (k : Kept) → new.kept other ≡ Some k → IsAmong (reply_frame k.number (party_of other) k.kind k.reply) (frames ++ answer_to call kind reply ∷ [])
+  kept-sent was still other k is = ⊎_elim (λ before. among-append frames (answer_to call kind reply ∷ []) _ (was other k before)) (λ now. now) (still other k is)
 
   -- a plugin carried the call out
-  pub effect-acts : Truth issued frames old → IsAmong call issued → is_of key call ≡ true
-      → ((other : Key) (k : Kept) → new.kept other ≡ Some k → (old.kept other ≡ Some k) ⊎ (IsAmong (reply_frame k.number (party_of other) k.kind k.reply) (frames ++ answer_to call kind reply ∷ [])))
-      → Acts key (delivery_of call kind reply) old new → IsEffect
-  effect-acts truth there of keeps acts =
+  pub effect-acts : WasKept → IsAmong call issued → is_of key call ≡ true → IsKeptStill → Acts key (delivery_of call kind reply) old new → IsEffect
+  effect-acts was there of still acts =
       record {
         among = there;
         of = of;
         rule = acts.with_id;
-        kept = λ other k is. ⊎_elim (λ was. among-append frames (answer_to call kind reply ∷ []) _ (truth.kept other k was)) (λ now. now) (keeps other k is);
+        kept = kept-sent was still;
         spent = acts.stays_spent;
-        ok = λ ok. inr (acts.done ok, acts.spent ok);
         held = λ k. held k (same_key k key) refl (is_ok_status reply.status) refl;
       }
     where
-      held : (k : Key) (b : Bool) → same_key k key ≡ b → (s : Bool) → is_ok_status reply.status ≡ s
-          → (new.held k ≡ old.held k) ⊎ ((k ≡ key) × (old.is_spent key call.number ≡ false) × (new.held k ≡ asked call.call reply))
+      held : (k : Key) (b : Bool) → same_key k key ≡ b → (s : Bool) → is_ok_status reply.status ≡ s → (new.held k ≡ old.held k) ⊎ IsChanged k
       held k false e s t = inl (acts.others k e)
       held k true e false t =
           let same : k ≡ key = (same_key-tells k key).0 e in
           inl (ap new.held same ∙ acts.refused (λ ok. false≢true (sym t ∙ ap is_ok_status ok)) ∙ ap old.held (sym same))
-      held k true e true t = let same : k ≡ key = (same_key-tells k key).0 e in inr (same, acts.was_fresh, ap new.held same ∙ acts.done (is_ok-then reply.status t))
+      held k true e true t =
+          let same : k ≡ key = (same_key-tells k key).0 e in
+          let ok : reply.status ≡ Ok = is_ok-then reply.status t in
+          inr (record { same = same; its_kind = acts.of_its_kind; fresh = acts.was_fresh; ok = ok; now = ap new.held same ∙ acts.done ok; spent = acts.spent ok })
 
-  -- a plugin didn't carry it out: an OK was kept, so it was sent before
-  pub effect-rests : Truth issued frames old → IsAmong call issued → is_of key call ≡ true → party_of key ≡ call.party → Rests key (delivery_of call kind reply) old new → IsEffect
-  effect-rests truth there of party rests =
+  -- a plugin didn't carry it out, since its number was spent
+  pub effect-rests : WasKept → (reply.status ≡ Ok → IsTrue (has_id_by_rule kind reply)) → IsAmong call issued → is_of key call ≡ true → Rests key (delivery_of call kind reply) old new → IsEffect
+  effect-rests was rule there of rests =
       record {
         among = there;
         of = of;
-        rule = λ ok. truth.ids call.number call.party kind reply (sent ok) ok;
-        kept = λ other k is. among-append frames (answer_to call kind reply ∷ []) _ (truth.kept other k (sym (rests.same.kept other) ∙ is));
+        rule = rule;
+        kept = kept-sent was (λ other k is. inl (sym (rests.same.kept other) ∙ is));
         spent = λ other number spent. rests.same.is_spent other number ∙ spent;
-        ok = λ ok. inl (sent ok);
         held = λ k. inl (rests.same.held k);
       }
-    where
-      sent : reply.status ≡ Ok → IsAmong (answer_to call kind reply) frames
-      sent ok = subst (λ p. IsAmong (reply_frame call.number p kind reply) frames) party (truth.kept key (kept_of (delivery_of call kind reply)) (rests.was_kept ok))
+
+  -- a plugin didn't have its volume
+  pub effect-misses : WasKept → IsAmong call issued → is_of key call ≡ true → IsKeptStill → Misses (delivery_of call kind reply) old new → IsEffect
+  effect-misses was there of still misses =
+      record {
+        among = there;
+        of = of;
+        rule = misses.with_id;
+        kept = kept-sent was still;
+        spent = misses.stays_spent;
+        held = λ k. inl (misses.held k);
+      }
 
   -- an OK is an old one, or the answer, and then the call's thing is as it asks
-  pub ok-either : Truth issued frames old → IsEffect → (other : Issued) (r : Reply) → IsAmong other issued → IsAnsweredOk (frames ++ answer_to call kind reply ∷ []) other r
+  pub ok-either : Truth issued frames old → IsEffect → IsMet → (other : Issued) (r : Reply) → IsAmong other issued → IsAnsweredOk (frames ++ answer_to call kind reply ∷ []) other r
       → IsAnsweredOk frames other r ⊎ ((other ≡ call) × (r ≡ reply) × (new.held key ≡ asked call.call reply) × IsTrue (new.is_spent key call.number))
-  ok-either truth effect other r among ok =
+  ok-either truth effect met other r among ok =
       ⊎_elim (λ there. inl (there, ok.1)) (λ e.
       let says : r ≡ reply = (reply-parts _ _ _ _ (kind_of other.call) kind r reply e).1 in
       let one : other ≡ call = one-number issued truth.numbers other call among effect.among (ap (λ (f : Frame). f.number) e) in
       ⊎_elim (λ sent. inl (subst (λ (f : Frame). IsAmong f frames) (sym e) sent, ok.1)) (λ done. inr (one, says, done.0, done.1))
-      (effect.ok (subst (λ (x : Reply). x.status ≡ Ok) says ok.1)))
+      (met (subst (λ (x : Reply). x.status ≡ Ok) says ok.1)))
       (among-either frames (answer_to call kind reply) (reply_frame other.number other.party (kind_of other.call) r) ok.0)
 
   -- after a plugin answered a sent call
-  pub truth-answered : Truth issued frames old → IsClosed old → IsEffect → Truth issued (frames ++ answer_to call kind reply ∷ []) new
-  truth-answered truth closed effect =
+  pub truth-answered : Truth issued frames old → IsClosed old → IsEffect → IsMet → Truth issued (frames ++ answer_to call kind reply ∷ []) new
+  truth-answered truth closed effect met =
       record {
         calls = λ frame c among is. ⊎_elim (λ there. truth.calls frame c there is) (λ e. absurd (no_call c (sym (ap (λ (f : Frame). f.body) e) ∙ is))) (among-either frames _ frame among);
         replies = λ number party k r among.
@@ -205,11 +250,11 @@ module _ (issued : List Issued) (frames : List Frame) (old new : View) (call : I
         numbers = truth.numbers;
         spent = λ other k r among of ok.
             ⊎_elim (λ was. effect.spent k other.number (truth.spent other k r among of was))
-            (λ now. ap (λ (x : Issued). new.is_spent k x.number) now.0 ∙ ap (λ x. new.is_spent x call.number) (its_key k other now.0 of) ∙ now.3) (ok-either truth effect other r among ok);
+            (λ now. ap (λ (x : Issued). new.is_spent k x.number) now.0 ∙ ap (λ x. new.is_spent x call.number) (its_key k other now.0 of) ∙ now.3) (ok-either truth effect met other r among ok);
         told = λ other k r found ok.
             ⊎_elim (λ was. stays k (λ same fresh. overtaken other r (subst (λ x. find (is_of x) issued ≡ Some other) same found) was fresh) ∙ truth.told other k r found was)
             (λ now. ap new.held (its_key k other now.0 (find-passes (is_of k) issued other found)) ∙ now.2 ∙ ap (asked call.call) (sym now.1) ∙ ap (λ (x : Issued). asked x.call r) (sym now.0))
-            (ok-either truth effect other r (among-find (is_of k) issued other found) ok);
+            (ok-either truth effect met other r (among-find (is_of k) issued other found) ok);
         untouched = λ k none. stays k (λ same fresh. false≢true (sym (none_passes (is_of k) issued call none effect.among) ∙ ap (λ x. is_of x call) same ∙ effect.of)) ∙ truth.untouched k none;
       }
     where
@@ -221,7 +266,7 @@ module _ (issued : List Issued) (frames : List Frame) (old new : View) (call : I
           (latest-last key issued other call truth.numbers found effect.among effect.of))
 
       stays : (k : Key) → (k ≡ key → old.is_spent key call.number ≡ false → ⊥) → new.held k ≡ old.held k
-      stays k differs = ⊎_elim (λ same. same) (λ now. absurd (differs now.0 now.1)) (effect.held k)
+      stays k differs = ⊎_elim (λ same. same) (λ now. absurd (differs now.same now.fresh)) (effect.held k)
 
       no_call : (c : Call) → bodies.Reply kind reply ≡ bodies.Call c → ⊥
       no_call c h = cc

@@ -79,7 +79,7 @@ stands-answered items frames old new call key kind reply effect stands id node c
         inr (record { name = call.name; number = call.number; among = among; unspent = ap (λ k. old.is_spent k call.number) same ∙ fresh })
 
     before : IsStanding (issued_in items) new id node capability → IsStanding (issued_in items) old id node capability
-    before (inl held) = ⊎_elim (λ same. inl (sym same ∙ held)) (λ now. carried_out now.0 now.1 (sym now.2 ∙ held)) (effect.held (Staged id node))
+    before (inl held) = ⊎_elim (λ same. inl (sym same ∙ held)) (λ now. carried_out now.same now.fresh (sym now.now ∙ held)) (effect.held (Staged id node))
     before (inr may) =
         let unspent = false_from_ne_true (old.is_spent (Staged id node) may.number) (λ e. false≢true (sym may.unspent ∙ effect.spent (Staged id node) may.number e)) in
         inr (record { name = may.name; number = may.number; among = may.among; unspent = unspent })

@@ -54,7 +54,7 @@ staged-seen laws config world at staged right there among =
 -- what is staged at a node is attached there, in the same capability
 staged-attached : PluginLaws → (config : Config) (world : World) → IsRight config world → IsStagedWhereAttached world
 staged-attached laws config world right at staged there among =
-    let well = right.good.well in
+    let well = right.good.well.so_far in
     let attached = well.stands staged.volume at.id staged.capability (inl (staged-seen laws config world at staged right there among)) in
     let ok = success-ok world.history.items (issued_in world.history.items) world.frames attached.call well.heard well.truth.numbers (among-find (is_of (Attached staged.volume at.id)) (issued_in world.history.items) attached.call attached.found) attached.success in
     held-there world staged.volume at.id staged.capability attached.readonly
@@ -66,10 +66,12 @@ worlds_are_safe laws config choices may =
     let world : World = chosen_all config (empty_world config) choices in
     let right = all-right laws config (empty_world config) choices (empty-right laws config) may in
     let plugin = exclusive laws.exclusive config world right.good.reached in
+    let staged = staged-attached laws config world right in
+    let published = published-staged laws.publishing config world right.good.reached in
     record {
       exclusive = plugin.exclusive;
-      staged_where_attached = staged-attached laws config world right;
-      published_where_staged = published-staged laws.publishing config world right.good.reached;
+      staged_where_attached = staged;
+      published_where_staged = published;
       attached_while_live = plugin.attached_while_live;
-      recorded_right = recorded world right.good.well;
+      recorded_right = recorded world right.good.given right.good.well (record { staged = staged; published = published; live = plugin.attached_while_live });
     }

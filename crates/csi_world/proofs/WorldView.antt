@@ -4,7 +4,7 @@ use Rattle.std.proofs.Common.{◌≡◌, ◌⊎◌, ℕ, List, Bool, true, false
 use Rattle.csi_types.specs.declared.number.Number.{Number}
 use Rattle.csi_types.specs.declared.call.Party.{Party}
 use Rattle.csi_types.specs.declared.call.Party.TheVariants.{Controller, Node}
-use Rattle.csi_types.specs.Delivery.{View, Delivery, Acts, Rests, IsSameView, IsClosed, kept_of}
+use Rattle.csi_types.specs.Delivery.{View, Delivery, Acts, Rests, Misses, IsSameView, IsClosed, kept_of}
 use Rattle.csi_types.specs.Key.{Key, Exists, Attached, Staged, Published}
 use Rattle.csi_types.specs.Number.{IsBefore}
 use Rattle.csi_types.specs.Same.{same_party}
@@ -71,7 +71,7 @@ acts-all old new key delivery only acts =
       refused = acts.refused;
       others = λ other differs. for_each (λ before after k. after.held k ≡ before.held k) (party_of key) old new only other (acts.others other differs) (λ view. refl);
       stays_spent = λ other number spent. for_each (λ before after k. IsTrue (before.is_spent k number) → IsTrue (after.is_spent k number)) (party_of key) old new only other (acts.stays_spent other number) (λ view h. h) spent;
-      keeps = λ other. for_each (λ before after k. (after.kept k ≡ before.kept k) ⊎ (after.kept k ≡ Some (kept_of delivery))) (party_of key) old new only other (acts.keeps other) (λ view. inl refl);
+      keeps = λ other. for_each (λ before after k. (after.kept k ≡ before.kept k) ⊎ (after.kept k ≡ Some (kept_of delivery)) ⊎ (after.kept k ≡ None)) (party_of key) old new only other (acts.keeps other) (λ view. inl refl);
     }
 
 -- where one plugin is as it was by its things, and the others are as they were, so is the world
@@ -88,6 +88,19 @@ pub rests-all : (old new : World) (key : Key) (delivery : Delivery) → ChangesO
     → Rests key delivery (plugin_view old (party_of key)) (plugin_view new (party_of key)) → Rests key delivery (view_of old) (view_of new)
 rests-all old new key delivery only rests =
     record { was_spent = rests.was_spent; was_kept = rests.was_kept; same = same-all (party_of key) old new only rests.same }
+
+-- a call that one plugin misses, while the others are as they were, the world misses
+pub misses-all : (party : Party) (old new : World) (delivery : Delivery) → ChangesOnly party old new → Misses delivery (plugin_view old party) (plugin_view new party)
+    → Misses delivery (view_of old) (view_of new)
+misses-all party old new delivery only misses =
+    record {
+      of_its_kind = misses.of_its_kind;
+      with_id = misses.with_id;
+      undoes = misses.undoes;
+      held = λ key. for_each (λ before after k. after.held k ≡ before.held k) party old new only key (misses.held key) (λ view. refl);
+      stays_spent = λ key number spent. for_each (λ before after k. IsTrue (before.is_spent k number) → IsTrue (after.is_spent k number)) party old new only key (misses.stays_spent key number) (λ view h. h) spent;
+      keeps = λ key. for_each (λ before after k. (after.kept k ≡ before.kept k) ⊎ (after.kept k ≡ None)) party old new only key (misses.keeps key) (λ view. inl refl);
+    }
 
 -- what came before a spent number is spent
 pub closed-all : (controller : (world : World) → IsClosed (controllers.view_of world.controller)) → (node : (id : List ℕ) (state : NodeState) → IsClosed (nodes.view_of id state))
