@@ -9,17 +9,19 @@ use Rattle.std.proofs.lemmas.List.Concat.{flat_map-append}
 use Rattle.csi_types.specs.Frame.{Frame}
 use Rattle.csi_types.specs.Limits.{IsFrame}
 use Rattle.csi_frames.specs.Spelling.{spelling}
+use Rattle.csi_frames.specs.declared.version.Version.{Version}
 use Rattle.csi_frames.specs.Stream.{FramesOf}
 use Rattle.csi_stores.specs.declared.keep.KeepFault.{KeepFault}
 use Rattle.csi_stores.specs.declared.keep.KeepFault.TheVariants as faults
 use Rattle.csi_stores.specs.Part.{StoredPart}
 use Rattle.csi_stores.specs.Stores.{Store, IsOnly, IsSettled}
+use Rattle.csi_records.specs.Spelling.{present}
 use Rattle.csi_serving.specs.declared.serving.fault.Served.{Served}
 use Rattle.csi_serving.specs.declared.serving.fault.ServeFault.{ServeFault}
 use Rattle.csi_serving.specs.declared.serving.fault.ServeFaultKind.{ServeFaultKind}
 use Rattle.csi_serving.specs.declared.serving.fault.ServeFaultKind.TheVariants as kinds
 use Rattle.csi_serving.specs.Serving.{Runs as FrameRuns, Serves, output_of}
-use Rattle.csi_service.specs.Opening.{opened_to}
+use Rattle.csi_service.specs.Opening.{Records, OpensTo}
 use Rattle.csi_endings.specs.declared.ending.Ending.TheVariants.{Done}
 use Rattle.csi_plugins.specs.Ending.{ending_of_store, ending_of_kind, ending_of_serving}
 use Rattle.csi_plugins.specs.Service.{Streams, setting_of}
@@ -92,13 +94,23 @@ module _ {C : Type 0} (IsAsked : C → Type 0) (answers : C → Frame → Option
   joined one mid other last (f ∷ fs) gs [] ss first same second = absurd first
   joined one mid other last (f ∷ fs) gs (r ∷ rs) ss first same second = (first.0, first.1, first.2, first.3, first.4, joined first.3 mid other last fs gs rs ss first.5 same second)
 
+-- ---- a store that was left by a run
+
+-- a core's parts are a record in the present version, and opening leaves them
+module _ {X C : Type 0} (records : Records X) (head : StoredPart) (parts_of : C → List StoredPart) where
+  pub opened-again : ((core : C) (version : Version) (kept : X) → parts_of core ≡ records.parts_of version kept → version ≡ present) → ((core : C) → parts_of core ≡ [] → ⊥)
+      → (core other : C) → OpensTo records head (parts_of core) (parts_of other) → parts_of other ≡ parts_of core
+  opened-again told some core other (inl same) = same.1
+  opened-again told some core other (inr (inl none)) = absurd (some core none.0)
+  opened-again told some core other (inr (inr renewed)) = absurd (renewed.earlier (told core renewed.version renewed.kept renewed.was))
+
 -- ---- one run that ended well
 
-record RanWell {C : Type 0} (IsRecord : List StoredPart → Type 0) (IsAsked : C → Type 0) (answers : C → Frame → Option Frame → C → Type 0) (parts_of : C → List StoredPart) (head : StoredPart) (content : List StoredPart) (after : Store) (io : Streams) : Type 0 where
+record RanWell {X C : Type 0} (records : Records X) (IsAsked : C → Type 0) (answers : C → Frame → Option Frame → C → Type 0) (parts_of : C → List StoredPart) (head : StoredPart) (content : List StoredPart) (after : Store) (io : Streams) : Type 0 where
   core : C
   asked : IsAsked core
-  opened : parts_of core ≡ opened_to head content
-  is_record : IsRecord (parts_of core)
+  opened : OpensTo records head content (parts_of core)
+  is_record : records.are present (parts_of core)
   bytes : List ℕ
   read : Consumes io.unread_before io.unread_after bytes
   ended : IsAtEnd io.unread_after
@@ -110,22 +122,22 @@ record RanWell {C : Type 0} (IsRecord : List StoredPart → Type 0) (IsAsked : C
   kept : IsOnly after (parts_of now)
   written : Appends io.written_before io.written_after (output_of replies)
 
-module _ {C K : Type 0} (seen : K → Store) (IsRecord : List StoredPart → Type 0) (IsAsked : C → Type 0) (answers : C → Frame → Option Frame → C → Type 0) (parts_of : C → List StoredPart) (head : StoredPart)
+module _ {X C K : Type 0} (seen : K → Store) (records : Records X) (IsAsked : C → Type 0) (answers : C → Frame → Option Frame → C → Type 0) (parts_of : C → List StoredPart) (head : StoredPart)
     (keeps : (old new : C) (frame : Frame) (reply : Option Frame) → answers old frame reply new → IsAsked old → IsAsked new)
-    (full : (core : C) → opened_to head (parts_of core) ≡ parts_of core) where
+    (again : (core other : C) → OpensTo records head (parts_of core) (parts_of other) → parts_of other ≡ parts_of core) where
   -- the plugin was opened, and the store was honest before
-  opened-well : (before after : K) (io : Streams) → Runs seen IsRecord IsAsked answers parts_of head before after io Done → IsOpened seen IsRecord IsAsked answers parts_of before after head io Done
+  opened-well : (before after : K) (io : Streams) → Runs seen records IsAsked answers parts_of head before after io Done → IsOpened seen records IsAsked answers parts_of before after head io Done
   opened-well before after io (inl refused) = absurd (no-refusal refused.fault refused.ends)
   opened-well before after io (inr opened) = opened
 
-  was-honest : (before after : K) (io : Streams) → IsOpened seen IsRecord IsAsked answers parts_of before after head io Done → (seen after).honest → (seen before).honest
+  was-honest : (before after : K) (io : Streams) → IsOpened seen records IsAsked answers parts_of before after head io Done → (seen after).honest → (seen before).honest
   was-honest before after io o honest = o.honest (o.served.honest honest)
 
-  ran-well : (before after : K) (content : List StoredPart) (io : Streams) → (seen after).honest → IsOnly (seen before) content → IsOpened seen IsRecord IsAsked answers parts_of before after head io Done
-      → RanWell IsRecord IsAsked answers parts_of head content (seen after) io
+  ran-well : (before after : K) (content : List StoredPart) (io : Streams) → (seen after).honest → IsOnly (seen before) content → IsOpened seen records IsAsked answers parts_of before after head io Done
+      → RanWell records IsAsked answers parts_of head content (seen after) io
   ran-well before after content io honest only o =
       let found = o.found (o.served.honest honest) content only.there in
-      let only_opened : IsOnly (seen o.opened) (parts_of o.core) = subst (IsOnly (seen o.opened)) (sym found.0) (found.2.only only) in
+      let only_opened : IsOnly (seen o.opened) (parts_of o.core) = found.2.only only in
       let ok = served-ok o.served.result o.served.ends in
       let s = subst (Serves (setting_of answers parts_of o.core (seen o.opened) (seen after) io o.served.bytes) o.served.bytes) ok.1 o.served.serves in
       let all : take ok.0.frames s.frames ≡ s.frames = ap (λ (n : ℕ). take n s.frames) s.ends.0 ∙ take-length s.frames in
@@ -148,8 +160,8 @@ module _ {C K : Type 0} (seen : K → Store) (IsRecord : List StoredPart → Typ
 
   -- the second began with what the first left
   pub one-run : (before between after : K) (content : List StoredPart) (first second : Streams) → (seen after).honest → IsSettled (seen before) → (seen before).holds content
-      → Runs seen IsRecord IsAsked answers parts_of head before between first Done → Runs seen IsRecord IsAsked answers parts_of head between after second Done
-      → AreOneRun IsRecord IsAsked answers parts_of head content (seen after) first second
+      → Runs seen records IsAsked answers parts_of head before between first Done → Runs seen records IsAsked answers parts_of head between after second Done
+      → AreOneRun records IsAsked answers parts_of head content (seen after) first second
   one-run before between after content first second honest settled holds ran ran_too =
       let o = opened-well before between first ran in
       let p = opened-well between after second ran_too in
@@ -172,7 +184,7 @@ module _ {C K : Type 0} (seen : K → Store) (IsRecord : List StoredPart → Typ
         replies = one.replies;
         later = two.replies;
         now = two.now;
-        runs = joined IsAsked answers parts_of one.core one.now two.core two.now one.frames two.frames one.replies two.replies one.runs (two.opened ∙ full one.now) two.runs;
+        runs = joined IsAsked answers parts_of one.core one.now two.core two.now one.frames two.frames one.replies two.replies one.runs (again one.now two.core two.opened) two.runs;
         kept = two.kept;
         written = one.written;
         written_too = two.written;

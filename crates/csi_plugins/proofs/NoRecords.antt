@@ -5,9 +5,10 @@ use Rattle.csi_controller.specs.Views.{RecordParts}
 use Rattle.csi_stores.specs.Part.{StoredPart}
 use Rattle.csi_records.specs.declared.fault.RecordStop.{RecordStop}
 use Rattle.csi_records.specs.declared.fault.RecordStop.TheVariants.{BadRecord}
-use Rattle.csi_records.specs.Places.{ReadsParts}
+use Rattle.csi_records.specs.declared.stored.Stored.{Stored}
+use Rattle.csi_records.specs.Places.{ReadsStored}
 use Rattle.csi_records.specs.Spelling.{controller_parts, volume_row}
-use Rattle.csi_records.specs.Records.{controller_layout, node_layout, IsRecordOf, IsRefusedAt, Begins}
+use Rattle.csi_records.specs.Records.{controller_layout, IsRecordOf, IsControllerRecord, IsNodeRecord, IsRefusedAt, Begins}
 use Rattle.csi_endings.specs.declared.ending.Ending.{Ending}
 use Rattle.csi_endings.specs.declared.ending.Ending.TheVariants as endings
 use Rattle.csi_plugins.specs.Recording.{IsRecordOfEither, IsNoRecordAt, HasNoLine, HasNoNodeLine}
@@ -22,38 +23,38 @@ owner : List StoredPart → ℕ
 owner [] = 0
 owner (part ∷ parts) = second part.value
 
-owner-of-node : (parts more : List StoredPart) → IsRecordOf (node_layout None) parts → owner (parts ++ more) ≡ 1
+owner-of-node : (parts more : List StoredPart) → IsNodeRecord None parts → owner (parts ++ more) ≡ 1
 unfolding owner second
-owner-of-node parts more is = ap (λ (ps : List StoredPart). owner (ps ++ more)) is.spelled.are
+owner-of-node parts more is = ap (λ (ps : List StoredPart). owner (ps ++ more)) is.there.spelled.are
 
-owner-of-controller : (parts more : List StoredPart) → IsRecordOf controller_layout parts → owner (parts ++ more) ≡ 0
+owner-of-controller : (parts more : List StoredPart) → IsControllerRecord parts → owner (parts ++ more) ≡ 0
 unfolding owner second
-owner-of-controller parts more is = ap (λ (ps : List StoredPart). owner (ps ++ more)) is.spelled.are
+owner-of-controller parts more is = ap (λ (ps : List StoredPart). owner (ps ++ more)) is.there.spelled.are
 
-owner-of-node-alone : (parts : List StoredPart) → IsRecordOf (node_layout None) parts → owner parts ≡ 1
+owner-of-node-alone : (parts : List StoredPart) → IsNodeRecord None parts → owner parts ≡ 1
 unfolding owner second
-owner-of-node-alone parts is = ap owner is.spelled.are
+owner-of-node-alone parts is = ap owner is.there.spelled.are
 
-owner-of-controller-alone : (parts : List StoredPart) → IsRecordOf controller_layout parts → owner parts ≡ 0
+owner-of-controller-alone : (parts : List StoredPart) → IsControllerRecord parts → owner parts ≡ 0
 unfolding owner second
-owner-of-controller-alone parts is = ap owner is.spelled.are
+owner-of-controller-alone parts is = ap owner is.there.spelled.are
 
 -- parts that begin as a node's record are no controller's, and the other way round
-not_controller : (parts more : List StoredPart) → IsRecordOf (node_layout None) parts → IsRecordOf controller_layout (parts ++ more) → ⊥
+not_controller : (parts more : List StoredPart) → IsNodeRecord None parts → IsControllerRecord (parts ++ more) → ⊥
 not_controller parts more of_node of_controller = omega (arith, owner-of-node parts more of_node, owner-of-controller-alone (parts ++ more) of_controller)
 
-not_node : (parts more : List StoredPart) → IsRecordOf controller_layout parts → IsRecordOf (node_layout None) (parts ++ more) → ⊥
+not_node : (parts more : List StoredPart) → IsControllerRecord parts → IsNodeRecord None (parts ++ more) → ⊥
 not_node parts more of_controller of_node = omega (arith, owner-of-controller parts more of_controller, owner-of-node-alone (parts ++ more) of_node)
 
 -- what a controller's record refuses, where it is told with a place
 pub refused_at : (parts : List StoredPart) (stop : RecordStop) (place : ℕ) → stop ≡ BadRecord place
-    → ReadsParts (IsRecordOf controller_layout) (λ (kept : RecordParts). controller_parts kept.next_id (map volume_row kept.rows)) parts (Err stop)
-    → ((parts ≡ []) × (place ≡ 0)) ⊎ IsRefusedAt (IsRecordOf controller_layout) parts place
+    → ReadsStored (λ version. IsRecordOf (controller_layout version)) (λ version (kept : RecordParts). controller_parts version kept.next_id (map volume_row kept.rows)) parts (Err stop)
+    → ((parts ≡ []) × (place ≡ 0)) ⊎ IsRefusedAt IsControllerRecord parts place
 refused_at parts stop place is reads =
-    subst (λ (s : RecordStop). ReadsParts (IsRecordOf controller_layout) (λ (kept : RecordParts). controller_parts kept.next_id (map volume_row kept.rows)) parts (Err s)) is reads
+    subst (λ (s : RecordStop). ReadsStored (λ version. IsRecordOf (controller_layout version)) (λ version (kept : RecordParts). controller_parts version kept.next_id (map volume_row kept.rows)) parts (Err s)) is reads
 
 -- what refuses parts behind the first refuses them for both
-pub refused_controller : (parts : List StoredPart) (place : ℕ) → 0 < place → ((parts ≡ []) × (place ≡ 0)) ⊎ IsRefusedAt (IsRecordOf controller_layout) parts place → IsNoRecordAt parts place
+pub refused_controller : (parts : List StoredPart) (place : ℕ) → 0 < place → ((parts ≡ []) × (place ≡ 0)) ⊎ IsRefusedAt IsControllerRecord parts place → IsNoRecordAt parts place
 refused_controller parts place behind (inl none) = absurd (omega (arith, none.1, behind))
 refused_controller parts place behind (inr at) = inr (record {
   before = at.before;
@@ -64,7 +65,7 @@ refused_controller parts place behind (inr at) = inr (record {
   begins = elim at.begins [ inl none ↦ inl none | inr is ↦ inr (inl is) ];
   refused = refused at.begins;
 }) where
-  refused : Begins (IsRecordOf controller_layout) at.before → IsRecordOfEither (at.before ++ at.part ∷ []) → ⊥
+  refused : Begins IsControllerRecord at.before → IsRecordOfEither (at.before ++ at.part ∷ []) → ⊥
   refused begins (inl is) = at.refused is
   refused (inl none) (inr is) = absurd (omega (arith, ap length none, at.here, behind))
   refused (inr begun) (inr is) = not_node at.before (at.part ∷ []) begun is
@@ -78,8 +79,8 @@ first_alone : (parts before : List StoredPart) (part : StoredPart) (after : List
 first_alone parts before part after are none = ap (take 1) are ∙ sym (subst (λ (b : List StoredPart). b ++ part ∷ [] ≡ take 1 (b ++ part ∷ after)) (sym none) refl)
 
 -- where a controller's record refuses the first part, what refuses the parts for a node refuses them for both
-pub refused_node : (parts : List StoredPart) (first place : ℕ) → first ≡ 0 → ((parts ≡ []) × (first ≡ 0)) ⊎ IsRefusedAt (IsRecordOf controller_layout) parts first
-    → ((parts ≡ []) × (place ≡ 0)) ⊎ IsRefusedAt (IsRecordOf (node_layout None)) parts place → IsNoRecordAt parts place
+pub refused_node : (parts : List StoredPart) (first place : ℕ) → first ≡ 0 → ((parts ≡ []) × (first ≡ 0)) ⊎ IsRefusedAt IsControllerRecord parts first
+    → ((parts ≡ []) × (place ≡ 0)) ⊎ IsRefusedAt (IsNodeRecord None) parts place → IsNoRecordAt parts place
 refused_node parts first place front other (inl none) = inl none
 refused_node parts first place front other (inr at) = inr (record {
   before = at.before;
@@ -90,16 +91,16 @@ refused_node parts first place front other (inr at) = inr (record {
   begins = elim at.begins [ inl none ↦ inl none | inr is ↦ inr (inr is) ];
   refused = refused at.begins other;
 }) where
-  refused : Begins (IsRecordOf (node_layout None)) at.before → ((parts ≡ []) × (first ≡ 0)) ⊎ IsRefusedAt (IsRecordOf controller_layout) parts first → IsRecordOfEither (at.before ++ at.part ∷ []) → ⊥
+  refused : Begins (IsNodeRecord None) at.before → ((parts ≡ []) × (first ≡ 0)) ⊎ IsRefusedAt IsControllerRecord parts first → IsRecordOfEither (at.before ++ at.part ∷ []) → ⊥
   refused begins too (inr is) = at.refused is
   refused (inr begun) too (inl is) = not_controller at.before (at.part ∷ []) begun is
   refused (inl none) (inl gone) (inl is) = absurd (omega (arith, ap length (sym gone.0 ∙ at.are), length-append at.before (at.part ∷ at.after)))
   refused (inl none) (inr too) (inl is) =
       let same = sym (first_alone parts at.before at.part at.after at.are none) ∙ first_alone parts too.before too.part too.after too.are (nothing too.before (too.here ∙ front)) in
-      too.refused (subst (IsRecordOf controller_layout) same is)
+      too.refused (subst IsControllerRecord same is)
 
 -- why a node has no line is why there is none, where a controller's record refuses the first part
-pub for_node : (parts : List StoredPart) (first : ℕ) → first ≡ 0 → ((parts ≡ []) × (first ≡ 0)) ⊎ IsRefusedAt (IsRecordOf controller_layout) parts first → (ending : Ending) → HasNoNodeLine parts ending → HasNoLine parts ending
+pub for_node : (parts : List StoredPart) (first : ℕ) → first ≡ 0 → ((parts ≡ []) × (first ≡ 0)) ⊎ IsRefusedAt IsControllerRecord parts first → (ending : Ending) → HasNoNodeLine parts ending → HasNoLine parts ending
 for_node parts first zero other (endings.RecordFault place) why = refused_node parts first place zero other why
 for_node parts first zero other endings.Memory why = tt
 for_node parts first zero other endings.Done why = why

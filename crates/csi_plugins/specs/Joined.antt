@@ -5,13 +5,12 @@ use Rattle.csi_types.specs.Frame.{Frame}
 use Rattle.csi_frames.specs.Stream.{FramesOf}
 use Rattle.csi_stores.specs.Part.{StoredPart}
 use Rattle.csi_stores.specs.Stores.{Store, IsOnly, IsSettled}
-use Rattle.csi_records.specs.Records.{controller_layout, node_layout, IsRecordOf}
-use Rattle.csi_records.specs.Spelling.{controller_head, node_head}
+use Rattle.csi_records.specs.Spelling.{present, controller_head, node_head}
 use Rattle.csi_counted.specs.declared.counted.Counted.{Counted}
 use Rattle.csi_serving.specs.Serving.{output_of}
 use Rattle.csi_service.specs.declared.controller_service.ControllerService.{ControllerService}
 use Rattle.csi_service.specs.declared.node_service.NodeService.{NodeService}
-use Rattle.csi_service.specs.Opening.{opened_to}
+use Rattle.csi_service.specs.Opening.{Records, controller_records, node_records, OpensTo}
 use Rattle.csi_service.specs.Services.{controller_service_parts, ControllerAnswers, node_service_parts}
 use Rattle.csi_service.specs.NodeServices.{NodeServiceAnswers}
 use Rattle.csi_endings.specs.declared.ending.Ending.TheVariants.{Done}
@@ -29,14 +28,14 @@ RunsAgain IsAsked answers parts_of core (frame ∷ frames) [] now = ⊥
 RunsAgain {C} IsAsked answers parts_of core (frame ∷ frames) (reply ∷ replies) now =
     (same : C) × IsAsked same × (parts_of same ≡ parts_of core) × (next : C) × answers same frame reply next × RunsAgain IsAsked answers parts_of next frames replies now
 
--- From a store with this content, in which a head is put first where it has no part, a core with that record answered all frames of
--- what two readers had, one behind the other, and each reader has ended. The store has the last core's parts, which is all that opening it
+-- From a store with this content, in which a head is put first where it has no part, and a record in an earlier version is put in the
+-- present one, a core with that record answered all frames of what two readers had, one behind the other, and each reader has ended. The store has the last core's parts, which is all that opening it
 -- again may find, and each reply is written: those of the first run to the first writer, the others to the second.
-pub record AreOneRun {C : Type 0} (IsRecord : List StoredPart → Type 0) (IsAsked : C → Type 0) (answers : C → Frame → Option Frame → C → Type 0) (parts_of : C → List StoredPart) (head : StoredPart) (content : List StoredPart) (after : Store) (first second : Streams) : Type 0 where
+pub record AreOneRun {X C : Type 0} (records : Records X) (IsAsked : C → Type 0) (answers : C → Frame → Option Frame → C → Type 0) (parts_of : C → List StoredPart) (head : StoredPart) (content : List StoredPart) (after : Store) (first second : Streams) : Type 0 where
   pub core : C
   pub asked : IsAsked core
-  pub opened : parts_of core ≡ opened_to head content
-  pub is_record : IsRecord (parts_of core)
+  pub opened : OpensTo records head content (parts_of core)
+  pub is_record : records.are present (parts_of core)
   pub bytes : List ℕ
   pub more : List ℕ
   pub read : Consumes first.unread_before first.unread_after bytes
@@ -55,8 +54,8 @@ pub record AreOneRun {C : Type 0} (IsRecord : List StoredPart → Type 0) (IsAsk
 
 -- the same of either plugin
 abbrev pub PluginJoins : Plugin → List StoredPart → Store → Streams → Streams → Type 0
-PluginJoins (Controller config) = AreOneRun (IsRecordOf controller_layout) (λ (service : ControllerService). service.controller.config ≡ config) ControllerAnswers controller_service_parts (controller_head 1)
-PluginJoins (Node id) = AreOneRun (IsRecordOf (node_layout (Some id))) (λ (service : NodeService). ⊤) NodeServiceAnswers node_service_parts (node_head id)
+PluginJoins (Controller config) = AreOneRun controller_records (λ (service : ControllerService). service.controller.config ≡ config) ControllerAnswers controller_service_parts (controller_head present 1)
+PluginJoins (Node id) = AreOneRun (node_records id) (λ (service : NodeService). ⊤) NodeServiceAnswers node_service_parts (node_head present id)
 
 -- Two runs of a plugin that both ended well, the second over the store as the first left it, are one run of all frames: where the
 -- store had a content, which was all that opening it again might find, and is honest after both.

@@ -5,26 +5,27 @@ use Rattle.serde_json.specs.Written.{compact_text}
 use Rattle.csi_counted.specs.Counting.{HasRisen}
 use Rattle.csi_counted.specs.Writing.{WritesFront}
 use Rattle.csi_counted.specs.declared.counted.Counted.{Counted}
+use Rattle.csi_frames.specs.declared.version.Version.{Version}
 use Rattle.csi_controller.specs.Views.{RecordParts}
 use Rattle.csi_node.specs.OneRow.{shown}
 use Rattle.csi_node.specs.Record.{NodeParts}
 use Rattle.csi_stores.specs.Part.{StoredPart}
 use Rattle.csi_stores.specs.Stores.{Store}
 use Rattle.csi_records.specs.Spelling.{controller_parts, node_parts, volume_row}
-use Rattle.csi_records.specs.Records.{controller_layout, node_layout, IsRecordOf, IsRefusedAt}
+use Rattle.csi_records.specs.Records.{controller_layout, node_layout, IsRecordOf, IsControllerRecord, IsNodeRecord, IsRefusedAt}
 use Rattle.csi_listings.specs.Records.{controller_entry, node_entry}
 use Rattle.csi_endings.specs.declared.ending.Ending.{Ending}
 use Rattle.csi_endings.specs.declared.ending.Ending.TheVariants as endings
 use Rattle.csi_plugins.specs.Ending.{EndsAt}
 
--- these parts are the record of a controller or of a node, and this is its line
+-- these parts are the record of a controller or of a node, in some version, and this is its line
 pub data IsLineOf (parts : List StoredPart) : List ℕ → Type 0 where
-  of_controller : (kept : RecordParts) → IsRecordOf controller_layout parts → parts ≡ controller_parts kept.next_id (map volume_row kept.rows) → IsLineOf parts (compact_text (controller_entry kept) ++ codes "\n")
-  of_node : (kept : NodeParts) → IsRecordOf (node_layout None) parts → parts ≡ node_parts kept.id (map shown kept.rows) → IsLineOf parts (compact_text (node_entry kept) ++ codes "\n")
+  of_controller : (version : Version) (kept : RecordParts) → IsRecordOf (controller_layout version) parts → parts ≡ controller_parts version kept.next_id (map volume_row kept.rows) → IsLineOf parts (compact_text (controller_entry kept) ++ codes "\n")
+  of_node : (version : Version) (kept : NodeParts) → IsRecordOf (node_layout version None) parts → parts ≡ node_parts version kept.id (map shown kept.rows) → IsLineOf parts (compact_text (node_entry kept) ++ codes "\n")
 
--- they are the record of either
+-- they are the record of either, in some version
 abbrev pub IsRecordOfEither : List StoredPart → Type 0
-IsRecordOfEither parts = IsRecordOf controller_layout parts ⊎ IsRecordOf (node_layout None) parts
+IsRecordOfEither parts = IsControllerRecord parts ⊎ IsNodeRecord None parts
 
 -- they are of neither, and the part at this place, from 0, is the first that is refused; where there are none, that is 0
 abbrev pub IsNoRecordAt : List StoredPart → ℕ → Type 0
@@ -38,7 +39,7 @@ HasNoLine parts _ = ⊥
 
 -- the same of a node alone
 abbrev pub HasNoNodeLine : List StoredPart → Ending → Type 0
-HasNoNodeLine parts (endings.RecordFault place) = ((parts ≡ []) × (place ≡ 0)) ⊎ IsRefusedAt (IsRecordOf (node_layout None)) parts place
+HasNoNodeLine parts (endings.RecordFault place) = ((parts ≡ []) × (place ≡ 0)) ⊎ IsRefusedAt (IsNodeRecord None) parts place
 HasNoNodeLine parts endings.Memory = Unit {0}
 HasNoNodeLine parts _ = ⊥
 

@@ -3,13 +3,12 @@ use Rattle.std.specs.Prelude.{◌≡◌, ◌⊎◌, ⊤, ℕ, List, Option, Some
 use Rattle.csi_types.specs.Frame.{Frame}
 use Rattle.csi_types.specs.Config.{Config}
 use Rattle.csi_stores.specs.Part.{StoredPart}
-use Rattle.csi_records.specs.Records.{controller_layout, node_layout, IsRecordOf, IsRefusedAt}
-use Rattle.csi_records.specs.Spelling.{controller_head, node_head}
+use Rattle.csi_records.specs.Spelling.{present, controller_head, node_head}
 use Rattle.csi_stores.specs.declared.keep.KeepFault.{KeepFault}
 use Rattle.csi_service.specs.declared.controller_service.ControllerService.{ControllerService}
 use Rattle.csi_service.specs.declared.node_service.NodeService.{NodeService}
 use Rattle.csi_stores.specs.Stores.{Store}
-use Rattle.csi_service.specs.Opening.{HasRecord, IsOpenFault, LeavesHead}
+use Rattle.csi_service.specs.Opening.{Records, controller_records, node_records, HasRecord, IsOpenFault, LeavesOpened}
 use Rattle.csi_service.specs.Services.{controller_service_parts, ControllerAnswers, node_service_parts}
 use Rattle.csi_service.specs.NodeServices.{NodeServiceAnswers}
 use Rattle.csi_endings.specs.declared.ending.Ending.{Ending}
@@ -19,35 +18,35 @@ use Rattle.csi_plugins.specs.Ending.{ending_of_store}
 use Rattle.csi_plugins.specs.Service.{Streams, IsServed}
 
 -- the plugin couldn't be opened from its store: nothing was read nor written, and it ended by the refusal
-pub record IsRefused (IsRecord : List StoredPart → Type 0) (before after : Store) (head : StoredPart) (io : Streams) (ending : Ending) : Type 0 where
+pub record IsRefused {X : Type 0} (records : Records X) (before after : Store) (head : StoredPart) (io : Streams) (ending : Ending) : Type 0 where
   pub fault : KeepFault
-  pub cause : IsOpenFault (IsRefusedAt IsRecord) before after head fault
-  pub left : LeavesHead before after head
+  pub cause : IsOpenFault records before after head fault
+  pub left : LeavesOpened records before after head
   pub untouched : io.untouched
   pub ends : ending ≡ ending_of_store fault
 
--- a core as it is to be was opened from the store, and served over the store as it was then
-pub record IsOpened {C K : Type 0} (seen : K → Store) (IsRecord : List StoredPart → Type 0) (IsAsked : C → Type 0) (answers : C → Frame → Option Frame → C → Type 0) (parts_of : C → List StoredPart) (before after : K) (head : StoredPart) (io : Streams) (ending : Ending) : Type 0 where
+-- a core as it is to be was opened from the store, in which its record is in the present version then, and served over that store
+pub record IsOpened {X C K : Type 0} (seen : K → Store) (records : Records X) (IsAsked : C → Type 0) (answers : C → Frame → Option Frame → C → Type 0) (parts_of : C → List StoredPart) (before after : K) (head : StoredPart) (io : Streams) (ending : Ending) : Type 0 where
   pub core : C
   pub asked : IsAsked core
   pub opened : K
   pub honest : (seen opened).honest → (seen before).honest
-  pub found : HasRecord IsRecord parts_of (seen before) (seen opened) head core
-  pub left : LeavesHead (seen before) (seen opened) head
+  pub found : HasRecord records parts_of (seen before) (seen opened) head core
+  pub left : LeavesOpened records (seen before) (seen opened) head
   pub served : IsServed answers parts_of core (seen opened) (seen after) io ending
 
 -- one or the other
-abbrev pub Runs : {C K : Type 0} → (K → Store) → (List StoredPart → Type 0) → (C → Type 0) → (C → Frame → Option Frame → C → Type 0) → (C → List StoredPart) → StoredPart → K → K → Streams → Ending → Type 0
-Runs seen IsRecord IsAsked answers parts_of head before after io ending =
-    IsRefused IsRecord (seen before) (seen after) head io ending ⊎ IsOpened seen IsRecord IsAsked answers parts_of before after head io ending
+abbrev pub Runs : {X C K : Type 0} → (K → Store) → Records X → (C → Type 0) → (C → Frame → Option Frame → C → Type 0) → (C → List StoredPart) → StoredPart → K → K → Streams → Ending → Type 0
+Runs seen records IsAsked answers parts_of head before after io ending =
+    IsRefused records (seen before) (seen after) head io ending ⊎ IsOpened seen records IsAsked answers parts_of before after head io ending
 
 -- the process of the controller plugin under a configuration, over a store that is seen so
 abbrev pub ControllerRuns : {K : Type 0} → (K → Store) → Config → K → K → Streams → Ending → Type 0
-ControllerRuns seen config = Runs seen (IsRecordOf controller_layout) (λ (service : ControllerService). service.controller.config ≡ config) ControllerAnswers controller_service_parts (controller_head 1)
+ControllerRuns seen config = Runs seen controller_records (λ (service : ControllerService). service.controller.config ≡ config) ControllerAnswers controller_service_parts (controller_head present 1)
 
 -- the process of a node's plugin
 abbrev pub NodeRuns : {K : Type 0} → (K → Store) → List ℕ → K → K → Streams → Ending → Type 0
-NodeRuns seen id = Runs seen (IsRecordOf (node_layout (Some id))) (λ (service : NodeService). ⊤) NodeServiceAnswers node_service_parts (node_head id)
+NodeRuns seen id = Runs seen (node_records id) (λ (service : NodeService). ⊤) NodeServiceAnswers node_service_parts (node_head present id)
 
 -- of either
 abbrev pub PluginRuns : {K : Type 0} → (K → Store) → Plugin → K → K → Streams → Ending → Type 0

@@ -12,7 +12,7 @@ use csi_counted::{Counted, write_out};
 use csi_endings::Ending;
 use csi_listings::{controller_line, node_line};
 use csi_node::NodeRecord;
-use csi_records::{Record, RecordStop};
+use csi_records::{Record, RecordStop, Stored};
 use csi_service::{Keep, Part};
 use std::alloc::Global;
 use std::io::Write;
@@ -43,7 +43,7 @@ fn line_of_node(alloc: Global, parts: &[Part]) -> Result<String, Ending>
     ensures refused { IfErr result (HasNoNodeLine (all_stored_in parts.now)) }
 {
     match NodeRecord::of_parts(alloc, parts) {
-        Ok(kept) => node_text(alloc, &kept),
+        Ok(Stored { kept, .. }) => node_text(alloc, &kept),
         Err(RecordStop::BadRecord(place)) => Err(Ending::RecordFault(place)),
         Err(RecordStop::NoMemory) => Err(Ending::Memory),
     }
@@ -55,7 +55,7 @@ fn line_of(alloc: Global, parts: &[Part]) -> Result<String, Ending>
     ensures refused { IfErr result (HasNoLine (all_stored_in parts.now)) }
 {
     match ControllerRecord::of_parts(alloc, parts) {
-        Ok(kept) => controller_text(alloc, &kept),
+        Ok(Stored { kept, .. }) => controller_text(alloc, &kept),
         Err(RecordStop::NoMemory) => Err(Ending::Memory),
         Err(RecordStop::BadRecord(place)) => {
             if place > 0 {
@@ -78,8 +78,8 @@ fn recorded<K: Keep>(alloc: Global, keep: &mut K) -> Result<String, Ending>
     }
 }
 
-/// Writes what the store has, and flushes: the record of a controller or of a node as one line of JSON, with a newline. Nothing is
-/// put into the store. `RecordFault` says that its parts are the record of neither, with the place of the first that is refused,
+/// Writes what the store has, and flushes: the record of a controller or of a node, in any version, as one line of JSON, with a newline.
+/// Nothing is put into the store. `RecordFault` says that its parts are the record of neither, with the place of the first that is refused,
 /// and 0 where there are none; `Device` that the store's device or the writer failed, which is counted, and then a front of the line
 /// is written; `Memory` that an allocation was refused. This profile's own.
 pub fn record<K: Keep, W: Write>(alloc: Global, keep: &mut K, out: &mut Counted<W>) -> Ending

@@ -16,7 +16,7 @@ use Rattle.csi_controller.specs.Core.{Parts, IsSameRow, IsRising as AreRising}
 use Rattle.csi_controller.specs.Views.{AreSameRows, IsCopyOf}
 use Rattle.csi_controller.specs.RowsLaw.{AreOf, ChangesOnly, ControllerRowsLaw, last_call, after_frame}
 use Rattle.csi_stores.specs.Part.{StoredPart, Change}
-use Rattle.csi_records.specs.Spelling.{VolumeRow, volume_row, volume_part, controller_head, controller_parts}
+use Rattle.csi_records.specs.Spelling.{present, VolumeRow, volume_row, volume_part, controller_head, controller_parts}
 use Rattle.csi_stores.specs.Content.{put_in, all_changed, IsRising}
 use Rattle.csi_service.specs.Services.{head_change, row_change, touched_change, last_in}
 use Rattle.csi_stores.proofs.RisingChanges.{AreAbove}
@@ -46,12 +46,12 @@ copy-shown (Some old) (Some new) same = ap Some (same-shown old new same)
 -- ---- rows by rising id are parts by rising key
 
 -- ids above an id are keys above it
-above-shown : (id : ℕ) (rows : List ControllerRow) → AllByRecursion (λ (later : ControllerRow). id < later.id) rows → AreAbove id (map volume_part (map volume_row rows))
+above-shown : (id : ℕ) (rows : List ControllerRow) → AllByRecursion (λ (later : ControllerRow). id < later.id) rows → AreAbove id (map (volume_part present) (map volume_row rows))
 above-shown id [] above = tt
 above-shown id (row ∷ rows) above = (above.0, above-shown id rows above.1)
 
 -- rows by rising id are parts by rising key
-rising-shown : (rows : List ControllerRow) → AreRising rows → IsRising (map volume_part (map volume_row rows))
+pub rising-shown : (rows : List ControllerRow) → AreRising rows → IsRising (map (volume_part present) (map volume_row rows))
 rising-shown [] rising = tt
 rising-shown (row ∷ rows) rising = (above-shown row.id rows rising.0, rising-shown rows rising.1)
 
@@ -63,16 +63,16 @@ all-append [] second parts = refl
 all-append (change ∷ changes) second parts = all-append changes second _
 
 -- a head that changes where the next id does is the new head in front of the same parts
-head-changed : (has_new_id : Bool) (old new : ℕ) (parts : List StoredPart) → (has_new_id ≡ false → new ≡ old) → all_changed (head_change has_new_id new) (controller_head old ∷ parts) ≡ controller_head new ∷ parts
-head-changed true old new parts same = put-head (controller_head new) (controller_head old) parts refl
-head-changed false old new parts same = ap (λ (n : ℕ). controller_head n ∷ parts) (sym (same refl))
+head-changed : (has_new_id : Bool) (old new : ℕ) (parts : List StoredPart) → (has_new_id ≡ false → new ≡ old) → all_changed (head_change has_new_id new) (controller_head present old ∷ parts) ≡ controller_head present new ∷ parts
+head-changed true old new parts same = put-head (controller_head present new) (controller_head present old) parts refl
+head-changed false old new parts same = ap (λ (n : ℕ). controller_head present n ∷ parts) (sym (same refl))
 
 -- the rows of one controller and those of another, of which one is put in
 row-there : (old new : Parts) (volume : Volume) → AreRising old.rows → AreRising new.rows → ChangesOnly old new volume → 0 < volume.id → (head : StoredPart) → head.key ≡ 0
-    → all_changed (row_change (find (λ (row : ControllerRow). row.id == volume.id) new.rows)) (head ∷ map volume_part (map volume_row old.rows)) ≡ head ∷ map volume_part (map volume_row new.rows)
+    → all_changed (row_change (find (λ (row : ControllerRow). row.id == volume.id) new.rows)) (head ∷ map (volume_part present) (map volume_row old.rows)) ≡ head ∷ map (volume_part present) (map volume_row new.rows)
 row-there old new volume rising rising_too only positive head zero =
-    ap (λ (o : Option ControllerRow). all_changed (row_change o) (head ∷ map volume_part (map volume_row old.rows))) only.there
-    ∙ put-row head (volume_part row) (map volume_part (map volume_row old.rows)) (omega (arith, zero, own, positive))
+    ap (λ (o : Option ControllerRow). all_changed (row_change o) (head ∷ map (volume_part present) (map volume_row old.rows))) only.there
+    ∙ put-row head (volume_part present row) (map (volume_part present) (map volume_row old.rows)) (omega (arith, zero, own, positive))
     ∙ ap (λ (parts : List StoredPart). head ∷ parts) (sym rows)
   where
     row : VolumeRow
@@ -84,8 +84,8 @@ row-there old new volume rising rising_too only positive head zero =
     found : (id : ℕ) (rows : List ControllerRow) → find (λ (r : VolumeRow). r.volume.id == id) (map volume_row rows) ≡ option_map volume_row (find (λ (r : ControllerRow). r.id == id) rows)
     found id rows = find-of_map (λ (r : VolumeRow). r.volume.id == id) volume_row rows
 
-    rows : map volume_part (map volume_row new.rows) ≡ put_in (volume_part row) (map volume_part (map volume_row old.rows))
-    rows = rows-put volume_part row (map volume_row old.rows) (map volume_row new.rows) (rising-shown old.rows rising) (rising-shown new.rows rising_too)
+    rows : map (volume_part present) (map volume_row new.rows) ≡ put_in (volume_part present row) (map (volume_part present) (map volume_row old.rows))
+    rows = rows-put (volume_part present) row (map volume_row old.rows) (map volume_row new.rows) (rising-shown old.rows rising) (rising-shown new.rows rising_too)
         (found only.row.id new.rows ∙ ap (λ (id : ℕ). option_map volume_row (find (λ (r : ControllerRow). r.id == id) new.rows)) own ∙ ap (option_map volume_row) only.there)
         (λ id differs. found id new.rows ∙ copy-shown _ _ (only.others id (ap (λ (n : ℕ). n == id) (sym own) ∙ differs)) ∙ sym (found id old.rows))
 
@@ -98,18 +98,18 @@ pub data Touches (old new : Parts) : Option ℕ → Type 0 where
 
 -- the touched row's change makes the old rows' parts the new ones'
 rows-changed : (old new : Parts) (touched : Option ℕ) → AreRising old.rows → AreRising new.rows → Touches old new touched → (head : StoredPart) → head.key ≡ 0
-    → all_changed (touched_change touched new.rows) (head ∷ map volume_part (map volume_row old.rows)) ≡ head ∷ map volume_part (map volume_row new.rows)
-rows-changed old new touched rising rising_too (no_row same) head zero = ap (λ (rows : List VolumeRow). head ∷ map volume_part rows) (sym same)
+    → all_changed (touched_change touched new.rows) (head ∷ map (volume_part present) (map volume_row old.rows)) ≡ head ∷ map (volume_part present) (map volume_row new.rows)
+rows-changed old new touched rising rising_too (no_row same) head zero = ap (λ (rows : List VolumeRow). head ∷ map (volume_part present) rows) (sym same)
 rows-changed old new touched rising rising_too (one_row volume positive only) head zero = row-there old new volume rising rising_too only positive head zero
 
 -- what a step changed makes the parts of the old controller those of the new one
 pub parts-changed : (old new : Parts) (has_new_id : Bool) (touched : Option ℕ) → AreRising old.rows → AreRising new.rows → (has_new_id ≡ false → new.next_id ≡ old.next_id) → Touches old new touched
-    → controller_parts new.next_id (map volume_row new.rows) ≡ all_changed (head_change has_new_id new.next_id ++ touched_change touched new.rows) (controller_parts old.next_id (map volume_row old.rows))
+    → controller_parts present new.next_id (map volume_row new.rows) ≡ all_changed (head_change has_new_id new.next_id ++ touched_change touched new.rows) (controller_parts present old.next_id (map volume_row old.rows))
 parts-changed old new has_new_id touched rising rising_too same touches =
-    let parts = map volume_part (map volume_row old.rows) in
-    sym (all-append (head_change has_new_id new.next_id) (touched_change touched new.rows) (controller_head old.next_id ∷ parts)
+    let parts = map (volume_part present) (map volume_row old.rows) in
+    sym (all-append (head_change has_new_id new.next_id) (touched_change touched new.rows) (controller_head present old.next_id ∷ parts)
     ∙ ap (all_changed (touched_change touched new.rows)) (head-changed has_new_id old.next_id new.next_id parts same)
-    ∙ rows-changed old new touched rising rising_too touches (controller_head new.next_id) refl)
+    ∙ rows-changed old new touched rising rising_too touches (controller_head present new.next_id) refl)
 
 -- a step that leaves the state leaves the rows
 pub same-state : ControllerRowsLaw → (old new : Parts) (before after : ControllerState) → AreOf old before → AreOf new after → after ≡ before → map volume_row new.rows ≡ map volume_row old.rows
@@ -158,7 +158,7 @@ frame-touches law old new state frame (bodies.Reply kind reply) (Some id) of_it 
 -- what was touched, told by the rows as they are shown
 abbrev shown_change : Option VolumeRow → List Change
 shown_change None = []
-shown_change (Some shown) = record { key = (volume_part shown).key; value = Some (volume_part shown).value } ∷ []
+shown_change (Some shown) = record { key = (volume_part present shown).key; value = Some (volume_part present shown).value } ∷ []
 
 abbrev touched_in : Option ℕ → List VolumeRow → List Change
 touched_in None rows = []
@@ -174,10 +174,10 @@ touched-shown (Some id) rows = by (find (λ (r : ControllerRow). r.id == id) row
     by (Some row) = refl
 
 -- two controllers that show one state have the same parts
-pub same-parts : ControllerRowsLaw → (old new : Parts) (state : ControllerState) → AreOf old state → AreOf new state → controller_parts new.next_id (map volume_row new.rows) ≡ controller_parts old.next_id (map volume_row old.rows)
+pub same-parts : ControllerRowsLaw → (old new : Parts) (state : ControllerState) → AreOf old state → AreOf new state → controller_parts present new.next_id (map volume_row new.rows) ≡ controller_parts present old.next_id (map volume_row old.rows)
 same-parts law old new state of_it of_it_too =
-    ap (λ (n : ℕ). controller_parts n (map volume_row new.rows)) (sym (law.next_id state old new of_it of_it_too))
-    ∙ ap (λ (rows : List VolumeRow). controller_parts old.next_id rows) (all-shown old.rows new.rows (law.rows state old new of_it of_it_too))
+    ap (λ (n : ℕ). controller_parts present n (map volume_row new.rows)) (sym (law.next_id state old new of_it of_it_too))
+    ∙ ap (λ (rows : List VolumeRow). controller_parts present old.next_id rows) (all-shown old.rows new.rows (law.rows state old new of_it of_it_too))
 
 -- two controllers that show one state have the same changes
 pub same-changes : ControllerRowsLaw → (old new : Parts) (state : ControllerState) (has_new_id : Bool) (touched : Option ℕ) → AreOf old state → AreOf new state

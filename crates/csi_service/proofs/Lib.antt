@@ -3,3 +3,5 @@ pub mod OpeningAnswers
 pub mod NodeSteps
 pub mod RisingParts
 pub mod ControllerChanges
+pub mod RenewedParts
+pub mod MadeCores

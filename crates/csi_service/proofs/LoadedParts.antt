@@ -1,11 +1,9 @@
 -- Parts that were loaded are those that a store has.
-use Rattle.std.proofs.Common.{◌≡◌, ◌≤◌, ℕ, List, [], ◌∷◌, length, map, Some, None, refl, ap, arith}
+use Rattle.std.proofs.Common.{◌≡◌, ℕ, List, [], ◌∷◌, map, Some, None, refl, ap}
 use Rattle.std.specs.Prelude.{Option, option_map}
 use Rattle.std.specs.Global.{Vec}
 use Rattle.csi_stores.specs.declared.part.Part.{Part}
 use Rattle.csi_stores.specs.Part.{stored_in, all_stored_in, value_in, StoredPart, Change, put_all, bytes_in, change_of}
-use Rattle.csi_stores.specs.Stores.{Store, IsOnly}
-use Rattle.csi_service.specs.Opening.{HasOpened}
 
 -- a value that is there has the bytes that a part has of it
 value-is : (value : Option (Vec ℕ)) (bytes : List ℕ) → option_map bytes_in value ≡ Some bytes → value_in value ≡ bytes
@@ -28,14 +26,3 @@ all-put (p ∷ ps) (c ∷ cs) e =
   where
     both : (x : Part) (y : StoredPart) → x.key ≡ y.key → value_in x.value ≡ y.value → stored_in x ≡ y
     both x y keys values = λ i. record { key = keys i; value = values i }
-
--- where some parts were loaded, the content isn't empty
-pub some-content : (parts : List Part) (content : List StoredPart) → 1 ≤ length parts → map change_of parts ≡ put_all content → content ≡ [] → ⊥
-some-content [] content some e none = omega arith
-some-content (p ∷ ps) [] some e none = cc
-some-content (p ∷ ps) (c ∷ cs) some e none = cc
-
--- a store that isn't empty, and has what it had, was opened
-pub has-opened : (before after : Store) (head : StoredPart) (content : List StoredPart) → (content ≡ [] → ⊥) → after.holds content → (IsOnly before content → IsOnly after content) → HasOpened before after head content
-has-opened before after head [] some there only = absurd (some refl)
-has-opened before after head (part ∷ parts) some there only = record { there = there; only = only }

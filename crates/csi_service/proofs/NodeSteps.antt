@@ -7,20 +7,20 @@ use Rattle.csi_node.specs.OneRow.{RowShown}
 use Rattle.csi_node.specs.OneVolume.{row_by_id, put_row, AreRowsAfter}
 use Rattle.csi_node.proofs.OneVolume.{own-id}
 use Rattle.csi_stores.specs.Part.{StoredPart, put_all}
-use Rattle.csi_records.specs.Spelling.{answered_part, node_head, node_parts}
+use Rattle.csi_records.specs.Spelling.{present, answered_part, node_head, node_parts}
 use Rattle.csi_stores.specs.Content.{put_in, all_changed}
 use Rattle.csi_service.specs.NodeServices.{touched_row, last_for}
 
 -- a row goes among rows as its part goes among parts, one row at a time
-put_step : (row other : RowShown) (others : List RowShown) → map answered_part (put_row row others) ≡ put_in (answered_part row) (map answered_part others) → (a b : Bool)
-    → map answered_part (cond a (other ∷ put_row row others) (cond b (row ∷ others) (row ∷ other ∷ others)))
-    ≡ cond a (answered_part other ∷ put_in (answered_part row) (map answered_part others)) (cond b (answered_part row ∷ map answered_part others) (answered_part row ∷ answered_part other ∷ map answered_part others))
-put_step row other others rest true b = ap (λ (l : List StoredPart). answered_part other ∷ l) rest
+put_step : (row other : RowShown) (others : List RowShown) → map (answered_part present) (put_row row others) ≡ put_in (answered_part present row) (map (answered_part present) others) → (a b : Bool)
+    → map (answered_part present) (cond a (other ∷ put_row row others) (cond b (row ∷ others) (row ∷ other ∷ others)))
+    ≡ cond a (answered_part present other ∷ put_in (answered_part present row) (map (answered_part present) others)) (cond b (answered_part present row ∷ map (answered_part present) others) (answered_part present row ∷ answered_part present other ∷ map (answered_part present) others))
+put_step row other others rest true b = ap (λ (l : List StoredPart). answered_part present other ∷ l) rest
 put_step row other others rest false true = refl
 put_step row other others rest false false = refl
 
 -- the part of a row that is put in is put in among the parts
-put-parts : (row : RowShown) (rows : List RowShown) → map answered_part (put_row row rows) ≡ put_in (answered_part row) (map answered_part rows)
+put-parts : (row : RowShown) (rows : List RowShown) → map (answered_part present) (put_row row rows) ≡ put_in (answered_part present row) (map (answered_part present) rows)
 put-parts row [] = refl
 put-parts row (other ∷ others) = put_step row other others (put-parts row others) (nat_lt other.id row.id) (other.id == row.id)
 
@@ -33,23 +33,23 @@ put-head part head parts first above = by (nat_lt head.key part.key) (grind (ari
     by false h = cc
 
 -- the parts of a node
-pub same-parts : (node now : List ℕ) (old new : List RowShown) → now ≡ node → new ≡ old → node_parts now new ≡ node_parts node old
-same-parts node now old new id rows = λ i. node_parts (id i) (rows i)
+pub same-parts : (node now : List ℕ) (old new : List RowShown) → now ≡ node → new ≡ old → node_parts present now new ≡ node_parts present node old
+same-parts node now old new id rows = λ i. node_parts present (id i) (rows i)
 
 module _ (node now : List ℕ) (old new : List RowShown) (id : now ≡ node) where
   -- the volume has no row, or its row was put in
   with_row : (volume : ℕ) (found : Option RowShown) → row_by_id volume new ≡ found → IsVolumeId volume → (found ≡ None → new ≡ old) → ((row : RowShown) → found ≡ Some row → new ≡ put_row row old)
-      → node_parts now new ≡ all_changed (put_all (map answered_part (option_to_list found))) (node_parts node old)
+      → node_parts present now new ≡ all_changed (put_all (map (answered_part present) (option_to_list found))) (node_parts present node old)
   with_row volume None is fits none put = same-parts node now old new id (none refl)
   with_row volume (Some row) is fits none put =
       let own : row.id ≡ volume = own-id volume new row is in
       let above : 0 < row.id = omega (arith, own, fits.from_one) in
       same-parts node now (put_row row old) new id (put row refl)
-      ∙ ap (λ (l : List StoredPart). node_head node ∷ l) (put-parts row old)
-      ∙ sym (put-head (answered_part row) (node_head node) (map answered_part old) refl above)
+      ∙ ap (λ (l : List StoredPart). node_head present node ∷ l) (put-parts row old)
+      ∙ sym (put-head (answered_part present row) (node_head present node) (map (answered_part present) old) refl above)
 
   changed : (volume : Option ℕ) → AreRowsAfter volume old new → IfSome volume IsVolumeId → (last_for volume old ≡ last_for volume new → ⊥)
-      → node_parts now new ≡ all_changed (put_all (map answered_part (option_to_list (touched_row volume new)))) (node_parts node old)
+      → node_parts present now new ≡ all_changed (put_all (map (answered_part present) (option_to_list (touched_row volume new)))) (node_parts present node old)
   changed None rows fits other = absurd (other refl)
   changed (Some volume) rows fits other =
       with_row volume (row_by_id volume new) refl fits rows.none (λ row found. rows.put row found (λ same. other (sym same)))
@@ -60,7 +60,7 @@ module _ (node now : List ℕ) (old new : List RowShown) (id : now ≡ node) whe
 
   -- by whether the last number of the frame's volume is as it was
   pub step-parts : (is_same : Bool) (volume : Option ℕ) → IsTrue is_same ↔ (last_for volume old ≡ last_for volume new) → AreRowsAfter volume old new → IfSome volume IsVolumeId
-      → node_parts now new ≡ all_changed (put_all (map answered_part (option_to_list (touched_row (cond is_same None volume) new)))) (node_parts node old)
+      → node_parts present now new ≡ all_changed (put_all (map (answered_part present) (option_to_list (touched_row (cond is_same None volume) new)))) (node_parts present node old)
   step-parts true volume tells rows fits = same-parts node now old new id (unchanged volume rows (tells.0 refl))
   step-parts false volume tells rows fits = changed volume rows fits (λ same. clash (tells.1 same))
     where

@@ -1,73 +1,128 @@
--- What opening gives, of the parts that were there.
-use Rattle.std.proofs.Common.{◌≡◌, ◌≤◌, ◌∙◌, ℕ, List, [], ◌∷◌, length, Err, refl, sym, ap, subst, inl, inr, arith}
-use Rattle.std.specs.Global.{Vec}
-use Rattle.csi_stores.specs.declared.part.Part.{Part}
-use Rattle.csi_records.specs.declared.fault.RecordStop.{RecordStop}
-use Rattle.csi_records.specs.declared.fault.RecordStop.TheVariants as stops
-use Rattle.csi_stores.specs.Part.{all_stored_in, StoredPart}
-use Rattle.csi_records.specs.Spelling.{controller_head}
-use Rattle.csi_records.specs.Records.{controller_layout, IsRecordOf, IsRefusedAt}
-use Rattle.csi_records.specs.Places.{ReadsParts}
+-- What opening gives and leaves, by what is made of the parts that were there.
+use Rattle.std.proofs.Common.{◌≡◌, ◌≤◌, ◌∙◌, ◌⊎◌, List, [], ◌∷◌, length, map, sym, ap, subst, inl, inr, arith}
 use Rattle.csi_stores.specs.declared.keep.KeepFault.{KeepFault}
 use Rattle.csi_stores.specs.declared.keep.KeepFault.TheVariants.{Device, NoMemory, BadRecord, Full}
+use Rattle.csi_stores.specs.declared.part.Part.{Part}
+use Rattle.csi_stores.specs.Part.{StoredPart, Change, all_stored_in, put_all, change_of}
+use Rattle.csi_stores.specs.Content.{all_changed}
+use Rattle.csi_stores.specs.Stores.{Store, IsOnly, IsLoadFault, IsCommitFault}
+use Rattle.csi_records.specs.declared.fault.RecordStop.{RecordStop}
+use Rattle.csi_records.specs.declared.fault.RecordStop.TheVariants as stops
 use Rattle.csi_records.specs.Refusing.{fault_of_stop}
-use Rattle.csi_stores.specs.Stores.{Store}
-use Rattle.csi_service.specs.Opening.{opened_to, HasOpened, IsOpenFault, HasLoaded}
+use Rattle.csi_records.specs.Records.{IsRefusedAt, IsInSome}
+use Rattle.csi_service.specs.Opening.{Records, Becomes, OpensTo, HasRecord, IsOpenFault, LeavesOpened, IsMade, IsUnmade}
+use Rattle.csi_service.proofs.LoadedParts.{all-put}
 
--- a fault of opening that blames no part is one, whichever parts are bad
-pub cause-weaker : (IsBad : List StoredPart → ℕ → Type 0) (before after : Store) (head : StoredPart) (fault : KeepFault) → IsOpenFault (λ _ _. ⊥) before after head fault → IsOpenFault IsBad before after head fault
-cause-weaker IsBad before after head Device cause = cause
-cause-weaker IsBad before after head NoMemory cause = tt
-cause-weaker IsBad before after head (BadRecord place) cause = λ honest content holds. absurd (cause honest content holds)
-cause-weaker IsBad before after head Full cause = cause
+-- ---- of the parts alone
 
--- some parts aren't stored as none
-none-empty : (parts : List Part) → 1 ≤ length parts → all_stored_in parts ≡ [] → ⊥
-none-empty [] some e = omega arith
-none-empty (p ∷ ps) some e = cc
+module _ {X : Type 0} (records : Records X) (head : StoredPart) (found now : List StoredPart) (changes : List Change) (made : IsMade records head found now changes) where
+  -- what is made is what opening makes
+  pub opens-to : OpensTo records head found now
+  opens-to = elim made.leads [ inl same ↦ inl (same.1, same.2) | inr other ↦ inr other.0 ]
 
--- parts that are no record
-pub stop-cause : {X : Type 0} (Is : List StoredPart → Type 0) (parts_of : X → List StoredPart) (before after : Store) (head : StoredPart) (parts : Vec Part) (stop : RecordStop) → 1 ≤ length parts.items → HasLoaded before after head parts
-    → ReadsParts Is parts_of (all_stored_in parts.items) (Err stop) → IsOpenFault (IsRefusedAt Is) before after head (fault_of_stop stop)
-stop-cause Is parts_of before after head parts stops.NoMemory some loaded read = tt
-stop-cause Is parts_of before after head parts (stops.BadRecord place) some loaded (inl none) = absurd (none-empty parts.items some none.0)
-stop-cause Is parts_of before after head parts (stops.BadRecord place) some loaded (inr at) = λ honest content holds. subst (λ (ps : List StoredPart). IsRefusedAt Is ps place) (loaded honest content holds).0 at
+  -- the changes lead there
+  pub leads-to : all_changed changes found ≡ now
+  leads-to = elim made.leads [ inl same ↦ ap (λ (cs : List Change). all_changed cs found) same.0 ∙ sym same.2 | inr other ↦ other.1 ]
 
--- what a core has after opening
-abbrev Holds : (List StoredPart → Type 0) → Store → Store → StoredPart → List StoredPart → Type 0
-Holds Is before after head core = after.honest → (content : List StoredPart) → before.holds content → (core ≡ opened_to head content) × Is core × HasOpened before after head content
+  -- without changes, all stays
+  pub stays-as : changes ≡ [] → now ≡ found
+  stays-as none = sym leads-to ∙ ap (λ (cs : List Change). all_changed cs found) none
 
--- where nothing was there, the core has the head that was put in, and the store has it too
-pub opened-new : (Is : List StoredPart → Type 0) (before after : Store) (head : StoredPart) (parts : Vec Part) (core : List StoredPart) → parts.items ≡ [] → core ≡ head ∷ [] → Is (head ∷ []) → HasLoaded before after head parts → Holds Is before after head core
-opened-new Is before after head parts core none are is loaded = λ honest content holds.
-    let found = loaded honest content holds in
-    let empty : [] ≡ content = ap all_stored_in (sym none) ∙ found.0 in
-    (are ∙ ap (opened_to head) empty, subst Is (sym are) is, found.1)
+  -- some changes are those of the commit
+  pub becomes-by : (changes ≡ [] → ⊥) → (other : List StoredPart) → other ≡ all_changed changes found → Becomes records head found other
+  becomes-by some other is = subst (Becomes records head found) (sym (is ∙ leads-to)) (elim made.leads [ inl same ↦ absurd (some same.0) | inr becomes ↦ becomes.0 ])
 
--- where some parts were there, opening leaves them
-opened-same : (head : StoredPart) (parts : List Part) (content : List StoredPart) → 1 ≤ length parts → all_stored_in parts ≡ content → content ≡ opened_to head content
-opened-same head parts [] some e = absurd (none-empty parts some e)
-opened-same head parts (c ∷ cs) some e = refl
+-- ---- a store that was loaded
 
--- where a record was there, the core has it, and so has the store
-pub opened-old : (Is : List StoredPart → Type 0) (before after : Store) (head : StoredPart) (parts : Vec Part) (kept core : List StoredPart) → 1 ≤ length parts.items → core ≡ kept
-    → Is (all_stored_in parts.items) × (all_stored_in parts.items ≡ kept) → HasLoaded before after head parts → Holds Is before after head core
-opened-old Is before after head parts kept core some are read loaded = λ honest content holds.
-    let found = loaded honest content holds in
-    let same : core ≡ content = are ∙ sym (read.1) ∙ found.0 in
-    (same ∙ opened-same head parts.items content some found.0, subst Is (read.1 ∙ sym are) (read.0), found.1)
+-- the store before and after it gave its parts
+pub record HasLoaded (before after : Store) (parts : List Part) : Type 0 where
+  pub honest : after.honest → before.honest
+  pub given : after.honest → (content : List StoredPart) → before.holds content → map change_of parts ≡ put_all content
+  pub stays : after.honest → (content : List StoredPart) → before.holds content → after.holds content
+  pub left : after.honest → (content : List StoredPart) → after.leaves content → before.leaves content
+  pub room : (content : List StoredPart) → before.fits content → after.fits content
+  pub faults : before.faults ≤ after.faults
 
--- ---- records without rows
+-- a store that isn't loaded isn't opened
+pub load-cause : {X : Type 0} (records : Records X) (before after : Store) (head : StoredPart) (fault : KeepFault) → IsLoadFault before after fault → IsOpenFault records before after head fault
+load-cause records before after head Device cause = cause
+load-cause records before after head NoMemory cause = tt
+load-cause records before after head (BadRecord place) cause = λ honest content holds. absurd (cause honest content holds)
+load-cause records before after head Full cause = absurd cause
 
--- a head with the next id 1 alone is a controller's record
-pub new-controller : IsRecordOf controller_layout (controller_head 1 ∷ [])
-new-controller = record {
-  first = 1;
-  rows = [];
-  spelled = record {
-    head_fits = omega arith;
-    rows_fit = tt;
-    rules = ([], refl, record { limit = omega arith; each = tt; rising = tt; names = λ name. tt });
-    are = refl;
-  };
-}
+-- and leaves what was there
+pub load-left : {X : Type 0} (records : Records X) (before after : Store) (head : StoredPart) → (after.honest → (content : List StoredPart) → after.leaves content → before.leaves content) → LeavesOpened records before after head
+load-left records before after head left = λ honest content holds other leaves. inl (left honest other leaves)
+
+module _ {X : Type 0} (records : Records X) (head : StoredPart) (before loaded : Store) (parts : List Part) (load : HasLoaded before loaded parts) where
+  -- the parts are what the store has
+  parts-are : loaded.honest → (content : List StoredPart) → before.holds content → all_stored_in parts ≡ content
+  parts-are honest content holds = all-put parts content (load.given honest content holds)
+
+  -- parts that are no record
+  pub unmade-cause : (stop : RecordStop) → IsUnmade records (all_stored_in parts) stop → IsOpenFault records before loaded head (fault_of_stop stop)
+  unmade-cause (stops.BadRecord place) unmade = λ honest content holds. subst (λ (ps : List StoredPart). IsRefusedAt (IsInSome records.are) ps place) (parts-are honest content holds) unmade
+  unmade-cause stops.NoMemory unmade = tt
+
+  module _ {C : Type 0} (parts_of : C → List StoredPart) (core : C) (changes : List Change) (made : IsMade records head (all_stored_in parts) (parts_of core) changes) where
+    -- nothing is to be committed
+    pub opened-same : changes ≡ [] → HasRecord records parts_of before loaded head core
+    opened-same none = λ honest content holds.
+        let are = parts-are honest content holds in
+        let same = stays-as records head (all_stored_in parts) (parts_of core) changes made none ∙ are in (
+          subst (λ (ps : List StoredPart). OpensTo records head ps (parts_of core)) are (opens-to records head (all_stored_in parts) (parts_of core) changes made),
+          made.is,
+          record {
+            there = subst loaded.holds (sym same) (load.stays honest content holds);
+            only = λ only. subst (IsOnly loaded) (sym same) (record { there = load.stays honest content holds; alone = λ other leaves. only.alone other (load.left honest other leaves) });
+          },
+        )
+
+    module _ (after : Store) where
+      -- it was committed
+      pub opened-changed : (after.honest → loaded.honest)
+          → (after.honest → (content : List StoredPart) → loaded.holds content → after.holds (all_changed changes content))
+          → (after.honest → (content : List StoredPart) → loaded.holds content → (other : List StoredPart) → after.leaves other → other ≡ all_changed changes content)
+          → HasRecord records parts_of before after head core
+      opened-changed was done alone = λ honest content holds.
+          let is = was honest in
+          let are = parts-are is content holds in
+          let there = load.stays is content holds in
+          let leads : all_changed changes content ≡ parts_of core = ap (all_changed changes) (sym are) ∙ leads-to records head (all_stored_in parts) (parts_of core) changes made in (
+            subst (λ (ps : List StoredPart). OpensTo records head ps (parts_of core)) are (opens-to records head (all_stored_in parts) (parts_of core) changes made),
+            made.is,
+            record {
+              there = subst after.holds leads (done honest content there);
+              only = λ only. record { there = subst after.holds leads (done honest content there); alone = λ other leaves. alone honest content there other leaves ∙ leads };
+            },
+          )
+
+      -- opening again finds what it would have found before, or what was to be committed
+      pub commit-left : (changes ≡ [] → ⊥) → (after.honest → loaded.honest)
+          → (after.honest → (content : List StoredPart) → loaded.holds content → (other : List StoredPart) → after.leaves other → loaded.leaves other ⊎ (other ≡ all_changed changes content))
+          → LeavesOpened records before after head
+      commit-left some was left = λ honest content holds other leaves.
+          let is = was honest in
+          let are = parts-are is content holds in
+          elim (left honest content (load.stays is content holds) other leaves) [
+            | inl old ↦ inl (load.left is other old)
+            | inr new ↦ inr (subst (λ (ps : List StoredPart). Becomes records head ps other) are (becomes-by records head (all_stored_in parts) (parts_of core) changes made some other (new ∙ ap (all_changed changes) (sym are))))
+          ]
+
+      -- a commit that is refused
+      pub commit-cause : (changes ≡ [] → ⊥) → (after.honest → loaded.honest) → loaded.faults ≤ after.faults → (fault : KeepFault) → IsCommitFault loaded after (all_changed changes) fault → IsOpenFault records before after head fault
+      commit-cause some was faults Device cause = elim cause [ inl risen ↦ inl (omega (arith, load.faults, risen)) | inr full ↦ inr full ]
+      commit-cause some was faults NoMemory cause = tt
+      commit-cause some was faults (BadRecord place) cause = absurd cause
+      commit-cause some was faults Full cause = λ honest content holds.
+          let is = was honest in
+          let are = parts-are is content holds in (
+            all_changed changes content,
+            subst (λ (ps : List StoredPart). Becomes records head ps (all_changed changes content)) are (becomes-by records head (all_stored_in parts) (parts_of core) changes made some (all_changed changes content) (ap (all_changed changes) (sym are))),
+            λ fits. cause honest content (load.stays is content holds) (load.room (all_changed changes content) fits),
+          )
+
+-- some parts are some changes
+pub some-changes : (parts : List Part) → 1 ≤ length parts → map change_of parts ≡ [] → ⊥
+some-changes [] some none = omega arith
+some-changes (part ∷ parts) some none = cc

@@ -8,7 +8,7 @@ use Rattle.csi_node.specs.Shown.{RowsShow}
 use Rattle.csi_node.specs.OneRow.{RowShown, shown}
 use Rattle.csi_node.specs.OneVolume.{row_by_id, last_of}
 use Rattle.csi_stores.specs.Part.{Change, put_all}
-use Rattle.csi_records.specs.Spelling.{answered_part}
+use Rattle.csi_records.specs.Spelling.{present, answered_part}
 use Rattle.csi_service.specs.declared.node_service.NodeService.{NodeService}
 
 -- the row of the volume that was touched, if one was
@@ -18,7 +18,7 @@ touched_row (Some id) rows = row_by_id id rows
 
 -- the row of the volume that the last answered step touched is put in
 abbrev pub node_service_changes : NodeService → List Change
-node_service_changes service = put_all (map answered_part (option_to_list (touched_row service.touched (map shown service.node.rows))))
+node_service_changes service = put_all (map (answered_part present) (option_to_list (touched_row service.touched (map shown service.node.rows))))
 
 -- for every state that the old node shows, the reply and the state that the new one shows are the fence's over the table, and the
 -- node keeps its id

@@ -1,4 +1,5 @@
--- The plugins that are served: the parts of their records, what a step changes of them, and how they answer. This profile's own.
+-- The plugins that are served: the parts of their records in the present version, what a step changes of them, and how they answer.
+-- This profile's own.
 use Rattle.std.specs.Prelude.{◌≡◌, ◌≢◌, ℕ, ◌==◌, Bool, true, if◌then◌else◌, List, [], ◌∷◌, ◌++◌, map, find, Option, Some, None, IfSome, option_map}
 use Rattle.csi_types.specs.declared.number.Number.{Number}
 use Rattle.csi_types.specs.declared.frame.Body.{Body}
@@ -10,7 +11,7 @@ use Rattle.csi_controller.specs.Fenced.{fenced}
 use Rattle.csi_controller.specs.Core.{Parts, Shows}
 use Rattle.csi_controller.specs.RowsLaw.{last_call}
 use Rattle.csi_node.specs.OneRow.{shown}
-use Rattle.csi_records.specs.Spelling.{controller_head, controller_parts, volume_part, volume_row, node_parts}
+use Rattle.csi_records.specs.Spelling.{present, controller_head, controller_parts, volume_part, volume_row, node_parts}
 use Rattle.csi_service.specs.declared.controller_changes.Changed.{Changed}
 use Rattle.csi_service.specs.declared.controller_service.ControllerService.{ControllerService}
 use Rattle.csi_service.specs.declared.node_service.NodeService.{NodeService}
@@ -19,19 +20,19 @@ use Rattle.csi_stores.specs.Part.{StoredPart, Change, put_all}
 -- ---- the controller
 
 abbrev pub parts_of_controller : Parts → List StoredPart
-parts_of_controller controller = controller_parts controller.next_id (map volume_row controller.rows)
+parts_of_controller controller = controller_parts present controller.next_id (map volume_row controller.rows)
 
 abbrev pub controller_service_parts : ControllerService → List StoredPart
 controller_service_parts service = parts_of_controller service.controller
 
 -- the head, where the next id is a new one
 abbrev pub head_change : Bool → ℕ → List Change
-head_change has_new_id next_id = if has_new_id then put_all (controller_head next_id ∷ []) else []
+head_change has_new_id next_id = if has_new_id then put_all (controller_head present next_id ∷ []) else []
 
 -- a row, if there is one
 abbrev pub row_change : Option ControllerRow → List Change
 row_change None = []
-row_change (Some row) = put_all (volume_part (volume_row row) ∷ [])
+row_change (Some row) = put_all (volume_part present (volume_row row) ∷ [])
 
 -- the row of a volume, if one was touched
 abbrev pub touched_change : Option ℕ → List ControllerRow → List Change
@@ -68,4 +69,4 @@ pub record AllDiffer (changed : Changed) (body : Body) (old new : Parts) : Type 
 -- ---- a node
 
 abbrev pub node_service_parts : NodeService → List StoredPart
-node_service_parts service = node_parts service.node.id (map shown service.node.rows)
+node_service_parts service = node_parts present service.node.id (map shown service.node.rows)

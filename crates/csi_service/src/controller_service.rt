@@ -4,17 +4,18 @@ ghost use Rattle.csi_controller.specs.Core.{Shows};
 ghost use Rattle.csi_controller.specs.Fenced.{fenced};
 ghost use Rattle.csi_controller.specs.State.{ControllerState};
 ghost use Rattle.csi_stores.specs.Part.{change_of};
-ghost use Rattle.csi_records.specs.Records.{controller_layout, AreParts, IsRecordOf, IsRefusedAt};
-ghost use Rattle.csi_records.specs.Spelling.{controller_head, controller_parts, volume_row};
+ghost use Rattle.csi_controller.specs.Views.{RecordParts};
+ghost use Rattle.csi_records.specs.Records.{controller_layout, AreParts};
+ghost use Rattle.csi_records.specs.Spelling.{present, controller_head, controller_parts, volume_row};
 ghost use Rattle.csi_stores.specs.Content.{all_changed};
 ghost use Rattle.csi_stores.specs.Keeping.{RefusesAt};
-ghost use Rattle.csi_service.specs.Opening.{IsOpenFault, LeavesHead, HasRecord};
+ghost use Rattle.csi_service.specs.Opening.{controller_records, IsOpenFault, LeavesOpened, HasRecord};
 ghost use Rattle.csi_service.specs.Services.{controller_service_parts, controller_service_changes, ControllerAnswers, AllDiffer};
 
 use crate::controller_changes::{Changed, NOTHING, answer, push_row};
-use crate::opening::load_or_begin;
+use crate::opening::{Opens, head_part, open, renewal};
 use csi_controller::{Controller, ControllerRecord};
-use csi_records::{Record, controller_head_value};
+use csi_records::{Record, RecordStop, Stored, controller_head_value};
 use csi_serving::Core;
 use csi_stores::{Keep, KeepFault, Part, push_value};
 use csi_types::{Config, Frame, NoMemory};
@@ -31,7 +32,7 @@ pub struct ControllerService {
 
 // A controller that made no volume.
 fn begun(alloc: Global, config: Config) -> ControllerService
-    ensures parts { controller_service_parts result ≡ controller_head 1 ∷ [] }
+    ensures parts { controller_service_parts result ≡ controller_head present 1 ∷ [] }
     ensures config { result.controller.config ≡ config }
     ensures changes { controller_service_changes result ≡ [] }
 {
@@ -48,7 +49,7 @@ fn of_record(
     config: Config,
     kept: ControllerRecord,
 ) -> Result<ControllerService, NoMemory>
-    ensures parts { IfOk result (λ service. controller_service_parts service ≡ controller_parts kept.next_id (map volume_row kept.rows)) }
+    ensures parts { IfOk result (λ service. controller_service_parts service ≡ controller_parts present kept.next_id (map volume_row kept.rows)) }
     ensures config { IfOk result (λ service. service.controller.config ≡ config) }
     ensures changes { IfOk result (λ service. controller_service_changes service ≡ []) }
 {
@@ -62,43 +63,65 @@ fn of_record(
     }
 }
 
+impl Opens for ControllerService {
+    type Asked = Config;
+
+    ghost Kept = { RecordParts };
+
+    ghost records = { λ config. controller_records };
+
+    ghost head = { λ config. controller_head present 1 };
+
+    ghost parts_of = { controller_service_parts };
+
+    ghost is_new = { λ config service. (service.controller.config ≡ config) × (controller_service_changes service ≡ []) };
+
+    fn made(
+        alloc: Global,
+        config: Config,
+        parts: &[Part],
+    ) -> Result<(ControllerService, Vec<Part>), RecordStop> {
+        if parts.is_empty() {
+            let head = head_part(alloc, controller_head_value(alloc, 1)?)?;
+            return Ok((begun(alloc, config), head));
+        }
+        match ControllerRecord::of_parts(alloc, parts) {
+            Ok(Stored { kept, version }) => {
+                let changed = renewal(alloc, version, &kept)?;
+                Ok((of_record(alloc, config, kept)?, changed))
+            }
+            Err(stop) => Err(stop),
+        }
+    }
+}
+
 impl ControllerService {
     /// The controller of the store's record, under this configuration, which need not be the one that the record was made under.
-    /// A store without a part gets the head of an empty record first. Where the store's parts are no controller's record it answers
+    /// A store without a part gets the head of an empty record first, and a record in an earlier version is put in whole in the
+    /// present one, in one commit, before the controller is given. Where the store's parts are no controller's record it answers
     /// `BadRecord` with the first that is refused, `Device` only where the device failed in this call, and `Full` only where
-    /// there is no part and the head doesn't fit. This profile's own.
+    /// what it would commit doesn't fit; what is left then is what was there, or what it would commit. This profile's own.
     pub fn open<K: Keep>(
         alloc: Global,
         config: Config,
         keep: &mut K,
     ) -> Result<ControllerService, KeepFault>
-        ensures opened { IfOk result (HasRecord (IsRecordOf controller_layout) controller_service_parts (K.store keep.old) (K.store keep.new) (controller_head 1)) }
+        ensures opened { IfOk result (HasRecord controller_records controller_service_parts (K.store keep.old) (K.store keep.new) (controller_head present 1)) }
         ensures config { IfOk result (λ service. service.controller.config ≡ config) }
         ensures changes { IfOk result (λ service. controller_service_changes service ≡ []) }
-        ensures cause { IfErr result (IsOpenFault (IsRefusedAt (IsRecordOf controller_layout)) (K.store keep.old) (K.store keep.new) (controller_head 1)) }
+        ensures cause { IfErr result (IsOpenFault controller_records (K.store keep.old) (K.store keep.new) (controller_head present 1)) }
         ensures honest { (K.store keep.new).honest → (K.store keep.old).honest }
         ensures foreign { (K.store keep.new).honest → (place : ℕ) → (K.store keep.old).foreign place → RefusesAt place result }
-        ensures left { LeavesHead (K.store keep.old) (K.store keep.new) (controller_head 1) }
+        ensures left { LeavesOpened controller_records (K.store keep.old) (K.store keep.new) (controller_head present 1) }
     {
-        let head = controller_head_value(alloc, 1)?;
-        let parts = match load_or_begin(alloc, keep, head) {
-            Ok(parts) => parts,
-            Err(fault) => return Err(fault),
-        };
-        if parts.is_empty() {
-            return Ok(begun(alloc, config));
-        }
-        match ControllerRecord::of_parts(alloc, &parts) {
-            Ok(kept) => Ok(of_record(alloc, config, kept)?),
-            Err(stop) => Err(KeepFault::from(stop)),
-        }
+        open(alloc, config, keep)
     }
 }
 
 impl Core for ControllerService {
     type Record = ControllerRecord;
 
-    ghost spells = { λ kept parts. AreParts controller_layout kept.next_id (map volume_row kept.rows) parts };
+    ghost spells = { λ kept parts. AreParts (controller_layout present) kept.next_id (map volume_row kept.rows) parts };
 
     ghost is_same = { λ one other. (one.next_id ≡ other.next_id) × (map volume_row one.rows ≡ map volume_row other.rows) };
 

@@ -5,17 +5,18 @@ ghost use Rattle.csi_types.specs.VolumeId.{IsVolumeId};
 ghost use Rattle.csi_node.specs.OneRow.{shown, IsSoundRow};
 ghost use Rattle.csi_node.specs.OneVolume.{called_volume, last_of};
 ghost use Rattle.csi_stores.specs.Part.{change_of};
-ghost use Rattle.csi_records.specs.Records.{node_layout, AreParts, IsRecordOf, IsRefusedAt};
-ghost use Rattle.csi_records.specs.Spelling.{node_head, node_parts};
+ghost use Rattle.csi_node.specs.Record.{NodeParts};
+ghost use Rattle.csi_records.specs.Records.{node_layout, AreParts};
+ghost use Rattle.csi_records.specs.Spelling.{present, node_head, node_parts};
 ghost use Rattle.csi_stores.specs.Content.{all_changed};
 ghost use Rattle.csi_service.specs.NodeServices.{touched_row, last_for, node_service_changes, NodeServiceAnswers};
 ghost use Rattle.csi_stores.specs.Keeping.{RefusesAt};
-ghost use Rattle.csi_service.specs.Opening.{IsOpenFault, LeavesHead, HasRecord};
+ghost use Rattle.csi_service.specs.Opening.{node_records, IsOpenFault, LeavesOpened, HasRecord};
 ghost use Rattle.csi_service.specs.Services.{node_service_parts};
 
-use crate::opening::load_or_begin;
+use crate::opening::{Opens, head_part, open, renewal};
 use csi_node::{Node, NodeRecord, NodeRow};
-use csi_records::{answered_value, node_head_value, record_of_node};
+use csi_records::{RecordStop, Stored, answered_value, node_head_value, record_of_node};
 use csi_serving::Core;
 use csi_stores::{Keep, KeepFault, Part, push_value};
 use csi_types::{Body, Call, Frame, NoMemory, NodeId, Number, VolumeId};
@@ -33,7 +34,7 @@ pub struct NodeService {
 
 // A node that answered nothing.
 fn begun(alloc: Global, id: NodeId) -> NodeService
-    ensures parts { node_service_parts result ≡ node_head id ∷ [] }
+    ensures parts { node_service_parts result ≡ node_head present id ∷ [] }
     ensures changes { node_service_changes result ≡ [] }
 {
     NodeService {
@@ -45,7 +46,7 @@ fn begun(alloc: Global, id: NodeId) -> NodeService
 
 // The node of a record.
 fn of_record(alloc: Global, kept: NodeRecord) -> Result<NodeService, NoMemory>
-    ensures parts { IfOk result (λ service. node_service_parts service ≡ node_parts kept.id (map shown kept.rows)) }
+    ensures parts { IfOk result (λ service. node_service_parts service ≡ node_parts present kept.id (map shown kept.rows)) }
     ensures changes { IfOk result (λ service. node_service_changes service ≡ []) }
 {
     match Node::from_record(alloc, kept) {
@@ -58,31 +59,53 @@ fn of_record(alloc: Global, kept: NodeRecord) -> Result<NodeService, NoMemory>
     }
 }
 
+impl Opens for NodeService {
+    type Asked = NodeId;
+
+    ghost Kept = { NodeParts };
+
+    ghost records = { node_records };
+
+    ghost head = { node_head present };
+
+    ghost parts_of = { node_service_parts };
+
+    ghost is_new = { λ id service. node_service_changes service ≡ [] };
+
+    fn made(
+        alloc: Global,
+        id: NodeId,
+        parts: &[Part],
+    ) -> Result<(NodeService, Vec<Part>), RecordStop> {
+        if parts.is_empty() {
+            let head = head_part(alloc, node_head_value(alloc, &id)?)?;
+            return Ok((begun(alloc, id), head));
+        }
+        match record_of_node(alloc, &id, parts) {
+            Ok(Stored { kept, version }) => {
+                let changed = renewal(alloc, version, &kept)?;
+                Ok((of_record(alloc, kept)?, changed))
+            }
+            Err(stop) => Err(stop),
+        }
+    }
+}
+
 impl NodeService {
-    /// The node of this id, of the store's record. A store without a part gets the head of an empty record first. Where the store's
-    /// parts are no record of this node it answers `BadRecord` with the first that is refused, the head where it is another
-    /// plugin's or another node's; `Device` only where the device failed in this call, and `Full` only where there is no part
-    /// and the head doesn't fit. This profile's own.
+    /// The node of this id, of the store's record. A store without a part gets the head of an empty record first, and a record in an
+    /// earlier version is put in whole in the present one, in one commit, before the node is given. Where the store's parts are no
+    /// record of this node it answers `BadRecord` with the first that is refused, the head where it is another plugin's or another
+    /// node's; `Device` only where the device failed in this call, and `Full` only where what it would commit doesn't fit. What is
+    /// left then is what was there, or what it would commit. This profile's own.
     pub fn open<K: Keep>(alloc: Global, id: NodeId, keep: &mut K) -> Result<NodeService, KeepFault>
         ensures changes { IfOk result (λ service. node_service_changes service ≡ []) }
-        ensures opened { IfOk result (HasRecord (IsRecordOf (node_layout (Some id))) node_service_parts (K.store keep.old) (K.store keep.new) (node_head id)) }
-        ensures cause { IfErr result (IsOpenFault (IsRefusedAt (IsRecordOf (node_layout (Some id)))) (K.store keep.old) (K.store keep.new) (node_head id)) }
+        ensures opened { IfOk result (HasRecord (node_records id) node_service_parts (K.store keep.old) (K.store keep.new) (node_head present id)) }
+        ensures cause { IfErr result (IsOpenFault (node_records id) (K.store keep.old) (K.store keep.new) (node_head present id)) }
         ensures honest { (K.store keep.new).honest → (K.store keep.old).honest }
         ensures foreign { (K.store keep.new).honest → (place : ℕ) → (K.store keep.old).foreign place → RefusesAt place result }
-        ensures left { LeavesHead (K.store keep.old) (K.store keep.new) (node_head id) }
+        ensures left { LeavesOpened (node_records id) (K.store keep.old) (K.store keep.new) (node_head present id) }
     {
-        let head = node_head_value(alloc, &id)?;
-        let parts = match load_or_begin(alloc, keep, head) {
-            Ok(parts) => parts,
-            Err(fault) => return Err(fault),
-        };
-        if parts.is_empty() {
-            return Ok(begun(alloc, id));
-        }
-        match record_of_node(alloc, &id, &parts) {
-            Ok(kept) => Ok(of_record(alloc, kept)?),
-            Err(stop) => Err(KeepFault::from(stop)),
-        }
+        open(alloc, id, keep)
     }
 }
 
@@ -146,7 +169,7 @@ fn volume_unless(is_same: bool, volume: Option<VolumeId>) -> Option<VolumeId>
 impl Core for NodeService {
     type Record = NodeRecord;
 
-    ghost spells = { λ kept parts. AreParts (node_layout None) kept.id (map shown kept.rows) parts };
+    ghost spells = { λ kept parts. AreParts (node_layout present None) kept.id (map shown kept.rows) parts };
 
     ghost is_same = { λ one other. (one.id ≡ other.id) × (map shown one.rows ≡ map shown other.rows) };
 

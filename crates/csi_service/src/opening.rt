@@ -1,34 +1,98 @@
-//! A store, opened: its parts, of which the head is put in first where there is none.
-ghost use Rattle.std.specs.Prelude.{ℕ, IfOk, IfErr};
+//! A store, opened: its parts are judged, and the plugin is made of them, before anything is committed.
+ghost use Rattle.std.specs.Prelude.{◌≡◌, ◌∷◌, [], ℕ, List, map, IfOk, IfErr};
+ghost use Rattle.csi_stores.specs.Part.{StoredPart, all_stored_in, change_of, put_all};
 ghost use Rattle.csi_stores.specs.Keeping.{RefusesAt};
-ghost use Rattle.csi_service.specs.Opening.{head_of, IsOpenFault, LeavesHead, HasLoaded};
+ghost use Rattle.csi_service.specs.Opening.{Records, HasRecord, IsOpenFault, LeavesOpened, IsMade, IsUnmade, IsRenewal};
 
+use csi_frames::Version;
+use csi_records::{Record, RecordStop, is_present};
 use csi_stores::{Keep, KeepFault, Part, push_value};
+use csi_types::NoMemory;
 use std::alloc::Global;
 
-/// The parts that the store has; where it has none, it gets the head of this value.
-pub(crate) fn load_or_begin<K: Keep>(
+/// A plugin that is made of the parts of its record.
+pub(crate) trait Opens: Drop {
+    /// What it is asked for by, beside the parts.
+    type Asked: Drop;
+
+    /// A record of the plugin.
+    ghost Kept: { Type 0 };
+
+    /// Its records.
+    ghost records: { Self.Asked → Records Kept };
+
+    /// The head of a new record.
+    ghost head: { Self.Asked → StoredPart };
+
+    /// The parts of its record.
+    ghost parts_of: { Self → List StoredPart };
+
+    /// It is as it was asked for, and answered nothing yet.
+    ghost is_new: { Self.Asked → Self → Type 0 };
+
+    /// The plugin with the record of these parts, or with a new one where there are none; and the parts that are to be committed
+    /// before it answers anything.
+    fn made(
+        alloc: Global,
+        asked: Self::Asked,
+        parts: &[Part],
+    ) -> Result<(Self, Vec<Part>), RecordStop>
+        ensures made { IfOk result (λ made. IsMade (records asked) (head asked) (all_stored_in parts.now) (parts_of made.0) (map change_of made.1.items)) }
+        ensures new { IfOk result (λ made. is_new asked made.0) }
+        ensures refused { IfErr result (IsUnmade (records asked) (all_stored_in parts.now)) };
+}
+
+/// The head of a new record, to be put in.
+pub(crate) fn head_part(alloc: Global, value: Vec<u8>) -> Result<Vec<Part>, NoMemory>
+    ensures { IfOk result (λ parts. map change_of parts.items ≡ put_all (record { key = 0; value = value.items } ∷ [])) }
+{
+    let mut parts = Vec::new(alloc);
+    push_value(&mut parts, 0, value)?;
+    Ok(parts)
+}
+
+/// What a record that was read in this version has to be committed: nothing where that is the present one, else all its parts in that.
+pub(crate) fn renewal<T: Record>(
     alloc: Global,
+    version: Version,
+    kept: &T,
+) -> Result<Vec<Part>, NoMemory>
+    ensures { IfOk result (λ parts. IsRenewal T.is_record T.parts_of version kept.now (map change_of parts.items)) }
+{
+    if is_present(version) {
+        return Ok(Vec::new(alloc));
+    }
+    kept.to_parts(alloc)
+}
+
+/// The plugin of what the store has. What is to be committed is committed before it is given.
+pub(crate) fn open<S: Opens, K: Keep>(
+    alloc: Global,
+    asked: S::Asked,
     keep: &mut K,
-    head: Vec<u8>,
-) -> Result<Vec<Part>, KeepFault>
-    ensures loaded { IfOk result (HasLoaded (K.store keep.old) (K.store keep.new) (head_of head.items)) }
-    ensures cause { IfErr result (IsOpenFault (λ _ _. ⊥) (K.store keep.old) (K.store keep.new) (head_of head.items)) }
+) -> Result<S, KeepFault>
+    ensures opened { IfOk result (HasRecord (S.records asked) S.parts_of (K.store keep.old) (K.store keep.new) (S.head asked)) }
+    ensures new { IfOk result (λ service. S.is_new asked service) }
+    ensures cause { IfErr result (IsOpenFault (S.records asked) (K.store keep.old) (K.store keep.new) (S.head asked)) }
     ensures honest { (K.store keep.new).honest → (K.store keep.old).honest }
     ensures foreign { (K.store keep.new).honest → (place : ℕ) → (K.store keep.old).foreign place → RefusesAt place result }
-    ensures left { LeavesHead (K.store keep.old) (K.store keep.new) (head_of head.items) }
+    ensures left { LeavesOpened (S.records asked) (K.store keep.old) (K.store keep.new) (S.head asked) }
 {
-    let mut first = Vec::new(alloc);
-    push_value(&mut first, 0, head)?;
     let parts = match keep.load() {
         Ok(parts) => parts,
         Err(fault) => return Err(fault),
     };
-    if !parts.is_empty() {
-        return Ok(parts);
+    let made = S::made(alloc, asked, &parts);
+    drop(parts);
+    let (service, changed) = match made {
+        Ok(made) => made,
+        Err(stop) => return Err(KeepFault::from(stop)),
+    };
+    if changed.is_empty() {
+        return Ok(service);
     }
-    match keep.commit(&first) {
-        Ok(()) => Ok(parts),
+    match keep.commit(&changed) {
+        Ok(()) => Ok(service),
         Err(fault) => Err(fault),
     }
 }
