@@ -37,9 +37,9 @@ use Rattle.csi_world.specs.World.{NodeAt, World, node_state, with_node, with_fra
 use Rattle.csi_world.specs.Step.{answered_by_node, answered}
 use Rattle.csi_world.specs.Safe.{IsAttachedWhileLive}
 use Rattle.csi_world.proofs.WorldView.{party_of, node_view, plugin_view, view_of, ChangesOnly, acts-all, rests-all, misses-all, closed-all}
-use Rattle.csi_world.proofs.GivenIds.{GivenId, HasName, AreGiven, AreOf, GivesMore, name-of_found, id-of_found, live-named, is_given, is_forgotten, gone-forgotten, not-forgotten, stays-forgotten, IsNewlyGiven, AreGivenNext, given-next}
-use Rattle.csi_world.proofs.KeyedCalls.{IsKeyed, key_at, is_key, is_of, is_making, keyed, own-kept}
-use Rattle.csi_world.proofs.SeenCalls.{key_seen, IsFound, IsMissed, call-seen}
+use Rattle.csi_world.proofs.GivenIds.{GivenId, HasName, AreGiven, AreOf, name-of_found, id-of_found, live-named, is_given, is_forgotten, gone-forgotten, not-forgotten, stays-gone, stays-forgotten, IsNewlyGiven, AreGivenNext, given-next}
+use Rattle.csi_world.proofs.KeyedCalls.{IsOwn, IsKeyed, key_at, is_key, is_of, is_making, keyed, own-kept}
+use Rattle.csi_world.proofs.SeenCalls.{IsFound, IsGone, IsMissed, IsAnsweredBy, call-seen, unseen-gone}
 use Rattle.csi_world.proofs.HeardReplies.{sent-more}
 use Rattle.csi_world.proofs.RepliesTold.{answer_to, delivery_of, IsEffect, IsMet, IsKeptStill, effect-acts, effect-rests, effect-misses, ok-either, truth-answered}
 use Rattle.csi_world.proofs.StagedAttached.{stands-answered}
@@ -128,7 +128,50 @@ module _ (laws : PluginLaws) (config : Config) (world : World) (controller : Con
     told : IsEffect (issued_in world.history.items) world.frames (told_by given world) (told_by more next) call key kind reply
     met : IsMet (issued_in world.history.items) world.frames (told_by given world) (told_by more next) call key kind reply
 
-  module _ (given more : List GivenId) (well : IsWell world given) (keeps : controllers.KeepsNames world.controller controller) (wider : GivesMore given more) (live : IsAttachedWhileLive world)
+  -- each name has one id, and each id one name, when a volume was made: its name had none, and its id is the next one
+  given-once : (given more : List GivenId) (key : Key) (kind : Kind) (reply : Reply) → IsWell world given → AreGivenNext world.controller controller given more
+      → IsEffect (issued_in world.history.items) world.frames (view_of world) (view_of next) call key kind reply → AreGiven more
+  given-once given more key kind reply well following plain = record { one_id = one_id; one_name = one_name }
+    where
+      are : AreGiven given
+      are = well.so_far.are_given
+
+      -- the name of a volume that was made had no id
+      unnamed : (name : List ℕ) (i j : ℕ) → HasName given name i → IsNewlyGiven world.controller controller name j → ⊥
+      unnamed name i j has newly =
+          let volume : Volume = newly.volume in
+          let none = ap (option_map (λ (v : Volume). HasId v.id)) (subst (λ n. controllers.live_named n world.controller ≡ None) newly.has_name newly.made.was_free) in
+          let found = live-named controller volume (following.of.names.by_name j volume newly.is_found) newly.made.is_live in
+          let now = ap (option_map (λ (v : Volume). HasId v.id)) (subst (λ n. controllers.live_named n controller ≡ Some volume) newly.has_name found) in
+          not-ended world.history.items world.frames (view_of world) (view_of next) call key kind reply plain name volume.id none now (well.ended name i has none)
+
+      clash : (i j : ℕ) → i < j → i ≡ j → ⊥
+      clash i j less e = omega arith
+
+      -- its id was the next one
+      is_next : (name : List ℕ) (id : ℕ) → IsNewlyGiven world.controller controller name id → id ≡ world.controller.next_id
+      is_next name id newly = sym (id-of_found id controller newly.volume newly.is_found) ∙ newly.made.has_next
+
+      one_id : (name : List ℕ) (i j : ℕ) → HasName more name i → HasName more name j → i ≡ j
+      one_id name i j hi hj = by (following.newer name i hi) (following.newer name j hj)
+        where
+          by : HasName given name i ⊎ IsNewlyGiven world.controller controller name i → HasName given name j ⊎ IsNewlyGiven world.controller controller name j → i ≡ j
+          by (inl a) (inl b) = are.one_id name i j a b
+          by (inl a) (inr b) = absurd (unnamed name i j a b)
+          by (inr a) (inl b) = absurd (unnamed name j i b a)
+          by (inr a) (inr b) = is_next name i a ∙ sym (is_next name j b)
+
+      one_name : (a b : List ℕ) (id : ℕ) → HasName more a id → HasName more b id → a ≡ b
+      one_name a b id ha hb = by (following.newer a id ha) (following.newer b id hb)
+        where
+          by : HasName given a id ⊎ IsNewlyGiven world.controller controller a id → HasName given b id ⊎ IsNewlyGiven world.controller controller b id → a ≡ b
+          by (inl x) (inl y) = are.one_name a b id x y
+          by (inl x) (inr y) = absurd (clash id world.controller.next_id (well.of_controller.below a id x) (is_next b id y))
+          by (inr x) (inl y) = absurd (clash id world.controller.next_id (well.of_controller.below b id y) (is_next a id x))
+          by (inr x) (inr y) = sym x.has_name ∙ ap (λ (v : Volume). v.name) (same_Some x.volume y.volume (sym x.is_found ∙ y.is_found)) ∙ y.has_name
+
+  module _ (given more : List GivenId) (well : IsWell world given) (keeps : controllers.KeepsNames world.controller controller) (following : AreGivenNext world.controller controller given more)
+      (live : IsAttachedWhileLive world) (live_next : IsAttachedWhileLive next)
       (among : IsAmong call (issued_in world.history.items)) (key : Key) (of_key : key_at call.name call.party call.call ≡ Some key) (of_party : party_of key ≡ call.party)
       (only : ChangesOnly (party_of key) world next) (kind : Kind) (reply : Reply) where
     -- the call is of the thing
@@ -140,7 +183,7 @@ module _ (laws : PluginLaws) (config : Config) (world : World) (controller : Con
         → (other : Key) (number : Number) → IsTrue ((told_by given world).is_spent other number) → IsTrue ((told_by more next).is_spent other number)
     still-told spent other number is =
         ⊎_elim (λ own. or_left ((view_of next).is_spent other number) (is_forgotten more controller other) (spent other number own))
-        (λ gone. or_right ((view_of next).is_spent other number) (is_forgotten more controller other) (stays-forgotten world.controller controller given more other keeps well.of_controller wider gone))
+        (λ gone. or_right ((view_of next).is_spent other number) (is_forgotten more controller other) (stays-forgotten world.controller controller given more other keeps well.of_controller following.wider gone))
         (or_cases ((view_of world).is_spent other number) (is_forgotten given world.controller other) is)
 
     -- what became of the things, where what was forgotten is told too: a call that was carried out is of none that was
@@ -203,69 +246,45 @@ module _ (laws : PluginLaws) (config : Config) (world : World) (controller : Con
         sent rests ok = subst (λ p. IsAmong (reply_frame call.number p kind reply) world.frames) of_party (well.so_far.truth.kept key (kept_of (delivery_of call kind reply)) (rests.was_kept ok))
 
     -- it doesn't have the call's volume
-    misses-effects : IsMissed given world.controller call.party call.call key → Misses (delivery_of call kind reply) (plugin_view world (party_of key)) (plugin_view next (party_of key)) → AreEffects given more key kind reply
-    misses-effects missed own =
+    misses-effects : (AreGiven more → IsGone more controller key) → Misses (delivery_of call kind reply) (plugin_view world (party_of key)) (plugin_view next (party_of key)) → AreEffects given more key kind reply
+    misses-effects missing own =
         let misses = misses-all (party_of key) world next (delivery_of call kind reply) only own in
         let still = kept-either world next call key kind reply of_party only (λ other. ⊎_elim (λ same. inl same) (λ none. inr (inr none)) (own.keeps other)) in
-        let gone = gone-held world given key missed.one well.so_far.are_given well.of_controller live missed.among missed.of missed.gone in
-        let forgotten = stays-forgotten world.controller controller given more key keeps well.of_controller wider (gone-forgotten given world.controller key missed.one missed.among missed.of missed.gone) in
         let plain = effect-misses (issued_in world.history.items) world.frames (view_of world) (view_of next) call key kind reply well.so_far.truth.kept among of still misses in
+        let are = given-once given more key kind reply well following plain in
+        let gone = missing are in
+        let none = gone-held next more key gone.one are following.of live_next gone.among gone.of gone.gone in
+        let forgotten = gone-forgotten more controller key gone.one gone.among gone.of gone.gone in
         record {
           plain = plain;
           told = record { among = among; of = of; rule = plain.rule; kept = plain.kept; spent = still-told plain.spent; held = λ k. inl (misses.held k) };
-          met = λ ok. inr (misses.held key ∙ gone ∙ sym (misses.undoes ok), or_right ((view_of next).is_spent key call.number) (is_forgotten more controller key) forgotten);
+          met = λ ok. inr (none ∙ sym (misses.undoes ok), or_right ((view_of next).is_spent key call.number) (is_forgotten more controller key) forgotten);
         }
 
-    -- by what the plugin sees of the call
-    effects : IsFound given world.controller call.party call.call key ⊎ IsMissed given world.controller call.party call.call key
-        → Becomes (key_seen world.controller call.party call.call) (delivery_of call kind reply) (plugin_view world (party_of key)) (plugin_view next (party_of key)) → AreEffects given more key kind reply
-    effects (inl found) becomes =
-        ⊎_elim (acts-effects found) rests-effects
-        (subst (λ (o : Option Key). Becomes o (delivery_of call kind reply) (plugin_view world (party_of key)) (plugin_view next (party_of key))) found.seen becomes)
-    effects (inr missed) becomes =
-        misses-effects missed (subst (λ (o : Option Key). Becomes o (delivery_of call kind reply) (plugin_view world (party_of key)) (plugin_view next (party_of key))) missed.unseen becomes)
+    -- a volume that isn't there before isn't there afterwards
+    gone-still : IsGone given world.controller key → IsGone more controller key
+    gone-still was =
+        record {
+          one = was.one;
+          among = following.wider (was.one).name (was.one).id was.among;
+          of = was.of;
+          gone = stays-gone world.controller controller given was.one keeps well.of_controller was.among was.gone;
+        }
 
-  -- each name has one id, and each id one name, when a volume was made: its name had none, and its id is the next one
-  given-once : (given more : List GivenId) (key : Key) (kind : Kind) (reply : Reply) → IsWell world given → AreGivenNext world.controller controller given more
-      → IsEffect (issued_in world.history.items) world.frames (view_of world) (view_of next) call key kind reply → AreGiven more
-  given-once given more key kind reply well following plain = record { one_id = one_id; one_name = one_name }
-    where
-      are : AreGiven given
-      are = well.so_far.are_given
+    -- by the thing by which the plugin answers it
+    effects : IsOwn given call.name call.party call.call → (thing : Option Key) → IsAnsweredBy world.controller controller call.party call.call thing
+        → Becomes thing (delivery_of call kind reply) (plugin_view world (party_of key)) (plugin_view next (party_of key)) → AreEffects given more key kind reply
+    effects own thing by becomes = at by (call-seen given world.controller well.so_far.are_given well.of_controller call.name call.party call.call own key of_key)
+      where
+        becomes_at : (o : Option Key) → thing ≡ o → Becomes o (delivery_of call kind reply) (plugin_view world (party_of key)) (plugin_view next (party_of key))
+        becomes_at o e = subst (λ (x : Option Key). Becomes x (delivery_of call kind reply) (plugin_view world (party_of key)) (plugin_view next (party_of key))) e becomes
 
-      -- the name of a volume that was made had no id
-      unnamed : (name : List ℕ) (i j : ℕ) → HasName given name i → IsNewlyGiven world.controller controller name j → ⊥
-      unnamed name i j has newly =
-          let volume : Volume = newly.volume in
-          let none = ap (option_map (λ (v : Volume). HasId v.id)) (subst (λ n. controllers.live_named n world.controller ≡ None) newly.has_name newly.made.was_free) in
-          let found = live-named controller volume (following.of.names.by_name j volume newly.is_found) newly.made.is_live in
-          let now = ap (option_map (λ (v : Volume). HasId v.id)) (subst (λ n. controllers.live_named n controller ≡ Some volume) newly.has_name found) in
-          not-ended world.history.items world.frames (view_of world) (view_of next) call key kind reply plain name volume.id none now (well.ended name i has none)
-
-      clash : (i j : ℕ) → i < j → i ≡ j → ⊥
-      clash i j less e = omega arith
-
-      -- its id was the next one
-      is_next : (name : List ℕ) (id : ℕ) → IsNewlyGiven world.controller controller name id → id ≡ world.controller.next_id
-      is_next name id newly = sym (id-of_found id controller newly.volume newly.is_found) ∙ newly.made.has_next
-
-      one_id : (name : List ℕ) (i j : ℕ) → HasName more name i → HasName more name j → i ≡ j
-      one_id name i j hi hj = by (following.newer name i hi) (following.newer name j hj)
-        where
-          by : HasName given name i ⊎ IsNewlyGiven world.controller controller name i → HasName given name j ⊎ IsNewlyGiven world.controller controller name j → i ≡ j
-          by (inl a) (inl b) = are.one_id name i j a b
-          by (inl a) (inr b) = absurd (unnamed name i j a b)
-          by (inr a) (inl b) = absurd (unnamed name j i b a)
-          by (inr a) (inr b) = is_next name i a ∙ sym (is_next name j b)
-
-      one_name : (a b : List ℕ) (id : ℕ) → HasName more a id → HasName more b id → a ≡ b
-      one_name a b id ha hb = by (following.newer a id ha) (following.newer b id hb)
-        where
-          by : HasName given a id ⊎ IsNewlyGiven world.controller controller a id → HasName given b id ⊎ IsNewlyGiven world.controller controller b id → a ≡ b
-          by (inl x) (inl y) = are.one_name a b id x y
-          by (inl x) (inr y) = absurd (clash id world.controller.next_id (well.of_controller.below a id x) (is_next b id y))
-          by (inr x) (inl y) = absurd (clash id world.controller.next_id (well.of_controller.below b id y) (is_next a id x))
-          by (inr x) (inr y) = sym x.has_name ∙ ap (λ (v : Volume). v.name) (same_Some x.volume y.volume (sym x.is_found ∙ y.is_found)) ∙ y.has_name
+        at : IsAnsweredBy world.controller controller call.party call.call thing → IsFound given world.controller call.party call.call key ⊎ IsMissed given world.controller call.party call.call key
+            → AreEffects given more key kind reply
+        at (inl seen) (inl found) = ⊎_elim (acts-effects found) rests-effects (becomes_at (Some key) (seen ∙ found.seen))
+        at (inl seen) (inr missed) = misses-effects (λ are. gone-still missed.is_gone) (becomes_at None (seen ∙ missed.unseen))
+        at (inr none) seen =
+            misses-effects (λ are. unseen-gone more controller are following.of call.name call.party call.call key (own-kept given more call.name call.party call.call following.wider own) of_key none.1) (becomes_at None none.0)
 
   -- a name that was given an id since has a live volume
   given-live : (given more : List GivenId) → AreGivenNext world.controller controller given more → (name : List ℕ) (id : ℕ) → HasName more name id
@@ -277,9 +296,9 @@ module _ (laws : PluginLaws) (config : Config) (world : World) (controller : Con
 
   -- all that is so of a world stays so, where the plugin goes on as its laws say, and the others are as they were
   good-delivered : IsGood config world → IsAmong call (issued_in world.history.items) → IsReached config next → controllers.KeepsNames world.controller controller → controllers.AreNamed controller
-      → ChangesOnly call.party world next → (answer : Option Frame)
-      → IsDelivered call.party call.number call.call (key_seen world.controller call.party call.call) (plugin_view world call.party) (plugin_view next call.party) answer → IsGood config (with_frame answer next)
-  good-delivered good among reached keeps names only answer delivered =
+      → ChangesOnly call.party world next → (thing : Option Key) → IsAnsweredBy world.controller controller call.party call.call thing → (answer : Option Frame)
+      → IsDelivered call.party call.number call.call thing (plugin_view world call.party) (plugin_view next call.party) answer → IsGood config (with_frame answer next)
+  good-delivered good among reached keeps names only thing by answer delivered =
       subst (λ (f : Option Frame). IsGood config (with_frame f next)) (sym delivered.is_answer)
       (record {
         reached = record { controller = reached.controller; nodes = reached.nodes; alike = reached.alike };
@@ -338,14 +357,11 @@ module _ (laws : PluginLaws) (config : Config) (world : World) (controller : Con
       more : List GivenId
       more = following.0
 
-      seen : IsFound given world.controller call.party call.call key ⊎ IsMissed given world.controller call.party call.call key
-      seen = call-seen given world.controller so_far.are_given well.of_controller call.name call.party call.call (so_far.named.own call among) key keyed_call.by_name
-
       made : AreEffects given more key kind reply
       made =
-          effects given more well keeps following.1.wider (exclusive laws.exclusive config world good.reached).attached_while_live among key keyed_call.by_name keyed_call.of_party
-          (subst (λ p. ChangesOnly p world next) (sym keyed_call.of_party) only) kind reply seen
-          (subst (λ p. Becomes (key_seen world.controller call.party call.call) (delivery_of call kind reply) (plugin_view world p) (plugin_view next p)) (sym keyed_call.of_party) delivered.becomes)
+          effects given more well keeps following.1 (exclusive laws.exclusive config world good.reached).attached_while_live (exclusive laws.exclusive config next reached).attached_while_live
+          among key keyed_call.by_name keyed_call.of_party (subst (λ p. ChangesOnly p world next) (sym keyed_call.of_party) only) kind reply (so_far.named.own call among) thing by
+          (subst (λ p. Becomes thing (delivery_of call kind reply) (plugin_view world p) (plugin_view next p)) (sym keyed_call.of_party) delivered.becomes)
 
 -- a controller that gets no frame keeps its names
 names-stay : (controller : ControllerState) → controllers.KeepsNames controller controller
@@ -366,7 +382,7 @@ call-got laws config world name number Controller c good among =
     let delivered = subst (λ (s : ControllerState). controllers.IsDeliveredTo config s number c) (sym frames.1) (laws.controller.delivered config frames.0 number c of_kind) in
     let next = controller-next config world.controller frame frames in
     good-delivered laws config world after.state world.nodes call good among (record { controller = next; nodes = good.reached.nodes; alike = good.reached.alike })
-    (laws.names.keeps_names config world.controller frame) (subst controllers.AreNamed (sym next.1) (laws.names.named config next.0)) (others after.state) after.reply delivered
+    (laws.names.keeps_names config world.controller frame) (subst controllers.AreNamed (sym next.1) (laws.names.named config next.0)) (others after.state) delivered.thing delivered.is_thing after.reply delivered.is_delivered
   where
     others : (s : ControllerState) → ChangesOnly Controller world (record world { controller = s })
     others s Controller e = absurd (false≢true (sym e))
@@ -389,7 +405,7 @@ call-got laws config world name number (Node id) c good among = by (node_state i
         let new_view = ap (node_view id) (sym (node_state-same id state after.state world is)) in
         let now = subst (λ v. IsDelivered (Node id) number c (nodes.key_of id c) (nodes.view_of id state) v after.reply) new_view delivered in
         good-delivered laws config world world.controller changed.nodes call good among (node-next config world id state (call_frame number (Node id) c) good.reached is)
-        (names-stay world.controller) good.well.of_controller.names (others after.state) after.reply
+        (names-stay world.controller) good.well.of_controller.names (others after.state) (nodes.key_of id c) (inl refl) after.reply
         (subst (λ v. IsDelivered (Node id) number c (nodes.key_of id c) v (plugin_view changed (Node id)) after.reply) (ap (node_view id) (sym is)) now)
 
 -- a frame came that was sent; plugins answer no reply
