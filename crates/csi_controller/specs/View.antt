@@ -97,4 +97,5 @@ pub record KeepsNames (old new : ControllerState) : Type 0 where
 -- in every state that frames lead to, names and ids belong together; and they do so as before, whatever frame comes
 pub record ControllerNamesLaw : Type 0 where
   pub named : (config : Config) (frames : List Frame) → AreNamed (after_frames config empty_controller frames)
-  pub keeps_names : (config : Config) (state : ControllerState) (frame : Frame) → KeepsNames state (fenced config state frame).state
+  pub keeps_names : (config : Config) (frames : List Frame) (frame : Frame)
+      → KeepsNames (after_frames config empty_controller frames) (fenced config (after_frames config empty_controller frames) frame).state

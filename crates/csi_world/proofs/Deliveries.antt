@@ -382,7 +382,7 @@ call-got laws config world name number Controller c good among =
     let delivered = subst (λ (s : ControllerState). controllers.IsDeliveredTo config s number c) (sym frames.1) (laws.controller.delivered config frames.0 number c of_kind) in
     let next = controller-next config world.controller frame frames in
     good-delivered laws config world after.state world.nodes call good among (record { controller = next; nodes = good.reached.nodes; alike = good.reached.alike })
-    (laws.names.keeps_names config world.controller frame) (subst controllers.AreNamed (sym next.1) (laws.names.named config next.0)) (others after.state) delivered.thing delivered.is_thing after.reply delivered.is_delivered
+    (subst (λ (s : ControllerState). controllers.KeepsNames s (controller.fenced config s frame).state) (sym frames.1) (laws.names.keeps_names config frames.0 frame)) (subst controllers.AreNamed (sym next.1) (laws.names.named config next.0)) (others after.state) delivered.thing delivered.is_thing after.reply delivered.is_delivered
   where
     others : (s : ControllerState) → ChangesOnly Controller world (record world { controller = s })
     others s Controller e = absurd (false≢true (sym e))
