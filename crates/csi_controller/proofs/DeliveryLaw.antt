@@ -295,4 +295,8 @@ judged_delivered config state number call after orderly safe party (was_stale ro
 -- whichever call comes to a controller whose state is orderly and exclusive, it is delivered as the laws say
 pub delivered : (config : Config) (state : ControllerState) (number : Number) (call : Call) → IsOrderly state → IsExclusive state → IsTrue (is_party_of (kind_of call) Controller) → IsDeliveredTo config state number call
 delivered config state number call orderly safe party =
-    judged_delivered config state number call (fenced_call config state number call (kept_for call state)) orderly safe party (was_judged config state number call)
+    record {
+      thing = key_of state call;
+      is_thing = inl refl;
+      is_delivered = judged_delivered config state number call (fenced_call config state number call (kept_for call state)) orderly safe party (was_judged config state number call);
+    }

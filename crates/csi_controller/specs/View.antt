@@ -49,11 +49,16 @@ key_of state (calls.NodeUnstageVolume id) = None
 key_of state (calls.NodePublishVolume id target capability readonly) = None
 key_of state (calls.NodeUnpublishVolume id target) = None
 
+-- a call is answered by the thing that it has in the state before; or by none, and then its volume isn't there afterwards
+abbrev pub IsThingOf : ControllerState → ControllerState → Call → Option Key → Type 0
+IsThingOf old new call thing = (thing ≡ key_of old call) ⊎ ((thing ≡ None) × (key_of new call ≡ None))
+
 -- a call is delivered to a controller
-abbrev pub IsDeliveredTo : Config → ControllerState → Number → Call → Type 0
-IsDeliveredTo config state number call =
-    IsDelivered Controller number call (key_of state call) (view_of state) (view_of (fenced config state (call_frame number Controller call)).state)
-    (fenced config state (call_frame number Controller call)).reply
+pub record IsDeliveredTo (config : Config) (state : ControllerState) (number : Number) (call : Call) : Type 0 where
+  pub thing : Option Key
+  pub is_thing : IsThingOf state (fenced config state (call_frame number Controller call)).state call thing
+  pub is_delivered : IsDelivered Controller number call thing (view_of state) (view_of (fenced config state (call_frame number Controller call)).state)
+      (fenced config state (call_frame number Controller call)).reply
 
 -- in every state that frames lead to, whichever call comes next: it is delivered as the laws say; and a new
 -- controller has nothing, and what came before a spent number is spent
@@ -92,4 +97,5 @@ pub record KeepsNames (old new : ControllerState) : Type 0 where
 -- in every state that frames lead to, names and ids belong together; and they do so as before, whatever frame comes
 pub record ControllerNamesLaw : Type 0 where
   pub named : (config : Config) (frames : List Frame) → AreNamed (after_frames config empty_controller frames)
-  pub keeps_names : (config : Config) (state : ControllerState) (frame : Frame) → KeepsNames state (fenced config state frame).state
+  pub keeps_names : (config : Config) (frames : List Frame) (frame : Frame)
+      → KeepsNames (after_frames config empty_controller frames) (fenced config (after_frames config empty_controller frames) frame).state

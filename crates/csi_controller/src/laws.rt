@@ -28,7 +28,8 @@ pub fn safety_law()
 /// A law, and nothing that runs: in every state that frames lead to, whichever call comes next is either carried
 /// out, and then its number wasn't spent, an `Ok` leaves its thing as asked and the number spent, a refusal leaves
 /// the thing as it was, and other things are as they were; or it isn't, since its number was spent, and then
-/// nothing changes, and an `Ok` is the reply that was kept for that number (CSI's spec.md, "Concurrency"; the
+/// nothing changes, and an `Ok` is the reply that was kept for that number; or the controller doesn't have its
+/// volume, and then all things are as they were, and an `Ok` asks for nothing (CSI's spec.md, "Concurrency"; the
 /// numbers are this profile's own).
 pub fn delivery_law()
     ensures { ControllerDeliveryLaw }

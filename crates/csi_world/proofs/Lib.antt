@@ -18,6 +18,7 @@ pub mod Forgotten
 pub mod GuardedCalls
 pub mod RecordedRight
 pub mod PluginsReached
+pub mod DeliveredCalls
 pub mod Deliveries
 pub mod ChoicesRight
 pub mod WorldSafety

@@ -1,5 +1,5 @@
 -- A sent call as its plugin sees it: by its thing, or as one whose volume the plugin doesn't have.
-use Rattle.std.proofs.Common.{◌≡◌, ◌⊎◌, ℕ, List, true, Option, Some, None, option_map, refl, sym, ◌∙◌, ap, subst, inl, inr}
+use Rattle.std.proofs.Common.{◌≡◌, ◌⊎◌, ℕ, List, true, Option, Some, None, option_map, refl, sym, ◌∙◌, ap, subst, inl, inr, ⊎_elim}
 use Rattle.std.proofs.lemmas.Bool.{false≢true, eqb-true, eq-eqb}
 use Rattle.std.proofs.lemmas.Option.{none-some, same_Some}
 use Rattle.csi_types.specs.declared.call.Call.{Call}
@@ -25,13 +25,21 @@ pub record IsFound (given : List GivenId) (controller : ControllerState) (party 
   pub seen : key_seen controller party call ≡ Some key
   pub there : (one : GivenId) → IsAmong one given → is_given key one ≡ true → volume_with_id one.id controller ≡ None → is_making call ≡ true
 
--- the controller doesn't have the call's volume
-pub record IsMissed (given : List GivenId) (controller : ControllerState) (party : Party) (call : Call) (key : Key) : Type 0 where
-  pub unseen : key_seen controller party call ≡ None
+-- the controller doesn't have the volume of a thing
+pub record IsGone (given : List GivenId) (controller : ControllerState) (key : Key) : Type 0 where
   pub one : GivenId
   pub among : IsAmong one given
   pub of : is_given key one ≡ true
   pub gone : volume_with_id one.id controller ≡ None
+
+-- the plugin sees no thing in the call, since it doesn't have the volume
+pub record IsMissed (given : List GivenId) (controller : ControllerState) (party : Party) (call : Call) (key : Key) : Type 0 where
+  pub unseen : key_seen controller party call ≡ None
+  pub is_gone : IsGone given controller key
+
+-- the thing by which a plugin answers a call: the one that it sees in it before; or none, and then it sees none afterwards
+abbrev pub IsAnsweredBy : ControllerState → ControllerState → Party → Call → Option Key → Type 0
+IsAnsweredBy old new party call thing = (thing ≡ key_seen old party call) ⊎ ((thing ≡ None) × (key_seen new party call ≡ None))
 
 -- the plugin sees the thing of a call, or it misses its volume
 abbrev pub IsSeen : List GivenId → ControllerState → List ℕ → Party → Call → Type 0
@@ -48,7 +56,7 @@ module _ (given : List GivenId) (controller : ControllerState) (are : AreGiven g
   deletes-seen : (name : List ℕ) (id : ℕ) → HasName given name id → (o : Option Volume) → volume_with_id id controller ≡ o
       → IsFound given controller Controller (calls.DeleteVolume id) (Exists name) ⊎ IsMissed given controller Controller (calls.DeleteVolume id) (Exists name)
   deletes-seen name id has None e =
-      inr (record { unseen = ap (option_map (λ (volume : Volume). Exists volume.name)) e; one = record { name = name; id = id }; among = has; of = (same_text-tells name name).1 refl; gone = e })
+      inr (record { unseen = ap (option_map (λ (volume : Volume). Exists volume.name)) e; is_gone = record { one = record { name = name; id = id }; among = has; of = (same_text-tells name name).1 refl; gone = e } })
   deletes-seen name id has (Some volume) e =
       inl (record {
         seen = ap (option_map (λ (volume : Volume). Exists volume.name)) e ∙ ap (λ k. Some (Exists k)) (id-named controller given name id volume are of has e);
@@ -61,7 +69,7 @@ module _ (given : List GivenId) (controller : ControllerState) (are : AreGiven g
   attaches-seen : (call : Call) (name node : List ℕ) (id : ℕ) → HasName given name id → (o : Option Volume) → volume_with_id id controller ≡ o
       → key_seen controller Controller call ≡ option_map (λ (volume : Volume). Attached id node) o
       → IsFound given controller Controller call (Attached id node) ⊎ IsMissed given controller Controller call (Attached id node)
-  attaches-seen call name node id has None e seen = inr (record { unseen = seen; one = record { name = name; id = id }; among = has; of = eq-eqb id id refl; gone = e })
+  attaches-seen call name node id has None e seen = inr (record { unseen = seen; is_gone = record { one = record { name = name; id = id }; among = has; of = eq-eqb id id refl; gone = e } })
   attaches-seen call name node id has (Some volume) e seen =
       inl (record {
         seen = seen;
@@ -89,3 +97,8 @@ module _ (given : List GivenId) (controller : ControllerState) (are : AreGiven g
   call-seen name (Node node) (calls.NodeUnpublishVolume id target) own key e =
       at_own (calls.NodeUnpublishVolume id target) (Node node) (Published id node target) key e (inl (record { seen = refl; there = λ one among none gone. absurd (false≢true none) }))
   call-seen name party call own key e = absurd own
+
+  -- where the plugin sees no thing in a call, it doesn't have the volume
+  pub unseen-gone : (name : List ℕ) (party : Party) (call : Call) (key : Key) → IsOwn given name party call → key_at name party call ≡ Some key → key_seen controller party call ≡ None → IsGone given controller key
+  unseen-gone name party call key own is none =
+      ⊎_elim (λ found. absurd (none-some key (sym none ∙ found.seen))) (λ missed. missed.is_gone) (call-seen name party call own key is)
