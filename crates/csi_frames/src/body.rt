@@ -82,6 +82,7 @@ fn fields_at<'a>(
 }
 
 // The same, kept as the bytes that they are read from.
+#[inline(always)]
 fn kept_fields_at<'a>(
     fields: &mut Fields<'a>,
     version: Version,
@@ -97,6 +98,27 @@ fn kept_fields_at<'a>(
             bytes,
         }),
         Err(stop) => Err(stop),
+    }
+}
+
+// The same in the first version, of which nearly all frames are: a function of its own, in which no test of the version is left.
+fn first_fields_at<'a>(fields: &mut Fields<'a>, kind: BodyKind) -> Result<FieldsRef<'a>, Stop>
+    ensures { Gives owned_fields result fields.new (fields_at Version.One kind fields.old.bytes.now) }
+{
+    kept_fields_at(fields, Version::One, kind)
+}
+
+// The same in either version.
+fn fields_of_version<'a>(
+    fields: &mut Fields<'a>,
+    version: Version,
+    kind: BodyKind,
+) -> Result<FieldsRef<'a>, Stop>
+    ensures { Gives owned_fields result fields.new (fields_at version kind fields.old.bytes.now) }
+{
+    match version {
+        Version::One => first_fields_at(fields, kind),
+        Version::Two => kept_fields_at(fields, Version::Two, kind),
     }
 }
 
@@ -126,7 +148,7 @@ fn frame_at<'a>(fields: &mut Fields<'a>) -> Result<BorrowedFrame<'a>, Stop>
     let kind = kind_at(fields, version)?;
     let number = number_at(fields)?;
     let party = party_at(fields, kind)?;
-    let fields = kept_fields_at(fields, version, kind)?;
+    let fields = fields_of_version(fields, version, kind)?;
     Ok(BorrowedFrame {
         number,
         party,

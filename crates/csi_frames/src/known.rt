@@ -5,7 +5,7 @@ ghost use Rattle.csi_types.specs.Lent.{lent_access, lent_capability};
 ghost use Rattle.csi_frames.specs.Borrowed.{owned_call};
 ghost use Rattle.csi_frames.specs.Gives.{Gives, GivesAgain};
 ghost use Rattle.csi_frames.specs.Grammar.{is_count};
-ghost use Rattle.csi_frames.specs.Reading.{byte_at, access_at, mode_at, owed_capability_at, create_at, call_at};
+ghost use Rattle.csi_frames.specs.Reading.{byte_at, flag_at, access_at, mode_at, owed_capability_at, create_at, call_at};
 
 use crate::borrowed::{BorrowedCall, CapabilitiesRef};
 use crate::calls::call_at;
@@ -15,12 +15,12 @@ use crate::version::Version;
 use csi_types::{AccessRef, CapabilityRef, FsType, Kind, Mode, Name, NodeId};
 
 #[inline(always)]
-#[tactic(auto, unfolding(crate::specs::Reading::access_at))]
+#[tactic(auto, unfolding(crate::specs::Reading::byte_at, crate::specs::Reading::access_at))]
 fn access<'a>(fields: &mut Fields<'a>) -> Result<AccessRef<'a>, Stop>
     requires { is_ok (access_at fields.old.bytes.now) ≡ true }
     ensures { Gives lent_access result fields.new (access_at fields.old.bytes.now) }
 {
-    let byte = fields.byte(1, FaultKind::BadAccess)?;
+    let byte = fields.any_byte()?;
     if byte == 0 {
         return Ok(AccessRef::Block);
     }
@@ -38,6 +38,17 @@ fn known_mode(fields: &mut Fields<'_>, _version: Version, _owed: bool) -> Result
     let bad = fields.stop(FaultKind::BadMode);
     let byte = fields.any_byte()?;
     Mode::from_number(byte).ok_or(bad)
+}
+
+// A flag that was read before. It isn't judged again.
+#[inline(always)]
+#[tactic(auto, unfolding(crate::specs::Reading::byte_at, crate::specs::Reading::flag_at))]
+fn known_flag(fields: &mut Fields<'_>) -> Result<bool, Stop>
+    requires { is_ok (flag_at fields.old.bytes.now) ≡ true }
+    ensures { Gives (λ b. b) result fields.new (flag_at fields.old.bytes.now) }
+{
+    let byte = fields.any_byte()?;
+    Ok(byte == 1)
 }
 
 /// A capability that was read before.
@@ -101,7 +112,7 @@ fn controller_publish<'a>(
     let id = fields.known_id();
     let node = fields.known_text(1, NodeId::MAX_LEN);
     let capability = known_capability(fields, version, version.owes_new_mode())?;
-    let readonly = fields.flag()?;
+    let readonly = known_flag(fields)?;
     Ok(BorrowedCall::ControllerPublishVolume {
         id,
         node,

@@ -202,16 +202,17 @@ fn stopped(rt: &(impl Abort + AllocGlobal), image: &Image, stop: Stop) -> (bool,
     (is_opened, left_by(rt, keep.into_connection(), stop.2))
 }
 
-// Whether the files have all parts in version 1, or in version 2, which they have where the controller was opened; and come to what the
-// script leaves.
+// Whether the files have all parts in version 1, or in version 2, which they have where the controller was opened; and have version 2
+// where it is opened again.
 fn goes_on(rt: &(impl Abort + AllocGlobal), image: &Image, was_opened: bool) -> bool {
     let Ok(mut keep) = opened(rt, image, NO_STOP) else {
         return false;
     };
     let is_there = is_after(&mut keep, 6) || !was_opened && has_parts(&mut keep, OLD);
-    let is_served = is_served(rt, &mut keep);
+    let is_opened = controller_fault(rt, &mut keep).is_none() && is_after(&mut keep, 6);
+    let is_sound = keep.faults() == 0;
     drop(keep);
-    is_there && is_served
+    is_there && is_opened && is_sound
 }
 
 // Opens it with so many calls of a file let through, from 0 on, until it is opened with no stop; whether it was.
