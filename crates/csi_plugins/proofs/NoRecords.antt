@@ -5,7 +5,6 @@ use Rattle.csi_controller.specs.Views.{RecordParts}
 use Rattle.csi_stores.specs.Part.{StoredPart}
 use Rattle.csi_records.specs.declared.fault.RecordStop.{RecordStop}
 use Rattle.csi_records.specs.declared.fault.RecordStop.TheVariants.{BadRecord}
-use Rattle.csi_records.specs.declared.stored.Stored.{Stored}
 use Rattle.csi_records.specs.Places.{ReadsStored}
 use Rattle.csi_records.specs.Spelling.{controller_parts, volume_row}
 use Rattle.csi_records.specs.Records.{controller_layout, IsRecordOf, IsControllerRecord, IsNodeRecord, IsRefusedAt, Begins}

@@ -1,5 +1,5 @@
 -- Two runs of a plugin over one store, one after another, as one run of all their frames. This profile's own.
-use Rattle.std.specs.Prelude.{◌≡◌, ⊤, ℕ, List, [], ◌∷◌, ◌++◌, Option, Some}
+use Rattle.std.specs.Prelude.{◌≡◌, ⊤, ℕ, List, [], ◌∷◌, ◌++◌, Option}
 use Rattle.std.specs.Io.KnownBytes.{Consumes, Appends, IsAtEnd}
 use Rattle.csi_types.specs.Frame.{Frame}
 use Rattle.csi_frames.specs.Stream.{FramesOf}

@@ -1,5 +1,5 @@
 -- What a plugin's process does: the plugin is opened from its store, and served. This profile's own.
-use Rattle.std.specs.Prelude.{◌≡◌, ◌⊎◌, ⊤, ℕ, List, Option, Some}
+use Rattle.std.specs.Prelude.{◌≡◌, ◌⊎◌, ⊤, ℕ, List, Option}
 use Rattle.csi_types.specs.Frame.{Frame}
 use Rattle.csi_types.specs.Config.{Config}
 use Rattle.csi_stores.specs.Part.{StoredPart}

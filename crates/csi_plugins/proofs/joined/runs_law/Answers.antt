@@ -1,6 +1,6 @@
 -- By the plugin that was asked for.
 use Rattle.std.proofs.Common.{◌≡◌, ◌∙◌, ℕ, [], ◌∷◌, sym, ap}
-use Rattle.std.specs.Prelude.{⊤, List, Some}
+use Rattle.std.specs.Prelude.{⊤, List}
 use Rattle.std.proofs.lemmas.Option.{same_Some}
 use Rattle.csi_frames.specs.declared.version.Version.{Version}
 use Rattle.csi_frames.specs.Version.{version_number, version_from_number}
