@@ -1,6 +1,7 @@
 //! The program `csi-replay`: what it asks of its process is in `process`.
 #![tactic(auto)]
 
+mod laws;
 mod process;
 
 use process::ended;
