@@ -1,3 +1,4 @@
 pub mod PlainSchedules
 pub mod ReadEvents
 pub mod UsualCommands
+pub mod PlainTexts

@@ -36,7 +36,7 @@ delivered_of : (s : List ℕ) (n : ℕ) → number_in s ≡ Some (unsigned n)
 unfolding event_of event_at deliver_of number_of
 delivered_of s n h = rw h refl
 
-seen_number : (text : Bor (List ℕ)) → value_view {A = Global} (Number text) ≡ json.number text.now
+pub seen_number : (text : Bor (List ℕ)) → value_view {A = Global} (Number text) ≡ json.number text.now
 seen_number text = search (rules, the_lemmas)
 
 -- an object with one member, a plain number at this key, is a delivery

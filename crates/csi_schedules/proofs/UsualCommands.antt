@@ -35,6 +35,12 @@ one_of [] a n p = absurd (omega arith)
 one_of (x ∷ []) a n p = ap (λ z. z ∷ []) (sym p)
 one_of (x ∷ y ∷ ms) a n p = absurd (omega arith)
 
+pub two_of : (ms : List Member) (a b : Member) → length ms ≡ 2 → a ≡ get_or ms 0 a → b ≡ get_or ms 1 b → ms ≡ a ∷ b ∷ []
+two_of [] a b n p q = absurd (omega arith)
+two_of (x ∷ []) a b n p q = absurd (omega arith)
+two_of (x ∷ y ∷ []) a b n p q = λ i. sym p i ∷ sym q i ∷ []
+two_of (x ∷ y ∷ z ∷ ms) a b n p q = absurd (omega arith)
+
 three_of : (ms : List Member) (a b c : Member) → length ms ≡ 3 → a ≡ get_or ms 0 a → b ≡ get_or ms 1 b → c ≡ get_or ms 2 c → ms ≡ a ∷ b ∷ c ∷ []
 three_of [] a b c n p q r = absurd (omega arith)
 three_of (x ∷ []) a b c n p q r = absurd (omega arith)

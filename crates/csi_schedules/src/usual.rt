@@ -1,13 +1,13 @@
 //! Commands of the usual form, which are read without a value for each: objects that have the keys of their kind, each once and in
 //! order. A command of another form is left to the reader that judges it.
-ghost use Rattle.std.specs.Prelude.{◌≡◌, Some, IfOk};
+ghost use Rattle.std.specs.Prelude.{◌≡◌, Some, IfOk, IfSome};
 ghost use Rattle.csi_json.specs.Json.{name_of, node_id_of, target_of};
 ghost use Rattle.csi_json.specs.Capabilities.{capability_of};
 ghost use Rattle.csi_schedules.specs.Events.{use_of, stop_of};
 ghost use Rattle.csi_schedules.specs.Plain.{event_in, seen_as};
 
-use csi_json::{Flaw, capability, name, node_id, owned, target};
-use csi_types::{Capability, Name, NodeId, Target};
+use csi_json::{Flaw, capability, owned, plain_number};
+use csi_types::{Access, Capability, Mode, Name, NodeId, Target, TextFault};
 use csi_world::Event;
 use json::Value;
 use std::alloc::Global;
@@ -15,27 +15,83 @@ use std::alloc::Global;
 fn name_in(alloc: Global, value: &Value<'_>) -> Result<Name, Flaw>
     ensures { IfOk result (λ name. seen_as name_of value.now ≡ Some name) }
 {
-    let value = owned(alloc, value)?;
-    name(alloc, &value)
+    let Value::String(text) = value else {
+        return Err(Flaw::Bad);
+    };
+    match Name::try_new(alloc, text) {
+        Ok(name) => Ok(name),
+        Err(TextFault::NoMemory) => Err(Flaw::NoMemory),
+        Err(TextFault::Empty | TextFault::TooLong) => Err(Flaw::Bad),
+    }
 }
 
 fn node_in(alloc: Global, value: &Value<'_>) -> Result<NodeId, Flaw>
     ensures { IfOk result (λ node. seen_as node_id_of value.now ≡ Some node) }
 {
-    let value = owned(alloc, value)?;
-    node_id(alloc, &value)
+    let Value::String(text) = value else {
+        return Err(Flaw::Bad);
+    };
+    match NodeId::try_new(alloc, text) {
+        Ok(id) => Ok(id),
+        Err(TextFault::NoMemory) => Err(Flaw::NoMemory),
+        Err(TextFault::Empty | TextFault::TooLong) => Err(Flaw::Bad),
+    }
 }
 
 fn target_in(alloc: Global, value: &Value<'_>) -> Result<Target, Flaw>
     ensures { IfOk result (λ target. seen_as target_of value.now ≡ Some target) }
 {
-    let value = owned(alloc, value)?;
-    target(alloc, &value)
+    let Value::String(text) = value else {
+        return Err(Flaw::Bad);
+    };
+    match Target::try_new(alloc, text) {
+        Ok(target) => Ok(target),
+        Err(TextFault::NoMemory) => Err(Flaw::NoMemory),
+        Err(TextFault::Empty | TextFault::TooLong) => Err(Flaw::Bad),
+    }
+}
+
+// A capability with block access, in the usual form.
+fn block_in(value: &Value<'_>) -> Option<Capability>
+    ensures { IfSome result (λ capability. seen_as capability_of value.now ≡ Some capability) }
+{
+    let Value::Object(members) = value else {
+        return None;
+    };
+    if members.len() != 2 {
+        return None;
+    }
+    let first = &members[0];
+    let second = &members[1];
+    if first.0 != "access" || second.0 != "mode" {
+        return None;
+    }
+    let Value::String(kind) = &first.1 else {
+        return None;
+    };
+    let Value::Number(text) = &second.1 else {
+        return None;
+    };
+    if *kind != "block" {
+        return None;
+    }
+    let number = plain_number(text)?;
+    if number > u8::MAX as u64 {
+        return None;
+    }
+    let mode = Mode::from_number(number as u8)?;
+    Some(Capability {
+        access: Access::Block,
+        mode,
+    })
 }
 
 fn capability_in(alloc: Global, value: &Value<'_>) -> Result<Capability, Flaw>
     ensures { IfOk result (λ capability. seen_as capability_of value.now ≡ Some capability) }
 {
+    if let Some(capability) = block_in(value) {
+        return Ok(capability);
+    }
     let value = owned(alloc, value)?;
     capability(alloc, &value)
 }
