@@ -1,10 +1,13 @@
 -- What a step of a controller changes of the parts of its record.
-use Rattle.std.proofs.Common.{◌≡◌, ◌∙◌, sym, ap, refl, subst, inl, inr, ◌⊎◌, ℕ, ◌<◌, Bool, true, false, List, [], ◌∷◌, ◌++◌, map, arith}
+use Rattle.std.proofs.Common.{◌≡◌, ◌∙◌, sym, ap, refl, subst, inl, inr, ◌⊎◌, ℕ, ◌<◌, Bool, true, false, List, [], ◌∷◌, ◌++◌, map, arith, IfSome, not}
 use Rattle.std.specs.Prelude.{Option, Some, None, find, option_map, ◌==◌}
 use Rattle.std.specs.List.{AllByRecursion}
 use Rattle.std.proofs.lemmas.Bool.{eqb-true}
+use Rattle.std.proofs.lemmas.Bool.Decides.{nat_tests}
+use Rattle.std.proofs.lemmas.Option.{same_Some}
 use Rattle.csi_lists.proofs.Options.{some_is_not_none, some-from_map}
 use Rattle.csi_lists.proofs.Searches.{find-of_map, find-passes}
+use Rattle.csi_types.specs.VolumeId.{IsVolumeId}
 use Rattle.csi_types.specs.declared.number.Number.{Number}
 use Rattle.csi_types.specs.declared.call.Call.{Call}
 use Rattle.csi_types.specs.declared.frame.Body.{Body}
@@ -123,6 +126,24 @@ same-next_id law old new before after of_it of_it_too same = sym (law.next_id be
 pub record IsTouched (touched : Option ℕ) (before after : Option (ℕ × Number)) : Type 0 where
   pub none : touched ≡ None → (before ≡ after) ⊎ (after ≡ None)
   pub some : (id : ℕ) → touched ≡ Some id → (0 < id) × ((number : Number) × (after ≡ Some (id, number)))
+
+-- where what was read are the last numbers before and after, they tell of the touched row
+pub told-from : (touched : Option ℕ) (b a before after : Option (ℕ × Number)) → b ≡ before → a ≡ after → (touched ≡ None → (b ≡ a) ⊎ (a ≡ None))
+    → IfSome touched (λ id. (number : Number) × (a ≡ Some (id, number))) → IfSome touched IsVolumeId → IsTouched touched before after
+told-from None b a before after is is_too none some fits =
+    record {
+      none = λ e. elim (none refl) [ inl same ↦ inl (sym is ∙ same ∙ is_too) | inr gone ↦ inr (sym is_too ∙ gone) ];
+      some = λ id e. absurd (some_is_not_none id (sym e));
+    }
+told-from (Some own) b a before after is is_too none some fits =
+    record {
+      none = λ e. absurd (some_is_not_none own e);
+      some = λ id e. let same : own ≡ id = same_Some own id e in (subst (λ (n : ℕ). 0 < n) same fits.from_one, (some.0, sym is_too ∙ some.1 ∙ ap (λ (n : ℕ). Some (n, some.0)) same));
+    }
+
+-- next ids that the test finds equal are equal
+pub same-next : (x y new old : ℕ) → x ≡ new → y ≡ old → not (x == y) ≡ false → new ≡ old
+same-next x y new old is is_too same = let one : x ≡ y = grind (arith, nat_tests) in sym is ∙ one ∙ is_too
 
 -- a call touched nothing, or the row of its volume, as the last numbers tell
 call-touches : ControllerRowsLaw → (old new : Parts) (state : ControllerState) (frame : Frame) (call : Call) (touched : Option ℕ) → AreOf old state → AreOf new (after_frame old.config state frame) → frame.body ≡ bodies.Call call

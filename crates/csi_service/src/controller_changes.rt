@@ -1,10 +1,15 @@
 //! What a step of the controller changes of its record, and the parts that say so.
-ghost use Rattle.std.specs.Prelude.{◌≡◌, ◌≢◌, ◌⊎◌, ◌++◌, ◌==◌, ◌∷◌, None, Some, [], find, map, IfOk, IfSome, OnErr, OnOk};
+ghost use Rattle.std.specs.Prelude.{◌≡◌, ◌≢◌, ◌⊎◌, ◌++◌, ◌==◌, ◌∷◌, None, Some, [], find, map, option_map, IfOk, IfSome, OnErr, OnOk};
+ghost use Rattle.csi_types.specs.declared.call.Party.{Party as OneParty};
 ghost use Rattle.csi_types.specs.declared.number.Number.{Number as OneNumber};
+ghost use Rattle.csi_types.specs.Frame.{IsAllowed};
+ghost use Rattle.csi_types.specs.Lent.{lent_call, HasFitTexts};
+ghost use Rattle.csi_types.specs.Replies.{call_frame};
 ghost use Rattle.csi_types.specs.VolumeId.{IsVolumeId};
 ghost use Rattle.csi_controller.specs.Core.{Shows};
 ghost use Rattle.csi_controller.specs.Fenced.{fenced};
-ghost use Rattle.csi_controller.specs.State.{ControllerState};
+ghost use Rattle.csi_controller.specs.State.{ControllerState, row_for};
+ghost use Rattle.csi_controller.specs.Step.{answer_frame};
 ghost use Rattle.csi_stores.specs.Part.{change_of};
 ghost use Rattle.csi_stores.specs.Content.{all_changed};
 ghost use Rattle.csi_service.specs.Services.{parts_of_controller, changes_of, row_change, last_in, AllDiffer};
@@ -13,7 +18,9 @@ ghost use Rattle.csi_service.specs.declared.controller_changes.Changed.{Changed 
 use csi_controller::{Controller, rows_law, showing_law, sound_law};
 use csi_records::volume_value;
 use csi_stores::{Part, push_value};
-use csi_types::{Body, Frame, NoMemory, Number, VolumeId};
+use csi_types::{
+    Body, Call, CallRef, CapabilityList, Frame, Kind, Name, NoMemory, Number, Reply, VolumeId,
+};
 use std::alloc::Global;
 
 /// What a step changed.
@@ -77,6 +84,68 @@ pub(crate) fn push_row(
         }
         None => Ok(()),
     }
+}
+
+// A call whose row is that of this one. It has the name of a volume that is to be made, and no other text.
+fn call_of_row(alloc: Global, call: &CallRef<'_>) -> Result<Call, NoMemory>
+    ensures { IfOk result (λ own. (state : ControllerState) → row_for own state ≡ row_for (lent_call call.now) state) }
+{
+    let id = match call {
+        CallRef::CreateVolume { name, .. } => {
+            let Ok(name) = Name::try_new(alloc, name) else {
+                return Err(NoMemory);
+            };
+            return Ok(Call::CreateVolume {
+                name,
+                required: 0,
+                limit: 0,
+                capabilities: CapabilityList::try_new(Vec::new(alloc)).unwrap(),
+            });
+        }
+        CallRef::DeleteVolume { id }
+        | CallRef::ControllerPublishVolume { id, .. }
+        | CallRef::ControllerUnpublishVolume { id, .. }
+        | CallRef::NodeStageVolume { id, .. }
+        | CallRef::NodeUnstageVolume { id }
+        | CallRef::NodePublishVolume { id, .. }
+        | CallRef::NodeUnpublishVolume { id, .. } => *id,
+    };
+    Ok(Call::DeleteVolume { id })
+}
+
+/// Answers a call that is lent, with what that changed of the controller.
+pub(crate) fn answer_call(
+    alloc: Global,
+    controller: &mut Controller,
+    number: Number,
+    call: &CallRef<'_>,
+) -> Result<(Option<(Kind, Reply)>, Changed), NoMemory>
+    ensures config { controller.new.config ≡ controller.old.config }
+    ensures reply { (state : ControllerState) (party : OneParty) → Shows controller.old state → IsAllowed party (Body.Call (lent_call call.now)) → HasFitTexts (lent_call call.now)
+        → IfOk result (λ answer. option_map (answer_frame number) answer.0 ≡ (fenced controller.old.config state (call_frame number party (lent_call call.now))).reply) }
+    ensures state { (state : ControllerState) (party : OneParty) → Shows controller.old state → IsAllowed party (Body.Call (lent_call call.now)) → HasFitTexts (lent_call call.now)
+        → OnOk result (Shows controller.new (fenced controller.old.config state (call_frame number party (lent_call call.now))).state) }
+    ensures parts { (party : OneParty) → IsAllowed party (Body.Call (lent_call call.now)) → HasFitTexts (lent_call call.now)
+        → IfOk result (λ answer. parts_of_controller controller.new ≡ all_changed (changes_of answer.1 controller.new) (parts_of_controller controller.old)) }
+{
+    rows_law();
+    sound_law(controller);
+    showing_law(controller);
+    let next_id = controller.next_id();
+    let own = call_of_row(alloc, call)?;
+    let before = controller.last_for(&own);
+    let answered = controller.answer(number, call);
+    let after = controller.last_for(&own);
+    drop(own);
+    let Ok(answer) = answered else {
+        return Err(NoMemory);
+    };
+    sound_law(controller);
+    let changed = Changed {
+        has_new_id: controller.next_id() != next_id,
+        touched: touched(before, after),
+    };
+    Ok((answer, changed))
 }
 
 /// Answers a frame, with what that changed of the controller.

@@ -1,24 +1,32 @@
 //! The controller plugin over a store.
-ghost use Rattle.std.specs.Prelude.{◌≡◌, ◌∷◌, ℕ, Some, [], map, IfOk, IfErr, OnErr, OnOk, Option};
+ghost use Rattle.std.specs.Prelude.{◌≡◌, ◌∷◌, ℕ, Some, [], map, option_map, IfOk, IfErr, OnErr, OnOk, Option};
+ghost use Rattle.std.specs.Option.{option_copied};
+ghost use Rattle.csi_types.specs.declared.call.Party.{Party as OneParty};
+ghost use Rattle.csi_types.specs.Frame.{IsAllowed};
+ghost use Rattle.csi_types.specs.Lent.{lent_call, HasFitTexts};
+ghost use Rattle.csi_types.specs.Replies.{call_frame};
 ghost use Rattle.csi_controller.specs.Core.{Shows};
 ghost use Rattle.csi_controller.specs.Fenced.{fenced};
 ghost use Rattle.csi_controller.specs.State.{ControllerState};
+ghost use Rattle.csi_controller.specs.Step.{answer_frame};
 ghost use Rattle.csi_stores.specs.Part.{change_of};
 ghost use Rattle.csi_controller.specs.Views.{RecordParts};
 ghost use Rattle.csi_records.specs.Records.{controller_layout, AreParts};
 ghost use Rattle.csi_records.specs.Spelling.{present, controller_head, controller_parts, volume_row};
 ghost use Rattle.csi_stores.specs.Content.{all_changed};
 ghost use Rattle.csi_stores.specs.Keeping.{RefusesAt};
+ghost use Rattle.csi_serving.specs.Answering.{IsSpelledAs, Steps};
 ghost use Rattle.csi_service.specs.Opening.{controller_records, IsOpenFault, LeavesOpened, HasRecord};
 ghost use Rattle.csi_service.specs.Services.{controller_service_parts, controller_service_changes, ControllerAnswers, AllDiffer};
 
-use crate::controller_changes::{Changed, NOTHING, answer, push_row};
+use crate::controller_changes::{Changed, NOTHING, answer, answer_call, push_row};
 use crate::opening::{Opens, head_part, open, renewal};
 use csi_controller::{Controller, ControllerRecord};
+use csi_frames::{FrameRef, encode_reply};
 use csi_records::{Record, RecordStop, Stored, controller_head_value};
 use csi_serving::Core;
 use csi_stores::{Keep, KeepFault, Part, push_value};
-use csi_types::{Config, Frame, NoMemory};
+use csi_types::{Body, CallRef, Config, Frame, Kind, NoMemory, Number, Party, Reply};
 use std::alloc::Global;
 
 /// The controller plugin with its record, whose parts a store keeps. This profile's own.
@@ -118,6 +126,42 @@ impl ControllerService {
     }
 }
 
+// The bytes of the frame of an answer, if there is one.
+fn spelled(
+    alloc: Global,
+    number: Number,
+    answer: Option<&(Kind, Reply)>,
+) -> Result<Option<Vec<u8>>, NoMemory>
+    ensures { IfOk result (IsSpelledAs (option_map (answer_frame number) (option_copied answer.entry))) }
+{
+    match answer {
+        Some((kind, reply)) => {
+            let mut bytes = Vec::new(alloc);
+            encode_reply(number, &Party::Controller, *kind, reply, &mut bytes)?;
+            Ok(Some(bytes))
+        }
+        None => Ok(None),
+    }
+}
+
+impl ControllerService {
+    // Answers a call, and gives the bytes of its reply, if it has one.
+    fn answer_lent(
+        &mut self,
+        number: Number,
+        call: &CallRef<'_>,
+    ) -> Result<Option<Vec<u8>>, NoMemory>
+        ensures answered { (party : OneParty) → IsAllowed party (Body.Call (lent_call call.now)) → HasFitTexts (lent_call call.now)
+            → IfOk result (Steps ControllerAnswers self.old (call_frame number party (lent_call call.now)) self.new) }
+        ensures parts { (party : OneParty) → IsAllowed party (Body.Call (lent_call call.now)) → HasFitTexts (lent_call call.now)
+            → OnOk result (controller_service_parts self.new ≡ all_changed (controller_service_changes self.new) (controller_service_parts self.old)) }
+    {
+        let (answer, told) = answer_call(self.alloc, &mut self.controller, number, call)?;
+        self.changed = told;
+        spelled(self.alloc, number, answer.as_ref())
+    }
+}
+
 impl Core for ControllerService {
     type Record = ControllerRecord;
 
@@ -145,6 +189,18 @@ impl Core for ControllerService {
         let (reply, changed) = answer(&mut self.controller, frame)?;
         self.changed = changed;
         Ok(reply)
+    }
+
+    /// The call is answered with the texts that the frame lends, and the reply is spelled from its parts.
+    fn answer(&mut self, frame: &FrameRef<'_>) -> Result<Option<Vec<u8>>, NoMemory> {
+        let capabilities = frame.capabilities(self.alloc)?;
+        match frame.call(&capabilities) {
+            Some(call) => self.answer_lent(frame.number(), &call),
+            None => {
+                self.changed = NOTHING;
+                Ok(None)
+            }
+        }
     }
 
     /// The head where a volume was made, and the row of the one volume that was touched. The row is found by its id.

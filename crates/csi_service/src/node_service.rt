@@ -9,12 +9,14 @@ ghost use Rattle.csi_node.specs.Record.{NodeParts};
 ghost use Rattle.csi_records.specs.Records.{node_layout, AreParts};
 ghost use Rattle.csi_records.specs.Spelling.{present, node_head, node_parts};
 ghost use Rattle.csi_stores.specs.Content.{all_changed};
+ghost use Rattle.csi_serving.specs.Answering.{IsSpelledAs};
 ghost use Rattle.csi_service.specs.NodeServices.{touched_row, last_for, node_service_changes, NodeServiceAnswers};
 ghost use Rattle.csi_stores.specs.Keeping.{RefusesAt};
 ghost use Rattle.csi_service.specs.Opening.{node_records, IsOpenFault, LeavesOpened, HasRecord};
 ghost use Rattle.csi_service.specs.Services.{node_service_parts};
 
 use crate::opening::{Opens, head_part, open, renewal};
+use csi_frames::{FrameRef, encode};
 use csi_node::{Node, NodeRecord, NodeRow};
 use csi_records::{RecordStop, Stored, answered_value, node_head_value, record_of_node};
 use csi_serving::Core;
@@ -166,6 +168,22 @@ fn volume_unless(is_same: bool, volume: Option<VolumeId>) -> Option<VolumeId>
     if is_same { None } else { volume }
 }
 
+// The bytes of a reply, if there is one.
+fn spelled(alloc: Global, reply: Option<Frame>) -> Result<Option<Vec<u8>>, NoMemory>
+    ensures { IfOk result (IsSpelledAs reply) }
+{
+    match reply {
+        Some(reply) => {
+            let mut bytes = Vec::new(alloc);
+            let written = encode(&reply, &mut bytes);
+            drop(reply);
+            written?;
+            Ok(Some(bytes))
+        }
+        None => Ok(None),
+    }
+}
+
 impl Core for NodeService {
     type Record = NodeRecord;
 
@@ -198,6 +216,14 @@ impl Core for NodeService {
         let after = last_for_volume(&self.node, later);
         self.touched = volume_unless(is_same_number(before, after), volume);
         Ok(reply)
+    }
+
+    /// A frame that is lent doesn't tell which node it is for, so the node answers a copy.
+    fn answer(&mut self, frame: &FrameRef<'_>) -> Result<Option<Vec<u8>>, NoMemory> {
+        let frame = frame.to_frame(self.alloc)?;
+        let answered = self.step(&frame);
+        drop(frame);
+        spelled(self.alloc, answered?)
     }
 
     fn parts(&self) -> Result<Vec<Part>, NoMemory>

@@ -1,9 +1,12 @@
 //! What is served: a plugin with its record.
 ghost use Rattle.std.specs.Prelude.{◌≡◌, List, Option, map, IfOk, OnOk, OnErr};
 ghost use Rattle.csi_types.specs.Frame.{Frame as FrameParts};
+ghost use Rattle.csi_frames.specs.Lent.{lent};
+ghost use Rattle.csi_serving.specs.Answering.{Steps};
 ghost use Rattle.csi_stores.specs.Part.{StoredPart, Change, change_of};
 ghost use Rattle.csi_stores.specs.Content.{all_changed};
 
+use csi_frames::FrameRef;
 use csi_stores::Part;
 use csi_types::{Frame, NoMemory};
 
@@ -32,6 +35,12 @@ pub trait Core: Drop {
         ensures answered { IfOk result (λ reply. answers self.old frame.now reply self.new) }
         ensures parts { OnOk result (parts_of self.new ≡ all_changed (changes self.new) (parts_of self.old)) }
         ensures err { OnErr result (parts_of self.new ≡ parts_of self.old) };
+
+    /// Answers a frame that is lent, as `step` answers that frame, and gives the bytes of its reply, if it has one. After an `Err` the
+    /// core may be as it was or as the frame leads to it.
+    fn answer(&mut self, frame: &FrameRef<'_>) -> Result<Option<Vec<u8>>, NoMemory>
+        ensures answered { IfOk result (Steps answers self.old (lent frame.now) self.new) }
+        ensures parts { OnOk result (parts_of self.new ≡ all_changed (changes self.new) (parts_of self.old)) };
 
     /// What the last step that answered changed: the parts to be put in or taken out.
     fn parts(&self) -> Result<Vec<Part>, NoMemory>

@@ -74,7 +74,7 @@ pub fn serve<C: Core, K: Keep, R: Read, W: Write>(
         replies: 0,
     };
     'frames: loop {
-        match answer_next(alloc, &mut core, keep, writer, &mut splitter) {
+        match answer_next(&mut core, keep, writer, &mut splitter) {
             Ok(Some(replied)) => served = one_more(served, replied),
             Ok(None) => match read_piece(reader, &mut splitter) {
                 Ok(true) => {}

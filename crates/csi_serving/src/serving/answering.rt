@@ -1,16 +1,16 @@
 //! A frame, answered: stepped, committed, and then its reply written.
-ghost use Rattle.std.specs.Prelude.{◌≡◌, ◌≤◌, Option, IfOk, IfErr, OnOk, Err};
+ghost use Rattle.std.specs.Prelude.{◌≡◌, ◌≤◌, IfOk, IfErr, OnOk, Err};
 ghost use Rattle.csi_counted.specs.Counting.{HasRisen};
+ghost use Rattle.csi_frames.specs.Lent.{lent};
 ghost use Rattle.csi_stores.specs.Stores.{Rests, Follows};
-ghost use Rattle.csi_serving.specs.Answering.{IsSpelledAs, Steps, StopsUnwritten, AnswersOne};
+ghost use Rattle.csi_serving.specs.Answering.{Steps, StopsUnwritten, AnswersOne};
 ghost use Rattle.csi_serving.specs.Failing.{Stays, FrameStays};
 
 use crate::plugin_core::Core;
 use csi_counted::{Counted, WriteFailed, write_out};
-use csi_frames::encode;
+use csi_frames::FrameRef;
 use csi_stores::{Keep, KeepFault};
-use csi_types::{Frame, NoMemory};
-use std::alloc::Global;
+use csi_types::NoMemory;
 use std::io::Write;
 
 /// Why a frame was not answered to the end.
@@ -32,37 +32,19 @@ impl From<NoMemory> for FrameStop {
     }
 }
 
-// The bytes of a reply, if there is one.
-fn spelled(alloc: Global, reply: Option<Frame>) -> Result<Option<Vec<u8>>, NoMemory>
-    ensures { IfOk result (IsSpelledAs reply) }
-{
-    match reply {
-        Some(reply) => {
-            let mut bytes = Vec::new(alloc);
-            let written = encode(&reply, &mut bytes);
-            drop(reply);
-            written?;
-            Ok(Some(bytes))
-        }
-        None => Ok(None),
-    }
-}
-
-// Steps, and commits what changed. The bytes are those of the reply, which is not yet written.
+// Answers, and commits what changed. The bytes are those of the reply, which is not yet written.
 fn carry_out<C: Core, K: Keep>(
-    alloc: Global,
     core: &mut C,
     keep: &mut K,
-    frame: &Frame,
+    frame: &FrameRef<'_>,
 ) -> Result<Option<Vec<u8>>, FrameStop>
-    ensures steps { IfOk result (Steps C.answers core.old frame.now core.new) }
+    ensures steps { IfOk result (Steps C.answers core.old (lent frame.now) core.new) }
     ensures kept { OnOk result (Rests (K.store keep.old) (K.store keep.new) (C.parts_of core.old) (C.parts_of core.new)) }
-    ensures err { IfErr result (StopsUnwritten C.answers C.parts_of (K.store keep.old) (K.store keep.new) core.old frame.now core.new) }
+    ensures err { IfErr result (StopsUnwritten C.answers C.parts_of (K.store keep.old) (K.store keep.new) core.old (lent frame.now) core.new) }
     ensures untouched { result ≡ Err FrameStop.NoMemory → keep.new ≡ keep.old }
     ensures follows { Follows (K.store keep.old) (K.store keep.new) }
 {
-    let reply = core.step(frame)?;
-    let bytes = spelled(alloc, reply)?;
+    let bytes = core.answer(frame)?;
     let parts = core.parts()?;
     match keep.commit(&parts) {
         Ok(()) => Ok(bytes),
@@ -70,20 +52,19 @@ fn carry_out<C: Core, K: Keep>(
     }
 }
 
-/// Answers a frame: steps, commits what changed, and writes the reply, if there is one. The answer is whether there is one.
+/// Answers a frame that is lent: commits what it changed, and writes the reply, if there is one. The answer is whether there is one.
 pub(crate) fn answer_frame<C: Core, K: Keep, W: Write>(
-    alloc: Global,
     core: &mut C,
     keep: &mut K,
     writer: &mut Counted<W>,
-    frame: &Frame,
+    frame: &FrameRef<'_>,
 ) -> Result<bool, FrameStop>
-    ensures answer { AnswersOne (record { answers = C.answers; parts_of = C.parts_of; core = core.old; before = K.store keep.old; after = K.store keep.new; written_before = W.contents writer.old.inner; written_after = W.contents writer.new.inner; at_end = ⊥; reader_failed = ⊥; writer_failed = HasRisen writer.old.faults writer.new.faults; endless = ⊥ }) frame.now core.new result }
+    ensures answer { AnswersOne (record { answers = C.answers; parts_of = C.parts_of; core = core.old; before = K.store keep.old; after = K.store keep.new; written_before = W.contents writer.old.inner; written_after = W.contents writer.new.inner; at_end = ⊥; reader_failed = ⊥; writer_failed = HasRisen writer.old.faults writer.new.faults; endless = ⊥ }) (lent frame.now) core.new result }
     ensures follows { Follows (K.store keep.old) (K.store keep.new) }
     ensures faults { writer.old.faults ≤ writer.new.faults }
     ensures quiet { Stays FrameStays writer.old.faults writer.new.faults result }
 {
-    match carry_out(alloc, core, keep, frame)? {
+    match carry_out(core, keep, frame)? {
         Some(bytes) => match write_out(writer, &bytes) {
             Ok(()) => Ok(true),
             Err(WriteFailed) => Err(FrameStop::Output),

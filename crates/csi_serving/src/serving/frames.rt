@@ -8,11 +8,10 @@ ghost use Rattle.csi_serving.specs.Stopping.{AnswersNext, kind_of_stop, one_more
 use crate::plugin_core::Core;
 use crate::serving::answering::{FrameStop, answer_frame};
 use crate::serving::fault::{ServeFault, ServeFaultKind, Served};
-use crate::serving::reading::next_frame;
+use crate::serving::reading::in_stream;
 use csi_counted::Counted;
 use csi_frames::Splitter;
 use csi_stores::Keep;
-use std::alloc::Global;
 use std::io::Write;
 
 fn kind_of(stop: FrameStop) -> ServeFaultKind
@@ -27,7 +26,6 @@ fn kind_of(stop: FrameStop) -> ServeFaultKind
 
 /// Answers the next frame, if it is there, and gives whether it has a reply.
 pub(crate) fn answer_next<C: Core, K: Keep, W: Write>(
-    alloc: Global,
     core: &mut C,
     keep: &mut K,
     writer: &mut Counted<W>,
@@ -40,14 +38,14 @@ pub(crate) fn answer_next<C: Core, K: Keep, W: Write>(
     ensures faults { writer.old.faults ≤ writer.new.faults }
     ensures quiet { Stays WriterStays writer.old.faults writer.new.faults result }
 {
-    let Some(frame) = next_frame(alloc, splitter)? else {
-        return Ok(None);
-    };
-    let answered = answer_frame(alloc, core, keep, writer, &frame);
-    drop(frame);
-    match answered {
-        Ok(replied) => Ok(Some(replied)),
-        Err(stop) => Err(kind_of(stop)),
+    let taken = splitter.taken();
+    match splitter.next() {
+        Ok(Some(frame)) => match answer_frame(core, keep, writer, &frame) {
+            Ok(replied) => Ok(Some(replied)),
+            Err(stop) => Err(kind_of(stop)),
+        },
+        Ok(None) => Ok(None),
+        Err(fault) => Err(in_stream(taken, fault)),
     }
 }
 

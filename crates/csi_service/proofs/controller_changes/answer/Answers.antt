@@ -1,36 +1,15 @@
 -- The last numbers before and after tell which row was touched; after a refusal the rows are told by the same state.
-use Rattle.std.proofs.Common.{◌≡◌, ◌<◌, ◌∙◌, sym, ap, refl, subst, inl, inr, ◌⊎◌, ℕ, true, false, not, arith}
+use Rattle.std.proofs.Common.{◌≡◌, ◌∙◌, sym, refl, ℕ, true, not, arith}
 use Rattle.std.specs.Prelude.{◌≢◌, Option, Some, None, IfSome, ◌==◌}
 use Rattle.std.proofs.lemmas.Bool.Decides.{nat_tests}
-use Rattle.std.proofs.lemmas.Option.{same_Some}
-use Rattle.csi_lists.proofs.Options.{some_is_not_none}
 use Rattle.csi_types.specs.declared.number.Number.{Number}
-use Rattle.csi_types.specs.VolumeId.{IsVolumeId}
 use Rattle.csi_types.specs.declared.frame.Body.{Body}
 use Rattle.csi_controller.specs.State.{ControllerState}
 use Rattle.csi_controller.specs.Core.{Parts, Shows}
 use Rattle.csi_controller.specs.RowsLaw.{AreOf, after_frame}
 use Rattle.csi_service.specs.Services.{last_in}
-use Rattle.csi_service.proofs.ControllerChanges.{same-parts, same-changes, parts-changed, frame-touches, IsTouched}
+use Rattle.csi_service.proofs.ControllerChanges.{same-parts, same-changes, parts-changed, frame-touches, told-from, same-next, IsTouched}
 use Rattle.csi_service.proofs.controller_changes.answer.Goals as goal
-
--- where what was read are the last numbers before and after, they tell of the touched row
-told-from : (touched : Option ℕ) (b a before after : Option (ℕ × Number)) → b ≡ before → a ≡ after → (touched ≡ None → (b ≡ a) ⊎ (a ≡ None))
-    → IfSome touched (λ id. (number : Number) × (a ≡ Some (id, number))) → IfSome touched IsVolumeId → IsTouched touched before after
-told-from None b a before after is is_too none some fits =
-    record {
-      none = λ e. elim (none refl) [ inl same ↦ inl (sym is ∙ same ∙ is_too) | inr gone ↦ inr (sym is_too ∙ gone) ];
-      some = λ id e. absurd (some_is_not_none id (sym e));
-    }
-told-from (Some own) b a before after is is_too none some fits =
-    record {
-      none = λ e. absurd (some_is_not_none own e);
-      some = λ id e. let same : own ≡ id = same_Some own id e in (subst (λ (n : ℕ). 0 < n) same fits.from_one, (some.0, sym is_too ∙ some.1 ∙ ap (λ (n : ℕ). Some (n, some.0)) same));
-    }
-
--- next ids that the test finds equal are equal
-same-next : (x y new old : ℕ) → x ≡ new → y ≡ old → not (x == y) ≡ false → new ≡ old
-same-next x y new old is is_too same = let one : x ≡ y = grind (arith, nat_tests) in sym is ∙ one ∙ is_too
 
 -- where what was read are the last numbers before and after, the row that was touched has another one
 other-row : (touched : Option ℕ) (b a : Option (ℕ × Number)) (body : Body) (old new : Parts) → ((state : ControllerState) → Shows old state → b ≡ last_in body state) → ((state : ControllerState) → Shows new state → a ≡ last_in body state)
