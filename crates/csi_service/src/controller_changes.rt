@@ -127,6 +127,8 @@ pub(crate) fn answer_call(
         → OnOk result (Shows controller.new (fenced controller.old.config state (call_frame number party (lent_call call.now))).state) }
     ensures parts { (party : OneParty) → IsAllowed party (Body.Call (lent_call call.now)) → HasFitTexts (lent_call call.now)
         → IfOk result (λ answer. parts_of_controller controller.new ≡ all_changed (changes_of answer.1 controller.new) (parts_of_controller controller.old)) }
+    ensures nothing { (state : ControllerState) (party : OneParty) → Shows controller.old state → IsAllowed party (Body.Call (lent_call call.now)) → HasFitTexts (lent_call call.now)
+        → (fenced controller.old.config state (call_frame number party (lent_call call.now))).state ≡ state → IfOk result (λ answer. changes_of answer.1 controller.new ≡ []) }
 {
     rows_law();
     sound_law(controller);

@@ -5,6 +5,7 @@ ghost use Rattle.csi_types.specs.declared.call.Party.{Party as OneParty};
 ghost use Rattle.csi_types.specs.Frame.{IsAllowed};
 ghost use Rattle.csi_types.specs.Lent.{lent_call, HasFitTexts};
 ghost use Rattle.csi_types.specs.Replies.{call_frame};
+ghost use Rattle.csi_frames.specs.Lent.{lent};
 ghost use Rattle.csi_controller.specs.Core.{Shows};
 ghost use Rattle.csi_controller.specs.Fenced.{fenced};
 ghost use Rattle.csi_controller.specs.State.{ControllerState};
@@ -155,6 +156,8 @@ impl ControllerService {
             → IfOk result (Steps ControllerAnswers self.old (call_frame number party (lent_call call.now)) self.new) }
         ensures parts { (party : OneParty) → IsAllowed party (Body.Call (lent_call call.now)) → HasFitTexts (lent_call call.now)
             → OnOk result (controller_service_parts self.new ≡ all_changed (controller_service_changes self.new) (controller_service_parts self.old)) }
+        ensures nothing { (state : ControllerState) (party : OneParty) → Shows self.old.controller state → IsAllowed party (Body.Call (lent_call call.now)) → HasFitTexts (lent_call call.now)
+            → (fenced self.old.controller.config state (call_frame number party (lent_call call.now))).state ≡ state → OnOk result (controller_service_changes self.new ≡ []) }
     {
         let (answer, told) = answer_call(self.alloc, &mut self.controller, number, call)?;
         self.changed = told;
@@ -191,8 +194,13 @@ impl Core for ControllerService {
         Ok(reply)
     }
 
-    /// The call is answered with the texts that the frame lends, and the reply is spelled from its parts.
-    fn answer(&mut self, frame: &FrameRef<'_>) -> Result<Option<Vec<u8>>, NoMemory> {
+    /// The call is answered with the texts that the frame lends, and the reply is spelled from its parts. A frame that leaves the
+    /// controller's state changes no part.
+    fn answer(&mut self, frame: &FrameRef<'_>) -> Result<Option<Vec<u8>>, NoMemory>
+        ensures answered { IfOk result (Steps ControllerAnswers self.old (lent frame.now) self.new) }
+        ensures parts { OnOk result (controller_service_parts self.new ≡ all_changed (controller_service_changes self.new) (controller_service_parts self.old)) }
+        ensures nothing { (state : ControllerState) → Shows self.old.controller state → (fenced self.old.controller.config state (lent frame.now)).state ≡ state → OnOk result (controller_service_changes self.new ≡ []) }
+    {
         let capabilities = frame.capabilities(self.alloc)?;
         match frame.call(&capabilities) {
             Some(call) => self.answer_lent(frame.number(), &call),

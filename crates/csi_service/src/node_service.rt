@@ -9,7 +9,8 @@ ghost use Rattle.csi_node.specs.Record.{NodeParts};
 ghost use Rattle.csi_records.specs.Records.{node_layout, AreParts};
 ghost use Rattle.csi_records.specs.Spelling.{present, node_head, node_parts};
 ghost use Rattle.csi_stores.specs.Content.{all_changed};
-ghost use Rattle.csi_serving.specs.Answering.{IsSpelledAs};
+ghost use Rattle.csi_frames.specs.Lent.{lent};
+ghost use Rattle.csi_serving.specs.Answering.{IsSpelledAs, Steps};
 ghost use Rattle.csi_service.specs.NodeServices.{touched_row, last_for, node_service_changes, NodeServiceAnswers};
 ghost use Rattle.csi_stores.specs.Keeping.{RefusesAt};
 ghost use Rattle.csi_service.specs.Opening.{node_records, IsOpenFault, LeavesOpened, HasRecord};
@@ -219,7 +220,11 @@ impl Core for NodeService {
     }
 
     /// A frame that is lent doesn't tell which node it is for, so the node answers a copy.
-    fn answer(&mut self, frame: &FrameRef<'_>) -> Result<Option<Vec<u8>>, NoMemory> {
+    fn answer(&mut self, frame: &FrameRef<'_>) -> Result<Option<Vec<u8>>, NoMemory>
+        ensures answered { IfOk result (Steps NodeServiceAnswers self.old (lent frame.now) self.new) }
+        ensures parts { OnOk result (node_service_parts self.new ≡ all_changed (node_service_changes self.new) (node_service_parts self.old)) }
+        ensures nothing { OnOk result (map shown self.new.node.rows ≡ map shown self.old.node.rows → node_service_changes self.new ≡ []) }
+    {
         let frame = frame.to_frame(self.alloc)?;
         let answered = self.step(&frame);
         drop(frame);
