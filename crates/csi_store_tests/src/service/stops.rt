@@ -66,23 +66,21 @@ pub(super) type Stop = (u64, u64, bool);
 
 pub(super) const NO_STOP: Stop = (u64::MAX, u64::MAX, false);
 
-// A file that holds this, all of it synced.
-fn file_of(rt: &(impl Abort + AllocGlobal), bytes: &[u8]) -> Memory {
-    let mut file = Memory::new(rt.alloc());
-    file.write_at(0, bytes).expect(rt, "memory");
-    file.sync().expect(rt, "memory");
-    file
-}
-
-// A database in files that hold this.
+// A database in files that hold this, all of it synced.
 fn connected(
     rt: &(impl Abort + AllocGlobal),
     image: &Image,
     stop: Stop,
 ) -> Result<Connection<Disks>, Image> {
+    let mut log = Memory::new(rt.alloc());
+    let mut db = Memory::new(rt.alloc());
+    log.write_at(0, &image.log).expect(rt, "memory");
+    db.write_at(0, &image.db).expect(rt, "memory");
+    log.sync().expect(rt, "memory");
+    db.sync().expect(rt, "memory");
     let files = Files {
-        log: Fuse::new(file_of(rt, &image.log), stop.0),
-        db: Fuse::new(file_of(rt, &image.db), stop.1),
+        log: Fuse::new(log, stop.0),
+        db: Fuse::new(db, stop.1),
     };
     match Connection::open_files(rt.alloc(), files, Options::new(1)) {
         Ok(connection) => Ok(connection),
