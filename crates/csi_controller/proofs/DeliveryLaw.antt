@@ -10,7 +10,7 @@ use Rattle.csi_lists.proofs.Options.{none-from_map, option_map-map}
 use Rattle.csi_lists.proofs.Searches.{find-map, find-none, find-passes}
 use Rattle.csi_lists.specs.Members.{IsAmong}
 use Rattle.csi_types.proofs.Order.{before-trans}
-use Rattle.csi_types.proofs.Spent.{spent-earlier}
+use Rattle.csi_fence.proofs.Spent.{spent-earlier}
 use Rattle.csi_types.specs.declared.number.Number.{Number}
 use Rattle.csi_types.specs.declared.call.Call.{Call}
 use Rattle.csi_types.specs.declared.call.Kind.{Kind}
@@ -21,8 +21,8 @@ use Rattle.csi_types.specs.declared.status.Status.TheVariants.{Ok, Aborted}
 use Rattle.csi_types.specs.declared.reply.Reply.{Reply}
 use Rattle.csi_types.specs.Call.{kind_of, is_party_of}
 use Rattle.csi_types.specs.Config.{Config}
-use Rattle.csi_types.specs.Delivery.{Delivery, Acts, Rests, Misses, Becomes, IsSameView, IsDelivered, IsEmpty, IsClosed, last_of}
-use Rattle.csi_types.specs.Fence.{Kept, is_spent}
+use Rattle.csi_fence.specs.Delivery.{Delivery, Acts, Rests, Misses, Becomes, IsSameView, IsDelivered, IsEmpty, IsClosed, last_of}
+use Rattle.csi_fence.specs.Fence.{Kept, is_spent}
 use Rattle.csi_types.specs.Key.{Key, Exists, Attached, Staged, Published, HasId, asked}
 use Rattle.csi_types.specs.Number.{is_before}
 use Rattle.csi_types.specs.Replies.{stale_reply}

@@ -10,8 +10,8 @@ use Rattle.csi_types.specs.declared.call.Call.{Call}
 use Rattle.csi_types.specs.declared.call.Call.TheVariants as calls
 use Rattle.csi_types.specs.declared.status.Status.TheVariants.{Ok}
 use Rattle.csi_types.specs.Config.{Config}
-use Rattle.csi_types.specs.Delivery.{last_of}
-use Rattle.csi_types.specs.Fence.{Kept, is_spent}
+use Rattle.csi_fence.specs.Delivery.{last_of}
+use Rattle.csi_fence.specs.Fence.{Kept, is_spent}
 use Rattle.csi_types.specs.Key.{Key, Exists, Attached, Staged, Published}
 use Rattle.csi_types.specs.Same.{same_text}
 use Rattle.csi_controller.specs.State.{Volume, ControllerState, volume_named, volume_with_id, is_row_for, row_for}

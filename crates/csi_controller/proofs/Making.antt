@@ -28,7 +28,7 @@ use Rattle.csi_types.specs.declared.status.Status.TheVariants.{InvalidArgument, 
 use Rattle.csi_types.specs.Call.{is_party_of}
 use Rattle.csi_types.specs.Capacity.{is_bad_range, is_empty_range, wanted}
 use Rattle.csi_types.specs.Config.{Config}
-use Rattle.csi_types.specs.Fence.{Kept}
+use Rattle.csi_fence.specs.Fence.{Kept}
 use Rattle.csi_types.specs.Frame.{Frame}
 use Rattle.csi_types.specs.Replies.{plain_reply, ok_reply_with, reply_frame}
 use Rattle.csi_types.specs.Reply.{has_id_by_rule}

@@ -8,13 +8,13 @@ use Rattle.csi_types.specs.declared.holding.Holding.{Holding}
 use Rattle.csi_types.specs.declared.number.Number.{Number}
 use Rattle.csi_types.specs.declared.call.Call.{Call}
 use Rattle.csi_types.specs.declared.call.Call.TheVariants as calls
-use Rattle.csi_types.specs.declared.fence.Verdict.TheVariants.{Stale, Repeated, Fresh}
+use Rattle.csi_fence.specs.declared.fence.Verdict.TheVariants.{Stale, Repeated, Fresh}
 use Rattle.csi_types.specs.declared.status.Status.{Status}
 use Rattle.csi_types.specs.declared.status.Status.TheVariants.{Ok, InvalidArgument, NotFound, AlreadyExists, ResourceExhausted, FailedPrecondition, OutOfRange, Unimplemented}
 use Rattle.csi_types.specs.Call.{kind_of}
 use Rattle.csi_types.specs.Capacity.{is_bad_range, is_empty_range, wanted}
 use Rattle.csi_types.specs.Config.{Config, has_node}
-use Rattle.csi_types.specs.Fence.{is_spent, verdict_of_spent}
+use Rattle.csi_fence.specs.Fence.{is_spent, verdict_of_spent}
 use Rattle.csi_types.specs.Holding.{same_holding, is_compatible}
 use Rattle.csi_types.specs.Replies.{ok_reply_with, stale_reply}
 use Rattle.csi_types.specs.Same.{same_number, has_capability}

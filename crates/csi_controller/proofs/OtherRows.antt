@@ -15,13 +15,13 @@ use Rattle.csi_types.specs.declared.call.Call.TheVariants as calls
 use Rattle.csi_types.specs.declared.call.Kind.{Kind}
 use Rattle.csi_types.specs.declared.call.Party.{Party}
 use Rattle.csi_types.specs.declared.call.Party.TheVariants.{Controller, Node}
-use Rattle.csi_types.specs.declared.fence.Verdict.TheVariants.{Fresh}
+use Rattle.csi_fence.specs.declared.fence.Verdict.TheVariants.{Fresh}
 use Rattle.csi_types.specs.declared.frame.Body.{Body}
 use Rattle.csi_types.specs.declared.frame.Body.TheVariants as bodies
 use Rattle.csi_types.specs.declared.reply.Reply.{Reply}
 use Rattle.csi_types.specs.Config.{Config}
 use Rattle.csi_types.specs.Call.{kind_of}
-use Rattle.csi_types.specs.Fence.{Kept, is_spent, verdict_of}
+use Rattle.csi_fence.specs.Fence.{Kept, is_spent, verdict_of}
 use Rattle.csi_types.specs.Frame.{Frame}
 use Rattle.csi_controller.specs.declared.row.ControllerRow.{ControllerRow}
 use Rattle.csi_controller.specs.State.{Volume, ControllerState, volume_with_id, holdings_of, is_row_for, row_for}

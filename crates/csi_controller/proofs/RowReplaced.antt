@@ -6,7 +6,7 @@ use Rattle.csi_lists.proofs.Places.{FirstAt-within}
 use Rattle.csi_types.specs.declared.number.Number.{Number}
 use Rattle.csi_types.specs.declared.call.Call.{Call}
 use Rattle.csi_types.specs.declared.call.Party.TheVariants.{Controller}
-use Rattle.csi_types.specs.declared.fence.Verdict.{Verdict}
+use Rattle.csi_fence.specs.declared.fence.Verdict.{Verdict}
 use Rattle.csi_types.specs.Call.{kind_of, is_party_of}
 use Rattle.csi_types.specs.Frame.{Frame}
 use Rattle.csi_controller.specs.declared.row.ControllerRow.{ControllerRow}

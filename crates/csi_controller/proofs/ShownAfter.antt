@@ -12,12 +12,12 @@ use Rattle.csi_types.specs.declared.holding.Holding.{Holding}
 use Rattle.csi_types.specs.declared.call.Call.{Call}
 use Rattle.csi_types.specs.declared.call.Call.TheVariants.{DeleteVolume}
 use Rattle.csi_types.specs.declared.call.Party.TheVariants.{Controller}
-use Rattle.csi_types.specs.declared.fence.Verdict.{Verdict}
-use Rattle.csi_types.specs.declared.fence.Verdict.TheVariants.{Stale, Repeated, Fresh}
+use Rattle.csi_fence.specs.declared.fence.Verdict.{Verdict}
+use Rattle.csi_fence.specs.declared.fence.Verdict.TheVariants.{Stale, Repeated, Fresh}
 use Rattle.csi_types.specs.declared.reply.Reply.{Reply}
 use Rattle.csi_types.specs.Call.{kind_of}
 use Rattle.csi_types.specs.Config.{Config}
-use Rattle.csi_types.specs.Fence.{Kept, verdict_of}
+use Rattle.csi_fence.specs.Fence.{Kept, verdict_of}
 use Rattle.csi_types.specs.Frame.{Frame}
 use Rattle.csi_types.specs.Replies.{reply_frame}
 use Rattle.csi_controller.specs.declared.row.ControllerRow.{ControllerRow}

@@ -12,13 +12,13 @@ use Rattle.csi_types.specs.declared.number.Number.{Number}
 use Rattle.csi_types.specs.declared.call.Call.{Call}
 use Rattle.csi_types.specs.declared.call.Call.TheVariants as calls
 use Rattle.csi_types.specs.declared.call.Party.TheVariants.{Controller}
-use Rattle.csi_types.specs.declared.fence.Verdict.TheVariants.{Fresh}
+use Rattle.csi_fence.specs.declared.fence.Verdict.TheVariants.{Fresh}
 use Rattle.csi_types.specs.declared.status.Status.TheVariants.{InvalidArgument, OutOfRange, ResourceExhausted}
 use Rattle.csi_types.specs.declared.reply.Reply.{Reply}
 use Rattle.csi_types.specs.Call.{kind_of}
 use Rattle.csi_types.specs.Capacity.{is_bad_range, is_empty_range, wanted}
 use Rattle.csi_types.specs.Config.{Config}
-use Rattle.csi_types.specs.Fence.{Kept, verdict_of}
+use Rattle.csi_fence.specs.Fence.{Kept, verdict_of}
 use Rattle.csi_types.specs.Number.{IsBefore}
 use Rattle.csi_types.specs.Replies.{ok_reply_with, call_frame, reply_frame}
 use Rattle.csi_types.specs.Same.{same_text, has_capability}

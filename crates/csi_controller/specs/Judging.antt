@@ -1,7 +1,7 @@
 -- Which of the rows that a record is to be made of is the first that no record has there. This profile's own.
 use Rattle.std.specs.Prelude.{ℕ, ◌-◌, ◌≤◌, List, length, take, Bool, ◌&&◌, nat_lt}
-use Rattle.csi_controller.specs.declared.fault.RecordFault.{RecordFault}
-use Rattle.csi_controller.specs.declared.fault.RecordFault.TheVariants.{BadRow, NoMemory}
+use Rattle.csi_fence.specs.declared.fault.RecordFault.{RecordFault}
+use Rattle.csi_fence.specs.declared.fault.RecordFault.TheVariants.{BadRow, NoMemory}
 use Rattle.csi_controller.specs.declared.row.ControllerRow.{ControllerRow}
 use Rattle.csi_controller.specs.Core.{IsSound}
 use Rattle.csi_controller.specs.SoundRow.{is_sound_row}

@@ -6,7 +6,8 @@ use Rattle.csi_types.specs.declared.call.Party.TheVariants.{Controller}
 use Rattle.csi_types.specs.declared.reply.Reply.{Reply}
 use Rattle.csi_types.specs.Frame.{Frame}
 use Rattle.csi_types.specs.Replies.{reply_frame}
-use Rattle.csi_controller.specs.Fenced.{Fenced}
+use Rattle.csi_fence.specs.Fenced.{Fenced}
+use Rattle.csi_controller.specs.State.{ControllerState}
 use Rattle.csi_controller.specs.Core.{Parts, Shows}
 
 -- the frame of the controller's answer to the call of this number: a kind and a reply
@@ -14,6 +15,6 @@ abbrev pub answer_frame : Number → Kind × Reply → Frame
 answer_frame number answer = reply_frame number Controller answer.0 answer.1
 
 -- from a state, the controller gave this frame and has these parts now, as the definitions have it
-pub record Answers (new : Parts) (frame : Frame) (answer : Fenced) : Type 0 where
+pub record Answers (new : Parts) (frame : Frame) (answer : Fenced ControllerState) : Type 0 where
   pub reply : answer.reply ≡ Some frame
   pub shown : Shows new answer.state

@@ -9,7 +9,7 @@ ghost use Rattle.csi_controller.specs.Core.{IsSound};
 ghost use Rattle.csi_controller.specs.Views.{AreSameRows};
 
 use crate::controller::copies::copied_row;
-use crate::fault::CoreFault;
+use csi_fence::CoreFault;
 use crate::row::ControllerRow;
 use csi_types::{Name, VolumeId};
 use indexmap::IndexMap;

@@ -27,7 +27,7 @@ mod row_table;
 mod step;
 
 use crate::catalog::Catalog;
-use crate::fault::CoreFault;
+use csi_fence::CoreFault;
 use crate::record::ControllerRecord;
 use crate::row::ControllerRow;
 use attached::attachments;
@@ -82,6 +82,7 @@ impl Controller {
                 alloc,
                 config,
                 next_id: 1,
+                session: 0,
                 catalog,
                 counts,
             },
@@ -168,9 +169,10 @@ impl Controller {
         config: Config,
         kept: ControllerRecord,
     ) -> Result<Controller, CoreFault>
-        ensures { result ≡ Ok (record { config = config; next_id = kept.next_id; rows = kept.rows }) }
+        ensures { result ≡ Ok (record { config = config; next_id = kept.next_id; session = kept.session; rows = kept.rows }) }
     {
         let next_id = kept.next_id();
+        let session = kept.session();
         let catalog = kept.into_catalog();
         config.fit_law();
         let counts = counted(config.nodes(), catalog.rows());
@@ -179,6 +181,7 @@ impl Controller {
                 alloc,
                 config,
                 next_id,
+                session,
                 catalog,
                 counts,
             },
@@ -188,11 +191,11 @@ impl Controller {
     /// The record of this controller.
     pub fn record(&self) -> Result<ControllerRecord, CoreFault>
         ensures { (state : ControllerState) → Shows self.now state →
-            IfOk result (λ kept. Shows (record { config = self.now.config; next_id = kept.next_id; rows = kept.rows }) state) }
+            IfOk result (λ kept. Shows (record { config = self.now.config; next_id = kept.next_id; session = kept.session; rows = kept.rows }) state) }
     {
         let core = &self.core;
         let catalog = core.catalog.copied(core.alloc, core.next_id)?;
-        Ok(ControllerRecord::new(core.next_id, catalog))
+        Ok(ControllerRecord::new(core.next_id, core.session, catalog))
     }
 
     /// The row of the volume of this id, deleted or not, as the record has it. Where there is none it takes no memory.

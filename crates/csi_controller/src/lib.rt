@@ -4,7 +4,6 @@
 
 mod catalog;
 mod controller;
-mod fault;
 mod judging;
 mod laws;
 mod record;
@@ -13,7 +12,7 @@ mod sound_row;
 mod worked;
 
 pub use controller::Controller;
-pub use fault::{CoreFault, RecordFault};
+pub use csi_fence::{Answer, CoreFault, RecordFault};
 pub use laws::{
     delivery_law, exclusive_law, names_law, rows_law, safety_law, showing_law, sound_law, table_law,
 };

@@ -2,7 +2,7 @@
 ghost use Rattle.std.specs.Prelude.{◌≡◌, List, IfOk, IfErr, OnOk};
 
 use crate::catalog::Catalog;
-use crate::fault::{CoreFault, RecordFault};
+use csi_fence::{CoreFault, RecordFault};
 use crate::judging::first_refused;
 use crate::row::ControllerRow;
 use csi_types::NoMemory;
@@ -15,35 +15,41 @@ use std::marker::Model;
 #[derive(Drop)]
 pub struct ControllerRecord {
     next_id: u64,
+    session: u64,
     catalog: Catalog,
 }
 
 impl Model for ControllerRecord {
-    ghost use Rattle.csi_controller.specs.Core.{IsSound};
+    ghost use Rattle.csi_controller.specs.Core.{IsSound, IsCurrent};
     ghost use Rattle.csi_controller.specs.Catalog.{rows_of, IsIndexed};
     ghost use Rattle.csi_controller.specs.Views.{RecordParts};
 
     ghost Value = { RecordParts };
 
-    ghost view = { λ record_. record { next_id = record_.next_id; rows = rows_of record_.catalog } };
+    ghost view = { λ record_. record { next_id = record_.next_id; session = record_.session; rows = rows_of record_.catalog } };
 
-    ghost invariant = { λ record_. IsSound record_.next_id (rows_of record_.catalog) × IsIndexed record_.catalog };
+    ghost invariant = { λ record_. IsSound record_.next_id (rows_of record_.catalog) × IsCurrent record_.session (rows_of record_.catalog) × IsIndexed record_.catalog };
 }
 
 impl ControllerRecord {
     ghost use Rattle.csi_controller.specs.Catalog.{rows_of, IsIndexed};
-    ghost use Rattle.csi_controller.specs.Core.{IsSound};
+    ghost use Rattle.csi_controller.specs.Core.{IsSound, IsCurrent};
     ghost use Rattle.csi_controller.specs.declared.row.ControllerRow.{ControllerRow as OneRow};
     ghost use Rattle.csi_controller.specs.Judging.{IsRefusal};
     ghost use Rattle.csi_controller.specs.Views.{AreSameRows};
 
     // The record of this catalog.
-    pub(crate) fn new(next_id: u64, catalog: Catalog) -> ControllerRecord
+    pub(crate) fn new(next_id: u64, session: u64, catalog: Catalog) -> ControllerRecord
         requires sound { IsSound next_id (rows_of catalog) }
+        requires current { IsCurrent session (rows_of catalog) }
         requires indexed { IsIndexed catalog }
-        ensures { result ≡ record { next_id = next_id; rows = rows_of catalog } }
+        ensures { result ≡ record { next_id = next_id; session = session; rows = rows_of catalog } }
     {
-        ControllerRecord { next_id, catalog }
+        ControllerRecord {
+            next_id,
+            session,
+            catalog,
+        }
     }
 
     /// The record of these rows, which stand by rising id, with this next id, 0 for all that were given (this profile's own).
@@ -56,16 +62,22 @@ impl ControllerRecord {
         alloc: Global,
         next_id: u64,
         rows: Vec<ControllerRow>,
+        session: u64,
     ) -> Result<ControllerRecord, RecordFault>
-        ensures value { IfOk result (λ made. made ≡ record { next_id = next_id; rows = rows.items }) }
+        ensures value { IfOk result (λ made. made ≡ record { next_id = next_id; session = session; rows = rows.items }) }
         ensures sound { OnOk result (IsSound next_id rows.items) }
+        ensures current { OnOk result (IsCurrent session rows.items) }
         ensures refused { IfErr result (IsRefusal next_id rows.items) }
         ensures accepted { IsSound next_id rows.items → IfErr result (λ fault. fault ≡ RecordFault.NoMemory) }
         ensures copies { (kept : List OneRow) → IsSound next_id kept → AreSameRows kept rows.items → IfErr result (λ fault. fault ≡ RecordFault.NoMemory) }
     {
         match first_refused(alloc, next_id, rows.as_slice()) {
             Ok(None) => match Catalog::of_rows(alloc, next_id, rows) {
-                Ok(catalog) => Ok(ControllerRecord { next_id, catalog }),
+                Ok(catalog) => Ok(ControllerRecord {
+                    next_id,
+                    session,
+                    catalog,
+                }),
                 Err(CoreFault::NoMemory) => Err(RecordFault::NoMemory),
             },
             Ok(Some(place)) => Err(RecordFault::BadRow(place)),
@@ -78,6 +90,13 @@ impl ControllerRecord {
         ensures { result ≡ self.now.next_id }
     {
         self.next_id
+    }
+
+    /// The greatest session of which a call came, 0 before any did. It takes no memory.
+    pub fn session(&self) -> u64
+        ensures { result ≡ self.now.session }
+    {
+        self.session
     }
 
     /// The rows by rising id.
@@ -96,6 +115,7 @@ impl ControllerRecord {
     {
         let ControllerRecord {
             next_id: _,
+            session: _,
             catalog,
         } = self;
         catalog

@@ -1,7 +1,7 @@
 -- A call that is delivered to a node is carried out there, or rests.
 use Rattle.std.proofs.Common.{◌≡◌, ◌⊎◌, ℕ, List, Bool, true, false, refl, sym, ◌∙◌, ap, subst, inl, inr}
 use Rattle.std.specs.Prelude.{Option, Some, None, option_map, find, is_some, not, ◌==◌, IsTrue, codes}
-use Rattle.csi_types.proofs.Spent.{spent-earlier}
+use Rattle.csi_fence.proofs.Spent.{spent-earlier}
 use Rattle.csi_types.specs.declared.number.Number.{Number}
 use Rattle.csi_types.specs.declared.call.Call.{Call}
 use Rattle.csi_types.specs.declared.call.Call.TheVariants as calls
@@ -10,8 +10,8 @@ use Rattle.csi_types.specs.declared.call.Party.TheVariants.{Node}
 use Rattle.csi_types.specs.declared.status.Status.TheVariants.{Ok, Aborted, ResourceExhausted}
 use Rattle.csi_types.specs.declared.reply.Reply.{Reply}
 use Rattle.csi_types.specs.Call.{kind_of, is_party_of}
-use Rattle.csi_types.specs.Delivery.{View, Delivery, Acts, Rests, IsSameView, Becomes, IsDelivered, IsEmpty, IsClosed, last_of}
-use Rattle.csi_types.specs.Fence.{Kept, is_spent}
+use Rattle.csi_fence.specs.Delivery.{View, Delivery, Acts, Rests, IsSameView, Becomes, IsDelivered, IsEmpty, IsClosed, last_of}
+use Rattle.csi_fence.specs.Fence.{Kept, is_spent}
 use Rattle.csi_types.specs.Key.{Key}
 use Rattle.csi_types.specs.Reply.{has_id_by_rule}
 use Rattle.csi_types.specs.Replies.{plain_reply, stale_reply, call_frame}

@@ -6,11 +6,11 @@ use Rattle.csi_types.proofs.Equality.{same_text-tells, same_number-tells}
 use Rattle.csi_types.specs.declared.number.Number.{Number}
 use Rattle.csi_types.specs.declared.call.Call.{Call}
 use Rattle.csi_types.specs.declared.call.Party.TheVariants.{Node}
-use Rattle.csi_types.specs.declared.fence.Verdict.TheVariants.{Stale, Repeated, Fresh}
+use Rattle.csi_fence.specs.declared.fence.Verdict.TheVariants.{Stale, Repeated, Fresh}
 use Rattle.csi_types.specs.declared.status.Status.TheVariants.{ResourceExhausted}
 use Rattle.csi_types.specs.Call.{kind_of}
-use Rattle.csi_types.specs.Delivery.{last_of}
-use Rattle.csi_types.specs.Fence.{Kept, is_spent, verdict_of}
+use Rattle.csi_fence.specs.Delivery.{last_of}
+use Rattle.csi_fence.specs.Fence.{Kept, is_spent, verdict_of}
 use Rattle.csi_types.specs.Replies.{plain_reply, stale_reply, call_frame, reply_frame}
 use Rattle.csi_types.specs.Same.{same_text, same_number}
 use Rattle.csi_node.specs.State.{NodeState, volume_of}

@@ -5,7 +5,7 @@ use Rattle.std.proofs.lemmas.Bool.{eq-eqb, eqb-true}
 use Rattle.csi_lists.proofs.Searches.{find-filter}
 use Rattle.csi_lists.proofs.Searches.{find-append_one, find-map, find-passes}
 use Rattle.csi_lists.proofs.Filters.{filter-append_one, filter-map}
-use Rattle.csi_types.specs.Fence.{Kept}
+use Rattle.csi_fence.specs.Fence.{Kept}
 use Rattle.csi_lists.proofs.Tests.{not-where}
 use Rattle.csi_node.specs.State.{NodeState, Answered, row_with_id}
 use Rattle.csi_node.specs.Table.{Change, Stays, Stages, Unstages, Publishes, Unpublishes, changed}

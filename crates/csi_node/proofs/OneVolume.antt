@@ -9,9 +9,9 @@ use Rattle.std.proofs.lemmas.List.{map-set}
 use Rattle.std.proofs.lemmas.Option.{same_Some}
 use Rattle.csi_types.specs.declared.call.Call.{Call}
 use Rattle.csi_types.specs.declared.number.Number.{Number}
-use Rattle.csi_types.specs.declared.fence.Verdict.{Verdict}
-use Rattle.csi_types.specs.declared.fence.Verdict.TheVariants.{Stale, Repeated, Fresh}
-use Rattle.csi_types.specs.Fence.{Kept, verdict_of, verdict_of_spent}
+use Rattle.csi_fence.specs.declared.fence.Verdict.{Verdict}
+use Rattle.csi_fence.specs.declared.fence.Verdict.TheVariants.{Stale, Repeated, Fresh}
+use Rattle.csi_fence.specs.Fence.{Kept, verdict_of, verdict_of_spent}
 use Rattle.csi_types.specs.declared.call.Kind.{Kind}
 use Rattle.csi_types.specs.declared.reply.Reply.{Reply}
 use Rattle.csi_types.specs.Same.{same_number}

@@ -9,7 +9,7 @@ use Rattle.csi_types.specs.declared.call.Call.{Call}
 use Rattle.csi_types.specs.declared.call.Call.TheVariants as calls
 use Rattle.csi_types.specs.declared.number.Number.{Number}
 use Rattle.csi_types.specs.declared.reply.Reply.{Reply}
-use Rattle.csi_types.specs.Fence.{Kept}
+use Rattle.csi_fence.specs.Fence.{Kept}
 use Rattle.csi_types.specs.Call.{kind_of, is_node_kind}
 use Rattle.csi_types.specs.Same.{same_text}
 use Rattle.csi_types.specs.Sharing.{allows_one_target}

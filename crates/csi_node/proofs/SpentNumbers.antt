@@ -4,7 +4,7 @@ use Rattle.std.specs.Prelude.{Option, Some, None}
 use Rattle.std.proofs.lemmas.Bool.Decides.{nat_tests}
 use Rattle.csi_types.proofs.Order.{before-trans}
 use Rattle.csi_types.specs.declared.number.Number.{Number}
-use Rattle.csi_types.specs.Fence.{is_spent}
+use Rattle.csi_fence.specs.Fence.{is_spent}
 use Rattle.csi_types.specs.Number.{is_before}
 
 -- a number is spent once its call was answered

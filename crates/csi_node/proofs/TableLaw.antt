@@ -5,11 +5,11 @@ use Rattle.csi_types.proofs.Equality.{same_text-tells}
 use Rattle.csi_types.specs.declared.number.Number.{Number}
 use Rattle.csi_types.specs.declared.call.Call.{Call}
 use Rattle.csi_types.specs.declared.call.Party.TheVariants.{Node}
-use Rattle.csi_types.specs.declared.fence.Verdict.TheVariants.{Fresh}
+use Rattle.csi_fence.specs.declared.fence.Verdict.TheVariants.{Fresh}
 use Rattle.csi_types.specs.declared.status.Status.TheVariants.{Ok, ResourceExhausted}
 use Rattle.csi_types.specs.declared.reply.Reply.{Reply}
 use Rattle.csi_types.specs.Call.{kind_of}
-use Rattle.csi_types.specs.Fence.{Kept, verdict_of}
+use Rattle.csi_fence.specs.Fence.{Kept, verdict_of}
 use Rattle.csi_types.specs.Number.{IsBefore}
 use Rattle.csi_types.specs.Replies.{ok_reply, call_frame, reply_frame}
 use Rattle.csi_types.specs.Same.{same_text}

@@ -1,7 +1,7 @@
 -- Which of the rows that a record is to be made of is the first that no record has there. This profile's own.
 use Rattle.std.specs.Prelude.{ℕ, ◌-◌, ◌≤◌, List, length, take, Bool, ◌&&◌, nat_lt}
-use Rattle.csi_node.specs.declared.fault.RecordFault.{RecordFault}
-use Rattle.csi_node.specs.declared.fault.RecordFault.TheVariants.{BadRow, NoMemory}
+use Rattle.csi_fence.specs.declared.fault.RecordFault.{RecordFault}
+use Rattle.csi_fence.specs.declared.fault.RecordFault.TheVariants.{BadRow, NoMemory}
 use Rattle.csi_node.specs.declared.row.NodeRow.{NodeRow}
 use Rattle.csi_node.specs.OneRow.{RowShown}
 use Rattle.csi_node.specs.Record.{parts, IsSound}

@@ -12,4 +12,4 @@ pub mod Safe
 pub mod View
 pub mod SoundRow
 pub mod Judging
-pub mod OneVolume
+pub mod Changes

@@ -7,11 +7,11 @@ use Rattle.csi_types.specs.declared.number.Number.{Number}
 use Rattle.csi_types.specs.declared.status.Status.TheVariants.{AlreadyExists, FailedPrecondition}
 use Rattle.csi_types.specs.declared.call.Kind.{Kind}
 use Rattle.csi_types.specs.declared.reply.Reply.{Reply}
-use Rattle.csi_types.specs.declared.fence.Verdict.{Verdict}
-use Rattle.csi_types.specs.declared.fence.Verdict.TheVariants.{Stale, Repeated, Fresh}
+use Rattle.csi_fence.specs.declared.fence.Verdict.{Verdict}
+use Rattle.csi_fence.specs.declared.fence.Verdict.TheVariants.{Stale, Repeated, Fresh}
 use Rattle.csi_types.specs.Replies.{ok_reply, stale_reply}
 use Rattle.csi_types.specs.Call.{kind_of, is_node_kind}
-use Rattle.csi_types.specs.Fence.{Kept}
+use Rattle.csi_fence.specs.Fence.{Kept}
 use Rattle.csi_types.specs.Same.{same_text, same_capability, same_flag}
 use Rattle.csi_types.specs.Sharing.{allows_one_target}
 use Rattle.csi_node.specs.declared.row.NodeRow.{NodeRow}

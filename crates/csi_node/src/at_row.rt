@@ -1,7 +1,7 @@
 //! What a row of a node answers to the calls of its volume: the kind and the reply that the answer's frame has.
 ghost use Rattle.std.specs.Prelude.{◌≡◌, true, Some, None, IfOk, OnOk, OnErr};
 ghost use Rattle.csi_types.specs.Call.{kind_of, is_node_kind};
-ghost use Rattle.csi_types.specs.Fence.{verdict_of};
+ghost use Rattle.csi_fence.specs.Fence.{verdict_of};
 ghost use Rattle.csi_types.specs.Lent.{lent_call};
 ghost use Rattle.csi_types.specs.Replies.{plain_reply};
 ghost use Rattle.csi_node.specs.State.{volume_of};
@@ -9,11 +9,11 @@ ghost use Rattle.csi_node.specs.Table.{lifecycle_row};
 ghost use Rattle.csi_node.specs.OneRow.{shown, alone, row_anew, IsSoundRow, IsAfter, IsNodeAnswer, RowAnswers};
 
 use crate::changes::change_where;
-use crate::fault::CoreFault;
+use csi_fence::{CoreFault, Verdict, verdict_of};
 use crate::line::Line;
 use crate::row::NodeRow;
 use crate::row_table::line;
-use csi_types::{CallRef, Kind, Number, Reply, Status, Verdict, VolumeId, verdict_of};
+use csi_types::{CallRef, Kind, Number, Reply, Status, VolumeId};
 use std::alloc::Global;
 
 /// Answers a call by the table, and keeps its number and the reply in the row. An `Err` changes nothing.

@@ -6,7 +6,6 @@ mod at_row;
 mod changes;
 mod copies;
 mod entries;
-mod fault;
 mod finding;
 mod judging;
 mod laws;
@@ -21,7 +20,7 @@ mod views;
 mod worked;
 
 pub use entries::{Published, Staged};
-pub use fault::{CoreFault, RecordFault};
+pub use csi_fence::{Answer, CoreFault, RecordFault};
 pub use laws::{delivery_law, publishing_law, record_law, safety_law, showing_law, table_law};
 pub use node::Node;
 pub use record::NodeRecord;

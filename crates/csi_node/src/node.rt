@@ -8,7 +8,7 @@ ghost use Rattle.csi_node.specs.OneRow.{IsNodeAnswer};
 ghost use Rattle.csi_node.specs.State.{volume_of};
 
 use crate::entries::{Published, Staged};
-use crate::fault::CoreFault;
+use csi_fence::CoreFault;
 use crate::record::NodeRecord;
 use crate::row::NodeRow;
 use crate::views::{published_in, staged_in};

@@ -3,7 +3,7 @@ ghost use Rattle.std.specs.Prelude.{◌≡◌, ℕ, List, true, Some, None, [], 
 ghost use Rattle.std.specs.Option.{option_copied};
 
 use crate::copies::{copies_of, copy_in};
-use crate::fault::{CoreFault, RecordFault};
+use csi_fence::{CoreFault, RecordFault};
 use crate::finding::row_with_id;
 use crate::judging::first_refused;
 use crate::row::NodeRow;
@@ -19,17 +19,18 @@ use std::marker::Model;
 #[derive(Drop)]
 pub struct NodeRecord {
     pub(crate) id: NodeId,
+    pub(crate) session: u64,
     pub(crate) rows: Vec<NodeRow>,
 }
 
 impl Model for NodeRecord {
-    ghost use Rattle.csi_node.specs.Record.{NodeParts, parts, IsSound};
+    ghost use Rattle.csi_node.specs.Record.{NodeParts, parts, IsSound, IsCurrent};
 
     ghost Value = { NodeParts };
 
-    ghost view = { λ record_. record { id = record_.id; rows = record_.rows.items } };
+    ghost view = { λ record_. record { id = record_.id; session = record_.session; rows = record_.rows.items } };
 
-    ghost invariant = { λ record_. IsSound (parts record_.rows.items) };
+    ghost invariant = { λ record_. IsSound (parts record_.rows.items) × IsCurrent record_.session (parts record_.rows.items) };
 }
 
 impl NodeRecord {
@@ -47,16 +48,28 @@ impl NodeRecord {
     /// the first row that no record has there: its id isn't above the one before it; it has targets and isn't staged, more than
     /// 16, one twice, one that doesn't begin with `/`, or two in a mode that allows one; its kept reply isn't one of a node; or
     /// 4,096 rows stand before it. It takes no memory, and so doesn't answer `NoMemory`.
-    pub fn try_new(id: NodeId, rows: Vec<NodeRow>) -> Result<NodeRecord, RecordFault>
-        ensures value { IfOk result (λ made. made ≡ record { id = id; rows = rows.items }) }
+    pub fn try_new(
+        id: NodeId,
+        rows: Vec<NodeRow>,
+        session: u64,
+    ) -> Result<NodeRecord, RecordFault>
+        ensures value { IfOk result (λ made. made ≡ record { id = id; session = session; rows = rows.items }) }
         ensures rules { OnOk result (IsSound (parts rows.items)) }
+        ensures current { OnOk result (IsCurrent session (parts rows.items)) }
         ensures refused { IfErr result (IsRefusal rows.items) }
         ensures accepted { IsSound (parts rows.items) → IsOk result }
     {
         match first_refused(rows.as_slice()) {
-            None => Ok(NodeRecord { id, rows }),
+            None => Ok(NodeRecord { id, session, rows }),
             Some(place) => Err(RecordFault::BadRow(place)),
         }
+    }
+
+    /// The greatest session of which a call came, 0 before any did. It takes no memory.
+    pub fn session(&self) -> u64
+        ensures { result ≡ self.now.session }
+    {
+        self.session
     }
 
     /// The node's id.
@@ -76,10 +89,11 @@ impl NodeRecord {
 
     /// A record without rows.
     pub(crate) fn empty(alloc: Global, id: NodeId) -> NodeRecord
-        ensures { result ≡ record { id = id; rows = [] } }
+        ensures { result ≡ record { id = id; session = 0; rows = [] } }
     {
         NodeRecord {
             id,
+            session: 0,
             rows: Vec::new(alloc),
         }
     }
@@ -107,11 +121,16 @@ impl NodeRecord {
     /// A copy of the record.
     pub(crate) fn copy(&self, alloc: Global) -> Result<NodeRecord, CoreFault>
         ensures id { IfOk result (λ copy. copy.id ≡ self.now.id) }
+        ensures session { IfOk result (λ copy. copy.session ≡ self.now.session) }
         ensures rows { IfOk result (λ copy. parts copy.rows ≡ parts self.now.rows) }
     {
         let id = self.id.clone()?;
         let rows = copies_of(alloc, self.rows.as_slice())?;
-        Ok(NodeRecord { id, rows })
+        Ok(NodeRecord {
+            id,
+            session: self.session,
+            rows,
+        })
     }
 
     /// The row of this volume, if it has one.

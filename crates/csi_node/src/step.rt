@@ -10,7 +10,7 @@ ghost use Rattle.csi_node.specs.Shown.{RowsShow};
 ghost use Rattle.csi_node.specs.State.{NodeState, volume_of};
 
 use crate::at_row::{answer_at_row, answer_with_new_row, refusal};
-use crate::fault::CoreFault;
+use csi_fence::CoreFault;
 use crate::row::NodeRow;
 use csi_types::{CallRef, Kind, Number, Reply, Status, VolumeId};
 use std::alloc::Global;

@@ -7,7 +7,7 @@ use Rattle.csi_types.specs.declared.capability.Access.{Access}
 use Rattle.csi_types.specs.declared.capability.Access.TheVariants.{Block, Mount}
 use Rattle.csi_types.specs.declared.capability.Capability.{Capability}
 use Rattle.csi_types.specs.declared.reply.Reply.{Reply}
-use Rattle.csi_types.specs.Fence.{Kept}
+use Rattle.csi_fence.specs.Fence.{Kept}
 use Rattle.csi_types.specs.Mode.{mode_number}
 use Rattle.csi_types.specs.Same.{kind_number}
 use Rattle.csi_types.specs.Limits.{IsAccess, IsReply}

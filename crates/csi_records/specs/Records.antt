@@ -5,7 +5,7 @@ use Rattle.csi_types.specs.declared.capability.Capability.{Capability}
 use Rattle.csi_types.specs.Limits.{IsWord, IsNumber, IsCapability, IsReply}
 use Rattle.csi_types.specs.Text.{IsName, IsNodeId, IsTarget}
 use Rattle.csi_types.specs.VolumeId.{IsVolumeId}
-use Rattle.csi_types.specs.Fence.{Kept}
+use Rattle.csi_fence.specs.Fence.{Kept}
 use Rattle.csi_frames.specs.declared.version.Version.{Version}
 use Rattle.csi_frames.specs.Version.{has_mode}
 use Rattle.csi_controller.specs.declared.row.ControllerRow.{ControllerRow}

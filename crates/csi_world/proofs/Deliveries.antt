@@ -13,7 +13,7 @@ use Rattle.csi_types.specs.declared.frame.Body.{Body}
 use Rattle.csi_types.specs.declared.frame.Body.TheVariants as bodies
 use Rattle.csi_types.specs.declared.reply.Reply.{Reply}
 use Rattle.csi_types.specs.Config.{Config}
-use Rattle.csi_types.specs.Delivery.{Becomes, IsClosed, IsDelivered}
+use Rattle.csi_fence.specs.Delivery.{Becomes, IsClosed, IsDelivered}
 use Rattle.csi_types.specs.Frame.{Frame}
 use Rattle.csi_types.specs.Key.{Key, Exists, HasId, asked}
 use Rattle.csi_lists.specs.Members.{IsAmong}

@@ -1,10 +1,10 @@
 //! What a row answers to the calls of its volume, behind the fence, and what it keeps.
 ghost use Rattle.std.specs.Prelude.{◌≡◌, ◌≤◌, ℕ, [], Some, length, IsTrue, IsOk, IfOk, OnOk, OnErr};
 ghost use Rattle.csi_types.specs.declared.call.Party.TheVariants.{Controller};
-ghost use Rattle.csi_types.specs.declared.fence.Verdict.TheVariants.{Fresh, Repeated};
+ghost use Rattle.csi_fence.specs.declared.fence.Verdict.TheVariants.{Fresh, Repeated};
 ghost use Rattle.csi_types.specs.declared.status.Status.TheVariants.{Ok as OkStatus};
 ghost use Rattle.csi_types.specs.Call.{kind_of, is_party_of};
-ghost use Rattle.csi_types.specs.Fence.{verdict_of as verdict_by};
+ghost use Rattle.csi_fence.specs.Fence.{verdict_of as verdict_by};
 ghost use Rattle.csi_types.specs.Frame.{IsAllowed};
 ghost use Rattle.csi_types.specs.Lent.{lent_call};
 ghost use Rattle.csi_types.specs.Replies.{ok_reply, stale_reply};
@@ -18,9 +18,9 @@ use super::counts::{MAX_NODES, recount};
 use super::line::refused;
 use super::replies::{copied, done, reply_of};
 use super::row_table::line;
-use crate::fault::CoreFault;
+use csi_fence::{CoreFault, Verdict, verdict_of};
 use crate::row::ControllerRow;
-use csi_types::{Body, CallRef, Kind, NodeSlots, Number, Reply, Status, Verdict, verdict_of};
+use csi_types::{Body, CallRef, Kind, NodeSlots, Number, Reply, Status};
 use std::alloc::Global;
 
 // Keeps a reply in a row, and gives its kind and a copy of it. A refusal changes nothing. Without a detail it takes no memory.

@@ -2,7 +2,7 @@
 ghost use Rattle.std.specs.Prelude.{IfOk};
 ghost use Rattle.csi_controller.specs.Core.{IsSameRow};
 
-use crate::fault::CoreFault;
+use csi_fence::CoreFault;
 use crate::row::ControllerRow;
 
 /// A copy of a row.

@@ -14,7 +14,7 @@ use super::create_lines::argument_fault;
 use super::line::{Line, refused};
 use super::new_row::new_row;
 use super::replies::{done, reply_of};
-use crate::fault::CoreFault;
+use csi_fence::CoreFault;
 use csi_types::{Call, CapabilityList, Number, Reply, Status, VolumeId, wanted_capacity};
 
 /// The most rows that a controller has.

@@ -15,7 +15,7 @@ use super::core_parts::Core;
 use super::finding::is_own;
 use super::line::refused;
 use super::replies::{done, reply_of};
-use crate::fault::CoreFault;
+use csi_fence::CoreFault;
 use csi_types::{
     Body, CallRef, CapabilityList, CapabilityRef, Frame, Kind, Number, Party, Reply, Status,
 };

@@ -3,7 +3,7 @@ use Rattle.std.proofs.Common.{List, Bool, subst}
 use Rattle.std.proofs.lemmas.Result.{IfOk-weaker, on_err_weaker}
 use Rattle.std.specs.Prelude.{Some, IfOk}
 use Rattle.csi_types.specs.declared.config.NodeSlots.{NodeSlots}
-use Rattle.csi_types.specs.Fence.{verdict_of}
+use Rattle.csi_fence.specs.Fence.{verdict_of}
 use Rattle.csi_types.specs.Lent.{lent_call}
 use Rattle.csi_controller.specs.declared.row.ControllerRow.{ControllerRow}
 use Rattle.csi_controller.specs.Catalog.{rows_of}

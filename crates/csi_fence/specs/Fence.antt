@@ -1,12 +1,12 @@
--- The fence in front of both plugins' tables: which calls a plugin carries out, by their numbers. This
--- profile's own: CSI's spec.md, "Concurrency", asks that a plugin bear calls that come twice, late or at once.
--- A change of what a plugin remembers touches these definitions, and `State` and `Fenced` of each plugin.
-use Rattle.std.specs.Prelude.{◌≡◌, Bool, false, not, Option, Some, None, if◌then◌else◌, IsTrue}
+-- Which calls a plugin carries out, by their numbers. This profile's own: CSI's spec.md, "Concurrency", asks that a plugin
+-- bear calls that come twice, late or at once.
+-- A change of what a plugin remembers touches these definitions, `Fenced`, and `State` of each plugin.
+use Rattle.std.specs.Prelude.{◌≡◌, ℕ, Bool, false, not, nat_lt, Option, Some, None, if◌then◌else◌, IsTrue}
 use Rattle.csi_types.specs.declared.number.Number.{Number}
 use Rattle.csi_types.specs.declared.call.Kind.{Kind}
 use Rattle.csi_types.specs.declared.reply.Reply.{Reply}
-use Rattle.csi_types.specs.declared.fence.Verdict.{Verdict}
-use Rattle.csi_types.specs.declared.fence.Verdict.TheVariants.{Stale, Repeated, Fresh}
+use Rattle.csi_fence.specs.declared.fence.Verdict.{Verdict}
+use Rattle.csi_fence.specs.declared.fence.Verdict.TheVariants.{Stale, Repeated, Fresh}
 use Rattle.csi_types.specs.Number.{is_before, IsBefore}
 use Rattle.csi_types.specs.Same.{same_number}
 
@@ -34,9 +34,17 @@ verdict_of_spent (Some last) number = if same_number number last then Repeated e
 abbrev pub verdict_of : Option Number → Number → Verdict
 verdict_of last number = if is_spent last number then verdict_of_spent last number else Fresh
 
--- a call of this number is let through to the table
-abbrev pub IsLetThrough : Option Number → Number → Type 0
-IsLetThrough last number = verdict_of last number ≡ Fresh
+-- the number comes after the last one
+abbrev pub IsFresh : Option Number → Number → Type 0
+IsFresh last number = verdict_of last number ≡ Fresh
+
+-- a call of an earlier session than the greatest that came is over: it will never be carried out
+abbrev pub is_over : ℕ → Number → Bool
+is_over session number = nat_lt number.session session
+
+-- a call of a later session begins it
+abbrev pub begins : ℕ → Number → Bool
+begins session number = nat_lt session number.session
 
 -- a number before a spent one is spent
 abbrev pub SpentIsClosed : Type 0

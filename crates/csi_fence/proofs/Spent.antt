@@ -5,7 +5,7 @@ use Rattle.std.proofs.lemmas.Bool.{false≢true}
 use Rattle.csi_types.proofs.Order.{before-trans}
 use Rattle.csi_types.specs.declared.number.Number.{Number}
 use Rattle.csi_types.specs.Number.{is_before, IsBefore}
-use Rattle.csi_types.specs.Fence.{IsSpent}
+use Rattle.csi_fence.specs.Fence.{IsSpent}
 
 -- a number before another passes the test for it
 is_before-then : (a b : Number) → IsBefore a b → is_before a b ≡ true

@@ -1,6 +1,6 @@
 -- What a call that is delivered to a plugin does there, seen thing by thing. Both plugins keep these laws, under
 -- whatever fence they have, and what is safe of a world is told by them alone. This profile's own.
-use Rattle.std.specs.Prelude.{◌≡◌, ◌≢◌, ◌⊎◌, Bool, false, Option, Some, None, option_map, IsTrue}
+use Rattle.std.specs.Prelude.{◌≡◌, ◌≢◌, ◌⊎◌, ℕ, ◌||◌, Bool, false, Option, Some, None, option_map, IsTrue}
 use Rattle.csi_types.specs.declared.number.Number.{Number}
 use Rattle.csi_types.specs.declared.call.Call.{Call}
 use Rattle.csi_types.specs.declared.call.Kind.{Kind}
@@ -8,7 +8,7 @@ use Rattle.csi_types.specs.declared.call.Party.{Party}
 use Rattle.csi_types.specs.declared.status.Status.TheVariants.{Ok}
 use Rattle.csi_types.specs.declared.reply.Reply.{Reply}
 use Rattle.csi_types.specs.Call.{kind_of}
-use Rattle.csi_types.specs.Fence.{Kept, is_spent}
+use Rattle.csi_fence.specs.Fence.{Kept, is_spent, is_over}
 use Rattle.csi_types.specs.Frame.{Frame}
 use Rattle.csi_types.specs.Key.{Key, Form, same_key, asked}
 use Rattle.csi_types.specs.Number.{IsBefore}
@@ -26,9 +26,11 @@ pub record View : Type 0 where
 abbrev pub last_of : Option Kept → Option Number
 last_of kept = option_map (λ kept. kept.number) kept
 
--- the view of a plugin that remembers the last call of each volume for good: what is spent is told by what is kept
-abbrev pub view_by : (Key → Option Form) → (Key → Option Kept) → View
-view_by held kept = record { held = held; is_spent = λ key number. is_spent (last_of (kept key)) number; kept = kept }
+-- the view of a plugin by the greatest session that came, by what is there and by what is kept: a number is spent that is over,
+-- or that the last one kept has spent
+abbrev pub view_by : ℕ → (Key → Option Form) → (Key → Option Kept) → View
+view_by session held kept =
+    record { held = held; is_spent = λ key number. is_over session number || is_spent (last_of (kept key)) number; kept = kept }
 
 -- a call with its number, and the reply that it got; the reply's kind is another than the call's where it is the
 -- one that was kept for that number

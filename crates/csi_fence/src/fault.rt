@@ -1,11 +1,9 @@
-//! Why a controller refuses.
-ghost use Rattle.std.specs.Prelude.{⊤};
-
+//! Why a plugin refuses.
 use csi_types::NoMemory;
 use std::alloc::{AllocError, AllocFailed};
 use thiserror::Error;
 
-/// Why a call of a controller failed. It has left the controller as it was (this profile's own).
+/// Why a call of a plugin failed. It has left the plugin as it was (this profile's own).
 #[derive(Clone, Copy, Debug, PartialEq, Eq, Error)]
 pub enum CoreFault {
     /// An allocation was refused.

@@ -1,8 +1,8 @@
 //! The fence in front of the plugins' tables.
 ghost use Rattle.std.specs.Prelude.{◌≡◌};
-ghost use Rattle.csi_types.specs.Fence.{verdict_of, SpentIsClosed};
+ghost use Rattle.csi_fence.specs.Fence.{verdict_of, SpentIsClosed};
 
-use crate::number::Number;
+use csi_types::Number;
 
 /// What becomes of a call that a plugin gets (this profile's own).
 #[derive(Clone, Copy, Debug, PartialEq, Eq)]
