@@ -15,6 +15,7 @@ pub mod Catalog
 pub mod Counts
 pub mod CoreParts
 pub mod Views
+pub mod WithoutSession
 pub mod Exclusive
 pub mod Safe
 pub mod View

@@ -5,6 +5,7 @@ pub mod Shown
 pub mod OneRow
 pub mod Line
 pub mod Record
+pub mod WithoutSession
 pub mod Views
 pub mod Laws
 pub mod Worked
