@@ -1,1 +1,6 @@
 pub mod Spent
+pub mod Judged
+pub mod FramesKeep
+pub mod Views
+pub mod Begun
+pub mod Delivered

@@ -60,14 +60,10 @@ answered_in machine state number call =
 abbrev pub unanswered : {State : Type 0} → State → Fenced State
 unanswered state = record { reply = None; state = state }
 
--- what a frame for this plugin gets: a reply none, a call its answer
-abbrev pub fenced_body : {State : Type 0} → Machine State → State → Number → Body → Fenced State
-fenced_body machine state number (bodies.Call call) = answered_in machine state number call
-fenced_body machine state number (bodies.Reply kind reply) = unanswered state
-
--- a frame for another plugin gets no answer
+-- what a frame gets, by what it has: a call for this plugin its answer, a call for another one and a reply none
 abbrev pub fenced_parts : {State : Type 0} → Machine State → State → Number → Party → Body → Fenced State
-fenced_parts machine state number party body = if same_party party machine.party then fenced_body machine state number body else unanswered state
+fenced_parts machine state number party (bodies.Call call) = if same_party party machine.party then answered_in machine state number call else unanswered state
+fenced_parts machine state number party (bodies.Reply kind reply) = unanswered state
 
 -- what a frame gets, and the state after it
 abbrev pub fenced : {State : Type 0} → Machine State → State → Frame → Fenced State
