@@ -4,3 +4,4 @@ pub mod FramesKeep
 pub mod Views
 pub mod Begun
 pub mod Delivered
+pub mod LetThrough
