@@ -1,14 +1,14 @@
 -- Two lists that have the same of each key, where the first has each key at most once: as many of each pass tests that agree.
-use Rattle.std.proofs.Common.{◌≡◌, ◌+◌, ℕ, List, [], ◌∷◌, Bool, true, false, cond, not, length, refl, sym, ◌∙◌, ap, subst, inl, inr, arith}
+use Rattle.std.proofs.Common.{◌≡◌, ◌<◌, ◌+◌, ℕ, List, [], ◌∷◌, Bool, true, false, cond, not, length, refl, sym, ◌∙◌, ap, subst, inl, inr, arith}
 use Rattle.std.specs.Prelude.{Option, Some, None, option_map, option_to_list, find, filter, count_by, ◌==◌}
-use Rattle.std.proofs.lemmas.Bool.{eq-eqb, eqb-true, true≢false}
+use Rattle.std.proofs.lemmas.Bool.{eq-eqb, eqb-true, ne_eqb, true≢false}
 use Rattle.std.proofs.lemmas.List.Sums.{length-filter}
-use Rattle.csi_lists.specs.Members.{IsAmong}
+use Rattle.csi_lists.specs.Members.{EachTwo, IsAmong}
 use Rattle.csi_lists.specs.Places.{AtMostOne}
 use Rattle.csi_lists.proofs.Counts.{count-cons, count-split}
 use Rattle.csi_lists.proofs.Filters.{filter-filter, filter-none, filter-swap}
-use Rattle.csi_lists.proofs.Members.{among-empty, among-find, in_filter}
-use Rattle.csi_lists.proofs.Searches.{find-missed, find-none_in_filter, first_of_list}
+use Rattle.csi_lists.proofs.Members.{among-empty, among-find, each_of, in_filter}
+use Rattle.csi_lists.proofs.Searches.{find-missed, find-none, find-none_in_filter, first_of_list}
 use Rattle.csi_lists.proofs.Tests.{not-where}
 
 -- ---- what a search finds, and what a filter keeps
@@ -131,3 +131,12 @@ module _ {X Y : Type 0} (f : X → Y) (of : X → ℕ) (key : Y → ℕ) where
         ∙ kept_alike (find (λ x. of x == k) xs) (λ x is. same x (among-find (λ x. of x == k) xs x is))
         ∙ ap (filter q) (has k)
         ∙ filter-swap q (λ y. key y == k) ys
+
+-- keys that rise are there once each
+pub once-rising : {X : Type 0} (of : X → ℕ) (xs : List X) → EachTwo (λ a b. of a < of b) xs → (k : ℕ) → AtMostOne (λ x. of x == k) xs
+once-rising of [] rising k = tt
+once-rising of (x ∷ xs) rising k = (
+  λ own. find-none (λ y. of y == k) xs (λ y among. ne_eqb (of y) k (λ same.
+  let lower = each_of (λ z. of x < of z) xs y rising.0 among in let here = eqb-true (of x) k own in omega (arith, lower, here, same))),
+  once-rising of xs rising.1 k,
+)
