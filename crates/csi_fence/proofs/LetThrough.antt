@@ -29,6 +29,25 @@ module _ {State : Type 0} (machine : Machine State) where
   pub is_answered : (state : State) (number : Number) (call : Call) → fenced machine state (call_frame number machine.party call) ≡ answered_in machine state number call
   is_answered state number call = let own : same_party machine.party machine.party ≡ true = (same_party-tells machine.party machine.party).1 refl in rw own refl
 
+  -- by whether it is over
+  by_session : (state : State) (number : Number) (call : Call) (b : Bool) → is_over (machine.session state) number ≡ b
+      → answered_in machine state number call
+      ≡ cond b (answered_only machine state number (kind_of call) stale_reply) (fenced_call machine (in_session machine number state) number call (machine.kept_for call (in_session machine number state)))
+  by_session state number call b is =
+      ap
+      (λ c. cond c (answered_only machine state number (kind_of call) stale_reply) (fenced_call machine (in_session machine number state) number call (machine.kept_for call (in_session machine number state))))
+      is
+
+  -- one that is over gets that it is stale, and nothing changes
+  pub over_call : (state : State) (number : Number) (call : Call) → is_over (machine.session state) number ≡ true
+      → fenced machine state (call_frame number machine.party call) ≡ answered_only machine state number (kind_of call) stale_reply
+  over_call state number call over = is_answered state number call ∙ by_session state number call true over
+
+  -- one that isn't over is judged in its session
+  pub judged_call : (state : State) (number : Number) (call : Call) → is_over (machine.session state) number ≡ false
+      → fenced machine state (call_frame number machine.party call) ≡ fenced_call machine (in_session machine number state) number call (machine.kept_for call (in_session machine number state))
+  judged_call state number call not_over = is_answered state number call ∙ by_session state number call false not_over
+
   -- a call whose number is fresh is carried out
   fresh_call : (state : State) (number : Number) (call : Call) (kept : Option Kept) → IsFresh (last_of kept) number → fenced_call machine state number call kept ≡ machine.carried_out state number call
   fresh_call state number call None fresh = refl
@@ -38,15 +57,19 @@ module _ {State : Type 0} (machine : Machine State) where
   pub is_carried_out : (state : State) (number : Number) (call : Call) → IsLetThrough machine state number call
       → fenced machine state (call_frame number machine.party call) ≡ machine.carried_out (in_session machine number state) number call
   is_carried_out state number call through =
-      is_answered state number call
-      ∙ ap
-      (λ b. cond b (answered_only machine state number (kind_of call) stale_reply) (fenced_call machine (in_session machine number state) number call (machine.kept_for call (in_session machine number state))))
-      through.not_over
+      judged_call state number call through.not_over
       ∙ fresh_call (in_session machine number state) number call (machine.kept_for call (in_session machine number state)) through.fresh
 
   -- a call of the machine's session is judged in the state that there is
   pub stays-in_session : (state : State) (number : Number) → number.session ≡ machine.session state → in_session machine number state ≡ state
   stays-in_session state number same = ap (λ b. cond b (machine.begun number.session state) state) (not_begins-own (machine.session state) number same)
+
+  -- and so by what is kept there
+  pub own_call : (state : State) (number : Number) (call : Call) → number.session ≡ machine.session state
+      → fenced machine state (call_frame number machine.party call) ≡ fenced_call machine state number call (machine.kept_for call state)
+  own_call state number call same =
+      judged_call state number call (not_over-own (machine.session state) number same)
+      ∙ ap (λ (s : State). fenced_call machine s number call (machine.kept_for call s)) (stays-in_session state number same)
 
   -- so one of that session and after the number that is kept is let through
   pub later-through : (state : State) (later : Number) (call : Call) (kept : Kept) → later.session ≡ machine.session state → machine.kept_for call state ≡ Some kept → IsBefore kept.number later
