@@ -103,6 +103,7 @@ impl ControllerRecord {
     pub fn rows(&self) -> &[ControllerRow]
         ensures value { result.now ≡ self.now.rows }
         ensures sound { IsSound self.now.next_id self.now.rows }
+        ensures current { IsCurrent self.now.session self.now.rows }
     {
         self.catalog.rows()
     }
