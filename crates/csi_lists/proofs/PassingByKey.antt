@@ -66,6 +66,10 @@ none-of_all key [] none = refl
 none-of_all key (y ∷ ys) none =
     absurd (among-empty y (filter (λ z. key z == key y) (y ∷ ys)) (none (key y)) (in_filter (λ z. key z == key y) (y ∷ ys) y (inl refl) (eq-eqb (key y) (key y) refl)))
 
+-- what counts as one
+abbrev weight : Bool → ℕ
+weight b = cond b 1 0
+
 -- ---- of each key
 
 module _ {X Y : Type 0} (f : X → Y) (of : X → ℕ) (key : Y → ℕ) where
@@ -107,7 +111,7 @@ module _ {X Y : Type 0} (f : X → Y) (of : X → ℕ) (key : Y → ℕ) where
         let own : filter (λ y. key y == of x) ys ≡ f x ∷ [] = sym (has (of x)) ∙ ap (λ b. shown_list (cond b (Some x) (find (λ z. of z == of x) xs))) (eq-eqb (of x) (of x) refl) in
         let first : count_by q (filter (λ y. key y == of x) ys) ≡ cond (q (f x)) 1 0 + count_by q [] = ap (count_by q) own ∙ count-cons q (f x) [] in
         let none : count_by q [] ≡ 0 = refl in
-        let agree : cond (q (f x)) 1 0 ≡ cond (p x) 1 0 = ap (λ b. cond b 1 0) (same x (inl refl)) in
+        let agree = ap weight (same x (inl refl)) in
         let rest = count-by_key xs (filter (λ y. not (key y == of x)) ys) (λ k. (once k).1) (others-by_key x xs ys once has) (λ z among. same z (inr among)) in
         omega (arith, count-cons p x xs, count-split q (λ y. key y == of x) ys, first, none, agree, rest)
 
@@ -137,6 +141,6 @@ pub once-rising : {X : Type 0} (of : X → ℕ) (xs : List X) → EachTwo (λ a 
 once-rising of [] rising k = tt
 once-rising of (x ∷ xs) rising k = (
   λ own. find-none (λ y. of y == k) xs (λ y among. ne_eqb (of y) k (λ same.
-  let lower = each_of (λ z. of x < of z) xs y rising.0 among in let here = eqb-true (of x) k own in omega (arith, lower, here, same))),
+      let lower = each_of (λ z. of x < of z) xs y rising.0 among in let here = eqb-true (of x) k own in omega (arith, lower, here, same))),
   once-rising of xs rising.1 k,
 )
