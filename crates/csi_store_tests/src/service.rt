@@ -35,32 +35,53 @@ const CREATE: &[u8] = &[
 
 // The record of a controller that carried it out.
 const RECORD: &[u8] = &[
+    3, 0, 0, 0, 2, 0, 0, 0, 0, 0, 0, 0, 0, 0, 0, 0, 18, 3, 0, 0, 0, 0, 0, 0, 0, 0, 2, 0, 0, 0, 0,
+    0, 0, 0, 1, 0, 0, 0, 0, 0, 0, 0, 1, 0, 0, 0, 43, 3, 1, 1, 118, 0, 0, 0, 0, 0, 0, 0, 10, 1, 0,
+    1, 0, 0, 0, 0, 0, 0, 0, 0, 1, 0, 0, 0, 0, 0, 0, 0, 1, 129, 0, 0, 0, 0, 0, 0, 0, 0, 1, 0,
+];
+
+// The same where a call of session 2 came since, which changed nothing else.
+const LATER_RECORD: &[u8] = &[
+    3, 0, 0, 0, 2, 0, 0, 0, 0, 0, 0, 0, 0, 0, 0, 0, 18, 3, 0, 0, 0, 0, 0, 0, 0, 0, 2, 0, 0, 0, 0,
+    0, 0, 0, 2, 0, 0, 0, 0, 0, 0, 0, 1, 0, 0, 0, 43, 3, 1, 1, 118, 0, 0, 0, 0, 0, 0, 0, 10, 1, 0,
+    1, 0, 0, 0, 0, 0, 0, 0, 0, 1, 0, 0, 0, 0, 0, 0, 0, 1, 129, 0, 0, 0, 0, 0, 0, 0, 0, 1, 0,
+];
+
+// The record in version 2, and in version 1.
+const SECOND_RECORD: &[u8] = &[
     2, 0, 0, 0, 2, 0, 0, 0, 0, 0, 0, 0, 0, 0, 0, 0, 10, 2, 0, 0, 0, 0, 0, 0, 0, 0, 2, 0, 0, 0, 0,
     0, 0, 0, 1, 0, 0, 0, 43, 2, 1, 1, 118, 0, 0, 0, 0, 0, 0, 0, 10, 1, 0, 1, 0, 0, 0, 0, 0, 0, 0,
     0, 1, 0, 0, 0, 0, 0, 0, 0, 1, 129, 0, 0, 0, 0, 0, 0, 0, 0, 1, 0,
 ];
 
-// The same record in version 1.
-const OLD_RECORD: &[u8] = &[
+const FIRST_RECORD: &[u8] = &[
     1, 0, 0, 0, 2, 0, 0, 0, 0, 0, 0, 0, 0, 0, 0, 0, 10, 1, 0, 0, 0, 0, 0, 0, 0, 0, 2, 0, 0, 0, 0,
     0, 0, 0, 1, 0, 0, 0, 43, 1, 1, 1, 118, 0, 0, 0, 0, 0, 0, 0, 10, 1, 0, 1, 0, 0, 0, 0, 0, 0, 0,
     0, 1, 0, 0, 0, 0, 0, 0, 0, 1, 129, 0, 0, 0, 0, 0, 0, 0, 0, 1, 0,
 ];
 
-// The heads of a new controller and of a new node `n1`.
-const CONTROLLER_HEAD: &[u8] = &[2, 0, 0, 0, 0, 0, 0, 0, 0, 1];
+// The heads of a new controller and of a new node `n1`; and that of the node once a call of session 1 came.
+const CONTROLLER_HEAD: &[u8] = &[3, 0, 0, 0, 0, 0, 0, 0, 0, 1, 0, 0, 0, 0, 0, 0, 0, 0];
 
-const NODE_HEAD: &[u8] = &[2, 1, 2, 110, 49];
+const NEW_NODE_HEAD: &[u8] = &[3, 1, 2, 110, 49, 0, 0, 0, 0, 0, 0, 0, 0];
+
+const NODE_HEAD: &[u8] = &[3, 1, 2, 110, 49, 0, 0, 0, 0, 0, 0, 0, 1];
 
 // The record of a node `n1` that staged volume 1 and published it at `/a`.
 const NODE_RECORD: &[u8] = &[
+    3, 0, 0, 0, 2, 0, 0, 0, 0, 0, 0, 0, 0, 0, 0, 0, 13, 3, 1, 2, 110, 49, 0, 0, 0, 0, 0, 0, 0, 1, 0,
+    0, 0, 0, 0, 0, 0, 1, 0, 0, 0, 36, 3, 1, 0, 1, 1, 2, 47, 97, 0, 0, 0, 0, 0, 0, 0, 0, 1, 0, 0, 0,
+    0, 0, 0, 0, 2, 135, 0, 0, 0, 0, 0, 0, 0, 0, 0, 0,
+];
+
+// The same record in version 2, and in version 1.
+const SECOND_NODE_RECORD: &[u8] = &[
     2, 0, 0, 0, 2, 0, 0, 0, 0, 0, 0, 0, 0, 0, 0, 0, 5, 2, 1, 2, 110, 49, 0, 0, 0, 0, 0, 0, 0, 1, 0,
     0, 0, 36, 2, 1, 0, 1, 1, 2, 47, 97, 0, 0, 0, 0, 0, 0, 0, 0, 1, 0, 0, 0, 0, 0, 0, 0, 2, 135, 0,
     0, 0, 0, 0, 0, 0, 0, 0, 0,
 ];
 
-// The same record in version 1.
-const OLD_NODE_RECORD: &[u8] = &[
+const FIRST_NODE_RECORD: &[u8] = &[
     1, 0, 0, 0, 2, 0, 0, 0, 0, 0, 0, 0, 0, 0, 0, 0, 5, 1, 1, 2, 110, 49, 0, 0, 0, 0, 0, 0, 0, 1, 0,
     0, 0, 36, 1, 1, 0, 1, 1, 2, 47, 97, 0, 0, 0, 0, 0, 0, 0, 0, 1, 0, 0, 0, 0, 0, 0, 0, 2, 135, 0,
     0, 0, 0, 0, 0, 0, 0, 0, 0,
@@ -133,7 +154,7 @@ fn write_record_succeeds_with_memory(rt: HostRuntime) {
     drop(bytes);
 }
 
-// Whether the bytes are read as a record that is written as these.
+// Whether the bytes are read as a record of one volume that is written as these.
 fn is_written_as(rt: &(impl Abort + AllocGlobal), bytes: &[u8], wanted: &[u8]) -> bool {
     let record: ControllerRecord = read_record(rt.alloc(), bytes).expect(rt, "a record");
     let is_volume = record.next_id() == 2 && record.rows().len() == 1;
@@ -147,7 +168,9 @@ fn is_written_as(rt: &(impl Abort + AllocGlobal), bytes: &[u8], wanted: &[u8]) -
 #[test]
 fn a_record_is_read_as_it_was_written(rt: HostRuntime) {
     assert!(&rt; is_written_as(&rt, RECORD, RECORD));
-    assert!(&rt; is_written_as(&rt, OLD_RECORD, RECORD));
+    assert!(&rt; is_written_as(&rt, LATER_RECORD, LATER_RECORD));
+    assert!(&rt; is_written_as(&rt, SECOND_RECORD, RECORD));
+    assert!(&rt; is_written_as(&rt, FIRST_RECORD, RECORD));
 }
 
 // A record with one byte in place of another.
@@ -163,32 +186,54 @@ fn changed(rt: &(impl Abort + AllocGlobal), record: &[u8], at: usize, byte: u8) 
 const CHANGES: &[(usize, u8, u64)] = &[
     // the version of all and of the head, and the number of parts
     (0, 1, 0),
+    (0, 2, 0),
+    (0, 4, 0),
+    (17, 1, 0),
+    (17, 2, 0),
+    (17, 4, 0),
+    (4, 3, 2),
+    // a node's head, a next id that is given already, and a session that is over for the row
+    (18, 1, 0),
+    (26, 1, 1),
+    (34, 0, 1),
+    // a row of another version, neither live nor deleted, with capacity 0, in mode 8
+    (47, 1, 1),
+    (47, 2, 1),
+    (48, 3, 1),
+    (58, 0, 1),
+    (61, 8, 1),
+    // no name, one that is no UTF-8, no capability, 65 nodes, and a detail that isn't there
+    (49, 0, 1),
+    (50, 255, 1),
+    (59, 0, 1),
+    (62, 65, 1),
+    (89, 1, 1),
+    // a reply of a node's
+    (79, 0x85, 1),
+];
+
+// The volume is deleted, by a call of an earlier session.
+const LATER_CHANGES: &[(usize, u8, u64)] = &[(48, 2, 1)];
+
+// The same of a record of version 2, and of version 1: the versions, and what is refused in all; in version 1 mode 6 too.
+const SECOND_CHANGES: &[(usize, u8, u64)] = &[
+    (0, 1, 0),
     (0, 3, 0),
     (17, 1, 0),
     (17, 3, 0),
-    (4, 3, 2),
-    // a node's head, and a next id that is given already
-    (18, 1, 0),
-    (26, 1, 1),
-    // a row of another version, neither live nor deleted, with capacity 0, in mode 8
     (39, 1, 1),
     (39, 3, 1),
-    (40, 3, 1),
+    (4, 3, 2),
+    (18, 1, 0),
+    (26, 1, 1),
     (50, 0, 1),
     (53, 8, 1),
-    // no name, one that is no UTF-8, no capability, 65 nodes, and a detail that isn't there
-    (41, 0, 1),
-    (42, 255, 1),
-    (51, 0, 1),
-    (54, 65, 1),
-    (81, 1, 1),
-    // a reply of a node's
     (71, 0x85, 1),
 ];
 
-// The same of a record of version 1: the versions, a volume in mode 6, and what is refused in both.
-const OLD_CHANGES: &[(usize, u8, u64)] = &[
+const FIRST_CHANGES: &[(usize, u8, u64)] = &[
     (0, 2, 0),
+    (0, 3, 0),
     (17, 2, 0),
     (39, 2, 1),
     (53, 6, 1),
@@ -212,7 +257,9 @@ fn are_refused(rt: &(impl Abort + AllocGlobal), record: &[u8], changes: &[(usize
 #[test]
 fn a_record_is_refused_at_its_first_bad_part(rt: HostRuntime) {
     are_refused(&rt, RECORD, CHANGES);
-    are_refused(&rt, OLD_RECORD, OLD_CHANGES);
+    are_refused(&rt, LATER_RECORD, LATER_CHANGES);
+    are_refused(&rt, SECOND_RECORD, SECOND_CHANGES);
+    are_refused(&rt, FIRST_RECORD, FIRST_CHANGES);
 }
 
 // A byte of a node's record that is changed, and the part that is refused for it.
@@ -221,31 +268,33 @@ const NODE_CHANGES: &[(usize, u8, u64)] = &[
     (0, 1, 0),
     (17, 1, 0),
     (4, 3, 2),
-    // a controller's head, an empty node id, and a key that is there already
+    // a controller's head, an empty node id, a session that is over for the row, and a key that is there already
     (18, 0, 0),
     (19, 0, 0),
     (29, 0, 1),
+    (37, 0, 1),
     // a row of another version, neither staged nor not, in mode 8, with no target of one, with a flag of 2
-    (34, 1, 1),
-    (35, 2, 1),
-    (37, 8, 1),
-    (38, 0, 1),
-    (42, 2, 1),
+    (42, 1, 1),
+    (43, 2, 1),
+    (45, 8, 1),
+    (46, 0, 1),
+    (50, 2, 1),
     // a reply of the controller's, with a status above 16, and with an id
-    (59, 129, 1),
-    (60, 17, 1),
-    (68, 1, 1),
+    (67, 129, 1),
+    (68, 17, 1),
+    (76, 1, 1),
     // an id that is no UTF-8, no target, one that is no UTF-8, and 17 of them
     (20, 255, 0),
-    (39, 0, 1),
-    (41, 255, 1),
-    (38, 17, 1),
+    (47, 0, 1),
+    (49, 255, 1),
+    (46, 17, 1),
 ];
 
 #[test]
 fn a_node_record_is_refused_at_its_first_bad_part(rt: HostRuntime) {
     assert!(&rt; node_refused_at(rt.alloc(), NODE_RECORD).is_none());
-    assert!(&rt; node_refused_at(rt.alloc(), OLD_NODE_RECORD).is_none());
+    assert!(&rt; node_refused_at(rt.alloc(), SECOND_NODE_RECORD).is_none());
+    assert!(&rt; node_refused_at(rt.alloc(), FIRST_NODE_RECORD).is_none());
     for (at, byte, place) in NODE_CHANGES {
         let bytes = changed(&rt, NODE_RECORD, *at, *byte);
         let refused = node_refused_at(rt.alloc(), bytes.as_slice());
@@ -352,18 +401,18 @@ fn open_succeeds_with_memory(rt: HostRuntime) {
     drop(first);
     let mut second = MemoryKeep::new(rt.alloc(), 1000);
     assert!(&rt; node_fault(&rt, &mut second, "n1").is_none());
-    assert!(&rt; has_head(&mut second, NODE_HEAD));
+    assert!(&rt; has_head(&mut second, NEW_NODE_HEAD));
     drop(second);
 }
 
 const AT_HEAD: Option<KeepFault> = Some(KeepFault::BadRecord(0));
 
 #[test]
-fn a_head_fits_in_18_bytes(rt: HostRuntime) {
-    let mut small = MemoryKeep::new(rt.alloc(), 17);
+fn a_head_fits_in_26_bytes(rt: HostRuntime) {
+    let mut small = MemoryKeep::new(rt.alloc(), 25);
     assert!(&rt; controller_fault(&rt, &mut small) == Some(KeepFault::Full));
     assert!(&rt; is_empty(&mut small));
-    let mut enough = MemoryKeep::new(rt.alloc(), 18);
+    let mut enough = MemoryKeep::new(rt.alloc(), 26);
     assert!(&rt; controller_fault(&rt, &mut enough).is_none());
     assert!(&rt; small.faults() == 0 && enough.faults() == 0);
     drop((small, enough));
@@ -379,7 +428,7 @@ fn a_store_of_another_plugin_is_refused_at_its_head(rt: HostRuntime) {
     assert!(&rt; node_fault(&rt, &mut other, "n1").is_none());
     assert!(&rt; node_fault(&rt, &mut other, "n2") == AT_HEAD);
     assert!(&rt; controller_fault(&rt, &mut other) == AT_HEAD);
-    assert!(&rt; has_head(&mut other, NODE_HEAD));
+    assert!(&rt; has_head(&mut other, NEW_NODE_HEAD));
     drop(other);
 }
 

@@ -1,14 +1,14 @@
 //! Refused growths of records, stores and services. With memory to spare each test compares the whole answers. Run with one
 //! allocation refused, each in turn (`tools/refusals`), the call that sees it wants memory, and is then
 //! answered in full, for `open` and `serve` after opening again.
-use super::older::{OLD, parts_of};
+use super::older::{FORGETS, FORGOTTEN, parts_of};
 use super::playing::{
     CREATED, Content, ENDS, End, FRAMES, NOTHING, REPLIES, SCRIPT, are_parts, has_parts, is_after,
     is_replied, is_slice, may_have, played,
 };
 use super::{
-    CONTROLLER_HEAD, CREATE, NODE_HEAD, NODE_RECORD, OLD_RECORD, RECORD, controller,
-    controller_fault, is_part, node, part,
+    CONTROLLER_HEAD, CREATE, FIRST_RECORD, NEW_NODE_HEAD, NODE_HEAD, NODE_RECORD, RECORD, controller,
+    controller_fault, node, part,
 };
 use csi_controller::ControllerRecord;
 use csi_frames::decode;
@@ -51,7 +51,7 @@ fn record_of<T: Record>(rt: &(impl Abort + AllocGlobal), bytes: &[u8]) -> T {
 fn records_in_want_of_memory(rt: HostRuntime) {
     let of_controller: ControllerRecord = record_of(&rt, RECORD);
     assert!(&rt; is_written(&rt, of_controller, RECORD));
-    let of_version_1: ControllerRecord = record_of(&rt, OLD_RECORD);
+    let of_version_1: ControllerRecord = record_of(&rt, FIRST_RECORD);
     assert!(&rt; is_written(&rt, of_version_1, RECORD));
     let of_node: NodeRecord = record_of(&rt, NODE_RECORD);
     assert!(&rt; is_written(&rt, of_node, NODE_RECORD));
@@ -159,20 +159,12 @@ const STAGE: &[u8] = &[
 
 // Its row then.
 const STAGED: &[u8] = &[
-    2, 1, 0, 1, 0, 0, 0, 0, 0, 0, 0, 0, 1, 0, 0, 0, 0, 0, 0, 0, 1, 133, 0, 0, 0, 0, 0, 0, 0, 0, 0,
+    3, 1, 0, 1, 0, 0, 0, 0, 0, 0, 0, 0, 1, 0, 0, 0, 0, 0, 0, 0, 1, 133, 0, 0, 0, 0, 0, 0, 0, 0, 0,
     0,
 ];
 
 // The stores of the node before and after.
-const NODE_CONTENTS: (Content, Content) = ((NODE_HEAD, &[], &[]), (NODE_HEAD, STAGED, &[]));
-
-// Whether the parts are one, with this value at key 1.
-fn is_one(parts: &[Part], value: &[u8]) -> bool {
-    match parts {
-        [one] => is_part(one, 1, value),
-        _ => false,
-    }
-}
+const NODE_CONTENTS: (Content, Content) = ((NEW_NODE_HEAD, &[], &[]), (NODE_HEAD, STAGED, &[]));
 
 #[test]
 fn a_node_steps_and_commits_in_want_of_memory(rt: HostRuntime) {
@@ -180,7 +172,7 @@ fn a_node_steps_and_commits_in_want_of_memory(rt: HostRuntime) {
     let mut service = opened_node(&rt, &mut keep);
     let parts = changes(&rt, &mut service, frame_of(&rt, STAGE));
     drop(service);
-    assert!(&rt; is_one(&parts, STAGED));
+    assert!(&rt; are_parts(&parts, NODE_CONTENTS.1));
     commits(&rt, &mut keep, &parts, NODE_CONTENTS);
     drop(parts);
     drop(keep);
@@ -203,22 +195,26 @@ fn services_are_opened_again_in_want_of_memory(rt: HostRuntime) {
     drop(other);
 }
 
-// Whether the controller of a store of version 1 isn't opened for want of memory alone, which leaves the store in one version or the other.
+// Whether the controller of a store of version 2 isn't opened for want of memory alone, which leaves the store in that version or in the
+// present one.
 fn is_wanting(rt: &(impl Abort + AllocGlobal), keep: &mut MemoryKeep) -> bool {
     match controller_fault(rt, keep) {
-        Some(fault) => fault == KeepFault::NoMemory && (has_parts(keep, OLD) || is_after(keep, 6)),
+        Some(fault) => {
+            let is_left = has_parts(keep, FORGETS) || has_parts(keep, FORGOTTEN);
+            fault == KeepFault::NoMemory && is_left
+        }
         None => true,
     }
 }
 
 #[test]
-fn a_store_of_version_1_is_rewritten_in_want_of_memory(rt: HostRuntime) {
+fn a_store_of_version_2_is_rewritten_in_want_of_memory(rt: HostRuntime) {
     let mut keep = MemoryKeep::new(rt.alloc(), 1000);
-    let parts = parts_of(&rt, OLD);
-    commits(&rt, &mut keep, &parts, (NOTHING, OLD));
+    let parts = parts_of(&rt, FORGETS);
+    commits(&rt, &mut keep, &parts, (NOTHING, FORGETS));
     drop(parts);
     assert!(&rt; is_wanting(&rt, &mut keep));
-    assert!(&rt; controller_fault(&rt, &mut keep).is_none() && is_after(&mut keep, 6));
+    assert!(&rt; controller_fault(&rt, &mut keep).is_none() && has_parts(&mut keep, FORGOTTEN));
     drop(keep);
 }
 

@@ -44,42 +44,42 @@ pub(super) const REPLIES: &[u8] = &[
 /// Where these end.
 pub(super) const ENDS: &[usize] = &[0, 33, 66, 101, 134, 167, 200];
 
-// The head of a controller that made no volume, one, and two.
-const NONE_MADE: &[u8] = &[2, 0, 0, 0, 0, 0, 0, 0, 0, 1];
+// The head of a controller of which no call came, and after the frames that made a volume and another one.
+const NONE_MADE: &[u8] = &[3, 0, 0, 0, 0, 0, 0, 0, 0, 1, 0, 0, 0, 0, 0, 0, 0, 0];
 
-pub(super) const ONE_MADE: &[u8] = &[2, 0, 0, 0, 0, 0, 0, 0, 0, 2];
+pub(super) const ONE_MADE: &[u8] = &[3, 0, 0, 0, 0, 0, 0, 0, 0, 2, 0, 0, 0, 0, 0, 0, 0, 1];
 
-const TWO_MADE: &[u8] = &[2, 0, 0, 0, 0, 0, 0, 0, 0, 3];
+const TWO_MADE: &[u8] = &[3, 0, 0, 0, 0, 0, 0, 0, 0, 3, 0, 0, 0, 0, 0, 0, 0, 1];
 
 /// The row of `v` after each frame that changes it.
 pub(super) const MADE: &[u8] = &[
-    2, 1, 1, 118, 0, 0, 0, 0, 0, 0, 0, 10, 1, 0, 1, 0, 0, 0, 0, 0, 0, 0, 0, 1, 0, 0, 0, 0, 0, 0, 0,
+    3, 1, 1, 118, 0, 0, 0, 0, 0, 0, 0, 10, 1, 0, 1, 0, 0, 0, 0, 0, 0, 0, 0, 1, 0, 0, 0, 0, 0, 0, 0,
     1, 129, 0, 0, 0, 0, 0, 0, 0, 0, 1, 0,
 ];
 
 pub(super) const HELD: &[u8] = &[
-    2, 1, 1, 118, 0, 0, 0, 0, 0, 0, 0, 10, 1, 0, 1, 1, 2, 110, 49, 0, 1, 0, 0, 0, 0, 0, 0, 0, 0, 1,
+    3, 1, 1, 118, 0, 0, 0, 0, 0, 0, 0, 10, 1, 0, 1, 1, 2, 110, 49, 0, 1, 0, 0, 0, 0, 0, 0, 0, 0, 1,
     0, 0, 0, 0, 0, 0, 0, 2, 131, 0, 0, 0, 0, 0, 0, 0, 0, 0, 0,
 ];
 
 pub(super) const REFUSED: &[u8] = &[
-    2, 1, 1, 118, 0, 0, 0, 0, 0, 0, 0, 10, 1, 0, 1, 1, 2, 110, 49, 0, 1, 0, 0, 0, 0, 0, 0, 0, 0, 1,
+    3, 1, 1, 118, 0, 0, 0, 0, 0, 0, 0, 10, 1, 0, 1, 1, 2, 110, 49, 0, 1, 0, 0, 0, 0, 0, 0, 0, 0, 1,
     0, 0, 0, 0, 0, 0, 0, 3, 131, 9, 0, 0, 0, 0, 0, 0, 0, 0, 2, 110, 49,
 ];
 
 const FREED: &[u8] = &[
-    2, 1, 1, 118, 0, 0, 0, 0, 0, 0, 0, 10, 1, 0, 1, 0, 0, 0, 0, 0, 0, 0, 0, 1, 0, 0, 0, 0, 0, 0, 0,
+    3, 1, 1, 118, 0, 0, 0, 0, 0, 0, 0, 10, 1, 0, 1, 0, 0, 0, 0, 0, 0, 0, 0, 1, 0, 0, 0, 0, 0, 0, 0,
     4, 132, 0, 0, 0, 0, 0, 0, 0, 0, 0, 0,
 ];
 
-const GONE: &[u8] = &[
-    2, 2, 1, 118, 0, 0, 0, 0, 0, 0, 0, 10, 1, 0, 1, 0, 0, 0, 0, 0, 0, 0, 0, 1, 0, 0, 0, 0, 0, 0, 0,
+pub(super) const GONE: &[u8] = &[
+    3, 2, 1, 118, 0, 0, 0, 0, 0, 0, 0, 10, 1, 0, 1, 0, 0, 0, 0, 0, 0, 0, 0, 1, 0, 0, 0, 0, 0, 0, 0,
     5, 130, 0, 0, 0, 0, 0, 0, 0, 0, 0, 0,
 ];
 
 // The row of `w`.
 const OTHER: &[u8] = &[
-    2, 1, 1, 119, 0, 0, 0, 0, 0, 0, 0, 10, 1, 0, 1, 0, 0, 0, 0, 0, 0, 0, 0, 1, 0, 0, 0, 0, 0, 0, 0,
+    3, 1, 1, 119, 0, 0, 0, 0, 0, 0, 0, 10, 1, 0, 1, 0, 0, 0, 0, 0, 0, 0, 0, 1, 0, 0, 0, 0, 0, 0, 0,
     6, 129, 0, 0, 0, 0, 0, 0, 0, 0, 2, 0,
 ];
 
@@ -113,6 +113,9 @@ fn has(part: Option<&Part>, key: u64, value: &[u8]) -> bool {
 /// Whether these are its parts.
 pub(super) fn are_parts(parts: &[Part], content: Content) -> bool {
     let is_first = has(parts.first(), 0, content.0);
+    if content.1.is_empty() && !content.2.is_empty() {
+        return parts.len() == 2 && is_first && has(parts.get(1), 2, content.2);
+    }
     parts.len() <= 3
         && is_first
         && has(parts.get(1), 1, content.1)
