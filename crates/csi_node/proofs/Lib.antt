@@ -23,5 +23,8 @@ pub mod TableLaw
 pub mod SafeStates
 pub mod StagedOnce
 mod SoundRow
-pub mod OneVolume
+pub mod PutRows
+pub mod Forgotten
+pub mod ChangedRows
+pub mod AtBeginning
 pub mod FirstRefused

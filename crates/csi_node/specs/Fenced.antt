@@ -1,22 +1,21 @@
 -- What a node does with a frame: the fence, then the table. This profile's own.
 use Rattle.std.specs.Prelude.{ℕ, ◌==◌, List, [], ◌∷◌, ◌++◌, map, filter, Option, Some, None, option_map, is_some, if◌then◌else◌}
 use Rattle.csi_types.specs.declared.number.Number.{Number}
-use Rattle.csi_types.specs.declared.call.Kind.{Kind}
 use Rattle.csi_types.specs.declared.call.Call.{Call}
 use Rattle.csi_types.specs.declared.call.Party.TheVariants.{Node}
-use Rattle.csi_types.specs.declared.reply.Reply.{Reply}
 use Rattle.csi_types.specs.Call.{kind_of}
 use Rattle.csi_types.specs.Frame.{Frame}
 use Rattle.csi_types.specs.Replies.{reply_frame}
+use Rattle.csi_fence.specs.declared.answer.Answer.{Answer}
 use Rattle.csi_fence.specs.Fence.{Kept}
 use Rattle.csi_fence.specs.Fenced as fence
 use Rattle.csi_fence.specs.Fenced.{Fenced, Machine}
 use Rattle.csi_node.specs.State.{NodeState, Answered, volume_of, row_with_id, row_for, staged_of}
 use Rattle.csi_node.specs.Table.{Outcome, node_row, has_no_room, changed}
 
--- a kind and a reply, as a frame of this node
-abbrev pub answer_frame : List ℕ → Number → Kind × Reply → Frame
-answer_frame node number answer = reply_frame number (Node node) answer.0 answer.1
+-- an answer of this node, as a frame
+abbrev pub answer_frame : List ℕ → Number → Answer → Frame
+answer_frame node number answer = reply_frame number (Node node) answer.kind answer.reply
 
 -- the row, with this kept if it is the one of this id
 abbrev pub kept_in : ℕ → Kept → Answered → Answered

@@ -14,3 +14,4 @@ pub mod View
 pub mod SoundRow
 pub mod Judging
 pub mod Changes
+pub mod Step

@@ -1,13 +1,11 @@
 -- A node's record as a value, and the rules that it keeps. This profile's own.
-use Rattle.std.specs.Prelude.{◌≡◌, ℕ, ◌<◌, ◌≤◌, List, map, length, slice_index_or, All, Bool, false, Some, None}
+use Rattle.std.specs.Prelude.{◌≡◌, ℕ, ◌<◌, ◌≤◌, List, map, length, slice_index_or, All, Bool, false, None}
 use Rattle.csi_types.specs.declared.call.Party.{Party}
 use Rattle.csi_types.specs.declared.call.Party.TheVariants.{Controller, Node}
 use Rattle.csi_types.specs.declared.frame.Body.{Body}
 use Rattle.csi_types.specs.declared.frame.Body.TheVariants as bodies
-use Rattle.csi_types.specs.Frame.{Frame}
 use Rattle.csi_types.specs.Same.{same_text}
 use Rattle.csi_node.specs.declared.row.NodeRow.{NodeRow}
-use Rattle.csi_fence.specs.Fenced.{Fenced}
 use Rattle.csi_node.specs.State.{NodeState}
 use Rattle.csi_node.specs.Shown.{RowsShow}
 use Rattle.csi_node.specs.OneRow.{RowShown, shown, IsSoundRow}
@@ -43,6 +41,10 @@ pub record IsCurrentRow (session : ℕ) (row : RowShown) : Type 0 where
 abbrev pub IsCurrent : ℕ → List RowShown → Type 0
 IsCurrent session rows = All (IsCurrentRow session) rows
 
+-- these parts of a record
+abbrev pub parts_of : List ℕ → ℕ → List NodeRow → NodeParts
+parts_of id session rows = record { id = id; session = session; rows = rows }
+
 -- the parts show the state
 pub record Shows (parts : NodeParts) (state : NodeState) : Type 0 where
   pub shows : RowsShow parts.rows state
@@ -64,8 +66,3 @@ abbrev pub is_call_for : List ℕ → Party → Body → Bool
 is_call_for node (Node id) (bodies.Call call) = same_text id node
 is_call_for node (Node id) (bodies.Reply kind reply) = false
 is_call_for node Controller body = false
-
--- the rows are those after a frame that was answered so
-pub record Gives (rows : List NodeRow) (frame : Frame) (fenced : Fenced NodeState) : Type 0 where
-  pub reply : fenced.reply ≡ Some frame
-  pub shows : RowsShow rows fenced.state

@@ -1,0 +1,11 @@
+-- Rows that are a record's have no first one that is refused.
+use Rattle.std.proofs.Common.{List, sym, subst, None}
+use Rattle.csi_node.specs.declared.row.NodeRow.{NodeRow}
+use Rattle.csi_node.specs.Judging.{KeepRules}
+use Rattle.csi_node.specs.Record.{parts}
+use Rattle.csi_node.proofs.FirstRefused.{not-both}
+use Rattle.csi_node.proofs.record.NodeRecord.without_session.Goals as goal
+
+pub returns-in-Some-clause-accepted : goal.returns-in-Some-clause-accepted
+returns-in-Some-clause-accepted c = λ rules.
+    absurd (not-both None c.as_slice.result.now c.in-Some.place c.in-Some.ensures (subst (λ (rows : List NodeRow). KeepRules None (parts rows)) (sym c.as_slice.ensures.value) rules))
