@@ -7,7 +7,7 @@ use Rattle.csi_types.specs.declared.call.Call.{Call}
 use Rattle.csi_types.specs.declared.call.Party.{Party}
 use Rattle.csi_types.specs.Frame.{Frame}
 use Rattle.csi_types.specs.Key.{Key, Form}
-use Rattle.csi_fence.specs.Delivery.{View, view_by, Delivery, kept_of, last_of, Acts, Rests, Misses, Becomes, IsDelivered}
+use Rattle.csi_fence.specs.Delivery.{View, view_by, Delivery, kept_of, last_of, Acts, Misses, Becomes, IsDelivered}
 use Rattle.csi_fence.specs.Fence.{Kept, is_spent, is_over, begins}
 use Rattle.csi_fence.specs.Fenced.{Machine, in_session}
 use Rattle.csi_fence.proofs.Spent.{spent-session, fresh_in-later, over-from, over-later, not_over-own}

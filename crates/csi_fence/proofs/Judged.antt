@@ -1,5 +1,5 @@
 -- What the fence makes of a call is one of four. What is so of every call that is answered is shown by cases of these.
-use Rattle.std.proofs.Common.{◌≡◌, Bool, true, false, cond, refl, ◌∙◌, ap}
+use Rattle.std.proofs.Common.{◌≡◌, Bool, true, false, cond, refl, ap}
 use Rattle.std.specs.Prelude.{Option, Some, None}
 use Rattle.csi_types.proofs.Equality.{same_number-tells, same_party-tells}
 use Rattle.csi_types.specs.declared.number.Number.{Number}

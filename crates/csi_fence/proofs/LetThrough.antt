@@ -1,6 +1,6 @@
 -- A call that the fence lets through is carried out in its session, and so is a later one of that session after it.
 use Rattle.std.proofs.Common.{◌≡◌, ℕ, Bool, true, false, cond, refl, sym, ◌∙◌, ap, subst, arith}
-use Rattle.std.specs.Prelude.{Option, Some, None, nat_lt}
+use Rattle.std.specs.Prelude.{Option, Some, None}
 use Rattle.std.proofs.lemmas.Bool.Decides.{nat_tests}
 use Rattle.csi_types.proofs.Equality.{same_party-tells}
 use Rattle.csi_types.specs.declared.number.Number.{Number}
@@ -9,9 +9,8 @@ use Rattle.csi_types.specs.Call.{kind_of}
 use Rattle.csi_types.specs.Number.{IsBefore}
 use Rattle.csi_types.specs.Replies.{stale_reply, call_frame}
 use Rattle.csi_types.specs.Same.{same_party}
-use Rattle.csi_fence.specs.declared.fence.Verdict.TheVariants.{Fresh}
 use Rattle.csi_fence.specs.Delivery.{last_of}
-use Rattle.csi_fence.specs.Fence.{Kept, verdict_of, is_over, begins, IsFresh}
+use Rattle.csi_fence.specs.Fence.{Kept, is_over, begins, IsFresh}
 use Rattle.csi_fence.specs.Fenced.{Machine, in_session, answered_only, answered_in, fenced_call, fenced}
 use Rattle.csi_fence.specs.Lawful.{IsLetThrough}
 use Rattle.csi_fence.proofs.Spent.{not_over-own}

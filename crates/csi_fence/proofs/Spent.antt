@@ -1,7 +1,7 @@
 -- What is spent, what is fresh, and what is over.
 use Rattle.std.proofs.Common.{◌≡◌, ◌⊎◌, ◌≤◌, ◌<◌, ℕ, Bool, true, false, not, refl, sym, ◌∙◌, ap, inl, inr, arith}
 use Rattle.std.specs.Prelude.{Option, Some, None, nat_lt}
-use Rattle.std.proofs.lemmas.Bool.{false≢true, true≢false, not-true, not-false, ltb-true, lt-ltb, false_from_ne_true}
+use Rattle.std.proofs.lemmas.Bool.{false≢true, true≢false, not-true, not-false, ltb-true, lt-ltb}
 use Rattle.std.proofs.lemmas.Bool.Decides.{nat_tests}
 use Rattle.csi_types.proofs.Order.{before-trans, before-parts, before-from}
 use Rattle.csi_types.specs.declared.number.Number.{Number}
@@ -64,6 +64,10 @@ over-to session number h = ltb-true number.session session h
 -- a call of this session isn't over
 pub not_over-own : (session : ℕ) (number : Number) → number.session ≡ session → is_over session number ≡ false
 not_over-own session number h = grind (arith, nat_tests)
+
+-- where no session came, none is
+pub none_over : (number : Number) → is_over 0 number ≡ false
+none_over number = grind (arith, nat_tests)
 
 -- what is over in a session is over in a later one
 pub over-later : (session later : ℕ) (number : Number) → session ≤ later → is_over session number ≡ true → is_over later number ≡ true

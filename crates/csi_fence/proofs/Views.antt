@@ -1,5 +1,5 @@
 -- Views by the greatest session that came: what is spent there, and what becomes there of calls.
-use Rattle.std.proofs.Common.{◌≡◌, ◌⊎◌, ℕ, true, false, refl, sym, ◌∙◌, ap, subst, inl, inr}
+use Rattle.std.proofs.Common.{◌≡◌, ◌⊎◌, ℕ, true, false, refl, ◌∙◌, ap, inl, inr}
 use Rattle.std.specs.Prelude.{◌≢◌, ◌||◌, Option, Some, None, IsTrue}
 use Rattle.std.proofs.lemmas.Bool.{or_cases, or_left, or_right, or_from}
 use Rattle.csi_types.specs.declared.number.Number.{Number}
@@ -7,12 +7,11 @@ use Rattle.csi_types.specs.declared.call.Call.{Call}
 use Rattle.csi_types.specs.declared.status.Status.TheVariants.{Ok, Aborted}
 use Rattle.csi_types.specs.Call.{kind_of}
 use Rattle.csi_types.specs.Key.{Key, Form, same_key, asked}
-use Rattle.csi_types.specs.Number.{IsBefore}
 use Rattle.csi_types.specs.Replies.{stale_reply}
 use Rattle.csi_types.specs.Reply.{has_id_by_rule}
-use Rattle.csi_fence.specs.Delivery.{View, view_by, Delivery, kept_of, last_of, Acts, Rests, Misses, Becomes, IsSameView, IsClosed, IsEmpty}
+use Rattle.csi_fence.specs.Delivery.{View, view_by, Delivery, kept_of, last_of, Acts, Rests, Becomes, IsSameView, IsClosed, IsEmpty}
 use Rattle.csi_fence.specs.Fence.{Kept, is_spent, is_over}
-use Rattle.csi_fence.proofs.Spent.{spent-earlier, own_spent, spent_still, over-earlier}
+use Rattle.csi_fence.proofs.Spent.{spent-earlier, own_spent, spent_still, none_over, over-earlier}
 
 -- a view is the same as itself
 pub same_view : (view : View) → IsSameView view view
@@ -31,7 +30,7 @@ pub empty-view : (held : Key → Option Form) (kept : Key → Option Kept) → (
 empty-view held kept no_form no_call =
     record {
       held = no_form;
-      is_spent = λ key number. or_from (is_over 0 number) (is_spent (last_of (kept key)) number) refl (ap (λ (o : Option Kept). is_spent (last_of o) number) (no_call key));
+      is_spent = λ key number. or_from (is_over 0 number) (is_spent (last_of (kept key)) number) (none_over number) (ap (λ (o : Option Kept). is_spent (last_of o) number) (no_call key));
       kept = no_call;
     }
 

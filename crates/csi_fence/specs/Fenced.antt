@@ -1,7 +1,7 @@
 -- What a plugin does with a frame: the fence stands before its table. Both plugins have this fence, each with states and a
 -- table of its own. This profile's own: CSI's spec.md, "Concurrency", asks that a plugin bear calls that come twice, late
 -- or at once.
-use Rattle.std.specs.Prelude.{ℕ, List, [], ◌∷◌, Bool, Option, Some, None, if◌then◌else◌}
+use Rattle.std.specs.Prelude.{ℕ, List, [], ◌∷◌, Option, Some, None, if◌then◌else◌}
 use Rattle.csi_types.specs.declared.number.Number.{Number}
 use Rattle.csi_types.specs.declared.call.Kind.{Kind}
 use Rattle.csi_types.specs.declared.call.Call.{Call}
