@@ -108,10 +108,7 @@ pub(crate) fn capability<'a>(
 
 /// The greatest session that came, where the version has it.
 #[tactic(auto, unfolding(crate::specs::Reading::session_in))]
-pub(crate) fn session(
-    fields: &mut Fields<'_>,
-    version: RecordVersion,
-) -> Result<Option<u64>, Stop>
+pub(crate) fn session(fields: &mut Fields<'_>, version: RecordVersion) -> Result<Option<u64>, Stop>
     ensures read { IfOk result (λ session. session_in version fields.old.bytes.now ≡ Some (session, fields.new.bytes.now)) }
     ensures bad { OnErr result (session_in version fields.old.bytes.now ≡ None) }
 {

@@ -48,7 +48,11 @@ impl Item for Capability {
 
     ghost is_item = { IsCapabilityIn };
 
-    fn read(fields: &mut Fields<'_>, alloc: Global, version: RecordVersion) -> Result<Capability, Stop> {
+    fn read(
+        fields: &mut Fields<'_>,
+        alloc: Global,
+        version: RecordVersion,
+    ) -> Result<Capability, Stop> {
         let lent = capability(fields, version)?;
         match lent.to_capability(alloc) {
             Ok(capability) => Ok(capability),
@@ -73,7 +77,11 @@ impl Item for NodeHolding {
     ghost is_item = { IsHolding };
 
     #[tactic(auto, unfolding(crate::specs::Reading::holding_in))]
-    fn read(fields: &mut Fields<'_>, alloc: Global, version: RecordVersion) -> Result<NodeHolding, Stop> {
+    fn read(
+        fields: &mut Fields<'_>,
+        alloc: Global,
+        version: RecordVersion,
+    ) -> Result<NodeHolding, Stop> {
         let node = node_id(fields, alloc)?;
         let capability = Capability::read(fields, alloc, version)?;
         let readonly = flag(fields)?;
@@ -103,7 +111,11 @@ impl Item for NodeTarget {
     ghost is_item = { λ version. IsTargetRow };
 
     #[tactic(auto, unfolding(crate::specs::Reading::target_in))]
-    fn read(fields: &mut Fields<'_>, alloc: Global, _version: RecordVersion) -> Result<NodeTarget, Stop> {
+    fn read(
+        fields: &mut Fields<'_>,
+        alloc: Global,
+        _version: RecordVersion,
+    ) -> Result<NodeTarget, Stop> {
         let target = target(fields, alloc)?;
         let readonly = flag(fields)?;
         Ok(NodeTarget { target, readonly })

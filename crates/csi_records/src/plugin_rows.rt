@@ -59,7 +59,12 @@ pub(crate) trait Row: Drop {
 
 // The row of which this is the whole value, in this version.
 #[tactic(auto, unfolding(crate::specs::Reading::whole))]
-fn row_in<T: Row>(alloc: Global, version: RecordVersion, id: VolumeId, value: &[u8]) -> Result<T, Stop>
+fn row_in<T: Row>(
+    alloc: Global,
+    version: RecordVersion,
+    id: VolumeId,
+    value: &[u8],
+) -> Result<T, Stop>
     ensures read { IfOk result (λ row. whole version (T.row_in version id) value.now ≡ Some (T.shown row)) }
     ensures bad { IsErrOf result Stop.Bad → whole version (T.row_in version id) value.now ≡ None }
     ensures bytes { AreBytes value.now }

@@ -65,11 +65,7 @@ pub fn answered_value(alloc: Global, row: &NodeRow) -> Result<Vec<u8>, NoMemory>
 
 /// The value of the head of a controller's record: a version, the plugin, the next id and the greatest session that came (this
 /// profile's own).
-pub fn controller_head_value(
-    alloc: Global,
-    next_id: u64,
-    session: u64,
-) -> Result<Vec<u8>, NoMemory>
+pub fn controller_head_value(alloc: Global, next_id: u64, session: u64) -> Result<Vec<u8>, NoMemory>
     ensures { IfOk result (λ value. value.items ≡ (controller_head present next_id (Some session)).value) }
 {
     let mut out = Vec::new(alloc);
