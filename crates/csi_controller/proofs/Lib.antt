@@ -16,15 +16,17 @@ pub mod Attached
 pub mod ShowingLaw
 pub mod Moves
 pub mod SameText
-pub mod FramesKeep
+pub mod Forgotten
 pub mod OrderlyStates
 pub mod NamesLaw
 pub mod ThingMoves
 pub mod LastCalls
+pub mod BegunThings
 pub mod DeliveryLaw
 pub mod OutcomeFacts
 pub mod TableLaw
 pub mod SafeStates
+pub mod RememberedStates
 mod SoundRow
 pub mod FirstRefused
 pub mod RowsTold
