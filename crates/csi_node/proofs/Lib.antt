@@ -1,8 +1,10 @@
 pub mod Moves
 pub mod LastCalls
-pub mod FencedCalls
+pub mod CarriedOut
+pub mod BegunSessions
+pub mod SessionsLaw
+pub mod ForgottenRows
 pub mod ThingMoves
-pub mod SpentNumbers
 pub mod ThingRows
 pub mod DeliveryLaw
 pub mod OutcomeFacts

@@ -24,7 +24,9 @@ mod worked;
 
 pub use csi_fence::{Answer, CoreFault, RecordFault};
 pub use entries::{Published, Staged};
-pub use laws::{delivery_law, publishing_law, record_law, safety_law, showing_law, table_law};
+pub use laws::{
+    delivery_law, publishing_law, record_law, safety_law, sessions_law, showing_law, table_law,
+};
 pub use node::Node;
 pub use record::NodeRecord;
 pub use row::{NodeRow, NodeTarget};
