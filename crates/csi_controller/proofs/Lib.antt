@@ -2,12 +2,19 @@ pub mod Holdings
 pub mod RowTable
 pub mod Sound
 pub mod CatalogMaps
+pub mod CatalogKept
 pub mod ShownAfter
 pub mod RowOutcomes
 pub mod AtRow
 pub mod Counts
+pub mod Sessions
+pub mod Forgetting
+pub mod ChangesTold
 pub mod RowReplaced
 pub mod Making
+pub mod CoreAnswered
+pub mod CoreBegun
+pub mod CoreMade
 pub mod Readers
 pub mod Copies
 pub mod HoldingsApart
@@ -29,6 +36,4 @@ pub mod SafeStates
 pub mod RememberedStates
 mod SoundRow
 pub mod FirstRefused
-pub mod RowsTold
-pub mod OwnRow
-pub mod OtherRows
+pub mod FirstUnfit

@@ -9,6 +9,7 @@ pub mod OneRow
 pub mod RowTable
 pub mod AtRow
 pub mod Making
+pub mod Nowhere
 pub mod Step
 pub mod Line
 pub mod Catalog
@@ -23,3 +24,5 @@ pub mod SoundRow
 pub mod Judging
 pub mod Repeats
 pub mod RowsLaw
+pub mod CoreAnswers
+pub mod Beginning

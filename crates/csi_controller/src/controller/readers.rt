@@ -5,8 +5,8 @@ ghost use Rattle.csi_controller.specs.Views.{row_if_live, IsCopyOf};
 
 use super::copies::copied_row;
 use super::core_parts::Core;
-use csi_fence::CoreFault;
 use crate::row::ControllerRow;
+use csi_fence::CoreFault;
 use csi_types::VolumeId;
 
 impl Core {

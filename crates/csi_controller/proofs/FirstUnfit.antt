@@ -1,0 +1,114 @@
+-- The first row that no record of a session has there.
+use Rattle.std.proofs.Common.{◌≡◌, ◌<◌, ◌≤◌, ◌+◌, ◌-◌, ℕ, zero, suc, length, take, drop, Bool, true, false, not, List, [], ◌∷◌, refl, sym, ◌∙◌, ap, subst, arith}
+use Rattle.std.specs.Prelude.{Some, None, find, ◌&&◌, ◌||◌, ◌==◌, nat_le}
+use Rattle.std.specs.List.{AllByRecursion}
+use Rattle.std.proofs.lemmas.Bool.{and_from, and_parts, eq-eqb, eqb-true, false≢true, le-leb, leb-false, leb-true, not-true, true≢false}
+use Rattle.std.proofs.lemmas.List.{take-append-drop, take-take}
+use Rattle.csi_lists.proofs.Each.{each-weaker}
+use Rattle.csi_lists.proofs.Places.{FirstAt-within}
+use Rattle.csi_lists.proofs.Searches.{find_none-all}
+use Rattle.csi_lists.specs.Places.{FirstAt}
+use Rattle.csi_controller.specs.declared.row.ControllerRow.{ControllerRow}
+use Rattle.csi_controller.specs.Core.{IsCurrentRow, IsCurrent}
+use Rattle.csi_controller.specs.Judging.{IsFirstRefused, is_current_row}
+use Rattle.csi_controller.specs.WithoutSession.{stays_in}
+use Rattle.csi_controller.proofs.FirstRefused.{each-front}
+
+-- ---- a row of a session
+
+-- the test tells the rules
+test-row : (session : ℕ) (row : ControllerRow) → is_current_row session row ≡ true → IsCurrentRow session row
+test-row session row passes =
+    let parts = and_parts (nat_le row.last.session session) (stays_in session row) passes in
+    record {
+      before = leb-true row.last.session session parts.0;
+      gone = λ dead. eqb-true row.last.session session (ap (λ (b : Bool). b || (row.last.session == session)) (sym dead) ∙ parts.1);
+    }
+
+row-test : (session : ℕ) (row : ControllerRow) → IsCurrentRow session row → is_current_row session row ≡ true
+row-test session row current = and_from (nat_le row.last.session session) (stays_in session row) (le-leb row.last.session session current.before) (by row.live refl)
+  where
+    by : (b : Bool) → row.live ≡ b → (b || (row.last.session == session)) ≡ true
+    by true alive = refl
+    by false dead = eq-eqb row.last.session session (current.gone dead)
+
+-- ---- the first that isn't of it
+
+-- the first rows of a session's are of it
+pub current-take : (session : ℕ) (rows : List ControllerRow) (k : ℕ) → IsCurrent session rows → IsCurrent session (take k rows)
+current-take session rows k current = each-front (IsCurrentRow session) (take k rows) (drop k rows) (subst (IsCurrent session) (sym (take-append-drop k rows)) current)
+
+-- where no row fails the test, all are of the session
+pub all-current : (session : ℕ) (rows : List ControllerRow) → find (λ (row : ControllerRow). not (is_current_row session row)) rows ≡ None → IsCurrent session rows
+all-current session rows none =
+    each-weaker (λ (row : ControllerRow). is_current_row session row ≡ true) (IsCurrentRow session) rows (test-row session) (find_none-all (is_current_row session) rows none)
+
+-- the rows before the first that fails are, and with it they aren't
+up_to : (session : ℕ) (rows : List ControllerRow) (index : ℕ) (row : ControllerRow) → FirstAt (λ (r : ControllerRow). not (is_current_row session r)) rows index row
+    → IsCurrent session (take index rows) × (IsCurrent session (take (suc index) rows) → ⊥)
+up_to session [] index row first = absurd first
+up_to session (r ∷ rs) zero row first = (tt, λ all. true≢false (sym (row-test session r all.0) ∙ not-true (is_current_row session r) first.0))
+up_to session (r ∷ rs) (suc index) row first =
+    let rest = up_to session rs index row first.1 in
+    ((test-row session r (passes (is_current_row session r) first.0), rest.0), λ all. rest.1 all.1)
+  where
+    passes : (b : Bool) → not b ≡ false → b ≡ true
+    passes true e = refl
+    passes false e = e
+
+pub first-outdated : (session : ℕ) (rows : List ControllerRow) (index : ℕ) (row : ControllerRow) → FirstAt (λ (r : ControllerRow). not (is_current_row session r)) rows index row
+    → IsFirstRefused (IsCurrent session) rows (index + 1)
+first-outdated session rows index row first =
+    let parts = up_to session rows index row first in
+    let within = FirstAt-within (λ (r : ControllerRow). not (is_current_row session r)) rows index row first in
+    let back : index ≡ index + 1 - 1 = omega arith in
+    let next : suc index ≡ index + 1 = omega arith in
+    record {
+      from = omega arith;
+      to = omega (arith, within);
+      before = subst (λ (k : ℕ). IsCurrent session (take k rows)) back parts.0;
+      refused = λ all. parts.1 (subst (λ (k : ℕ). IsCurrent session (take k rows)) (sym next) all);
+    }
+
+-- ---- two rules at once
+
+-- rules that the first rows keep where all do
+abbrev pub IsOfFronts : (List ControllerRow → Type 0) → Type 0
+IsOfFronts Rules = (rows : List ControllerRow) (k : ℕ) → Rules rows → Rules (take k rows)
+
+-- both rules
+abbrev pub Both : (List ControllerRow → Type 0) → (List ControllerRow → Type 0) → List ControllerRow → Type 0
+Both P Q rows = P rows × Q rows
+
+-- the first that is refused by one, where the rows before it keep the other
+first-before : (P Q : List ControllerRow → Type 0) (rows : List ControllerRow) (place : ℕ) → IsFirstRefused P rows place → Q (take (place - 1) rows) → IsFirstRefused (Both P Q) rows place
+first-before P Q rows place first other = record { from = first.from; to = first.to; before = (first.before, other); refused = λ both. first.refused both.0 }
+
+turned : (P Q : List ControllerRow → Type 0) (rows : List ControllerRow) (place : ℕ) → IsFirstRefused (Both Q P) rows place → IsFirstRefused (Both P Q) rows place
+turned P Q rows place first = record { from = first.from; to = first.to; before = (first.before.1, first.before.0); refused = λ both. first.refused (both.1, both.0) }
+
+-- by one alone
+pub first-one : (P Q : List ControllerRow → Type 0) (rows : List ControllerRow) (place : ℕ) → IsOfFronts Q → IsFirstRefused P rows place → Q rows → IsFirstRefused (Both P Q) rows place
+first-one P Q rows place fronts first other = first-before P Q rows place first (fronts rows (place - 1) other)
+
+pub first-other : (P Q : List ControllerRow → Type 0) (rows : List ControllerRow) (place : ℕ) → IsOfFronts P → P rows → IsFirstRefused Q rows place → IsFirstRefused (Both P Q) rows place
+first-other P Q rows place fronts other first = turned P Q rows place (first-one Q P rows place fronts first other)
+
+-- by both: the earlier one
+earlier : (P Q : List ControllerRow → Type 0) (rows : List ControllerRow) (a b : ℕ) → IsOfFronts Q → IsFirstRefused P rows a → IsFirstRefused Q rows b → a ≤ b → IsFirstRefused (Both P Q) rows a
+earlier P Q rows a b fronts one two less =
+    first-before P Q rows a one (subst Q (take-take (a - 1) (b - 1) rows (omega (arith, less))) (fronts (take (b - 1) rows) (a - 1) two.before))
+
+pub first-of_two : (P Q : List ControllerRow → Type 0) (rows : List ControllerRow) (a b place : ℕ) → IsOfFronts P → IsOfFronts Q → IsFirstRefused P rows a → IsFirstRefused Q rows b
+    → (a ≤ b → place ≡ a) → (b ≤ a → place ≡ b) → IsFirstRefused (Both P Q) rows place
+first-of_two P Q rows a b place fronts_p fronts_q one two first second = by (nat_le a b) refl
+  where
+    by : (t : Bool) → nat_le a b ≡ t → IsFirstRefused (Both P Q) rows place
+    by true e = let less = leb-true a b e in subst (IsFirstRefused (Both P Q) rows) (sym (first less)) (earlier P Q rows a b fronts_q one two less)
+    by false e =
+        let less : b ≤ a = (let more = leb-false a b e in omega (arith, more)) in
+        subst (IsFirstRefused (Both P Q) rows) (sym (second less)) (turned P Q rows b (earlier Q P rows b a fronts_p two one less))
+
+-- rows that keep the rules have no first one that is refused
+pub none-refused : (P : List ControllerRow → Type 0) (rows : List ControllerRow) (place : ℕ) → IsOfFronts P → IsFirstRefused P rows place → P rows → ⊥
+none-refused P rows place fronts first all = first.refused (fronts rows place all)
