@@ -1,6 +1,7 @@
 //! The record of a controller that made a volume, cut short at each of its bytes, longer by one, and with values that no record has:
 //! from its bytes, and from stores; in all versions.
-use super::{FIRST_RECORD, RECORD, SECOND_RECORD, changed, controller_fault, part, refused_at};
+use super::records::{FIRST_RECORD, RECORD, SECOND_RECORD, changed, refused_at};
+use super::{controller_fault, part};
 use csi_service::{Keep, KeepFault, MemoryKeep};
 use csi_sqlite::SqliteKeep;
 use sqlite::Connection;
@@ -138,7 +139,13 @@ fn refuses_all<K: Keep>(rt: &(impl Abort + AllocGlobal), keep: &mut K, whole: Wh
 
 // Whether a controller is opened of a store of the record.
 fn is_opened<K: Keep>(rt: &(impl Abort + AllocGlobal), keep: &mut K, whole: Whole) -> bool {
-    fault_of(rt, keep, head_of(whole.0, whole.1), row_of(whole.0, whole.1)).is_none()
+    fault_of(
+        rt,
+        keep,
+        head_of(whole.0, whole.1),
+        row_of(whole.0, whole.1),
+    )
+    .is_none()
 }
 
 // Heads that are longer by one byte, and one of version 2 with a session.

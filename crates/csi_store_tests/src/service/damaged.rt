@@ -1,6 +1,7 @@
 //! Stores of records with one byte in place of another, in each text, list and flag: no plugin is opened from them.
 use super::playing::{HELD, ONE_MADE, REFUSED};
-use super::{NODE_HEAD, NODE_RECORD, changed, controller_fault, node_fault, part};
+use super::records::{NODE_RECORD, changed};
+use super::{NODE_HEAD, controller_fault, node_fault, part};
 use csi_service::{Keep, KeepFault, MemoryKeep, Part};
 use std::process::Abort;
 

@@ -6,10 +6,8 @@ use super::playing::{
     CREATED, Content, ENDS, End, FRAMES, NOTHING, REPLIES, SCRIPT, are_parts, has_parts, is_after,
     is_replied, is_slice, may_have, played,
 };
-use super::{
-    CONTROLLER_HEAD, CREATE, FIRST_RECORD, NEW_NODE_HEAD, NODE_HEAD, NODE_RECORD, RECORD, controller,
-    controller_fault, node, part,
-};
+use super::records::{CREATE, FIRST_RECORD, NODE_RECORD, RECORD};
+use super::{CONTROLLER_HEAD, NEW_NODE_HEAD, NODE_HEAD, controller, controller_fault, node, part};
 use csi_controller::ControllerRecord;
 use csi_frames::decode;
 use csi_json::{ScheduleFault, read_config};
