@@ -1,5 +1,5 @@
 -- A call that is delivered to a node is carried out there, or rests.
-use Rattle.std.proofs.Common.{◌≡◌, ◌⊎◌, ◌≤◌, ℕ, List, Bool, true, false, refl, sym, ◌∙◌, ap, subst, inl, inr}
+use Rattle.std.proofs.Common.{◌≡◌, ◌⊎◌, ◌≤◌, ℕ, List, true, false, refl, sym, ◌∙◌, ap, subst, inl, inr}
 use Rattle.std.specs.Prelude.{Option, Some, None, option_map, find, is_some, not, ◌==◌, IsTrue, codes}
 use Rattle.std.proofs.lemmas.Option.{none-some}
 use Rattle.csi_lists.proofs.Members.{among-find}

@@ -4,10 +4,7 @@ use Rattle.std.specs.Prelude.{Option, Some, None, option_map, find, ◌==◌, co
 use Rattle.csi_types.specs.declared.number.Number.{Number}
 use Rattle.csi_types.specs.declared.call.Call.{Call}
 use Rattle.csi_types.specs.declared.call.Call.TheVariants.{NodeStageVolume, NodeUnstageVolume}
-use Rattle.csi_types.specs.declared.call.Kind.TheVariants as kinds
-use Rattle.csi_types.specs.declared.call.Party.TheVariants.{Node}
 use Rattle.csi_types.specs.declared.mode.Mode.TheVariants.{SingleNodeWriter}
-use Rattle.csi_types.specs.Replies.{stale_reply, reply_frame}
 use Rattle.csi_fence.specs.declared.fence.Verdict.TheVariants.{Fresh}
 use Rattle.csi_fence.specs.Delivery.{last_of}
 use Rattle.csi_fence.specs.Fence.{Kept, is_over, verdict_of}
@@ -15,8 +12,8 @@ use Rattle.csi_fence.specs.Fenced.{Fenced}
 use Rattle.csi_fence.proofs.LetThrough.{is_carried_out, over_call}
 use Rattle.csi_node.specs.State.{NodeState, Answered, empty_node, row_of_volume, row_for, volume_of}
 use Rattle.csi_node.specs.Table.{Change, changed, lifecycle_row, node_row}
-use Rattle.csi_node.specs.Fenced.{after_frames, carried_out, fenced, keep, kept_for, kept_rows, node_at}
-use Rattle.csi_node.specs.Worked.{ForgottenRow, block, call_at, forgotten, number, second_session}
+use Rattle.csi_node.specs.Fenced.{after_frames, carried_out, keep, kept_for, kept_rows, node_at}
+use Rattle.csi_node.specs.Worked.{ForgottenRow, block, call_at, forgotten, number}
 use Rattle.csi_node.proofs.CarriedOut.{Carried, no_room, has_room, was_carried, kept_of}
 use Rattle.csi_node.proofs.LastCalls.{changed-rows, changed-session, keep-session}
 

@@ -1,7 +1,7 @@
 -- What a node remembers, whatever frames came: each row's last call is of no later session than the greatest that came; and of that
 -- one, where the volume isn't staged.
-use Rattle.std.proofs.Common.{◌≡◌, ◌⊎◌, ◌≤◌, ℕ, List, Bool, true, false, refl, sym, ◌∙◌, ap, subst, inl, inr, arith}
-use Rattle.std.specs.Prelude.{Option, Some, None, option_map, find, filter, is_some, IsSome, ◌==◌}
+use Rattle.std.proofs.Common.{◌≡◌, ◌⊎◌, ◌≤◌, ℕ, List, Bool, true, refl, sym, ◌∙◌, ap, subst, inl, inr, arith}
+use Rattle.std.specs.Prelude.{option_map, find, filter, is_some, IsSome, ◌==◌}
 use Rattle.std.proofs.lemmas.Bool.{eq-eqb, eqb-true, ltb-true}
 use Rattle.csi_lists.specs.Members.{IsAmong}
 use Rattle.csi_lists.proofs.Counts.{count-either}
@@ -14,7 +14,7 @@ use Rattle.csi_fence.specs.Fence.{Kept}
 use Rattle.csi_fence.specs.Fenced.{Fenced}
 use Rattle.csi_fence.proofs.FramesKeep.{IsKept, frames_keep}
 use Rattle.csi_node.specs.State.{NodeState, Answered, StagedVolume, empty_node, staged_of, volume_of}
-use Rattle.csi_node.specs.Table.{Change, lifecycle_row, node_row, changed}
+use Rattle.csi_node.specs.Table.{lifecycle_row, node_row, changed}
 use Rattle.csi_node.specs.Fenced.{keep, begun, carried_out, node_at, after_frames}
 use Rattle.csi_node.specs.Laws.{is_another}
 use Rattle.csi_node.specs.Safe.{Remembers}

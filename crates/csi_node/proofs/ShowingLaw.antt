@@ -5,7 +5,6 @@ use Rattle.std.specs.List.{flat_map}
 use Rattle.std.proofs.lemmas.List.{length-map}
 use Rattle.csi_lists.proofs.Filters.{filter-of_map}
 use Rattle.csi_lists.proofs.PassingByKey.{filter-found, once-rising}
-use Rattle.csi_node.specs.declared.row.NodeRow.{NodeRow}
 use Rattle.csi_node.specs.State.{NodeState, Answered, StagedVolume, PublishedVolume}
 use Rattle.csi_node.specs.OneRow.{RowShown, alone}
 use Rattle.csi_node.specs.Record.{NodeParts, Shows, parts, IsSound}

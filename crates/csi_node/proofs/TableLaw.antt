@@ -17,7 +17,7 @@ use Rattle.csi_fence.proofs.LetThrough.{is_carried_out, later-carried_out}
 use Rattle.csi_node.specs.State.{NodeState, Answered, row_with_id, row_of_volume, row_for, volume_of}
 use Rattle.csi_node.specs.Table.{Outcome, Change, refused, lifecycle_row, node_row, has_no_room, changed}
 use Rattle.csi_node.specs.Fenced.{carried_out, fenced, in_session, kept_for, kept_rows, keep, node_at}
-use Rattle.csi_node.specs.Laws.{plugin_at, IsLetThrough, IsSameApart, IsDone, LeavesOthers, HasAtMostOneMore, is_another, reply_at}
+use Rattle.csi_node.specs.Laws.{plugin_at, IsLetThrough, IsSameApart, LeavesOthers, HasAtMostOneMore, is_another, reply_at}
 use Rattle.csi_node.proofs.CarriedOut.{kept_of, state_then, done_then}
 use Rattle.csi_node.proofs.LastCalls.{keep-staged, keep-published, keep-session, keep-others, keep-own, keep-rows, changed-rows, changed-session}
 use Rattle.csi_node.proofs.OutcomeFacts.{IsReady, lifecycle_facts, ready_met, ready_kept, ready_volume, ready_done}
