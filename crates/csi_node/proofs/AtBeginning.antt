@@ -43,30 +43,30 @@ use Rattle.csi_node.proofs.AtRow.{There, set-put, insert-put, own-current}
 -- where one doesn't pass, fewer pass
 filter-fewer : (p : RowShown → Bool) (rows : List RowShown) (row : RowShown) → IsAmong row rows → p row ≡ false → length (filter p rows) < length rows
 filter-fewer p [] row among h = absurd among
-filter-fewer p (first ∷ rows) row among h = by (p first) refl among
+filter-fewer p (first ∷ rows) row among h = by (λ there. filter-fewer p rows row there h) (p first) refl among
   where
-    by : (b : Bool) → p first ≡ b → IsAmong row (first ∷ rows) → length (cond b (first ∷ filter p rows) (filter p rows)) < suc (length rows)
-    by false e is = let fewer = filter-no_longer p rows in omega (arith, fewer)
-    by true e (inl same) = absurd (false≢true (sym h ∙ ap p same ∙ e))
-    by true e (inr there) = let fewer = filter-fewer p rows row there h in omega (arith, fewer)
+    by : (IsAmong row rows → length (filter p rows) < length rows) → (b : Bool) → p first ≡ b → IsAmong row (first ∷ rows) → length (cond b (first ∷ filter p rows) (filter p rows)) < suc (length rows)
+    by rest false e is = let fewer = filter-no_longer p rows in omega (arith, fewer)
+    by rest true e (inl same) = absurd (false≢true (sym h ∙ ap p same ∙ e))
+    by rest true e (inr there) = let fewer = rest there in omega (arith, fewer)
 
 -- where not all pass, fewer pass
 fewer-where : {X : Type 0} (p : X → Bool) (xs : List X) → list_all p xs ≡ false → length (filter p xs) < length xs
 fewer-where p [] h = absurd (false≢true (sym h))
-fewer-where p (x ∷ xs) h = by (p x) refl
+fewer-where p (x ∷ xs) h = by (fewer-where p xs) (p x) refl
   where
-    by : (b : Bool) → p x ≡ b → length (cond b (x ∷ filter p xs) (filter p xs)) < suc (length xs)
-    by false e = let fewer = filter-no_longer p xs in omega (arith, fewer)
-    by true e = let fewer = fewer-where p xs (sym (ap (λ (b : Bool). b && list_all p xs) e) ∙ h) in omega (arith, fewer)
+    by : (list_all p xs ≡ false → length (filter p xs) < length xs) → (b : Bool) → p x ≡ b → length (cond b (x ∷ filter p xs) (filter p xs)) < suc (length xs)
+    by rest false e = let fewer = filter-no_longer p xs in omega (arith, fewer)
+    by rest true e = let fewer = rest (sym (ap (λ (b : Bool). b && list_all p xs) e) ∙ h) in omega (arith, fewer)
 
 -- where all pass, all stay
 all-where : {X : Type 0} (p : X → Bool) (xs : List X) → list_all p xs ≡ true → filter p xs ≡ xs
 all-where p [] h = refl
-all-where p (x ∷ xs) h = by (p x) refl
+all-where {X = X} p (x ∷ xs) h = by (all-where p xs) (p x) refl
   where
-    by : (b : Bool) → p x ≡ b → cond b (x ∷ filter p xs) (filter p xs) ≡ x ∷ xs
-    by false e = absurd (false≢true (sym (ap (λ (b : Bool). b && list_all p xs) e) ∙ h))
-    by true e = ap (λ (l : List X). x ∷ l) (all-where p xs (sym (ap (λ (b : Bool). b && list_all p xs) e) ∙ h))
+    by : (list_all p xs ≡ true → filter p xs ≡ xs) → (b : Bool) → p x ≡ b → cond b (x ∷ filter p xs) (filter p xs) ≡ x ∷ xs
+    by rest false e = absurd (false≢true (sym (ap (λ (b : Bool). b && list_all p xs) e) ∙ h))
+    by rest true e = ap (λ (l : List X). x ∷ l) (rest (sym (ap (λ (b : Bool). b && list_all p xs) e) ∙ h))
 
 -- there is no room where there are 4,096 rows that are all staged
 abbrev pub is_full_of : List NodeRow → Bool
@@ -136,9 +136,9 @@ forgot-put session rows put kept new own rules earlier is forgot =
     ∙ forget-put session new (parts rows) own (recursion_from_All (IsEarlierRow session) (parts rows) earlier) (rows_rise (parts rows) rules.rising)
 
 -- the rules then, of a row that was there
-pub rules-begun : (number : Number) (id place : ℕ) (rows kept : List NodeRow) (row : NodeRow) (new : RowShown) → IsSound (parts rows) → There rows id place row → IsSoundRow new → new.id ≡ id
+pub rules-begun : (id place : ℕ) (rows kept : List NodeRow) (row : NodeRow) (new : RowShown) → IsSound (parts rows) → There rows id place row → IsSoundRow new → new.id ≡ id
     → parts kept ≡ put_row new (filter is_staged (parts rows)) → IsSound (parts kept)
-rules-begun number id place rows kept row new rules is own same put =
+rules-begun id place rows kept row new rules is own same put =
     subst IsSound (sym put) (rules-put (filter is_staged (parts rows)) new (rules-filter is_staged (parts rows) rules) own (λ none. by row.staged refl (subst (λ (n : ℕ). row_of n (filter is_staged (parts rows)) ≡ None) same none)))
   where
     now : row_of id (filter is_staged (parts rows)) ≡ cond (is_some row.staged) (Some (shown row)) None
@@ -156,6 +156,10 @@ pub current-begun : (number : Number) (rows kept : List NodeRow) (new : RowShown
     → parts kept ≡ put_row new (filter is_staged (parts rows)) → IsCurrent number.session (parts kept)
 current-begun number rows kept new own earlier put = subst (IsCurrent number.session) (sym put) (current-put number new (parts rows) own earlier)
 
+-- the sessions where there is no room
+pub current-full : (session : ℕ) (rows : List NodeRow) → is_full_of rows ≡ true → All (IsEarlierRow session) (parts rows) → IsCurrent session (parts rows)
+current-full session rows full earlier = subst (IsCurrent session) (full-staged rows full).1 (current-staged session (parts rows) earlier)
+
 -- the rules of a new row among those that stay
 pub rules-first_begun : (rows kept : List NodeRow) (new : RowShown) → IsSound (parts rows) → is_full_of rows ≡ false → IsSoundRow new → parts kept ≡ put_row new (filter is_staged (parts rows)) → IsSound (parts kept)
 rules-first_begun rows kept new rules free own put =
@@ -171,6 +175,20 @@ verdict-later last number later = ap (λ (b : Bool). cond b (verdict_of_spent (S
 -- a volume that has no row has none among those that stay
 absent-staged : (rows : List NodeRow) (id place : ℕ) → IsSound (parts rows) → IsGapFor (parts rows) id place → row_of id (filter is_staged (parts rows)) ≡ None
 absent-staged rows id place rules gap = found-staged (parts rows) (rows_rise (parts rows) rules.rising) id ∙ ap (passing is_staged) (absent-gap (parts rows) id place gap)
+
+-- what stays where the call's row was there
+pub there-put : (number : Number) (call : Call) (id : ℕ) (rows : List NodeRow) (place : ℕ) (row new : NodeRow) (kept : List NodeRow) → IsSound (parts rows) → All (IsEarlierRow number.session) (parts rows)
+    → IsAt (parts rows) id place → There rows id place row → IsAfter number call (shown row) (shown new) → kept ≡ filter (stays_in number.session) (set rows place new)
+    → parts kept ≡ put_row (shown new) (filter is_staged (parts rows))
+there-put number call id rows place row new kept rules earlier at is after forgot =
+    forgot-put number.session rows (set rows place new) kept (shown new) (ap (λ (k : Kept). k.number.session) after.kept) rules earlier (set-put rows id place new rules at (after.id ∙ is.own)) forgot
+
+-- and where it is new
+pub first-put : (number : Number) (call : Call) (id : ℕ) (before : RowShown) (rows : List NodeRow) (place : ℕ) (new : NodeRow) (kept : List NodeRow) → IsSound (parts rows)
+    → All (IsEarlierRow number.session) (parts rows) → IsGapFor (parts rows) id place → IsAfter number call before (shown new) → before.id ≡ id → kept ≡ filter (stays_in number.session) (insert rows place new)
+    → parts kept ≡ put_row (shown new) (filter is_staged (parts rows))
+first-put number call id before rows place new kept rules earlier gap after own forgot =
+    forgot-put number.session rows (insert rows place new) kept (shown new) (ap (λ (k : Kept). k.number.session) after.kept) rules earlier (insert-put rows id place new gap (after.id ∙ own)) forgot
 
 module _ (node : List ℕ) (number : Number) (call : Call) (id : ℕ) (v : volume_of call ≡ Some id) (session : ℕ) (later : session < number.session) where
   -- what rows give that show a state, a record of them gives
@@ -226,7 +244,7 @@ module _ (node : List ℕ) (number : Number) (call : Call) (id : ℕ) (v : volum
       → Answers number call (parts_of node session rows) (parts_of node number.session kept) answer
   begins-there rows place row new kept rules earlier at is answer is_answer after forgot =
       put-begun rows kept (shown row) (shown new) answer rules earlier is.own is_answer after
-      (forgot-put number.session rows (set rows place new) kept (shown new) (ap (λ (k : Kept). k.number.session) after.kept) rules earlier (set-put rows id place new rules at (after.id ∙ is.own)) forgot)
+      (there-put number call id rows place row new kept rules earlier at is after forgot)
       (λ state all rows_after. by row.staged refl state all rows_after)
     where
       now : row_of id (filter is_staged (parts rows)) ≡ cond (is_some row.staged) (Some (shown row)) None
@@ -252,7 +270,7 @@ module _ (node : List ℕ) (number : Number) (call : Call) (id : ℕ) (v : volum
       → kept ≡ filter (stays_in number.session) (insert rows place new) → Answers number call (parts_of node session rows) (parts_of node number.session kept) answer
   begins-first rows place new kept rules earlier gap free answer is_answer after forgot =
       put-begun rows kept (row_anew id number (kind_of call)) (shown new) answer rules earlier refl is_answer after
-      (forgot-put number.session rows (insert rows place new) kept (shown new) (ap (λ (k : Kept). k.number.session) after.kept) rules earlier (insert-put rows id place new gap after.id) forgot)
+      (first-put number call id (row_anew id number (kind_of call)) rows place new kept rules earlier gap after refl forgot)
       (λ state all rows_after.
       gives-anew node id number call (filter is_staged (parts rows)) (parts kept) state v all (row_anew id number (kind_of call)) (shown new) answer (absent-staged rows id place rules gap)
       (let many = length-map rows shown in let limit = rules.limit in room-staged rows free (omega (arith, many, limit))) rows_after refl refl is_answer after)

@@ -1,6 +1,6 @@
 -- What an answer changed of a node's rows: it put one row among those that stay, or none.
-use Rattle.std.proofs.Common.{◌≡◌, ℕ, ◌<◌, List, Bool, true, false, cond, refl, sym, ◌∙◌, ap, subst, arith}
-use Rattle.std.specs.Prelude.{◌≢◌, Option, Some, None, filter, nat_lt}
+use Rattle.std.proofs.Common.{◌≡◌, ℕ, ◌<◌, List, Bool, true, false, cond, refl, sym, ◌∙◌, ap, subst, arith, Result, Ok, Err}
+use Rattle.std.specs.Prelude.{◌≢◌, Option, Some, None, filter, nat_lt, OnOk}
 use Rattle.std.proofs.lemmas.Bool.{lt-ltb}
 use Rattle.std.proofs.lemmas.Bool.Decides.{nat_tests}
 use Rattle.std.proofs.lemmas.Option.{same_Some}
@@ -73,3 +73,8 @@ module _ (node : List ℕ) (session : ℕ) (number : Number) (old new : List Nod
     put = λ id is. (there, same_Some there.id id is, own, put);
     fresh = λ id was is found. fresh was (subst (λ (n : ℕ). row_of n (parts old) ≡ Some was) (sym (same_Some there.id id is)) found);
   }
+
+-- what is so anyway is so of an OK
+pub on_ok_holds : {T E : Type 0} (r : Result T E) {P : Type 0} → P → OnOk r P
+on_ok_holds (Ok x) h = h
+on_ok_holds (Err e) h = tt

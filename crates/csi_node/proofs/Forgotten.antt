@@ -41,10 +41,11 @@ once-rise = once-rising (λ (row : RowShown). row.id)
 -- a row among them is found by its id
 found-among : (rows : List RowShown) → EachTwo IsRowBefore rows → (row : RowShown) → IsAmong row rows → row_of row.id rows ≡ Some row
 found-among [] rise row among = absurd among
-found-among (first ∷ rows) rise row (inl same) = rw same (ap (λ (b : Bool). cond b (Some first) (row_of first.id rows)) (eq-eqb first.id first.id refl))
+found-among (first ∷ rows) rise row (inl same) =
+    ap (λ (b : Bool). cond b (Some first) (row_of row.id rows)) (eq-eqb first.id row.id (ap (λ (r : RowShown). r.id) (sym same))) ∙ ap Some (sym same)
 found-among (first ∷ rows) rise row (inr among) =
     let before = each_of (IsRowBefore first) rows row rise.0 among in
-    ap (λ (b : Bool). cond b (Some first) (row_of row.id rows)) (ne_eqb first.id row.id (λ e. omega (arith, e, before))) ∙ found-among rows rise row among
+    ap (λ (b : Bool). cond b (Some first) (row_of row.id rows)) (ne_eqb first.id row.id (λ e. omega (arith, e, before))) ∙ found-among rows rise.1 row among
 
 -- a row that isn't staged has nothing of the state
 pub alone-unstaged : (row : RowShown) → row.staged ≡ None → alone row ≡ empty_node
@@ -127,7 +128,7 @@ forget-earlier session (row ∷ rows) earlier =
 pub forget-put : (session : ℕ) (new : RowShown) (rows : List RowShown) → new.kept.number.session ≡ session → AllByRecursion (IsEarlierRow session) rows → EachTwo IsRowBefore rows
     → filter (is_kept session) (put_row new rows) ≡ put_row new (filter is_staged rows)
 forget-put session new [] own earlier rise = ap (λ (b : Bool). cond b (new ∷ []) []) (kept-own session new own)
-forget-put session new (row ∷ rows) own earlier rise = by (nat_lt row.id new.id) refl (row.id == new.id) refl
+forget-put session new (row ∷ rows) own earlier rise = by (forget-put session new rows own earlier.1 rise.1) (nat_lt row.id new.id) refl (row.id == new.id) refl
   where
     first : (l : List RowShown) → filter (is_kept session) (new ∷ l) ≡ new ∷ filter (is_kept session) l
     first l = ap (λ (b : Bool). cond b (new ∷ filter (is_kept session) l) (filter (is_kept session) l)) (kept-own session new own)
@@ -147,14 +148,14 @@ forget-put session new (row ∷ rows) own earlier rise = by (nat_lt row.id new.i
         let id = eqb-true row.id new.id same in
         sym (put-first new (filter is_staged rows) (each-filter (IsRowBefore new) is_staged rows (each-weaker (IsRowBefore row) (IsRowBefore new) rows (λ r before. omega (arith, before, id)) rise.0)))
 
-    by : (b : Bool) → nat_lt row.id new.id ≡ b → (c : Bool) → (row.id == new.id) ≡ c
+    by : filter (is_kept session) (put_row new rows) ≡ put_row new (filter is_staged rows) → (b : Bool) → nat_lt row.id new.id ≡ b → (c : Bool) → (row.id == new.id) ≡ c
         → filter (is_kept session) (cond b (row ∷ put_row new rows) (cond c (new ∷ rows) (new ∷ row ∷ rows))) ≡ put_row new (filter is_staged (row ∷ rows))
-    by true lower c e =
+    by rest true lower c e =
         ap (λ (b : Bool). cond b (row ∷ filter (is_kept session) (put_row new rows)) (filter (is_kept session) (put_row new rows))) (kept-earlier session row earlier.0)
-        ∙ ap (λ (l : List RowShown). cond (is_staged row) (row ∷ l) l) (forget-put session new rows own earlier.1 rise.1)
+        ∙ ap (λ (l : List RowShown). cond (is_staged row) (row ∷ l) l) rest
         ∙ lower_first (is_staged row) lower
-    by false not_lower true same = first rows ∙ ap (λ (l : List RowShown). new ∷ l) (forget-earlier session rows earlier.1) ∙ same_first (is_staged row) not_lower same
-    by false not_lower false other =
+    by rest false not_lower true same = first rows ∙ ap (λ (l : List RowShown). new ∷ l) (forget-earlier session rows earlier.1) ∙ same_first (is_staged row) not_lower same
+    by rest false not_lower false other =
         let below : new.id < row.id = higher-from row.id new.id not_lower other in
         first (row ∷ rows)
         ∙ ap (λ (l : List RowShown). new ∷ l) (forget-earlier session (row ∷ rows) earlier)

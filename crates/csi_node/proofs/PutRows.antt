@@ -92,14 +92,14 @@ lower-other a b h = grind (arith, nat_tests)
 -- how many rows there are then
 put-length : (new : RowShown) (rows : List RowShown) → EachTwo IsRowBefore rows → length (put_row new rows) ≡ grown (row_of new.id rows) (length rows)
 put-length new [] rise = refl
-put-length new (row ∷ rows) rise = by (nat_lt row.id new.id) refl (row.id == new.id) refl
+put-length new (row ∷ rows) rise = by (put-length new rows rise.1) (nat_lt row.id new.id) refl (row.id == new.id) refl
   where
-    by : (b : Bool) → nat_lt row.id new.id ≡ b → (c : Bool) → (row.id == new.id) ≡ c
+    by : length (put_row new rows) ≡ grown (row_of new.id rows) (length rows) → (b : Bool) → nat_lt row.id new.id ≡ b → (c : Bool) → (row.id == new.id) ≡ c
         → length (cond b (row ∷ put_row new rows) (cond c (new ∷ rows) (new ∷ row ∷ rows))) ≡ grown (cond c (Some row) (row_of new.id rows)) (suc (length rows))
-    by true lower true same = let clash : true ≡ false = sym same ∙ lower-other row.id new.id lower in cc
-    by true lower false other = ap suc (put-length new rows rise.1) ∙ grown-suc (row_of new.id rows) (length rows)
-    by false not_lower true same = refl
-    by false not_lower false other =
+    by rest true lower true same = let clash : true ≡ false = sym same ∙ lower-other row.id new.id lower in cc
+    by rest true lower false other = ap suc rest ∙ grown-suc (row_of new.id rows) (length rows)
+    by rest false not_lower true same = refl
+    by rest false not_lower false other =
         let below = higher-from row.id new.id not_lower other in
         let none : row_of new.id rows ≡ None = row_of-above new.id rows (each-weaker (IsRowBefore row) (λ (r : RowShown). new.id < r.id) rows (λ r before. omega (arith, below, before)) rise.0) in
         sym (ap (λ (o : Option RowShown). grown o (suc (length rows))) none ∙ omega arith)
@@ -114,12 +114,12 @@ after-put rows id new rise own =
 -- what is so of the row and of each other one is so of each
 put-each : (P : RowShown → Type 0) (new : RowShown) (rows : List RowShown) → P new → AllByRecursion P rows → AllByRecursion P (put_row new rows)
 put-each P new [] own each = (own, tt)
-put-each P new (row ∷ rows) own each = by (nat_lt row.id new.id) (row.id == new.id)
+put-each P new (row ∷ rows) own each = by (put-each P new rows own each.1) (nat_lt row.id new.id) (row.id == new.id)
   where
-    by : (b c : Bool) → AllByRecursion P (cond b (row ∷ put_row new rows) (cond c (new ∷ rows) (new ∷ row ∷ rows)))
-    by true c = (each.0, put-each P new rows own each.1)
-    by false true = (own, each.1)
-    by false false = (own, each)
+    by : AllByRecursion P (put_row new rows) → (b c : Bool) → AllByRecursion P (cond b (row ∷ put_row new rows) (cond c (new ∷ rows) (new ∷ row ∷ rows)))
+    by rest true c = (each.0, rest)
+    by rest false true = (own, each.1)
+    by rest false false = (own, each)
 
 -- the same, by places
 pub put-all : (P : RowShown → Type 0) (new : RowShown) (rows : List RowShown) → P new → All P rows → All P (put_row new rows)
@@ -128,14 +128,14 @@ put-all P new rows own all = All-from_recursion P (put_row new rows) (put-each P
 -- ids rise then
 put-rise : (new : RowShown) (rows : List RowShown) → EachTwo IsRowBefore rows → EachTwo IsRowBefore (put_row new rows)
 put-rise new [] rise = (tt, tt)
-put-rise new (row ∷ rows) rise = by (nat_lt row.id new.id) refl (row.id == new.id) refl
+put-rise new (row ∷ rows) rise = by (put-rise new rows rise.1) (nat_lt row.id new.id) refl (row.id == new.id) refl
   where
-    by : (b : Bool) → nat_lt row.id new.id ≡ b → (c : Bool) → (row.id == new.id) ≡ c → EachTwo IsRowBefore (cond b (row ∷ put_row new rows) (cond c (new ∷ rows) (new ∷ row ∷ rows)))
-    by true lower c e = (put-each (IsRowBefore row) new rows (ltb-true row.id new.id lower) rise.0, put-rise new rows rise.1)
-    by false not_lower true same =
+    by : EachTwo IsRowBefore (put_row new rows) → (b : Bool) → nat_lt row.id new.id ≡ b → (c : Bool) → (row.id == new.id) ≡ c → EachTwo IsRowBefore (cond b (row ∷ put_row new rows) (cond c (new ∷ rows) (new ∷ row ∷ rows)))
+    by rest true lower c e = (put-each (IsRowBefore row) new rows (ltb-true row.id new.id lower) rise.0, rest)
+    by rest false not_lower true same =
         let own = eqb-true row.id new.id same in
         (each-weaker (IsRowBefore row) (IsRowBefore new) rows (λ r before. omega (arith, before, own)) rise.0, rise.1)
-    by false not_lower false other =
+    by rest false not_lower false other =
         let below = higher-from row.id new.id not_lower other in
         ((below, each-weaker (IsRowBefore row) (IsRowBefore new) rows (λ r before. omega (arith, before, below)) rise.0), rise)
 

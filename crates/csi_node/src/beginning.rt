@@ -43,11 +43,18 @@ fn begin_with_row(
     Ok(answer)
 }
 
+// Whether all are of staged volumes.
+fn are_staged(rows: &[NodeRow]) -> bool
+    ensures { result ≡ list_all (λ row. is_some row.staged) rows.now }
+{
+    rows.iter().all(|row| row.staged.is_some())
+}
+
 // Whether there is no room for a row, and no row would be forgotten.
 fn is_full(rows: &[NodeRow]) -> bool
     ensures { result ≡ (nat_le 4096 (length rows.now) && list_all (λ row. is_some row.staged) rows.now) }
 {
-    rows.len() >= MAX_ROWS && rows.iter().all(|row| row.staged.is_some())
+    rows.len() >= MAX_ROWS && are_staged(rows)
 }
 
 // Answers a call of a volume that has no row; its row would have this place. An `Err` changes nothing.
