@@ -1,6 +1,6 @@
 //! The laws of the controller.
 ghost use Rattle.std.specs.List.{AllByRecursion};
-ghost use Rattle.csi_controller.specs.Core.{Shows, IsSound};
+ghost use Rattle.csi_controller.specs.Core.{Shows, IsSound, IsCurrent};
 ghost use Rattle.csi_controller.specs.Exclusive.{IsRowExclusive};
 ghost use Rattle.csi_controller.specs.Laws.{ControllerTableLaw};
 ghost use Rattle.csi_controller.specs.Safe.{ControllerSafetyLaw, ControllerSessionsLaw};
@@ -73,4 +73,12 @@ pub fn sound_law(controller: &Controller)
     ensures { IsSound controller.now.next_id controller.now.rows }
 {
     controller.assert_sound();
+}
+
+/// A law, and nothing that runs: in every controller, whatever it was asked and whichever record it was made of, no row's last call
+/// is of a later session than the greatest that came, and that of a volume that was deleted is of that session. This profile's own.
+pub fn current_law(controller: &Controller)
+    ensures { IsCurrent controller.now.session controller.now.rows }
+{
+    controller.assert_current();
 }

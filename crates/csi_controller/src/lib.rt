@@ -14,8 +14,8 @@ mod worked;
 pub use controller::Controller;
 pub use csi_fence::{Answer, CoreFault, RecordFault};
 pub use laws::{
-    delivery_law, exclusive_law, names_law, safety_law, sessions_law, showing_law, sound_law,
-    table_law,
+    current_law, delivery_law, exclusive_law, names_law, safety_law, sessions_law, showing_law,
+    sound_law, table_law,
 };
 pub use record::ControllerRecord;
 pub use row::{ControllerRow, NodeHolding};
