@@ -10,13 +10,13 @@ use Rattle.csi_node.proofs.node.Node.answer.Goals as goal
 pub returns-clause-reply : goal.returns-clause-reply
 returns-clause-reply c = λ state shows allowed fit.
     let node = c.args.self.now.id in
-    sym (ap (λ (f : Fenced NodeState). f.reply) (for_own node state c.args.number (lent_call c.args.call.now)) ∙ (c.in_ok-answer.ensures.ok.gives state (rw (← c.self.view_is) at shows)).reply)
+    sym (ap (λ (f : Fenced NodeState). f.reply) (for_own node state c.args.number (lent_call c.args.call.now)) ∙ ((rw c.self.view_is at c.in_ok-answer.ensures.ok).gives state shows).reply)
 
 pub returns-clause-state : goal.returns-clause-state
 returns-clause-state c = λ state shows allowed fit.
     let node = c.args.self.now.id in
     subst (λ (f : Fenced NodeState). Shows c.answer.new.self f.state) (sym (for_own node state c.args.number (lent_call c.args.call.now)))
-    (c.in_ok-answer.ensures.ok.gives state (rw (← c.self.view_is) at shows)).shows
+    ((rw c.self.view_is at c.in_ok-answer.ensures.ok).gives state shows).shows
 
 pub returns-in_err-answer-clause-err : goal.returns-in_err-answer-clause-err
 returns-in_err-answer-clause-err c = λ state shows.
