@@ -14,6 +14,7 @@ mod records;
 mod shown;
 mod stops;
 mod stores;
+mod turns;
 
 use csi_json::read_config;
 use csi_service::{ControllerService, Keep, KeepFault, MemoryKeep, NodeService, Part};

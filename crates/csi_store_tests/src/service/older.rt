@@ -3,10 +3,6 @@
 use super::playing::{
     CREATED, Content, GONE, MADE, ONE_MADE, SCRIPT, has_parts, is_after, is_end, played,
 };
-use super::stops::{
-    DATABASE, Image, LOG, LOST_DATABASE, LOST_LOG, MANY, NO_STOP, Stop, Way, left_by, left_closed,
-    new_image, opened, stop_of,
-};
 use super::{CONTROLLER_HEAD, NEW_NODE_HEAD, NODE_HEAD, controller_fault, node_fault, part};
 use csi_failing::{FailingKeep, Left};
 use csi_service::{Keep, KeepFault, MemoryKeep, Part};
@@ -67,8 +63,8 @@ const LATER: &[u8] = &[
 
 const IN_SESSION_2: &[u8] = &[3, 0, 0, 0, 0, 0, 0, 0, 0, 3, 0, 0, 0, 0, 0, 0, 0, 2];
 
-// What the whole script leaves: two volumes, of which the first is deleted.
-const FIRST: Content = (FIRST_TWO_MADE, FIRST_GONE, FIRST_OTHER);
+/// What the whole script leaves: two volumes, of which the first is deleted.
+pub(super) const FIRST: Content = (FIRST_TWO_MADE, FIRST_GONE, FIRST_OTHER);
 
 const SECOND: Content = (SECOND_TWO_MADE, SECOND_GONE, SECOND_OTHER);
 
@@ -141,8 +137,8 @@ fn part_of(rt: &(impl Abort + AllocGlobal), key: u64, value: &[u8]) -> Part {
     }
 }
 
-// Puts these parts in.
-fn puts<K: Keep>(rt: &(impl Abort + AllocGlobal), keep: &mut K, content: Content) {
+/// Puts these parts in.
+pub(super) fn puts<K: Keep>(rt: &(impl Abort + AllocGlobal), keep: &mut K, content: Content) {
     let parts = parts_of(rt, content);
     keep.commit(&parts).expect(rt, "a commit");
     drop(parts);
@@ -285,78 +281,4 @@ fn is_left(rt: &(impl Abort + AllocGlobal), left: Left, wanted: Content) -> bool
 fn a_refused_commit_leaves_version_2_or_version_3(rt: HostRuntime) {
     assert!(&rt; is_left(&rt, Left::Old, FORGETS));
     assert!(&rt; is_left(&rt, Left::New, FORGOTTEN));
-}
-
-// Files of a store of version 2, which was closed.
-fn older(rt: &(impl Abort + AllocGlobal)) -> Image {
-    let new = new_image(rt);
-    let Ok(mut keep) = opened(rt, &new, NO_STOP) else {
-        panic!(rt; "a store")
-    };
-    drop(new);
-    puts(rt, &mut keep, FORGETS);
-    let (is_whole, image) = left_closed(rt, keep, false);
-    assert!(rt; is_whole);
-    image
-}
-
-// Opens the controller of such files that stop so: whether it is opened, and what the files hold then.
-fn stopped(rt: &(impl Abort + AllocGlobal), image: &Image, stop: Stop) -> (bool, Image) {
-    let mut keep = match opened(rt, image, stop) {
-        Ok(keep) => keep,
-        Err(left) => return (false, left),
-    };
-    let fault = controller_fault(rt, &mut keep);
-    let is_opened = fault.is_none();
-    assert!(rt; is_opened || fault == Some(KeepFault::Device));
-    assert!(rt; is_opened == (keep.faults() == 0));
-    (is_opened, left_by(rt, keep.into_connection(), stop.2))
-}
-
-// Whether the files have all parts in version 2, or in version 3, which they have where the controller was opened; and have version 3
-// where it is opened again.
-fn goes_on(rt: &(impl Abort + AllocGlobal), image: &Image, was_opened: bool) -> bool {
-    let Ok(mut keep) = opened(rt, image, NO_STOP) else {
-        return false;
-    };
-    let is_there = has_parts(&mut keep, FORGOTTEN) || !was_opened && has_parts(&mut keep, FORGETS);
-    let is_opened = controller_fault(rt, &mut keep).is_none() && has_parts(&mut keep, FORGOTTEN);
-    let is_sound = keep.faults() == 0;
-    drop(keep);
-    is_there && is_opened && is_sound
-}
-
-// Opens it with so many calls of a file let through, from 0 on, until it is opened with no stop; whether it was.
-fn is_opened_at_last(rt: &(impl Abort + AllocGlobal), way: Way) -> bool {
-    let image = older(rt);
-    for calls in 0..MANY {
-        let (is_opened, left) = stopped(rt, &image, stop_of(way, calls));
-        let goes_on = goes_on(rt, &left, is_opened);
-        drop(left);
-        assert!(rt; goes_on, "{calls} calls");
-        if is_opened {
-            return true;
-        }
-    }
-    false
-}
-
-#[test]
-fn stops_of_the_log_leave_version_2_or_version_3(rt: HostRuntime) {
-    assert!(&rt; is_opened_at_last(&rt, LOG));
-}
-
-#[test]
-fn stops_of_the_database_file_leave_version_2_or_version_3(rt: HostRuntime) {
-    assert!(&rt; is_opened_at_last(&rt, DATABASE));
-}
-
-#[test]
-fn stops_of_the_log_that_lose_bytes_leave_version_2_or_version_3(rt: HostRuntime) {
-    assert!(&rt; is_opened_at_last(&rt, LOST_LOG));
-}
-
-#[test]
-fn stops_of_the_database_file_that_lose_bytes_leave_version_2_or_version_3(rt: HostRuntime) {
-    assert!(&rt; is_opened_at_last(&rt, LOST_DATABASE));
 }

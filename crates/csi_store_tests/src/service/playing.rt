@@ -83,6 +83,27 @@ const OTHER: &[u8] = &[
     6, 129, 0, 0, 0, 0, 0, 0, 0, 0, 2, 0,
 ];
 
+/// Deletes `w` by the first call of session 2, which follows the script. `v` is forgotten then.
+pub(super) const NEXT: &[u8] = &[
+    0, 0, 0, 27, 1, 2, 0, 0, 0, 0, 0, 0, 0, 2, 0, 0, 0, 0, 0, 0, 0, 1, 0, 0, 0, 0, 0, 0, 0, 0, 2,
+];
+
+/// What it is replied.
+pub(super) const NEXT_REPLY: &[u8] = &[
+    0, 0, 0, 29, 1, 130, 0, 0, 0, 0, 0, 0, 0, 2, 0, 0, 0, 0, 0, 0, 0, 1, 0, 0, 0, 0, 0, 0, 0, 0, 0,
+    0, 0,
+];
+
+/// What the store has then.
+pub(super) const PLAYED_NEXT: Content = (
+    &[3, 0, 0, 0, 0, 0, 0, 0, 0, 3, 0, 0, 0, 0, 0, 0, 0, 2],
+    &[],
+    &[
+        3, 2, 1, 119, 0, 0, 0, 0, 0, 0, 0, 10, 1, 0, 1, 0, 0, 0, 0, 0, 0, 0, 0, 2, 0, 0, 0, 0, 0,
+        0, 0, 1, 130, 0, 0, 0, 0, 0, 0, 0, 0, 0, 0,
+    ],
+);
+
 /// The values of the parts 0, 1 and 2, empty where there is no such part.
 pub(super) type Content = (&'static [u8], &'static [u8], &'static [u8]);
 
@@ -90,6 +111,9 @@ pub(super) const NOTHING: Content = (&[], &[], &[]);
 
 /// What the store has after the first frame.
 pub(super) const CREATED: Content = (ONE_MADE, MADE, &[]);
+
+/// What it has after the script.
+pub(super) const PLAYED: Content = (TWO_MADE, GONE, OTHER);
 
 // What it has after so many frames.
 const CONTENTS: &[Content] = &[
@@ -99,7 +123,7 @@ const CONTENTS: &[Content] = &[
     (ONE_MADE, REFUSED, &[]),
     (ONE_MADE, FREED, &[]),
     (ONE_MADE, GONE, &[]),
-    (TWO_MADE, GONE, OTHER),
+    PLAYED,
 ];
 
 // Whether the part of this key has this value, or there is none.
