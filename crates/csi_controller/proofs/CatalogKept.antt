@@ -1,6 +1,6 @@
 -- The two maps of a catalog after some of its rows were forgotten.
 use Rattle.std.proofs.Common.{◌≡◌, ◌⊎◌, ◌<◌, ℕ, Bool, true, false, cond, List, [], ◌∷◌, map, refl, sym, ◌∙◌, ap, subst, inl, inr, arith}
-use Rattle.std.specs.Prelude.{Option, Some, None, filter, find, option_map, nat_eq, ◌==◌, String}
+use Rattle.std.specs.Prelude.{Option, Some, None, filter, find, option_map, ◌==◌}
 use Rattle.std.specs.List.{AllByRecursion}
 use Rattle.std.specs.Map.{lookup}
 use Rattle.std.proofs.lemmas.Bool.{eq-eqb, ne_eqb}
@@ -12,6 +12,15 @@ use Rattle.csi_controller.specs.declared.catalog.Catalog.{Catalog}
 use Rattle.csi_controller.specs.Catalog.{rows_of, by_id, by_name, by_text, is_kept, is_row_kept, IsIndexed}
 use Rattle.csi_controller.specs.Core.{IsRising}
 use Rattle.csi_controller.specs.WithoutSession.{stays_in}
+use Rattle.csi_controller.proofs.CatalogMaps.{lookup-keys}
+
+-- a row that is looked up by its id is the one that is found by it
+pub row-looked_up : (p : ℕ → Bool) (q : ControllerRow → Bool) (es : List (ℕ × ControllerRow)) (rows : List ControllerRow) → es ≡ map by_id rows → ((row : ControllerRow) → p row.id ≡ q row) → lookup p es ≡ find q rows
+row-looked_up p q es rows is same = lookup-keys by_id p q es rows is same ∙ by (find q rows)
+  where
+    by : (o : Option ControllerRow) → option_map (λ (row : ControllerRow). (by_id row).1) o ≡ o
+    by None = refl
+    by (Some row) = refl
 
 -- two tests that agree on each of a list keep the same of it
 filter-same_among : {X : Type 0} (p q : X → Bool) (xs : List X) → ((x : X) → IsAmong x xs → p x ≡ q x) → filter p xs ≡ filter q xs

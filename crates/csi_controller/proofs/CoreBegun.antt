@@ -14,6 +14,7 @@ use Rattle.csi_types.specs.declared.call.Party.TheVariants.{Controller}
 use Rattle.csi_types.specs.declared.config.NodeSlots.{NodeSlots}
 use Rattle.csi_types.specs.declared.frame.Body.TheVariants as bodies
 use Rattle.csi_types.specs.declared.reply.Reply.{Reply}
+use Rattle.csi_types.specs.declared.status.Status.TheVariants.{Ok}
 use Rattle.csi_fence.specs.declared.answer.Answer.{Answer}
 use Rattle.csi_fence.specs.declared.fence.Verdict.{Verdict}
 use Rattle.csi_fence.specs.declared.fence.Verdict.TheVariants.{Fresh}
@@ -26,8 +27,8 @@ use Rattle.csi_controller.specs.declared.row.ControllerRow.{ControllerRow}
 use Rattle.csi_controller.specs.declared.controller.core_parts.Core.{Core}
 use Rattle.csi_controller.specs.AtRow.{RowAnswers, row_named}
 use Rattle.csi_controller.specs.Beginning.{live_rows, HasForgotten}
-use Rattle.csi_controller.specs.Catalog.{rows_of}
-use Rattle.csi_controller.specs.Core.{Parts, Shows, IsSound, IsSoundRow, IsCurrentRow, IsCurrent}
+use Rattle.csi_controller.specs.Catalog.{rows_of, IsIndexed}
+use Rattle.csi_controller.specs.Core.{Parts, Shows, IsAnsweredOk, IsRising, IsSound, IsSoundRow, IsCurrentRow, IsCurrent}
 use Rattle.csi_controller.specs.CoreAnswers.{IsAnswered}
 use Rattle.csi_controller.specs.CoreParts.{parts_of, IsSoundCore}
 use Rattle.csi_controller.specs.Counts.{AreCounted}
@@ -38,15 +39,17 @@ use Rattle.csi_controller.specs.RowsLaw.{Changes, row_by_id, staying}
 use Rattle.csi_controller.specs.Shown.{volume_of_row}
 use Rattle.csi_controller.specs.State.{Volume, ControllerState, is_row_for}
 use Rattle.csi_controller.specs.Step.{Answers, answer_frame}
+use Rattle.csi_controller.specs.Table.{Outcome}
 use Rattle.csi_controller.specs.WithoutSession.{stays_in}
 use Rattle.csi_controller.proofs.AtRow.{at-place, same_id, same_name, there-answers}
-use Rattle.csi_controller.proofs.CatalogMaps.{read-at, rows-set}
+use Rattle.csi_controller.proofs.CatalogMaps.{indexed-set, read-at, rows-set}
 use Rattle.csi_controller.proofs.ChangesTold.{none-changed, row-put, session-first, staying-first}
 use Rattle.csi_controller.proofs.Counts.{answered-counted}
 use Rattle.csi_controller.proofs.Forgetting.{StandsLive, counted-live, current-live, shown-live, sound-filter, stands-live, stays-all_live}
 use Rattle.csi_controller.proofs.RowOutcomes.{IsGood, line-good}
-use Rattle.csi_controller.proofs.RowReplaced.{recounted_core}
-use Rattle.csi_controller.proofs.Sessions.{answered-first, current-own, fresh-later}
+use Rattle.csi_controller.proofs.RowReplaced.{IsPut, recounted_core}
+use Rattle.csi_controller.proofs.RowTable.{line-told}
+use Rattle.csi_controller.proofs.Sessions.{answered-first, current-own, fresh-later, through-first}
 use Rattle.csi_controller.proofs.Sound.{rising-one, sound-after, sound-set}
 
 -- the core's parts in a session, with these rows
@@ -228,3 +231,30 @@ begun-there core after place row new counts number call answer kept later at sta
     parts = forgotten.parts
         ∙ ap (λ (all : List ControllerRow). begun_with core number.session (filter (stays_in number.session) all)) (rows-set core.catalog.rows place new)
         ∙ ap (begun_with core number.session) standing.same
+
+-- what the table answers with 0 in the state in which the session has begun, the row of the live volume answers with 0
+pub begun-undone : (core : Core) (place : ℕ) (row : ControllerRow) (number : Number) (call : Call) (state : ControllerState)
+    → IsSoundCore core → core.session < number.session → Some place ≡ position (λ (r : ControllerRow). is_row_for call (volume_of_row r)) (rows_of core.catalog)
+    → slice_get (rows_of core.catalog) place ≡ Some row → row.live ≡ true → Shows (parts_of core) state → IsAnsweredOk core.config state number call
+    → (verdict_of (Some row.last) number ≡ Fresh) × ((row_line core.config.nodes core.counts row call).reply.status ≡ Ok)
+begun-undone core place row number call state kept later at stands alive shown answered =
+    let rows = rows_of core.catalog in
+    let p : ControllerRow → Bool = λ r. is_row_for call (volume_of_row r) in
+    let first : FirstAt p rows place row = at-place p rows place row at (read-at rows place row stands) in
+    let was = (each-at (IsCurrentRow core.session) rows place row kept.current (FirstAt-is_at p rows place row first)).before in
+    let standing = stands-live p core.session number.session rows place row row later kept.current first alive (ap (λ (b : Bool). b || (row.last.session == number.session)) alive) in
+    let begun_shown = shown-begun core number.session state kept shown in
+    let table = line-told core.config core.next_id (live_rows rows) (begun number.session state) core.counts standing.among row call (sound-live core kept) begun_shown.shows
+    (counted-live core.config.nodes core.next_id rows core.counts kept.sound kept.counted) standing.first in
+    (
+      fresh-later row.last number (omega (arith, was, later)),
+      ap (λ (o : Outcome). o.reply.status) (sym table) ∙ through-first core.config state number call (subst (λ (s : ℕ). s < number.session) shown.session later) answered,
+    )
+
+-- a row that was put in is where both maps have it, and ids rise
+pub put-indexed : (core : Core) (place : ℕ) (row new : ControllerRow) (counts : List ℕ) → IsSoundCore core → slice_get (rows_of core.catalog) place ≡ Some row → IsPut core place row new counts
+    → IsIndexed (recounted_core core place new counts).catalog
+put-indexed core place row new counts kept stands put = indexed-set core.catalog (recounted_core core place new counts).catalog place row new kept.indexed stands put.id put.name refl refl
+
+pub put-rising : (core : Core) (place : ℕ) (row new : ControllerRow) (counts : List ℕ) → IsPut core place row new counts → IsRising (rows_of (recounted_core core place new counts).catalog)
+put-rising core place row new counts put = subst IsRising (sym (rows-set core.catalog.rows place new)) put.sound.rising

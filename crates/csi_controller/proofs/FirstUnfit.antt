@@ -1,8 +1,9 @@
 -- The first row that no record of a session has there.
-use Rattle.std.proofs.Common.{◌≡◌, ◌<◌, ◌≤◌, ◌+◌, ◌-◌, ℕ, zero, suc, length, take, drop, Bool, true, false, not, List, [], ◌∷◌, refl, sym, ◌∙◌, ap, subst, arith}
-use Rattle.std.specs.Prelude.{Some, None, find, ◌&&◌, ◌||◌, ◌==◌, nat_le}
+use Rattle.std.proofs.Common.{◌≡◌, ◌<◌, ◌≤◌, ◌+◌, ◌-◌, ℕ, zero, suc, length, take, drop, Bool, true, false, cond, not, List, [], ◌∷◌, ◌++◌, refl, sym, ◌∙◌, ap, subst, arith}
+use Rattle.std.specs.Prelude.{Some, None, filter, find, max, ◌&&◌, ◌||◌, ◌==◌, nat_le}
 use Rattle.std.specs.List.{AllByRecursion}
 use Rattle.std.proofs.lemmas.Bool.{and_from, and_parts, eq-eqb, eqb-true, false≢true, le-leb, leb-false, leb-true, not-true, true≢false}
+use Rattle.std.proofs.Math.Nat.{le-max_left, le-max_right, max-le, max_comm}
 use Rattle.std.proofs.lemmas.List.{take-append-drop, take-take}
 use Rattle.csi_lists.proofs.Each.{each-weaker}
 use Rattle.csi_lists.proofs.Places.{FirstAt-within}
@@ -10,9 +11,12 @@ use Rattle.csi_lists.proofs.Searches.{find_none-all}
 use Rattle.csi_lists.specs.Places.{FirstAt}
 use Rattle.csi_controller.specs.declared.row.ControllerRow.{ControllerRow}
 use Rattle.csi_controller.specs.Core.{IsCurrentRow, IsCurrent}
-use Rattle.csi_controller.specs.Judging.{IsFirstRefused, is_current_row}
-use Rattle.csi_controller.specs.WithoutSession.{stays_in}
-use Rattle.csi_controller.proofs.FirstRefused.{each-front}
+use Rattle.csi_controller.specs.Judging.{AreRecorded, IsFirstRefused, is_current_row}
+use Rattle.csi_controller.specs.Views.{AreSameRows}
+use Rattle.csi_controller.specs.WithoutSession.{latest_session, stays_in}
+use Rattle.csi_controller.proofs.Copies.{sound-copies}
+use Rattle.csi_controller.proofs.FirstRefused.{each-front, sound-take}
+use Rattle.csi_controller.proofs.Sessions.{current-copies}
 
 -- ---- a row of a session
 
@@ -112,3 +116,44 @@ first-of_two P Q rows a b place fronts_p fronts_q one two first second = by (nat
 -- rows that keep the rules have no first one that is refused
 pub none-refused : (P : List ControllerRow → Type 0) (rows : List ControllerRow) (place : ℕ) → IsOfFronts P → IsFirstRefused P rows place → P rows → ⊥
 none-refused P rows place fronts first all = first.refused (fronts rows place all)
+
+-- ---- a record's rules
+
+-- the first rows of a record's are a record's of its session
+pub recorded-fronts : (n session : ℕ) → IsOfFronts (AreRecorded n session)
+recorded-fronts n session rows k both = (sound-take n rows k both.0, current-take session rows k both.1)
+
+-- copies of a record's rows are a record's of its session
+pub recorded-copies : (n session : ℕ) (rows copies : List ControllerRow) → AreSameRows rows copies → AreRecorded n session rows → AreRecorded n session copies
+recorded-copies n session rows copies same both = (sound-copies n rows copies same both.0, current-copies session rows copies same both.1)
+
+-- ---- rows that were kept without a session
+
+-- no row is of a later session than the latest of all
+pub up_to_latest : (rows : List ControllerRow) → AllByRecursion (λ (row : ControllerRow). row.last.session ≤ latest_session rows) rows
+up_to_latest [] = tt
+up_to_latest (r ∷ rs) =
+    (le-max_left r.last.session (latest_session rs), each-weaker (λ (row : ControllerRow). row.last.session ≤ latest_session rs) (λ (row : ControllerRow). row.last.session ≤ max r.last.session (latest_session rs)) rs (λ row own. let more = le-max_right r.last.session (latest_session rs) in omega (arith, own, more)) (up_to_latest rs))
+
+-- the rows that stay in a session that none is after are of it
+pub staying-current : (session : ℕ) (rows : List ControllerRow) → AllByRecursion (λ (row : ControllerRow). row.last.session ≤ session) rows → IsCurrent session (filter (stays_in session) rows)
+staying-current session [] each = tt
+staying-current session (r ∷ rs) each = by (stays_in session r) refl (staying-current session rs each.1)
+  where
+    by : (b : Bool) → stays_in session r ≡ b → IsCurrent session (filter (stays_in session) rs) → IsCurrent session (cond b (r ∷ filter (stays_in session) rs) (filter (stays_in session) rs))
+    by true stays rest = (record { before = each.0; gone = λ dead. eqb-true r.last.session session (ap (λ (b : Bool). b || (r.last.session == session)) (sym dead) ∙ stays) }, rest)
+    by false stays rest = rest
+
+-- the greatest of three
+max-grouped : (a b c : ℕ) → max a (max b c) ≡ max (max a b) c
+max-grouped a b c =
+    let a_left = le-max_left a b in let b_left = le-max_right a b in let ab = le-max_left (max a b) c in let c_left = le-max_right (max a b) c in
+    let b_right = le-max_left b c in let c_right = le-max_right b c in let a_right = le-max_left a (max b c) in let bc = le-max_right a (max b c) in
+    let less : max a (max b c) ≤ max (max a b) c = max-le (omega (arith, a_left, ab)) (max-le (omega (arith, b_left, ab)) c_left) in
+    let more : max (max a b) c ≤ max a (max b c) = max-le (max-le a_right (omega (arith, b_right, bc))) (omega (arith, c_right, bc)) in
+    omega (arith, less, more)
+
+-- one more row
+pub latest-append : (rows : List ControllerRow) (row : ControllerRow) → latest_session (rows ++ row ∷ []) ≡ max (latest_session rows) row.last.session
+latest-append [] row = max_comm row.last.session 0
+latest-append (r ∷ rs) row = ap (max r.last.session) (latest-append rs row) ∙ max-grouped r.last.session (latest_session rs) row.last.session

@@ -1,6 +1,7 @@
 -- A core after one of its rows was put in the place of another, of the same id and name.
 use Rattle.std.proofs.Common.{◌≡◌, ◌<◌, ℕ, List, Bool, true, false, get_or, set, refl, sym, ◌∙◌, ap, subst, arith}
-use Rattle.std.specs.Prelude.{Option, Some, position, slice_get, IsTrue, ◌==◌}
+use Rattle.std.specs.Prelude.{Option, Some, Result, IfOk, position, slice_get, IsTrue, ◌==◌}
+use Rattle.std.specs.declared.result.Result.TheVariants as results
 use Rattle.std.proofs.lemmas.Bool.{eq-eqb}
 use Rattle.indexmap.specs.IndexMap.{with_value_at}
 use Rattle.csi_lists.proofs.Each.{each-at, each-set}
@@ -89,6 +90,11 @@ answered-put core place row new counts number call verdict frame kept at stands 
       sound = sound-gives p core.next_id rows place row new frame number (kind_of call) line kept.sound at own party good verdict answered.gives;
       counted = answered-counted core.config.nodes rows place row new core.counts counts number call verdict frame kept.counted kept.sound.limit (FirstAt-within p rows place row (at-place p rows place row at own)) own good.count answered;
     }
+
+-- what follows from three facts of an `Ok` is so of it
+pub all-ok : {T E : Type 0} (r : Result T E) (P Q R S : T → Type 0) → ((x : T) → P x → Q x → R x → S x) → IfOk r P → IfOk r Q → IfOk r R → IfOk r S
+all-ok (results.Ok x) P Q R S f p q s = f x p q s
+all-ok (results.Err e) P Q R S f p q s = tt
 
 -- ---- a call of the present session
 

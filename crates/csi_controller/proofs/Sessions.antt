@@ -10,20 +10,23 @@ use Rattle.csi_types.specs.declared.call.Call.{Call}
 use Rattle.csi_types.specs.declared.call.Kind.{Kind}
 use Rattle.csi_types.specs.Call.{kind_of}
 use Rattle.csi_types.specs.Config.{Config}
+use Rattle.csi_types.specs.declared.status.Status.TheVariants.{Ok}
 use Rattle.csi_types.specs.Frame.{Frame}
 use Rattle.csi_types.specs.Number.{is_before}
 use Rattle.csi_types.specs.Replies.{stale_reply}
 use Rattle.csi_fence.specs.declared.fence.Verdict.{Verdict}
 use Rattle.csi_fence.specs.declared.fence.Verdict.TheVariants.{Stale, Repeated, Fresh}
-use Rattle.csi_fence.specs.Fence.{verdict_of, verdict_of_spent}
+use Rattle.csi_fence.specs.Delivery.{last_of}
+use Rattle.csi_fence.specs.Fence.{IsFresh, verdict_of, verdict_of_spent}
 use Rattle.csi_fence.specs.Fenced.{Fenced, answered_only}
 use Rattle.csi_controller.specs.declared.row.ControllerRow.{ControllerRow}
 use Rattle.csi_controller.specs.AtRow.{RowGives, row_after}
-use Rattle.csi_controller.specs.Core.{IsCurrentRow, IsCurrent, IsSameRow}
-use Rattle.csi_controller.specs.Fenced.{controller_with, begun, fenced_call, kept_for, answered_in}
+use Rattle.csi_controller.specs.Core.{IsAnsweredOk, IsCurrentRow, IsCurrent}
+use Rattle.csi_controller.specs.Fenced.{controller_with, begun, in_session, fenced_call, kept_for, answered_in}
 use Rattle.csi_controller.specs.OneRow.{RowOutcome}
 use Rattle.csi_controller.specs.Shown.{volume_of_row}
 use Rattle.csi_controller.specs.State.{Volume, ControllerState}
+use Rattle.csi_controller.specs.Table.{controller_row}
 use Rattle.csi_controller.specs.Views.{AreSameRows}
 
 -- ---- a call, by its session
@@ -56,6 +59,20 @@ answered-first config state number call after =
     let over : nat_lt number.session state.session ≡ false = le-ltb number.session state.session (omega (arith, after)) in
     ap (λ (b : Bool). by_session config state number call b (nat_lt state.session number.session)) over
     ∙ ap (λ (b : Bool). by_session config state number call false b) (lt-ltb state.session number.session after)
+
+-- what the table answers with 0 is let through by the last number that is kept, in the state in which it is judged
+pub through-now : (config : Config) (state : ControllerState) (number : Number) (call : Call) → number.session ≡ state.session → IsAnsweredOk config state number call
+    → IsFresh (last_of (kept_for call state)) number × ((controller_row config state call).reply.status ≡ Ok)
+through-now config state number call same answered =
+    let begins : nat_lt state.session number.session ≡ false = le-ltb state.session number.session (omega (arith, same)) in
+    let there : in_session config number state ≡ state = ap (λ (b : Bool). cond b (begun number.session state) state) begins in
+    (subst (λ (s : ControllerState). IsFresh (last_of (kept_for call s)) number) there answered.0.fresh, subst (λ (s : ControllerState). (controller_row config s call).reply.status ≡ Ok) there answered.1)
+
+pub through-first : (config : Config) (state : ControllerState) (number : Number) (call : Call) → state.session < number.session → IsAnsweredOk config state number call
+    → (controller_row config (begun number.session state) call).reply.status ≡ Ok
+through-first config state number call after answered =
+    let there : in_session config number state ≡ begun number.session state = ap (λ (b : Bool). cond b (begun number.session state) state) (lt-ltb state.session number.session after) in
+    subst (λ (s : ControllerState). (controller_row config s call).reply.status ≡ Ok) there answered.1
 
 -- a number of a later session than the last one is fresh
 pub fresh-later : (last number : Number) → last.session < number.session → verdict_of (Some last) number ≡ Fresh
