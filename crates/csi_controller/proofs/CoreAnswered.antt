@@ -1,6 +1,6 @@
 -- A core that answered a call and changed no row, and one that was refused memory.
 use Rattle.std.proofs.Common.{◌≡◌, ◌<◌, ℕ, List, refl, sym, ◌∙◌, ap, subst}
-use Rattle.std.specs.Prelude.{Option, Some, None, IsTrue}
+use Rattle.std.specs.Prelude.{Option, Some, None, find, IsTrue}
 use Rattle.csi_types.specs.declared.number.Number.{Number}
 use Rattle.csi_types.specs.declared.call.Call.{Call}
 use Rattle.csi_types.specs.declared.call.Party.TheVariants.{Controller}
@@ -9,6 +9,7 @@ use Rattle.csi_fence.specs.declared.answer.Answer.{Answer}
 use Rattle.csi_types.specs.Call.{kind_of, is_party_of}
 use Rattle.csi_types.specs.declared.call.Kind.{Kind}
 use Rattle.csi_types.specs.declared.call.Kind.TheVariants as kinds
+use Rattle.csi_types.specs.declared.reply.Reply.{Reply}
 use Rattle.csi_types.specs.Reply.{has_id_by_rule}
 use Rattle.csi_types.specs.Frame.{IsAllowed}
 use Rattle.csi_types.specs.Replies.{stale_reply, reply_frame}
@@ -20,8 +21,11 @@ use Rattle.csi_controller.specs.CoreAnswers.{IsAnswered, IsLeftSo}
 use Rattle.csi_controller.specs.CoreParts.{parts_of, IsSoundCore}
 use Rattle.csi_controller.specs.Fenced.{fenced_call, kept_for}
 use Rattle.csi_controller.specs.RowsLaw.{Changes}
-use Rattle.csi_controller.specs.State.{ControllerState}
+use Rattle.csi_controller.specs.Nowhere.{IsCreate, reply_nowhere}
+use Rattle.csi_controller.specs.Shown.{volume_of_row}
+use Rattle.csi_controller.specs.State.{ControllerState, is_row_for}
 use Rattle.csi_controller.specs.Step.{Answers, answer_frame}
+use Rattle.csi_controller.proofs.AtRow.{nowhere-allowed, told-nowhere}
 use Rattle.csi_controller.proofs.ChangesTold.{none-changed, session-late, session-now, staying-late, staying-now}
 use Rattle.csi_controller.proofs.Counts.{same-parts-counted}
 use Rattle.csi_controller.proofs.Sessions.{answered-late, answered-now}
@@ -66,6 +70,16 @@ late-answered core number call answer kept late is party =
       config = refl;
       kept = kept;
     })
+
+-- a call of an id that no row has, in the present session
+pub nowhere-now : (core : Core) (number : Number) (call : Call) (kind : Kind) (reply : Reply) → IsSoundCore core → number.session ≡ core.session
+    → find (λ (r : ControllerRow). is_row_for call (volume_of_row r)) (rows_of core.catalog) ≡ None → IsTrue (is_party_of (kind_of call) Controller) → (IsCreate call → ⊥)
+    → kind ≡ kind_of call → reply ≡ reply_nowhere call → IsAnswered core core number call (record { kind = kind; reply = reply; row = None })
+nowhere-now core number call kind reply kept present none party other of_kind is =
+    subst (λ (k : Kind). IsAnswered core core number call (record { kind = k; reply = reply; row = None })) (sym of_kind)
+    (same-answered core number call (record { kind = kind_of call; reply = reply; row = None }) kept present refl
+    (party, subst (λ (r : Reply). IsTrue (has_id_by_rule (kind_of call) r)) (sym is) (nowhere-allowed call party other))
+    (λ state shown. told-nowhere core.config core.next_id core.session (rows_of core.catalog) state number call reply shown none party other is))
 
 -- nothing happened
 pub same-left : (core : Core) → IsSoundCore core → IsLeftSo core core

@@ -1,6 +1,7 @@
 -- A core after it answered a call that begins a session: as if the volumes that were deleted had been forgotten before.
 use Rattle.std.proofs.Common.{◌≡◌, ◌<◌, ◌≤◌, ◌+◌, ◌%◌, ℕ, List, [], ◌∷◌, ◌++◌, Bool, true, false, length, get_or, set, refl, sym, ◌∙◌, ap, subst, arith}
-use Rattle.std.specs.Prelude.{Option, Some, None, filter, find, position, slice_get, IsTrue, ◌==◌, ◌||◌}
+use Rattle.std.specs.Prelude.{Option, Some, None, Result, OnErr, map, filter, find, position, slice_get, IsTrue, ◌==◌, ◌||◌}
+use Rattle.std.specs.declared.result.Result.TheVariants as results
 use Rattle.std.specs.List.{AllByRecursion}
 use Rattle.std.proofs.lemmas.Bool.{eq-eqb}
 use Rattle.csi_lists.proofs.Each.{each-append_one, each-at, each-set}
@@ -10,6 +11,7 @@ use Rattle.csi_lists.specs.Places.{AtMostOne, FirstAt, IsAt}
 use Rattle.csi_types.specs.declared.capability.Capability.{Capability}
 use Rattle.csi_types.specs.declared.number.Number.{Number}
 use Rattle.csi_types.specs.declared.call.Call.{Call}
+use Rattle.csi_types.specs.declared.call.Kind.{Kind}
 use Rattle.csi_types.specs.declared.call.Party.TheVariants.{Controller}
 use Rattle.csi_types.specs.declared.config.NodeSlots.{NodeSlots}
 use Rattle.csi_types.specs.declared.frame.Body.TheVariants as bodies
@@ -22,17 +24,19 @@ use Rattle.csi_fence.specs.Fence.{verdict_of}
 use Rattle.csi_types.specs.Call.{kind_of, is_party_of}
 use Rattle.csi_types.specs.Config.{Config}
 use Rattle.csi_types.specs.Frame.{Frame, IsAllowed}
-use Rattle.csi_types.specs.Replies.{reply_frame}
+use Rattle.csi_types.specs.Reply.{has_id_by_rule}
 use Rattle.csi_controller.specs.declared.row.ControllerRow.{ControllerRow}
 use Rattle.csi_controller.specs.declared.controller.core_parts.Core.{Core}
 use Rattle.csi_controller.specs.AtRow.{RowAnswers, row_named}
 use Rattle.csi_controller.specs.Beginning.{live_rows, HasForgotten}
-use Rattle.csi_controller.specs.Catalog.{rows_of, IsIndexed}
+use Rattle.csi_controller.specs.declared.catalog.Catalog.{Catalog}
+use Rattle.csi_controller.specs.Catalog.{rows_of, IsIndexed, AreSameEntries}
 use Rattle.csi_controller.specs.Core.{Parts, Shows, IsAnsweredOk, IsRising, IsSound, IsSoundRow, IsCurrentRow, IsCurrent}
 use Rattle.csi_controller.specs.CoreAnswers.{IsAnswered}
 use Rattle.csi_controller.specs.CoreParts.{parts_of, IsSoundCore}
 use Rattle.csi_controller.specs.Counts.{AreCounted}
-use Rattle.csi_controller.specs.Fenced.{begun, fenced_call, kept_for}
+use Rattle.csi_controller.specs.Fenced.{answered_in, begun, fenced_call, kept_for}
+use Rattle.csi_controller.specs.Nowhere.{IsCreate, reply_nowhere}
 use Rattle.csi_controller.specs.OneRow.{RowOutcome}
 use Rattle.csi_controller.specs.RowTable.{row_line}
 use Rattle.csi_controller.specs.RowsLaw.{Changes, row_by_id, staying}
@@ -41,7 +45,7 @@ use Rattle.csi_controller.specs.State.{Volume, ControllerState, is_row_for}
 use Rattle.csi_controller.specs.Step.{Answers, answer_frame}
 use Rattle.csi_controller.specs.Table.{Outcome}
 use Rattle.csi_controller.specs.WithoutSession.{stays_in}
-use Rattle.csi_controller.proofs.AtRow.{at-place, same_id, same_name, there-answers}
+use Rattle.csi_controller.proofs.AtRow.{at-place, nowhere-allowed, there-answers, told-nowhere}
 use Rattle.csi_controller.proofs.CatalogMaps.{indexed-set, read-at, rows-set}
 use Rattle.csi_controller.proofs.ChangesTold.{none-changed, row-put, session-first, staying-first}
 use Rattle.csi_controller.proofs.Counts.{answered-counted}
@@ -116,6 +120,16 @@ begun-only core after number call answer kept later forgotten names allowed told
       config = ap (λ (k : Parts). k.config) parts;
       kept = forgotten-kept core after number.session kept later forgotten;
     }
+
+-- a call of an id that no live volume has
+pub nowhere-first : (core after : Core) (number : Number) (call : Call) (kind : Kind) (reply : Reply) → IsSoundCore core → core.session < number.session
+    → find (λ (r : ControllerRow). is_row_for call (volume_of_row r)) (live_rows (rows_of core.catalog)) ≡ None → IsTrue (is_party_of (kind_of call) Controller) → (IsCreate call → ⊥)
+    → kind ≡ kind_of call → reply ≡ reply_nowhere call → HasForgotten number.session core after → IsAnswered core after number call (record { kind = kind; reply = reply; row = None })
+nowhere-first core after number call kind reply kept later none party other of_kind is forgotten =
+    subst (λ (k : Kind). IsAnswered core after number call (record { kind = k; reply = reply; row = None })) (sym of_kind)
+    (begun-only core after number call (record { kind = kind_of call; reply = reply; row = None }) kept later forgotten refl
+    (party, subst (λ (r : Reply). IsTrue (has_id_by_rule (kind_of call) r)) (sym is) (nowhere-allowed call party other))
+    (λ state shown. told-nowhere core.config core.next_id number.session (live_rows (rows_of core.catalog)) state number call reply shown none party other is))
 
 -- ---- a row is changed
 
@@ -245,8 +259,7 @@ begun-undone core place row number call state kept later at stands alive shown a
     let standing = stands-live p core.session number.session rows place row row later kept.current first alive (ap (λ (b : Bool). b || (row.last.session == number.session)) alive) in
     let begun_shown = shown-begun core number.session state kept shown in
     let table = line-told core.config core.next_id (live_rows rows) (begun number.session state) core.counts standing.among row call (sound-live core kept) begun_shown.shows
-    (counted-live core.config.nodes core.next_id rows core.counts kept.sound kept.counted) standing.first in
-    (
+    (counted-live core.config.nodes core.next_id rows core.counts kept.sound kept.counted) standing.first in (
       fresh-later row.last number (omega (arith, was, later)),
       ap (λ (o : Outcome). o.reply.status) (sym table) ∙ through-first core.config state number call (subst (λ (s : ℕ). s < number.session) shown.session later) answered,
     )
@@ -258,3 +271,16 @@ put-indexed core place row new counts kept stands put = indexed-set core.catalog
 
 pub put-rising : (core : Core) (place : ℕ) (row new : ControllerRow) (counts : List ℕ) → IsPut core place row new counts → IsRising (rows_of (recounted_core core place new counts).catalog)
 put-rising core place row new counts put = subst IsRising (sym (rows-set core.catalog.rows place new)) put.sound.rising
+
+-- what follows of a refusal is so of any
+pub on-err : {T E P : Type 0} (r : Result T E) → P → OnErr r P
+on-err (results.Ok x) told = tt
+on-err (results.Err e) told = told
+
+-- the parts of a core that made room in its maps, and has forgotten what was deleted
+pub roomy-parts : (core after : Core) (catalog : Catalog) (session : ℕ) → IsSoundCore core → core.session < session → AreSameEntries core.catalog catalog
+    → HasForgotten session (record core { catalog = catalog }) after → parts_of after ≡ begun_with core session (live_rows (rows_of core.catalog))
+roomy-parts core after catalog session kept later same forgotten =
+    forgotten.parts
+    ∙ ap (λ (entries : List (ℕ × ControllerRow)). begun_with core session (filter (stays_in session) (map (λ (e : ℕ × ControllerRow). e.1) entries))) same.rows
+    ∙ ap (begun_with core session) (stays-all_live core.session session (rows_of core.catalog) later kept.current)

@@ -1,6 +1,6 @@
 -- A core after a CreateVolume of a name that no volume has, in the present session and where it begins one.
 use Rattle.std.proofs.Common.{◌≡◌, ◌<◌, ◌+◌, ◌%◌, ℕ, List, [], ◌∷◌, ◌++◌, length, refl, sym, ◌∙◌, ap, subst}
-use Rattle.std.specs.Prelude.{Option, Some, None, find, ◌==◌}
+use Rattle.std.specs.Prelude.{Option, Some, None, find, ◌==◌, IsTrue}
 use Rattle.csi_lists.proofs.Each.{each-append_one}
 use Rattle.csi_lists.proofs.Searches.{find-none_in_filter}
 use Rattle.csi_types.specs.declared.capability.Capability.{Capability}

@@ -61,7 +61,7 @@ counted-left node q [] empty = refl
 counted-left node q (r ∷ rs) empty = by (q r) refl (counted-left node q rs empty.1)
   where
     nowhere : r.holdings.items ≡ [] → count_held node (r ∷ rs) ≡ count_held node rs
-    nowhere none = count-cons (is_held node) r rs ∙ ap (λ (items : List NodeHolding). cond (list_any (λ (held : NodeHolding). same_text held.node node) items) 1 0 + count_held node rs) none
+    nowhere none = count-cons (is_held node) r rs ∙ ap (λ (items : List NodeHolding). cond (list_any (λ (held : NodeHolding). same_text held.node node) items) 1 0 + count_held node rs) none ∙ omega arith
 
     by : (b : Bool) → q r ≡ b → count_held node (filter q rs) ≡ count_held node rs → count_held node (cond b (r ∷ filter q rs) (filter q rs)) ≡ count_held node (r ∷ rs)
     by true is rest = count-cons (is_held node) r (filter q rs) ∙ ap (λ n. cond (is_held node r) 1 0 + n) rest ∙ sym (count-cons (is_held node) r rs)

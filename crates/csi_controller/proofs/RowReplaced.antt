@@ -22,6 +22,7 @@ use Rattle.csi_controller.specs.declared.row.ControllerRow.{ControllerRow}
 use Rattle.csi_controller.specs.declared.controller.core_parts.Core.{Core}
 use Rattle.csi_controller.specs.State.{Volume, ControllerState, is_row_for}
 use Rattle.csi_controller.specs.Shown.{volume_of_row}
+use Rattle.csi_controller.specs.Fenced.{fenced_call, kept_for}
 use Rattle.csi_controller.specs.Catalog.{rows_of}
 use Rattle.csi_controller.specs.Counts.{AreCounted}
 use Rattle.csi_controller.specs.Step.{Answers, answer_frame}
@@ -150,7 +151,7 @@ answered-there core place row new counts number call answer kept present at stan
     record {
       told = λ state shown.
           subst (Answers (parts_of (recounted_core core place new counts)) (answer_frame number answer)) (sym (answered-now core.config state number call (present ∙ shown.session)))
-          (of-set (λ (parts : Parts). Answers parts (answer_frame number answer) _) core place new counts
+          (of-set (λ (parts : Parts). Answers parts (answer_frame number answer) (fenced_call core.config state number call (kept_for call state))) core place new counts
           (there-answers core.config core.next_id core.session rows core.counts state number call place row new (answer_frame number answer) kept.sound kept.counted shown first answered.gives));
       changes = of-set (λ (parts : Parts). Changes answer.row number (parts_of core) parts) core place new counts
           (subst (λ (o : Option ℕ). Changes o number (parts_of core) (parts_with core (set rows place new))) (sym names)

@@ -26,6 +26,7 @@ impl Core {
     ghost use Rattle.csi_controller.specs.CoreAnswers.{IsAnswered, IsLeftSo};
     ghost use Rattle.csi_controller.specs.Beginning.{live_rows, HasForgotten, HasMade};
     ghost use Rattle.csi_controller.specs.Making.{made_answer};
+    ghost use Rattle.csi_controller.specs.Nowhere.{IsCreate};
 
     // Where the row of this call is, if its volume is live.
     fn live_place_for(&self, call: &CallRef<'_>) -> Option<usize>
@@ -140,6 +141,26 @@ impl Core {
         }
     }
 
+    // Answers a call that begins a session, of an id that no live volume has. An `Err` changes nothing.
+    fn begin_nowhere(&mut self, number: Number, call: &CallRef<'_>) -> Result<Answer, CoreFault>
+        requires party { IsTrue (is_party_of (kind_of (lent_call call.now)) Controller) }
+        requires kept { IsSoundCore self.old }
+        requires begins { self.old.session < number.session }
+        requires none { find (λ row. is_row_for (lent_call call.now) (volume_of_row row)) (live_rows (rows_of self.old.catalog)) ≡ None }
+        requires other { IsCreate (lent_call call.now) → ⊥ }
+        ensures ok { IfOk result (λ answer. IsAnswered self.old self.new number (lent_call call.now) answer) }
+        ensures err { OnErr result (IsLeftSo self.old self.new) }
+        ensures undone { IsUndoing (lent_call call.now) → IsOk result }
+    {
+        let reply = reply_without_row(self.alloc, call)?;
+        self.forget(number.session);
+        Ok(Answer {
+            kind: call.kind(),
+            reply,
+            row: None,
+        })
+    }
+
     // Answers a call that begins a session and has no live volume. An `Err` changes nothing.
     fn begin_without_row(&mut self, number: Number, call: &CallRef<'_>) -> Result<Answer, CoreFault>
         requires party { IsTrue (is_party_of (kind_of (lent_call call.now)) Controller) }
@@ -150,22 +171,15 @@ impl Core {
         ensures err { OnErr result (IsLeftSo self.old self.new) }
         ensures undone { IsUndoing (lent_call call.now) → IsOk result }
     {
-        if let CallRef::CreateVolume {
-            name,
-            required,
-            limit,
-            capabilities,
-        } = call
-        {
-            return self.create_first(number, name, *required, *limit, capabilities);
+        match call {
+            CallRef::CreateVolume {
+                name,
+                required,
+                limit,
+                capabilities,
+            } => self.create_first(number, name, *required, *limit, capabilities),
+            _ => self.begin_nowhere(number, call),
         }
-        let reply = reply_without_row(self.alloc, call)?;
-        self.forget(number.session);
-        Ok(Answer {
-            kind: call.kind(),
-            reply,
-            row: None,
-        })
     }
 
     /// Answers a call of a later session than any that came: the session begins, so that the volumes that were deleted before are

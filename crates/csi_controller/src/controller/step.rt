@@ -2,6 +2,7 @@
 ghost use Rattle.std.specs.Prelude.{◌≡◌, ◌<◌, None, Some, position, option_map, IfOk, IfSome, OnErr, OnOk, IsOk, IsTrue, not};
 ghost use Rattle.indexmap.specs.IndexMap.{index_map_len};
 ghost use Rattle.csi_types.specs.declared.call.Call.{Call as OneCall};
+ghost use Rattle.csi_types.specs.declared.number.Number.{Number as OneNumber};
 ghost use Rattle.csi_types.specs.declared.call.Party.{Party as OneParty};
 ghost use Rattle.csi_types.specs.declared.call.Party.TheVariants.{Controller};
 ghost use Rattle.csi_types.specs.Call.{kind_of, is_party_of};
@@ -33,6 +34,7 @@ impl Core {
     ghost use Rattle.csi_controller.specs.Step.{answer_frame};
     ghost use Rattle.csi_controller.specs.CoreParts.{parts_of, IsSoundCore};
     ghost use Rattle.csi_controller.specs.CoreAnswers.{IsAnswered, IsLeftSo};
+    ghost use Rattle.csi_controller.specs.Nowhere.{IsCreate};
     ghost use Rattle.csi_controller.specs.Repeats.{IsPlainRepeat};
     ghost use Rattle.csi_controller.specs.RowsLaw.{Changes};
 
@@ -59,6 +61,23 @@ impl Core {
         answer_at_row(row, nodes, &mut self.counts, alloc, number, call)
     }
 
+    // Answers a call of the present session and of an id that no volume has.
+    fn answer_nowhere(&self, call: &CallRef<'_>) -> Result<Answer, CoreFault>
+        requires party { IsTrue (is_party_of (kind_of (lent_call call.now)) Controller) }
+        requires kept { IsSoundCore self.now }
+        requires none { None ≡ position (λ row. is_row_for (lent_call call.now) (volume_of_row row)) (rows_of self.now.catalog) }
+        requires other { IsCreate (lent_call call.now) → ⊥ }
+        ensures ok { (number : OneNumber) → number.session ≡ self.now.session → IfOk result (λ answer. IsAnswered self.now self.now number (lent_call call.now) answer) }
+        ensures undone { IsUndoing (lent_call call.now) → IsOk result }
+    {
+        let reply = reply_without_row(self.alloc, call)?;
+        Ok(Answer {
+            kind: call.kind(),
+            reply,
+            row: None,
+        })
+    }
+
     // Answers a call of the present session that has no row. An `Err` changes nothing.
     fn answer_without_row(
         &mut self,
@@ -74,21 +93,15 @@ impl Core {
         ensures repeated { (state : ControllerState) → Shows (parts_of self.old) state → IsPlainRepeat state.session (kept_for (lent_call call.now) state) number → IsOk result }
         ensures undone { (state : ControllerState) → Shows (parts_of self.old) state → IsUndoing (lent_call call.now) → IsAnsweredOk self.old.config state number (lent_call call.now) → IsOk result }
     {
-        if let CallRef::CreateVolume {
-            name,
-            required,
-            limit,
-            capabilities,
-        } = call
-        {
-            return self.create(number, name, *required, *limit, capabilities);
+        match call {
+            CallRef::CreateVolume {
+                name,
+                required,
+                limit,
+                capabilities,
+            } => self.create(number, name, *required, *limit, capabilities),
+            _ => self.answer_nowhere(call),
         }
-        let reply = reply_without_row(self.alloc, call)?;
-        Ok(Answer {
-            kind: call.kind(),
-            reply,
-            row: None,
-        })
     }
 
     // Answers a call for the controller: by its session, and then by its row. An `Err` changes nothing.
