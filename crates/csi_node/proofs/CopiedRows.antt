@@ -1,5 +1,5 @@
 -- What a row that was found, or copied, shows.
-use Rattle.std.proofs.Common.{◌≡◌, ℕ, List, sym, ◌∙◌, ap, subst, None, Result, Ok, Err}
+use Rattle.std.proofs.Common.{◌≡◌, ℕ, List, sym, ◌∙◌, ap, subst, None, Result, Ok, Err, IfOk}
 use Rattle.std.specs.Prelude.{OnErr, Option, Some, option_map}
 use Rattle.csi_node.specs.declared.row.NodeRow.{NodeRow}
 use Rattle.csi_node.specs.State.{NodeState, row_with_id}
@@ -17,6 +17,12 @@ shows-same old new state shows same = shows-from_all new state (subst (λ l. Sho
 -- and so do parts with the same session
 pub shows-copy : (old new : NodeParts) (state : NodeState) → Shows old state → parts new.rows ≡ parts old.rows → new.session ≡ old.session → Shows new state
 shows-copy old new state shows same session = record { shows = shows-same old.rows new.rows state shows.shows same; session = session ∙ shows.session }
+
+-- a copy shows what is shown
+pub copy-shows : {E : Type 0} (r : Result NodeParts E) (old : NodeParts) (state : NodeState) → Shows old state → IfOk r (λ copy. parts copy.rows ≡ parts old.rows) → IfOk r (λ copy. copy.session ≡ old.session)
+    → IfOk r (λ copy. Shows copy state)
+copy-shows (Ok copy) old state shows same session = shows-copy old copy state shows same session
+copy-shows (Err fault) old state shows same session = tt
 
 -- what is so anyway is so of an error
 pub err_holds : {T E : Type 0} (r : Result T E) {P : Type 0} → P → OnErr r P

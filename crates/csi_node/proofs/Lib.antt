@@ -27,6 +27,8 @@ pub mod StagedOnce
 mod SoundRow
 pub mod PutRows
 pub mod Forgotten
+pub mod LeftOut
+pub mod FewRows
 pub mod ChangedRows
 pub mod AtBeginning
 pub mod FirstRefused
