@@ -1,10 +1,10 @@
 -- A call that begins a session, at its volume's row or without one: what the rows answer and which are forgotten, and the rules afterwards.
-use Rattle.std.proofs.Common.{◌≡◌, ℕ, suc, ◌<◌, ◌≤◌, List, [], ◌∷◌, length, get_or, set, Bool, true, false, cond, ◌&&◌, refl, sym, ◌∙◌, ap, subst, arith, inl, inr, Some, None}
+use Rattle.std.proofs.Common.{◌≡◌, ℕ, suc, ◌<◌, ◌≤◌, List, [], ◌∷◌, length, set, Bool, true, false, cond, ◌&&◌, refl, sym, ◌∙◌, ap, subst, arith, inl, inr, Some, None}
 use Rattle.std.specs.Prelude.{All, Option, codes, filter, is_some, nat_le, ◌==◌}
 use Rattle.std.specs.List.{insert, list_all}
 use Rattle.std.proofs.lemmas.Bool.{false≢true}
 use Rattle.std.proofs.lemmas.Bool.Decides.{nat_tests}
-use Rattle.std.proofs.lemmas.List.{length-map, map-set}
+use Rattle.std.proofs.lemmas.List.{length-map}
 use Rattle.std.proofs.lemmas.List.Elements.{All-filter, filter_passes, recursion_from_All}
 use Rattle.csi_types.specs.declared.call.Call.{Call}
 use Rattle.csi_types.specs.declared.capability.Capability.{Capability}
@@ -13,7 +13,6 @@ use Rattle.csi_types.specs.declared.status.Status.TheVariants.{ResourceExhausted
 use Rattle.csi_types.specs.Call.{kind_of}
 use Rattle.csi_types.specs.Replies.{plain_reply}
 use Rattle.csi_fence.specs.declared.answer.Answer.{Answer}
-use Rattle.csi_fence.specs.declared.fence.Verdict.{Verdict}
 use Rattle.csi_fence.specs.declared.fence.Verdict.TheVariants.{Fresh}
 use Rattle.csi_fence.specs.Fence.{Kept, verdict_of, verdict_of_spent}
 use Rattle.csi_fence.proofs.Spent.{fresh_in-later}
@@ -22,7 +21,7 @@ use Rattle.csi_lists.proofs.Filters.{filter-no_longer, filter-of_map}
 use Rattle.csi_lists.proofs.Members.{among-find, one-of_all}
 use Rattle.csi_lists.proofs.PassingByKey.{passing}
 use Rattle.csi_node.specs.declared.row.NodeRow.{NodeRow}
-use Rattle.csi_node.specs.Changes.{Changes, put_row, staying}
+use Rattle.csi_node.specs.Changes.{Changes, put_row}
 use Rattle.csi_node.specs.Fenced.{answer_frame, answered_in, begun, fenced_call, kept_for}
 use Rattle.csi_node.specs.OneRow.{RowShown, shown, row_anew, table_answer, IsSoundRow, IsAfter, RowAnswers}
 use Rattle.csi_node.specs.Record.{parts, parts_of, IsAt, IsCurrent, IsCurrentRow, IsGapFor, IsSound, Shows}

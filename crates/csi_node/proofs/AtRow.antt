@@ -16,7 +16,7 @@ use Rattle.csi_fence.specs.declared.fence.Verdict.{Verdict}
 use Rattle.csi_fence.specs.declared.fence.Verdict.TheVariants.{Stale, Repeated, Fresh}
 use Rattle.csi_fence.specs.Fence.{Kept, verdict_of}
 use Rattle.csi_node.specs.declared.row.NodeRow.{NodeRow}
-use Rattle.csi_node.specs.Changes.{Changes, put_row, staying}
+use Rattle.csi_node.specs.Changes.{Changes, put_row}
 use Rattle.csi_node.specs.Fenced.{answer_frame, answered_in, fenced_call, kept_for}
 use Rattle.csi_node.specs.OneRow.{RowShown, shown, row_anew, table_answer, IsSoundRow, IsAfter, RowAnswers}
 use Rattle.csi_node.specs.Record.{parts, parts_of, id_at, IsAt, IsCurrent, IsCurrentRow, IsGapFor, IsSound, Shows}

@@ -8,7 +8,7 @@ use Rattle.csi_node.specs.declared.row.NodeRow.{NodeRow}
 use Rattle.csi_types.specs.declared.capability.Capability.{Capability}
 use Rattle.csi_node.specs.Judging.{KeepRules, IsFirstRefused, is_current, may_follow}
 use Rattle.csi_node.specs.OneRow.{RowShown, shown, IsSoundRow}
-use Rattle.csi_node.specs.Record.{parts, id_at, IsCurrent, IsCurrentRow, IsSound}
+use Rattle.csi_node.specs.Record.{parts, id_at, IsCurrentRow, IsSound}
 use Rattle.csi_node.specs.SoundRow.{is_sound_row}
 use Rattle.csi_node.proofs.RecordRules.{IsRising}
 use Rattle.csi_node.proofs.SoundRow.{row-sound, sound-row}

@@ -1,6 +1,6 @@
 -- What a search finds among rows by rising id.
 use Rattle.std.proofs.Common.{◌≡◌, ◌≢◌, ℕ, zero, suc, ◌<◌, List, [], ◌∷◌, length, get_or, refl, arith}
-use Rattle.std.specs.Prelude.{Some, None, ◌==◌}
+use Rattle.std.specs.Prelude.{Some, None}
 use Rattle.std.proofs.lemmas.Bool.Decides.{nat_tests}
 use Rattle.csi_node.specs.OneRow.{RowShown}
 use Rattle.csi_node.specs.Record.{id_at, IsAt}

@@ -1,10 +1,9 @@
-use Rattle.std.proofs.Common.{◌∙◌, ap, sym, subst, Some, List}
+use Rattle.std.proofs.Common.{◌∙◌, ap, sym, subst, Some}
 use Rattle.std.proofs.Math.Seq.{map-set_same}
 use Rattle.csi_types.specs.Lent.{lent_call}
-use Rattle.csi_node.specs.declared.row.NodeRow.{NodeRow}
 use Rattle.csi_fence.specs.Fence.{Kept}
 use Rattle.csi_node.specs.OneRow.{shown}
-use Rattle.csi_node.specs.Record.{parts, IsSound}
+use Rattle.csi_node.specs.Record.{IsSound}
 use Rattle.csi_node.proofs.AtRow.{there}
 use Rattle.csi_node.proofs.CopiedRows.{err_holds}
 use Rattle.csi_node.proofs.AtBeginning.{begins-there, there-put, rules-begun, current-begun}

@@ -1,7 +1,3 @@
-use Rattle.std.proofs.Common.{◌≡◌, ◌⊎◌, ◌≤◌, ◌+◌, ◌==◌, List, length, subst, sym}
-use Rattle.std.specs.Prelude.{count_by, is_some}
-use Rattle.std.proofs.lemmas.List.{length-map}
-use Rattle.csi_node.specs.OneRow.{shown}
 use Rattle.csi_node.proofs.FewRows.{few-rows}
 use Rattle.csi_node.proofs.node.Node.rows.Goals as goal
 
