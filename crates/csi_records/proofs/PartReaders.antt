@@ -22,7 +22,7 @@ use Rattle.csi_stores.specs.Part.{StoredPart, stored_in, value_in}
 use Rattle.csi_records.specs.Reading.{Reader, go_on, ended, whole, IsReadWhole, byte_in, tag_in, volume_in, answered_in, controller_head_in, node_head_in}
 use Rattle.csi_frames.specs.Reading.{byte_at}
 use Rattle.csi_records.specs.Spelling.{VolumeRow, state_byte, counted, holding_bytes, target_bytes, kept_bytes, staged_bytes, volume_part, answered_part, controller_head, node_head}
-use Rattle.csi_records.specs.Records.{IsCapabilityIn, IsKept, IsHolding, IsVolumeRow, IsTargetRow, IsStagedSo, IsAnsweredRow, Head, IsHead}
+use Rattle.csi_records.specs.Records.{IsCapabilityIn, IsKept, IsHolding, IsVolumeRow, IsTargetRow, IsStagedSo, IsAnsweredRow, IsHead}
 use Rattle.csi_records.proofs.Readers.{Reads, in_words, Spelled, After, Made, after, makes, Always}
 use Rattle.csi_records.proofs.FieldReaders.{live_reads, word_reads, text_reads, capability_reads}
 use Rattle.csi_records.proofs.HeadReaders.{tagged, head_fields, controller_head_reads, node_head_reads}

@@ -1,5 +1,5 @@
 -- The records of both plugins by their layouts.
-use Rattle.std.proofs.Common.{◌≡◌, ℕ, ◌+◌, ◌-◌, ◌≤◌, ◌<◌, List, [], ◌∷◌, ◌++◌, length, take, drop, map, get_or, Some, None, sym, ap, subst, ◌∙◌, arith}
+use Rattle.std.proofs.Common.{◌≡◌, ℕ, ◌-◌, ◌≤◌, ◌<◌, List, [], ◌∷◌, length, take, drop, map, get_or, Some, None, sym, ap, subst, ◌∙◌, arith}
 use Rattle.std.specs.Prelude.{Option, IfSome}
 use Rattle.std.specs.List.{AllByRecursion}
 use Rattle.std.proofs.lemmas.List.{take_rest, take-map, length-append, length-take, length-map, get_or-take}
@@ -111,13 +111,13 @@ node-sound None rows are = are
 node-sound (Some greatest) rows are = are.0
 
 -- the head of the node that is asked for is a node's
-named : {version : RecordVersion} {wanted : Option (List ℕ)} {head : Head (List ℕ)} → IsHead (IsAskedNode wanted) version head → IsHead IsNodeId version head
-named fits = record { own = fits.own.0; session = fits.session }
+named : (version : RecordVersion) (wanted : Option (List ℕ)) (head : Head (List ℕ)) → IsHead (IsAskedNode wanted) version head → IsHead IsNodeId version head
+named version wanted head fits = record { own = fits.own.0; session = fits.session }
 
 -- the parts of a node's record are spelled by one value each, and a front of its rows keeps the rules
 pub node_one : (version : RecordVersion) (wanted : Option (List ℕ)) → IsOneToOne (node_layout version wanted)
 node_one version wanted = record {
-  heads = λ a b fits fit e. same_part (node_head_read version) a b (named fits) (named fit) e;
+  heads = λ a b fits fit e. same_part (node_head_read version) a b (named version wanted a fits) (named version wanted b fit) e;
   rows = same_part (answered_read version);
   fronts = λ head rows k are. node-take head.session rows k are;
 }
@@ -128,7 +128,7 @@ pub node-unasked : (version : RecordVersion) (wanted : Option (List ℕ)) (head 
 node-unasked version wanted head parts fits other =
     head-refused (node_layout version wanted) (node_head version head.own head.session) parts
     (λ first fit same.
-    let is : first ≡ head = same_part (node_head_read version) first head (named fit) fits same in
+    let is : first ≡ head = same_part (node_head_read version) first head (named version wanted first fit) fits same in
     other (subst (λ (h : Head (List ℕ)). IfSome wanted (λ id. h.own ≡ id)) is fit.own.1))
 
 -- what keeps the rules can be written
