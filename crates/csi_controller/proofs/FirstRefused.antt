@@ -39,7 +39,7 @@ le-last_id n (row ∷ rows) above rising =
     let rest : row.id ≤ last_id row.id rows = le-last_id row.id rows rising.0 rising.1 in omega (arith, first, rest)
 
 -- what is so of each of a list is so of its last
-each-last : {X : Type 0} (P : X → Type 0) (xs : List X) (x : X) → AllByRecursion P (xs ++ x ∷ []) → P x
+pub each-last : {X : Type 0} (P : X → Type 0) (xs : List X) (x : X) → AllByRecursion P (xs ++ x ∷ []) → P x
 each-last P [] x all = all.0
 each-last P (y ∷ ys) x all = each-last P ys x all.1
 
@@ -170,7 +170,7 @@ pub record SoFar (n : ℕ) (rows : List ControllerRow) (place last : ℕ) (has :
   pub names : (name : List ℕ) → has name ≡ list_any (λ (row : ControllerRow). same_text row.name name) (take place rows)
 
 -- the rows up to a place and with it are those before it, and then the row there
-one-more : (rows : List ControllerRow) (place : ℕ) (row : ControllerRow) → place < length rows → row ≡ get_or rows place row → take (place + 1) rows ≡ take place rows ++ row ∷ []
+pub one-more : (rows : List ControllerRow) (place : ℕ) (row : ControllerRow) → place < length rows → row ≡ get_or rows place row → take (place + 1) rows ≡ take place rows ++ row ∷ []
 one-more rows place row inside is = take_more rows place row inside ∙ ap (λ (r : ControllerRow). take place rows ++ r ∷ []) (sym is)
 
 -- whether a row may follow is told by its place and by the last id so far

@@ -1,21 +1,18 @@
 -- The first row that no record of a session has there.
-use Rattle.std.proofs.Common.{◌≡◌, ◌<◌, ◌≤◌, ◌+◌, ◌-◌, ℕ, zero, suc, length, take, drop, Bool, true, false, cond, not, List, [], ◌∷◌, ◌++◌, refl, sym, ◌∙◌, ap, subst, arith}
-use Rattle.std.specs.Prelude.{Some, None, filter, find, max, ◌&&◌, ◌||◌, ◌==◌, nat_le}
+use Rattle.std.proofs.Common.{◌≡◌, ◌<◌, ◌≤◌, ◌+◌, ◌-◌, ℕ, length, get_or, take, drop, Bool, true, false, cond, List, [], ◌∷◌, ◌++◌, refl, sym, ◌∙◌, ap, subst, arith}
+use Rattle.std.specs.Prelude.{Option, Some, None, MatchOption, filter, max, ◌&&◌, ◌||◌, ◌==◌, nat_le}
 use Rattle.std.specs.List.{AllByRecursion}
-use Rattle.std.proofs.lemmas.Bool.{and_from, and_parts, eq-eqb, eqb-true, false≢true, le-leb, leb-false, leb-true, not-true, true≢false}
+use Rattle.std.proofs.lemmas.Bool.{and_from, and_parts, eq-eqb, eqb-true, false≢true, le-leb, leb-false, leb-true}
 use Rattle.std.proofs.Math.Nat.{le-max_left, le-max_right, max-le, max_comm}
 use Rattle.std.proofs.lemmas.List.{take-append-drop, take-take}
-use Rattle.csi_lists.proofs.Each.{each-weaker}
-use Rattle.csi_lists.proofs.Places.{FirstAt-within}
-use Rattle.csi_lists.proofs.Searches.{find_none-all}
-use Rattle.csi_lists.specs.Places.{FirstAt}
+use Rattle.csi_lists.proofs.Each.{each-append_one, each-weaker}
 use Rattle.csi_controller.specs.declared.row.ControllerRow.{ControllerRow}
 use Rattle.csi_controller.specs.Core.{IsCurrentRow, IsCurrent}
-use Rattle.csi_controller.specs.Judging.{AreRecorded, IsFirstRefused, is_current_row}
+use Rattle.csi_controller.specs.Judging.{AreRecorded, IsFirstRefused, earlier_of, is_current_row}
 use Rattle.csi_controller.specs.Views.{AreSameRows}
 use Rattle.csi_controller.specs.WithoutSession.{latest_session, stays_in}
 use Rattle.csi_controller.proofs.Copies.{sound-copies}
-use Rattle.csi_controller.proofs.FirstRefused.{each-front, sound-take}
+use Rattle.csi_controller.proofs.FirstRefused.{each-front, each-last, one-more, sound-take}
 use Rattle.csi_controller.proofs.Sessions.{current-copies}
 
 -- ---- a row of a session
@@ -42,36 +39,22 @@ row-test session row current = and_from (nat_le row.last.session session) (stays
 pub current-take : (session : ℕ) (rows : List ControllerRow) (k : ℕ) → IsCurrent session rows → IsCurrent session (take k rows)
 current-take session rows k current = each-front (IsCurrentRow session) (take k rows) (drop k rows) (subst (IsCurrent session) (sym (take-append-drop k rows)) current)
 
--- where no row fails the test, all are of the session
-pub all-current : (session : ℕ) (rows : List ControllerRow) → find (λ (row : ControllerRow). not (is_current_row session row)) rows ≡ None → IsCurrent session rows
-all-current session rows none =
-    each-weaker (λ (row : ControllerRow). is_current_row session row ≡ true) (IsCurrentRow session) rows (test-row session) (find_none-all (is_current_row session) rows none)
+-- the rows up to one that passes are, where those before it are
+pub walk-on : (session : ℕ) (rows : List ControllerRow) (index : ℕ) (row : ControllerRow) → IsCurrent session (take index rows) → index < length rows → row ≡ get_or rows index row → is_current_row session row ≡ true
+    → IsCurrent session (take (index + 1) rows)
+walk-on session rows index row so inside is passes =
+    subst (IsCurrent session) (sym (one-more rows index row inside is)) (each-append_one (IsCurrentRow session) (take index rows) row so (test-row session row passes))
 
--- the rows before the first that fails are, and with it they aren't
-up_to : (session : ℕ) (rows : List ControllerRow) (index : ℕ) (row : ControllerRow) → FirstAt (λ (r : ControllerRow). not (is_current_row session r)) rows index row
-    → IsCurrent session (take index rows) × (IsCurrent session (take (suc index) rows) → ⊥)
-up_to session [] index row first = absurd first
-up_to session (r ∷ rs) zero row first = (tt, λ all. true≢false (sym (row-test session r all.0) ∙ not-true (is_current_row session r) first.0))
-up_to session (r ∷ rs) (suc index) row first =
-    let rest = up_to session rs index row first.1 in
-    ((test-row session r (passes (is_current_row session r) first.0), rest.0), λ all. rest.1 all.1)
-  where
-    passes : (b : Bool) → not b ≡ false → b ≡ true
-    passes true e = refl
-    passes false e = e
-
-pub first-outdated : (session : ℕ) (rows : List ControllerRow) (index : ℕ) (row : ControllerRow) → FirstAt (λ (r : ControllerRow). not (is_current_row session r)) rows index row
+-- and one that fails is the first that no record of the session has there
+pub stops-there : (session : ℕ) (rows : List ControllerRow) (index : ℕ) (row : ControllerRow) → IsCurrent session (take index rows) → index < length rows → row ≡ get_or rows index row → is_current_row session row ≡ false
     → IsFirstRefused (IsCurrent session) rows (index + 1)
-first-outdated session rows index row first =
-    let parts = up_to session rows index row first in
-    let within = FirstAt-within (λ (r : ControllerRow). not (is_current_row session r)) rows index row first in
+stops-there session rows index row so inside is fails =
     let back : index ≡ index + 1 - 1 = omega arith in
-    let next : suc index ≡ index + 1 = omega arith in
     record {
       from = omega arith;
-      to = omega (arith, within);
-      before = subst (λ (k : ℕ). IsCurrent session (take k rows)) back parts.0;
-      refused = λ all. parts.1 (subst (λ (k : ℕ). IsCurrent session (take k rows)) (sym next) all);
+      to = omega (arith, inside);
+      before = subst (λ (k : ℕ). IsCurrent session (take k rows)) back so;
+      refused = λ all. false≢true (sym fails ∙ row-test session row (each-last (IsCurrentRow session) (take index rows) row (subst (IsCurrent session) (one-more rows index row inside is) all)));
     }
 
 -- ---- two rules at once
@@ -103,15 +86,17 @@ earlier : (P Q : List ControllerRow → Type 0) (rows : List ControllerRow) (a b
 earlier P Q rows a b fronts one two less =
     first-before P Q rows a one (subst Q (take-take (a - 1) (b - 1) rows (omega (arith, less))) (fronts (take (b - 1) rows) (a - 1) two.before))
 
-pub first-of_two : (P Q : List ControllerRow → Type 0) (rows : List ControllerRow) (a b place : ℕ) → IsOfFronts P → IsOfFronts Q → IsFirstRefused P rows a → IsFirstRefused Q rows b
-    → (a ≤ b → place ≡ a) → (b ≤ a → place ≡ b) → IsFirstRefused (Both P Q) rows place
-first-of_two P Q rows a b place fronts_p fronts_q one two first second = by (nat_le a b) refl
-  where
-    by : (t : Bool) → nat_le a b ≡ t → IsFirstRefused (Both P Q) rows place
-    by true e = let less = leb-true a b e in subst (IsFirstRefused (Both P Q) rows) (sym (first less)) (earlier P Q rows a b fronts_q one two less)
-    by false e =
-        let less : b ≤ a = (let more = leb-false a b e in omega (arith, more)) in
-        subst (IsFirstRefused (Both P Q) rows) (sym (second less)) (turned P Q rows b (earlier Q P rows b a fronts_p two one less))
+first-of_two : (P Q : List ControllerRow → Type 0) (rows : List ControllerRow) (a b : ℕ) → IsOfFronts P → IsOfFronts Q → IsFirstRefused P rows a → IsFirstRefused Q rows b
+    → (t : Bool) → nat_le a b ≡ t → IsFirstRefused (Both P Q) rows (cond t a b)
+first-of_two P Q rows a b fronts_p fronts_q one two true e = earlier P Q rows a b fronts_q one two (leb-true a b e)
+first-of_two P Q rows a b fronts_p fronts_q one two false e = let more = leb-false a b e in turned P Q rows b (earlier Q P rows b a fronts_p two one (omega (arith, more)))
+
+pub first-of_both : (P Q : List ControllerRow → Type 0) (rows : List ControllerRow) (a b : Option ℕ) → IsOfFronts P → IsOfFronts Q → MatchOption a (P rows) (IsFirstRefused P rows) → MatchOption b (Q rows) (IsFirstRefused Q rows)
+    → MatchOption (earlier_of a b) (Both P Q rows) (IsFirstRefused (Both P Q) rows)
+first-of_both P Q rows None None fronts_p fronts_q one two = (one, two)
+first-of_both P Q rows None (Some b) fronts_p fronts_q one two = first-other P Q rows b fronts_p one two
+first-of_both P Q rows (Some a) None fronts_p fronts_q one two = first-one P Q rows a fronts_q one two
+first-of_both P Q rows (Some a) (Some b) fronts_p fronts_q one two = first-of_two P Q rows a b fronts_p fronts_q one two (nat_le a b) refl
 
 -- rows that keep the rules have no first one that is refused
 pub none-refused : (P : List ControllerRow → Type 0) (rows : List ControllerRow) (place : ℕ) → IsOfFronts P → IsFirstRefused P rows place → P rows → ⊥

@@ -5,7 +5,7 @@ ghost use Rattle.std.specs.Cmp.Lexicographic.{slice_cmp};
 ghost use Rattle.std.specs.Ordering.{nat_cmp};
 ghost use Rattle.csi_types.specs.Same.{same_text};
 ghost use Rattle.csi_controller.specs.Core.{IsSound, IsCurrent};
-ghost use Rattle.csi_controller.specs.Judging.{AreRecorded, IsFirstRefused, is_current_row, may_follow as is_fit_after};
+ghost use Rattle.csi_controller.specs.Judging.{AreRecorded, IsFirstRefused, earlier_of, is_current_row, may_follow as is_fit_after};
 
 use crate::catalog::stays;
 use crate::row::ControllerRow;
@@ -72,9 +72,28 @@ pub(crate) fn first_refused(
 fn first_not_current(session: u64, rows: &[ControllerRow]) -> Option<u64>
     ensures { MatchOption result (IsCurrent session rows.now) (IsFirstRefused (IsCurrent session) rows.now) }
 {
-    match rows.iter().position(|row| !is_current(session, row)) {
-        Some(index) => Some(index as u64 + 1),
-        None => None,
+    for (index, row) in rows.iter().enumerate() {
+        if !is_current(session, row) {
+            return Some(index as u64 + 1);
+        }
+    }
+    None
+}
+
+// The earlier of two places, of which neither, one or both may be there.
+fn earlier(first: Option<u64>, second: Option<u64>) -> Option<u64>
+    ensures { result ≡ earlier_of first second }
+{
+    match (first, second) {
+        (Some(first), Some(second)) => {
+            if first <= second {
+                Some(first)
+            } else {
+                Some(second)
+            }
+        }
+        (Some(first), None) => Some(first),
+        (None, second) => second,
     }
 }
 
@@ -89,9 +108,5 @@ pub(crate) fn first_unfit(
     ensures { IfOk result (λ found. MatchOption found (AreRecorded next_id session rows.now) (IsFirstRefused (AreRecorded next_id session) rows.now)) }
 {
     let found = first_refused(alloc, next_id, rows)?;
-    Ok(match (found, first_not_current(session, rows)) {
-        (Some(first), Some(second)) => Some(first.min(second)),
-        (Some(first), None) => Some(first),
-        (None, second) => second,
-    })
+    Ok(earlier(found, first_not_current(session, rows)))
 }
