@@ -1,19 +1,15 @@
 -- A core after it answered a call that begins a session: as if the volumes that were deleted had been forgotten before.
-use Rattle.std.proofs.Common.{◌≡◌, ◌<◌, ◌≤◌, ◌+◌, ◌%◌, ℕ, List, [], ◌∷◌, ◌++◌, Bool, true, false, length, get_or, set, refl, sym, ◌∙◌, ap, subst, arith}
+use Rattle.std.proofs.Common.{◌≡◌, ◌<◌, ℕ, List, Bool, true, false, get_or, set, refl, sym, ◌∙◌, ap, subst, arith}
 use Rattle.std.specs.Prelude.{Option, Some, None, Result, OnErr, map, filter, find, position, slice_get, IsTrue, ◌==◌, ◌||◌}
 use Rattle.std.specs.declared.result.Result.TheVariants as results
-use Rattle.std.specs.List.{AllByRecursion}
 use Rattle.std.proofs.lemmas.Bool.{eq-eqb}
-use Rattle.csi_lists.proofs.Each.{each-append_one, each-at, each-set}
+use Rattle.csi_lists.proofs.Each.{each-at, each-set}
 use Rattle.csi_lists.proofs.Places.{FirstAt-find, FirstAt-is_at, FirstAt-only, FirstAt-within, at-index, same-at}
-use Rattle.csi_lists.proofs.Searches.{find-none_in_filter}
 use Rattle.csi_lists.specs.Places.{AtMostOne, FirstAt, IsAt}
-use Rattle.csi_types.specs.declared.capability.Capability.{Capability}
 use Rattle.csi_types.specs.declared.number.Number.{Number}
 use Rattle.csi_types.specs.declared.call.Call.{Call}
 use Rattle.csi_types.specs.declared.call.Kind.{Kind}
 use Rattle.csi_types.specs.declared.call.Party.TheVariants.{Controller}
-use Rattle.csi_types.specs.declared.config.NodeSlots.{NodeSlots}
 use Rattle.csi_types.specs.declared.frame.Body.TheVariants as bodies
 use Rattle.csi_types.specs.declared.reply.Reply.{Reply}
 use Rattle.csi_types.specs.declared.status.Status.TheVariants.{Ok}
@@ -22,7 +18,6 @@ use Rattle.csi_fence.specs.declared.fence.Verdict.{Verdict}
 use Rattle.csi_fence.specs.declared.fence.Verdict.TheVariants.{Fresh}
 use Rattle.csi_fence.specs.Fence.{verdict_of}
 use Rattle.csi_types.specs.Call.{kind_of, is_party_of}
-use Rattle.csi_types.specs.Config.{Config}
 use Rattle.csi_types.specs.Frame.{Frame, IsAllowed}
 use Rattle.csi_types.specs.Reply.{has_id_by_rule}
 use Rattle.csi_controller.specs.declared.row.ControllerRow.{ControllerRow}

@@ -1,6 +1,6 @@
 -- A core after a CreateVolume of a name that no volume has, in the present session and where it begins one.
-use Rattle.std.proofs.Common.{◌≡◌, ◌<◌, ◌+◌, ◌%◌, ℕ, List, [], ◌∷◌, ◌++◌, length, refl, sym, ◌∙◌, ap, subst}
-use Rattle.std.specs.Prelude.{Option, Some, None, find, ◌==◌, IsTrue}
+use Rattle.std.proofs.Common.{◌≡◌, ◌<◌, ℕ, List, [], ◌∷◌, ◌++◌, length, refl, sym, ◌∙◌, ap, subst}
+use Rattle.std.specs.Prelude.{Some, None, find, ◌==◌, IsTrue}
 use Rattle.csi_lists.proofs.Each.{each-append_one}
 use Rattle.csi_lists.proofs.Searches.{find-none_in_filter}
 use Rattle.csi_types.specs.declared.capability.Capability.{Capability}
@@ -8,10 +8,8 @@ use Rattle.csi_types.specs.declared.number.Number.{Number}
 use Rattle.csi_types.specs.declared.call.Call.{Call}
 use Rattle.csi_types.specs.declared.call.Call.TheVariants.{CreateVolume}
 use Rattle.csi_types.specs.declared.call.Kind.TheVariants as kinds
-use Rattle.csi_types.specs.declared.call.Party.TheVariants.{Controller}
 use Rattle.csi_types.specs.declared.reply.Reply.{Reply}
-use Rattle.csi_types.specs.Frame.{Frame}
-use Rattle.csi_types.specs.Replies.{ok_reply_with, reply_frame}
+use Rattle.csi_types.specs.Replies.{ok_reply_with}
 use Rattle.csi_types.specs.Reply.{has_id_by_rule}
 use Rattle.csi_types.specs.Same.{same_text}
 use Rattle.csi_fence.specs.declared.answer.Answer.{Answer}
@@ -19,20 +17,20 @@ use Rattle.csi_controller.specs.declared.row.ControllerRow.{ControllerRow}
 use Rattle.csi_controller.specs.declared.controller.core_parts.Core.{Core}
 use Rattle.csi_controller.specs.Beginning.{live_rows, HasForgotten, HasMade}
 use Rattle.csi_controller.specs.Catalog.{rows_of, IsIndexed}
-use Rattle.csi_controller.specs.Core.{Parts, Shows, IsSound, IsCurrentRow, IsCurrent, next_shown}
-use Rattle.csi_controller.specs.CoreAnswers.{IsAnswered, IsLeftSo}
+use Rattle.csi_controller.specs.Core.{Parts, IsSound, IsCurrentRow, IsCurrent, next_shown}
+use Rattle.csi_controller.specs.CoreAnswers.{IsAnswered}
 use Rattle.csi_controller.specs.CoreParts.{parts_of, IsSoundCore}
 use Rattle.csi_controller.specs.Counts.{AreCounted}
 use Rattle.csi_controller.specs.Fenced.{begun, fenced_call, kept_for}
 use Rattle.csi_controller.specs.Making.{IsMade, made_answer, new_line}
 use Rattle.csi_controller.specs.RowTable.{argument_fault}
-use Rattle.csi_controller.specs.RowsLaw.{Changes, row_by_id, staying}
-use Rattle.csi_controller.specs.State.{Volume, ControllerState}
+use Rattle.csi_controller.specs.RowsLaw.{Changes, row_by_id}
+use Rattle.csi_controller.specs.State.{Volume}
 use Rattle.csi_controller.specs.Step.{Answers, answer_frame}
 use Rattle.csi_controller.specs.Table.{Makes, Stays}
 use Rattle.csi_controller.proofs.ChangesTold.{row-made, session-first, session-now, staying-first, staying-now}
 use Rattle.csi_controller.proofs.CoreAnswered.{same-answered}
-use Rattle.csi_controller.proofs.CoreBegun.{begun_with, begun-only, current-begun, shown-begun, sound-live, told-begun}
+use Rattle.csi_controller.proofs.CoreBegun.{begun-only, current-begun, shown-begun, sound-live, told-begun}
 use Rattle.csi_controller.proofs.Counts.{counted-alike, added-one}
 use Rattle.csi_controller.proofs.Forgetting.{counted-live}
 use Rattle.csi_controller.proofs.Making.{fault-answers, fresh-id, made-answers, made-sound, made-well, parts-made, refused-answers}

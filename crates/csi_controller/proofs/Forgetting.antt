@@ -1,6 +1,6 @@
 -- Volumes that were deleted are forgotten: what a controller shows then, and the rules that its rows and its counts keep.
 use Rattle.std.proofs.Common.{◌≡◌, ◌<◌, ◌≤◌, ◌+◌, ℕ, zero, suc, length, Bool, true, false, cond, List, [], ◌∷◌, map, set, refl, sym, ◌∙◌, ap, subst, arith}
-use Rattle.std.specs.Prelude.{Some, None, find, filter, count_by, ◌==◌, ◌||◌}
+use Rattle.std.specs.Prelude.{Some, None, find, filter, ◌==◌, ◌||◌}
 use Rattle.std.specs.List.{AllByRecursion, list_any}
 use Rattle.std.proofs.lemmas.Bool.{ne_eqb, true≢false}
 use Rattle.csi_lists.proofs.Counts.{count-cons}
@@ -15,7 +15,7 @@ use Rattle.csi_types.specs.Same.{same_text}
 use Rattle.csi_controller.specs.declared.row.NodeHolding.{NodeHolding}
 use Rattle.csi_controller.specs.declared.row.ControllerRow.{ControllerRow}
 use Rattle.csi_controller.specs.Beginning.{live_rows}
-use Rattle.csi_controller.specs.Core.{Shows, IsSound, IsSoundRow, IsRising, IsCurrentRow, IsCurrent, held_by}
+use Rattle.csi_controller.specs.Core.{Shows, IsSound, IsSoundRow, IsRising, IsCurrent, held_by}
 use Rattle.csi_controller.specs.Counts.{is_held, count_held, AreCounted}
 use Rattle.csi_controller.specs.Fenced.{begun}
 use Rattle.csi_controller.specs.Shown.{volume_of_row, holdings_in}

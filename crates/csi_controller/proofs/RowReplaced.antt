@@ -1,5 +1,5 @@
 -- A core after one of its rows was put in the place of another, of the same id and name.
-use Rattle.std.proofs.Common.{◌≡◌, ◌<◌, ℕ, List, Bool, true, false, get_or, set, refl, sym, ◌∙◌, ap, subst, arith}
+use Rattle.std.proofs.Common.{◌≡◌, ℕ, List, Bool, set, refl, sym, ◌∙◌, ap, subst}
 use Rattle.std.specs.Prelude.{Option, Some, Result, IfOk, position, slice_get, IsTrue, ◌==◌}
 use Rattle.std.specs.declared.result.Result.TheVariants as results
 use Rattle.std.proofs.lemmas.Bool.{eq-eqb}
@@ -15,12 +15,11 @@ use Rattle.csi_fence.specs.declared.answer.Answer.{Answer}
 use Rattle.csi_fence.specs.declared.fence.Verdict.{Verdict}
 use Rattle.csi_fence.specs.declared.fence.Verdict.TheVariants.{Stale, Repeated, Fresh}
 use Rattle.csi_fence.specs.Fence.{verdict_of}
-use Rattle.csi_fence.specs.Fenced.{Fenced}
 use Rattle.csi_types.specs.Call.{kind_of, is_party_of}
 use Rattle.csi_types.specs.Frame.{Frame, IsAllowed}
 use Rattle.csi_controller.specs.declared.row.ControllerRow.{ControllerRow}
 use Rattle.csi_controller.specs.declared.controller.core_parts.Core.{Core}
-use Rattle.csi_controller.specs.State.{Volume, ControllerState, is_row_for}
+use Rattle.csi_controller.specs.State.{Volume, is_row_for}
 use Rattle.csi_controller.specs.Shown.{volume_of_row}
 use Rattle.csi_controller.specs.Fenced.{fenced_call, kept_for}
 use Rattle.csi_controller.specs.Catalog.{rows_of}

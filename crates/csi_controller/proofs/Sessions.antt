@@ -1,8 +1,7 @@
 -- What the fence makes of a call by its session, and the sessions of the rows.
 use Rattle.std.proofs.Common.{◌≡◌, ◌<◌, ◌≤◌, ◌+◌, ℕ, length, Bool, true, false, cond, not, List, [], ◌∷◌, refl, sym, ◌∙◌, ap, subst, inl, inr, arith}
 use Rattle.std.specs.Prelude.{Some, ◌==◌, count_by, nat_lt}
-use Rattle.std.specs.List.{AllByRecursion}
-use Rattle.std.proofs.lemmas.Bool.{eq-eqb, le-ltb, lt-ltb, true≢false}
+use Rattle.std.proofs.lemmas.Bool.{eq-eqb, le-ltb, lt-ltb}
 use Rattle.csi_lists.proofs.Counts.{count-cons}
 use Rattle.csi_types.proofs.Order.{before-from, before-parts}
 use Rattle.csi_types.specs.declared.number.Number.{Number}

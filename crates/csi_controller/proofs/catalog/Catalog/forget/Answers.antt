@@ -1,5 +1,5 @@
 -- Those that both `retain`s keep.
-use Rattle.std.proofs.Common.{rules, ℕ, arith}
+use Rattle.std.proofs.Common.{rules, ℕ}
 use Rattle.indexmap.proofs.CallerLemmas.{filter-RetainsPairs}
 use Rattle.csi_controller.specs.declared.row.ControllerRow.{ControllerRow}
 use Rattle.csi_controller.specs.Catalog.{rows_of, is_kept}

@@ -1,7 +1,7 @@
 -- A call at its row.
-use Rattle.std.proofs.Common.{◌∙◌, List, Bool, ap, subst, sym}
+use Rattle.std.proofs.Common.{◌∙◌, List, Bool, subst}
 use Rattle.std.proofs.lemmas.Result.{on_err_weaker}
-use Rattle.std.specs.Prelude.{Some, IfOk, Result}
+use Rattle.std.specs.Prelude.{Some, IfOk}
 use Rattle.csi_types.specs.declared.config.NodeSlots.{NodeSlots}
 use Rattle.csi_fence.specs.Fence.{verdict_of}
 use Rattle.csi_types.specs.Lent.{lent_call}

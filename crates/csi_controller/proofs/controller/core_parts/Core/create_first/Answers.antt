@@ -1,10 +1,9 @@
 -- CreateVolume of a name that no live volume has, where it begins a session: refused, or made.
-use Rattle.std.proofs.Common.{◌≡◌, ◌∙◌, ap, subst, sym, length, ℕ, Some, None}
+use Rattle.std.proofs.Common.{◌≡◌, ◌∙◌, ap, subst, sym, ℕ, Some, None}
 use Rattle.std.specs.Prelude.{option_map}
 use Rattle.csi_lists.proofs.Options.{none-where}
 use Rattle.csi_types.specs.declared.call.Call.TheVariants.{CreateVolume}
 use Rattle.csi_types.specs.Replies.{ok_reply_with}
-use Rattle.csi_controller.specs.Beginning.{live_rows}
 use Rattle.csi_controller.specs.Catalog.{rows_of}
 use Rattle.csi_controller.specs.Core.{next_shown}
 use Rattle.csi_controller.specs.CoreAnswers.{IsAnswered}
