@@ -18,9 +18,10 @@ use Rattle.csi_types.specs.Frame.{Frame}
 use Rattle.csi_types.specs.Replies.{reply_frame, plain_reply, stale_reply}
 use Rattle.csi_lists.proofs.Searches.{find-passes}
 use Rattle.csi_node.specs.State.{NodeState, StagedVolume, empty_node, volume_of}
-use Rattle.csi_node.specs.Table.{Change, Stays, Stages, Unstages, Publishes, Unpublishes, Outcome, lifecycle_row, node_row, has_no_room, changed}
+use Rattle.csi_node.specs.Table.{Outcome, lifecycle_row, node_row, has_no_room, changed}
 use Rattle.csi_node.specs.Fenced.{answer_frame, keep, carried_out, kept_for, begun, node_at, fenced_call, answered_in}
 use Rattle.csi_node.specs.OneRow.{RowShown, alone, table_answer, IsAfter, RowAnswers}
+use Rattle.csi_node.proofs.LastCalls.{keep-session, changed-session}
 use Rattle.csi_node.proofs.StateChanges.{lifecycle-part}
 use Rattle.csi_node.proofs.ShownAfter.{ShowsAll, RowsAfter, grown, answered_of, row_of, alone_in, part_of, kept-shown_by, room-by, shows_then, state_then}
 
@@ -128,24 +129,13 @@ carried-session node state number call outcome = by (has_no_room state call)
     kept : Kept
     kept = record { number = number; kind = kind_of call; reply = outcome.reply }
 
-    change-session : (change : Change) → (changed state change).session ≡ state.session
-    change-session Stays = refl
-    change-session (Stages staged) = refl
-    change-session (Unstages id) = refl
-    change-session (Publishes published) = refl
-    change-session (Unpublishes id target) = refl
-
-    keep-session : (volume : Option ℕ) → (keep volume kept (changed state outcome.change)).session ≡ state.session
-    keep-session None = change-session outcome.change
-    keep-session (Some id) = change-session outcome.change
-
     by : (b : Bool)
         → (let f : Fenced NodeState =
         cond b (record { reply = Some (reply_frame number (Node node) (kind_of call) outcome.reply); state = state })
         (record { reply = Some (reply_frame number (Node node) (kind_of call) outcome.reply); state = keep (volume_of call) kept (changed state outcome.change) }) in
         f.state.session ≡ state.session)
     by true = refl
-    by false = keep-session (volume_of call)
+    by false = keep-session (volume_of call) kept (changed state outcome.change) ∙ changed-session state outcome.change
 
 -- a call that the fence judges leaves the session
 pub fenced-session : (node : List ℕ) (state : NodeState) (number : Number) (call : Call) (kept : Option Kept) → (fenced_call node state number call kept).state.session ≡ state.session
@@ -168,11 +158,6 @@ by_session : (node : List ℕ) (state : NodeState) (number : Number) (call : Cal
 by_session node state number call b c over later =
     λ i. cond (over i) (answered_only (node_at node) state number (kind_of call) stale_reply)
     (fenced_call node (judged_in (later i) state number) number call (kept_for call (judged_in (later i) state number)))
-
--- a call of an earlier session is stale
-pub answered-over : (node : List ℕ) (state : NodeState) (number : Number) (call : Call) → number.session < state.session
-    → answered_in node state number call ≡ answered_only (node_at node) state number (kind_of call) stale_reply
-answered-over node state number call earlier = by_session node state number call true false (grind (arith, nat_tests)) (grind (arith, nat_tests))
 
 -- a call of the present one is judged in the state as it is
 pub answered-now : (node : List ℕ) (state : NodeState) (number : Number) (call : Call) → state.session ≡ number.session

@@ -47,17 +47,6 @@ after-begun session number later = ap (λ (b : Bool). cond b number.session sess
 pub staying-begun : (session : ℕ) (number : Number) (rows : List RowShown) → session < number.session → staying session number rows ≡ filter is_staged rows
 staying-begun session number rows later = ap (λ (b : Bool). cond b (filter is_staged rows) rows) (lt-ltb session number.session later)
 
--- one of an earlier session changes nothing
-pub over-changes : (node : List ℕ) (session : ℕ) (number : Number) (rows : List NodeRow) → number.session < session → Changes None number (parts_of node session rows) (parts_of node session rows)
-over-changes node session number rows earlier =
-    let none : begins session number ≡ false = grind (arith, nat_tests) in
-    record {
-      session = sym (ap (λ (b : Bool). cond b number.session session) none);
-      same = λ is. sym (ap (λ (b : Bool). cond b (filter is_staged (parts rows)) (parts rows)) none);
-      put = λ id is. none_some id is;
-      fresh = λ id was is found. none_some id is;
-    }
-
 module _ (node : List ℕ) (session : ℕ) (number : Number) (old new : List NodeRow) (after : session_after session number ≡ number.session) where
   -- no row was put
   pub same-changes : parts new ≡ staying session number (parts old) → Changes None number (parts_of node session old) (parts_of node number.session new)

@@ -72,13 +72,9 @@ searched (first ∷ rest) id (Err at) rising within parted =
       };
     }
 
--- before a place that has the id, or is its gap, no row has it
+-- before a place that has the id no row has it
 none_before-at : (rows : List RowShown) (id place : ℕ) → IsRising rows → IsAt rows id place → NoneBefore rows id place
 none_before-at rows id place rising at j lt same = omega (arith, rising j place lt at.within, at.has_id)
-
--- before the gap of an id no row has it
-none_before-gap : (rows : List RowShown) (id place : ℕ) → IsGapFor rows id place → NoneBefore rows id place
-none_before-gap rows id place gap j lt same = omega (arith, gap.before j lt)
 
 -- a row that is there is found
 pub found-at : (rows : List RowShown) (id place : ℕ) (d : RowShown) → IsRising rows → IsAt rows id place → row_of id rows ≡ Some (get_or rows place d)

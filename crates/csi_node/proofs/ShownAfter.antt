@@ -102,10 +102,6 @@ pub record RowsAfter (id : ℕ) (old new : List RowShown) (row : RowShown) : Typ
   pub this : row_of id new ≡ Some row
   pub others : (k : ℕ) → (k == id) ≡ false → row_of k new ≡ row_of k old
 
--- what a row that is found keeps is what was found of it
-answered_id : (o : Option RowShown) (row : Answered) → option_map answered_of o ≡ Some row → (r : RowShown) → o ≡ Some r → answered_of r ≡ row
-answered_id o row h r e = let both : Some (answered_of r) ≡ Some row = ap (option_map answered_of) (sym e) ∙ h in cc
-
 -- the parts of the state that are a volume's
 pub part_of : (id : ℕ) (rows : List RowShown) (state : NodeState) → ShowsAll rows state → IsPart id (alone_in (row_of id rows)) state
 part_of id rows state all = record {

@@ -57,7 +57,8 @@ fn is_full(rows: &[NodeRow]) -> bool
     rows.len() >= MAX_ROWS && are_staged(rows)
 }
 
-// Answers a call of a volume that has no row; its row would have this place. An `Err` changes nothing.
+// Answers a call of a volume that has no row; its row would have this place. For a moment there may be one row more than a node has. An
+// `Err` changes nothing.
 fn begin_without_row(
     rows: &mut Vec<NodeRow>,
     place: usize,
