@@ -18,7 +18,8 @@ use std::marker::Model;
 
 /// The node plugin of one node: which volumes are staged there and at which targets they are published, behind a
 /// fence that keeps a call from being carried out twice (CSI's spec.md, "NodeStageVolume" to
-/// "NodeUnpublishVolume"; the fence is this profile's own). A contract sees its record.
+/// "NodeUnpublishVolume"; the fence is this profile's own). Once a call of a later session than the greatest that came begins it,
+/// the rows of volumes that aren't staged are forgotten, and calls of earlier sessions are stale. A contract sees its record.
 #[derive(Drop)]
 pub struct Node {
     alloc: Global,
@@ -90,8 +91,9 @@ impl Node {
     }
 
     /// Answers a frame by the fence and the table (CSI's spec.md, "NodeStageVolume" to "NodeUnpublishVolume"), or
-    /// gives nothing for a reply and for another plugin's frame, which change nothing and take no memory. An `Err`,
-    /// an allocation that was refused, leaves the node as it was.
+    /// gives nothing for a reply and for another plugin's frame, which change nothing and take no memory. A call of an earlier
+    /// session than the greatest that came is stale, and one of a later session begins it, whatever it is answered. An `Err`,
+    /// an allocation that was refused, leaves the node as it was, its session too.
     pub fn step(&mut self, frame: &Frame) -> Result<Option<Frame>, CoreFault>
         // What is answered, and the new state, are the definition's.
         ensures reply { (state : NodeState) → Shows self.old state →
@@ -132,8 +134,8 @@ impl Node {
 
     /// Answers a call as `step` answers a frame of it to this node, by the kind and the reply that the frame of the answer
     /// has: those that were kept, where the call comes again; and tells which row the call changed or made. The controller's call,
-    /// and a call with a text outside its limits, which no frame has, get no answer, change nothing and take no memory. An `Err`,
-    /// an allocation that was refused, leaves the node as it was.
+    /// and a call with a text outside its limits, which no frame has, get no answer, change nothing, so that they begin no session,
+    /// and take no memory. An `Err`, an allocation that was refused, leaves the node as it was.
     pub fn answer(
         &mut self,
         number: Number,
