@@ -58,37 +58,37 @@ const TOLD: &[Told] = &[
     (&[], "", Ending::RecordFault(0)),
     (
         &[CONTROLLER_HEAD],
-        "{\"next_id\":1,\"plugin\":\"controller\",\"volumes\":[]}\n",
+        "{\"next_id\":1,\"plugin\":\"controller\",\"session\":0,\"volumes\":[]}\n",
         Ending::Done,
     ),
     (
         &[ONE_MADE, HELD],
-        "{\"next_id\":2,\"plugin\":\"controller\",\"volumes\":[{\"attached\":[{\"capability\":{\"access\":\"block\",\"mode\":1},\"node\":\"n1\",\"readonly\":false}],\"capabilities\":[{\"access\":\"block\",\"mode\":1}],\"capacity\":10,\"id\":1,\"last\":{\"call\":2,\"session\":1},\"live\":true,\"name\":\"v\"}]}\n",
+        "{\"next_id\":2,\"plugin\":\"controller\",\"session\":1,\"volumes\":[{\"attached\":[{\"capability\":{\"access\":\"block\",\"mode\":1},\"node\":\"n1\",\"readonly\":false}],\"capabilities\":[{\"access\":\"block\",\"mode\":1}],\"capacity\":10,\"id\":1,\"last\":{\"call\":2,\"session\":1},\"live\":true,\"name\":\"v\"}]}\n",
         Ending::Done,
     ),
     (
         &[OLD_HEAD, OLD_HELD],
-        "{\"next_id\":2,\"plugin\":\"controller\",\"volumes\":[{\"attached\":[{\"capability\":{\"access\":\"block\",\"mode\":1},\"node\":\"n1\",\"readonly\":false}],\"capabilities\":[{\"access\":\"block\",\"mode\":1}],\"capacity\":10,\"id\":1,\"last\":{\"call\":2,\"session\":1},\"live\":true,\"name\":\"v\"}]}\n",
+        "{\"next_id\":2,\"plugin\":\"controller\",\"session\":1,\"volumes\":[{\"attached\":[{\"capability\":{\"access\":\"block\",\"mode\":1},\"node\":\"n1\",\"readonly\":false}],\"capabilities\":[{\"access\":\"block\",\"mode\":1}],\"capacity\":10,\"id\":1,\"last\":{\"call\":2,\"session\":1},\"live\":true,\"name\":\"v\"}]}\n",
         Ending::Done,
     ),
     (
         &[IN_SESSION_3, GONE],
-        "{\"next_id\":2,\"plugin\":\"controller\",\"volumes\":[{\"attached\":[],\"capabilities\":[{\"access\":\"block\",\"mode\":1},{\"access\":\"mount\",\"fs\":\"ext4\",\"mode\":5}],\"capacity\":10,\"id\":1,\"last\":{\"call\":5,\"session\":3},\"live\":false,\"name\":\"<\\\"\"}]}\n",
+        "{\"next_id\":2,\"plugin\":\"controller\",\"session\":3,\"volumes\":[{\"attached\":[],\"capabilities\":[{\"access\":\"block\",\"mode\":1},{\"access\":\"mount\",\"fs\":\"ext4\",\"mode\":5}],\"capacity\":10,\"id\":1,\"last\":{\"call\":5,\"session\":3},\"live\":false,\"name\":\"<\\\"\"}]}\n",
         Ending::Done,
     ),
     (
         &[NODE_HEAD],
-        "{\"node\":\"n1\",\"plugin\":\"node\",\"volumes\":[]}\n",
+        "{\"node\":\"n1\",\"plugin\":\"node\",\"session\":1,\"volumes\":[]}\n",
         Ending::Done,
     ),
     (
         &[IN_SESSION_2, AT_TWO, NOT_STAGED],
-        "{\"node\":\"n1\",\"plugin\":\"node\",\"volumes\":[{\"id\":1,\"last\":{\"call\":3,\"session\":1},\"published\":[{\"readonly\":false,\"target\":\"/a\"},{\"readonly\":true,\"target\":\"/b\"}],\"staged\":{\"access\":\"block\",\"mode\":3}},{\"id\":2,\"last\":{\"call\":5,\"session\":2},\"published\":[],\"staged\":null}]}\n",
+        "{\"node\":\"n1\",\"plugin\":\"node\",\"session\":2,\"volumes\":[{\"id\":1,\"last\":{\"call\":3,\"session\":1},\"published\":[{\"readonly\":false,\"target\":\"/a\"},{\"readonly\":true,\"target\":\"/b\"}],\"staged\":{\"access\":\"block\",\"mode\":3}},{\"id\":2,\"last\":{\"call\":5,\"session\":2},\"published\":[],\"staged\":null}]}\n",
         Ending::Done,
     ),
     (
         &[NODE_HEAD, TWO_WRITERS],
-        "{\"node\":\"n1\",\"plugin\":\"node\",\"volumes\":[{\"id\":1,\"last\":{\"call\":3,\"session\":1},\"published\":[{\"readonly\":false,\"target\":\"/a\"},{\"readonly\":false,\"target\":\"/b\"}],\"staged\":{\"access\":\"block\",\"mode\":7}}]}\n",
+        "{\"node\":\"n1\",\"plugin\":\"node\",\"session\":1,\"volumes\":[{\"id\":1,\"last\":{\"call\":3,\"session\":1},\"published\":[{\"readonly\":false,\"target\":\"/a\"},{\"readonly\":false,\"target\":\"/b\"}],\"staged\":{\"access\":\"block\",\"mode\":7}}]}\n",
         Ending::Done,
     ),
     (&[NODE_HEAD, ONE_WRITER], "", Ending::RecordFault(1)),
@@ -153,7 +153,7 @@ const OTHER: &str = "csi_store_none/other.db";
 
 // What is there after the script.
 const LINE: &str =
-    "{\"next_id\":3,\"plugin\":\"controller\",\"volumes\":[{\"attached\":[],\"capabilities\":[{\"access\":\"block\",\"mode\":1}],\"capacity\":10,\"id\":1,\"last\":{\"call\":5,\"session\":1},\"live\":false,\"name\":\"v\"},{\"attached\":[],\"capabilities\":[{\"access\":\"block\",\"mode\":1}],\"capacity\":10,\"id\":2,\"last\":{\"call\":6,\"session\":1},\"live\":true,\"name\":\"w\"}]}\n";
+    "{\"next_id\":3,\"plugin\":\"controller\",\"session\":1,\"volumes\":[{\"attached\":[],\"capabilities\":[{\"access\":\"block\",\"mode\":1}],\"capacity\":10,\"id\":1,\"last\":{\"call\":5,\"session\":1},\"live\":false,\"name\":\"v\"},{\"attached\":[],\"capabilities\":[{\"access\":\"block\",\"mode\":1}],\"capacity\":10,\"id\":2,\"last\":{\"call\":6,\"session\":1},\"live\":true,\"name\":\"w\"}]}\n";
 
 // Whether the store in the file is told so, and the file and its log have the same bytes then.
 fn is_shown(rt: &(impl Abort + AllocGlobal + Files)) -> bool {
