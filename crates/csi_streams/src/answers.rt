@@ -82,13 +82,7 @@ fn append(number: Number, answer: Option<&Answer>, out: &mut Vec<u8>) -> Result<
     ensures err { OnErr result (out.new.items ≡ out.old.items) }
 {
     match answer {
-        Some(answer) => encode_reply(
-            number,
-            &Party::Controller,
-            answer.kind,
-            &answer.reply,
-            out,
-        ),
+        Some(answer) => encode_reply(number, &Party::Controller, answer.kind, &answer.reply, out),
         None => Ok(()),
     }
 }
