@@ -15,18 +15,18 @@ abbrev pub part_at : ℕ → List StoredPart → Option StoredPart
 part_at key parts = find (λ (part : StoredPart). part.key == key) parts
 
 -- ---- by whether the first part has the key
-at-own : (key : ℕ) (part : StoredPart) (parts : List StoredPart) → (part.key == key) ≡ true → part_at key (part ∷ parts) ≡ Some part
+pub at-own : (key : ℕ) (part : StoredPart) (parts : List StoredPart) → (part.key == key) ≡ true → part_at key (part ∷ parts) ≡ Some part
 at-own key part parts same = rw same refl
 
 -- under another key than the first part's, what is found is among the rest
-at-other : (key : ℕ) (part : StoredPart) (parts : List StoredPart) → (part.key == key) ≡ false → part_at key (part ∷ parts) ≡ part_at key parts
+pub at-other : (key : ℕ) (part : StoredPart) (parts : List StoredPart) → (part.key == key) ≡ false → part_at key (part ∷ parts) ≡ part_at key parts
 at-other key part parts differs = rw differs refl
 
 itself : (n : ℕ) → (n == n) ≡ true
 itself n = grind (arith, nat_tests)
 
 -- where all keys are above a key, nothing is found under it
-none-below : (key : ℕ) (parts : List StoredPart) → AreAbove key parts → part_at key parts ≡ None
+pub none-below : (key : ℕ) (parts : List StoredPart) → AreAbove key parts → part_at key parts ≡ None
 none-below key [] above = refl
 none-below key (part ∷ parts) above =
     let less : key < part.key = above.0 in
@@ -72,7 +72,7 @@ same-parts (x ∷ xs) (y ∷ ys) up up_too same = by (nat_lt x.key y.key) (nat_l
 -- ---- a part that is put in
 
 -- a part that was put in is found under its key
-at-put_own : (part : StoredPart) (parts : List StoredPart) → part_at part.key (put_in part parts) ≡ Some part
+pub at-put_own : (part : StoredPart) (parts : List StoredPart) → part_at part.key (put_in part parts) ≡ Some part
 at-put_own part [] = at-own part.key part [] (itself part.key)
 at-put_own part (other ∷ others) = by (nat_lt other.key part.key) (other.key == part.key) refl refl (at-put_own part others)
   where
@@ -84,7 +84,7 @@ at-put_own part (other ∷ others) = by (nat_lt other.key part.key) (other.key =
     by false false t u rest = rw (t, u) (at-own part.key part (other ∷ others) (itself part.key))
 
 -- a part that was put in leaves what is found under any other key
-at-put_other : (part : StoredPart) (parts : List StoredPart) (key : ℕ) → (part.key == key) ≡ false → part_at key (put_in part parts) ≡ part_at key parts
+pub at-put_other : (part : StoredPart) (parts : List StoredPart) (key : ℕ) → (part.key == key) ≡ false → part_at key (put_in part parts) ≡ part_at key parts
 at-put_other part [] key differs = at-other key part [] differs
 at-put_other part (other ∷ others) key differs = by (nat_lt other.key part.key) (other.key == part.key) refl refl (at-put_other part others key differs)
   where
