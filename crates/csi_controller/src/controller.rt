@@ -98,6 +98,7 @@ impl Controller {
         // the answer and the new state are the definition's
         ensures reply { (state : ControllerState) → Shows self.old state → IfOk result (λ reply. reply ≡ (fenced self.old.config state frame.now).reply) }
         ensures state { (state : ControllerState) → Shows self.old state → OnOk result (Shows self.new (fenced self.old.config state frame.now).state) }
+        ensures current { IsCurrent self.new.session self.new.rows }
         ensures config { self.new.config ≡ self.old.config }
         ensures err { (state : ControllerState) → Shows self.old state → OnErr result (Shows self.new state) }
         // what takes no memory succeeds
@@ -126,6 +127,7 @@ impl Controller {
             → OnOk result (Shows self.new (fenced self.old.config state (call_frame number party (lent_call call.now))).state) }
         // which row was changed or made, and what stays as it was
         ensures changes { IfOk result (λ answer. IfSome answer (λ own. Changes own.row number self.old self.new)) }
+        ensures current { IsCurrent self.new.session self.new.rows }
         ensures unanswered { result ≡ Ok None → self.new ≡ self.old }
         ensures allowed { IfOk result (λ answer. IfSome answer (λ own. IsAllowed Party.Controller (Body.Reply own.kind own.reply))) }
         ensures config { self.new.config ≡ self.old.config }
@@ -137,6 +139,7 @@ impl Controller {
         ensures undone { (state : ControllerState) → Shows self.old state → IsUndoing (lent_call call.now) → IsAnsweredOk self.old.config state number (lent_call call.now) → IsOk result }
         ensures repeated { (state : ControllerState) → Shows self.old state → IsPlainRepeat state.session (kept_for (lent_call call.now) state) number → IsOk result }
     {
+        self.assert_current();
         if !call.is_within_limits() {
             return Ok(None);
         }
@@ -180,7 +183,8 @@ impl Controller {
         config: Config,
         kept: ControllerRecord,
     ) -> Result<Controller, CoreFault>
-        ensures { result ≡ Ok (record { config = config; next_id = kept.next_id; session = kept.session; rows = kept.rows }) }
+        ensures current { IfOk result (λ made. IsCurrent made.session made.rows) }
+        ensures value { result ≡ Ok (record { config = config; next_id = kept.next_id; session = kept.session; rows = kept.rows }) }
     {
         let next_id = kept.next_id();
         let session = kept.session();

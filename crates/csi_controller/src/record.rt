@@ -109,6 +109,7 @@ impl ControllerRecord {
     ) -> Result<ControllerRecord, RecordFault>
         ensures value { IfOk result (λ made. made ≡ kept_without next_id rows.items) }
         ensures sound { OnOk result (IsSound next_id rows.items) }
+        ensures current { IfOk result (λ made. IsCurrent made.session made.rows) }
         ensures refused { IfErr result (IsRefusal (IsSound next_id) rows.items) }
         ensures accepted { IsSound next_id rows.items → IfErr result (λ fault. fault ≡ RecordFault.NoMemory) }
         ensures copies { (kept : List OneRow) → IsSound next_id kept → AreSameRows kept rows.items → IfErr result (λ fault. fault ≡ RecordFault.NoMemory) }

@@ -1,5 +1,5 @@
 //! Which volumes a node would forget.
-ghost use Rattle.std.specs.Prelude.{◌≡◌, map, filter, is_none, IfOk};
+ghost use Rattle.std.specs.Prelude.{◌≡◌, [], map, filter, is_none, IfOk, IsOk};
 ghost use Rattle.csi_node.specs.Record.{parts};
 
 use crate::row::NodeRow;
@@ -7,9 +7,10 @@ use csi_fence::CoreFault;
 use csi_types::VolumeId;
 use std::alloc::Global;
 
-/// The ids of the rows of volumes that aren't staged, in their order.
+/// The ids of the rows of volumes that aren't staged, in their order. Where there is none it takes no memory.
 pub(crate) fn empty_in(alloc: Global, rows: &[NodeRow]) -> Result<Vec<VolumeId>, CoreFault>
-    ensures { IfOk result (λ list. list.items ≡ map (λ row. row.id) (filter (λ row. is_none row.staged) (parts rows.now))) }
+    ensures ids { IfOk result (λ list. list.items ≡ map (λ row. row.id) (filter (λ row. is_none row.staged) (parts rows.now))) }
+    ensures none { filter (λ row. is_none row.staged) (parts rows.now) ≡ [] → IsOk result }
 {
     let mut list = Vec::new(alloc);
     for row in rows {

@@ -92,8 +92,9 @@ impl Node {
 
     /// Answers a frame by the fence and the table (CSI's spec.md, "NodeStageVolume" to "NodeUnpublishVolume"), or
     /// gives nothing for a reply and for another plugin's frame, which change nothing and take no memory. A call of an earlier
-    /// session than the greatest that came is stale, and one of a later session begins it, whatever it is answered. An `Err`,
-    /// an allocation that was refused, leaves the node as it was, its session too.
+    /// session than the greatest that came is refused as stale. One of a later session begins it: the rows of volumes that aren't
+    /// staged are forgotten, and then it is answered. An `Err`, an allocation that was refused, leaves the node as it was, its
+    /// session too.
     pub fn step(&mut self, frame: &Frame) -> Result<Option<Frame>, CoreFault>
         // What is answered, and the new state, are the definition's.
         ensures reply { (state : NodeState) → Shows self.old state →
@@ -104,10 +105,12 @@ impl Node {
         ensures err { (state : NodeState) → Shows self.old state → OnErr result (Shows self.new state) }
         ensures err_rows { OnErr result (parts self.new.rows ≡ parts self.old.rows) }
         ensures err_session { OnErr result (self.new.session ≡ self.old.session) }
+        ensures current { IsCurrent self.new.session (parts self.new.rows) }
         // What is not for the node.
         ensures silent { is_call_for self.old.id frame.now.party frame.now.body ≡ false → result ≡ Ok None }
         ensures untouched { is_call_for self.old.id frame.now.party frame.now.body ≡ false → self.new ≡ self.old }
     {
+        self.assert_rules();
         let Body::Call(call) = frame.body() else {
             return Ok(None);
         };
@@ -154,10 +157,12 @@ impl Node {
         ensures silent { result ≡ Ok None → self.new ≡ self.old }
         ensures err_rows { OnErr result (parts self.new.rows ≡ parts self.old.rows) }
         ensures err_session { OnErr result (self.new.session ≡ self.old.session) }
+        ensures current { IsCurrent self.new.session (parts self.new.rows) }
         // What no frame has, and what is not for a node.
         ensures unfit { (HasFitTexts (lent_call call.now) → ⊥) → (result ≡ Ok None) × (self.new ≡ self.old) }
         ensures others { is_party_of (kind_of (lent_call call.now)) (OfNode self.old.id) ≡ false → (result ≡ Ok None) × (self.new ≡ self.old) }
     {
+        self.assert_rules();
         let id = match call {
             CallRef::NodeStageVolume { id, .. }
             | CallRef::NodeUnstageVolume { id }
@@ -184,7 +189,8 @@ impl Node {
 
     /// The node that has this record: it shows what the record shows. It takes no memory.
     pub fn from_record(alloc: Global, record: NodeRecord) -> Result<Node, CoreFault>
-        ensures { result ≡ Ok «record» }
+        ensures value { result ≡ Ok «record» }
+        ensures current { IfOk result (λ made. IsCurrent made.session (parts made.rows)) }
     {
         Ok(Node { alloc, record })
     }
@@ -224,10 +230,12 @@ impl Node {
         self.record.rows().len()
     }
 
-    /// The ids of the rows of volumes that aren't staged, by rising id: these are forgotten where a call begins a session, but for the
-    /// call's own. The node stays as it is. An `Err` is an allocation that was refused.
+    /// The ids of the rows of volumes that aren't staged, by rising id: these are forgotten where a call begins a session, the
+    /// call's own too, which is then made anew. The node stays as it is. Where there is none it takes no memory. An `Err` is an
+    /// allocation that was refused.
     pub fn empty(&self) -> Result<Vec<VolumeId>, CoreFault>
-        ensures { IfOk result (λ list. list.items ≡ map (λ row. row.id) (filter (λ row. is_none row.staged) (parts self.now.rows))) }
+        ensures ids { IfOk result (λ list. list.items ≡ map (λ row. row.id) (filter (λ row. is_none row.staged) (parts self.now.rows))) }
+        ensures none { filter (λ row. is_none row.staged) (parts self.now.rows) ≡ [] → IsOk result }
     {
         empty_in(self.alloc, self.record.rows())
     }

@@ -75,6 +75,7 @@ impl NodeRecord {
     pub fn without_session(id: NodeId, rows: Vec<NodeRow>) -> Result<NodeRecord, RecordFault>
         ensures value { IfOk result (λ made. made ≡ kept_without_session id rows.items) }
         ensures rules { OnOk result (IsSound (parts rows.items)) }
+        ensures current { IfOk result (λ made. IsCurrent made.session (parts made.rows)) }
         ensures refused { IfErr result (IsRefusal None rows.items) }
         ensures accepted { IsSound (parts rows.items) → IsOk result }
     {
@@ -136,6 +137,7 @@ impl NodeRecord {
         requires kind { is_node_kind (kind_of (lent_call call.now)) ≡ true }
         ensures ok { IfOk result (Answers number (lent_call call.now) self.old self.new) }
         ensures fits { IfOk result IsNodeAnswer }
+        ensures current { IsCurrent self.new.session (parts self.new.rows) }
         ensures id { self.new.id ≡ self.old.id }
         ensures err { OnErr result (parts self.new.rows ≡ parts self.old.rows) }
         ensures err_session { OnErr result (self.new.session ≡ self.old.session) }

@@ -1,5 +1,5 @@
 //! The rows of a controller, how many they are, and those of deleted volumes.
-ghost use Rattle.std.specs.Prelude.{◌≡◌, ◌≤◌, ◌+◌, ◌==◌, IfOk, count_by, filter, length, map, not};
+ghost use Rattle.std.specs.Prelude.{◌≡◌, ◌≤◌, [], ◌+◌, ◌==◌, IfOk, IsOk, count_by, filter, length, map, not};
 
 use super::Controller;
 use crate::row::ControllerRow;
@@ -7,9 +7,10 @@ use csi_fence::CoreFault;
 use csi_types::VolumeId;
 use std::alloc::Global;
 
-// The ids of the rows of deleted volumes, in order.
+// The ids of the rows of deleted volumes, in order. Where there is none it takes no memory.
 fn empty_ids(rows: &[ControllerRow], alloc: Global) -> Result<Vec<VolumeId>, CoreFault>
-    ensures { IfOk result (λ ids. ids.items ≡ map (λ row. row.id) (filter (λ row. not row.live) rows.now)) }
+    ensures ids { IfOk result (λ ids. ids.items ≡ map (λ row. row.id) (filter (λ row. not row.live) rows.now)) }
+    ensures none { filter (λ row. not row.live) rows.now ≡ [] → IsOk result }
 {
     let mut ids = Vec::new(alloc);
     for row in rows {
@@ -43,8 +44,10 @@ impl Controller {
     }
 
     /// The ids of the rows of volumes that were deleted, by rising id: those that are forgotten where a later session begins.
+    /// Where there is none it takes no memory. An `Err` is an allocation that was refused.
     pub fn empty(&self) -> Result<Vec<VolumeId>, CoreFault>
-        ensures { IfOk result (λ ids. ids.items ≡ map (λ row. row.id) (filter (λ row. not row.live) self.now.rows)) }
+        ensures ids { IfOk result (λ ids. ids.items ≡ map (λ row. row.id) (filter (λ row. not row.live) self.now.rows)) }
+        ensures none { filter (λ row. not row.live) self.now.rows ≡ [] → IsOk result }
     {
         empty_ids(self.core.catalog.rows(), self.core.alloc)
     }

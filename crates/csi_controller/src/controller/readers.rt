@@ -29,7 +29,7 @@ impl Core {
         }
     }
 
-    /// The id of the volume of this name, deleted or not.
+    /// The id of the volume of this name, deleted or not, unless it is forgotten.
     pub fn id_of(&self, name: &str) -> Option<VolumeId>
         requires { IsSoundCore self.now }
         ensures { result ≡ option_map (λ row. row.id) (find (λ row. same_text row.name name.now) (parts_of self.now).rows) }
