@@ -1,5 +1,5 @@
 -- What stays of rows that were kept without a session: they are of the greatest session of all.
-use Rattle.std.proofs.Common.{◌≡◌, ◌≤◌, ℕ, List, [], ◌∷◌, true, max, ◌||◌, sym, subst, arith}
+use Rattle.std.proofs.Common.{◌≡◌, ◌≤◌, ℕ, List, [], ◌∷◌, true, max, ◌||◌, ◌∙◌, ap, sym, subst, arith}
 use Rattle.std.specs.Prelude.{Option, Some, None, filter, is_some, ◌==◌}
 use Rattle.std.specs.List.{AllByRecursion}
 use Rattle.std.proofs.lemmas.Bool.{eqb-true}
@@ -40,6 +40,14 @@ current-left rows =
     })))
 
 -- and keep the rules of a record
-pub rules-left : (rows : List NodeRow) → IsSound (parts rows)
+rules-left : (rows : List NodeRow) → IsSound (parts rows)
     → IsSound (parts (filter (stays_in (latest_session rows)) rows)) × IsCurrent (latest_session rows) (parts (filter (stays_in (latest_session rows)) rows))
 rules-left rows rules = (subst IsSound (sym (parts-forgotten (latest_session rows) rows)) (rules-filter (is_kept (latest_session rows)) (parts rows) rules), current-left rows)
+
+-- so do those that were found so, in the session that was found
+pub rules-found : (rows left : List NodeRow) (session : ℕ) → session ≡ latest_session rows → left ≡ filter (stays_in session) rows → IsSound (parts rows)
+    → IsSound (parts left) × IsCurrent session (parts left)
+rules-found rows left session latest stay rules =
+    let own : left ≡ filter (stays_in (latest_session rows)) rows = stay ∙ ap (λ (s : ℕ). filter (stays_in s) rows) latest in
+    subst (λ (l : List NodeRow). IsSound (parts l) × IsCurrent session (parts l)) (sym own)
+    (subst (λ (s : ℕ). IsSound (parts (filter (stays_in (latest_session rows)) rows)) × IsCurrent s (parts (filter (stays_in (latest_session rows)) rows))) (sym latest) (rules-left rows rules))
