@@ -1,11 +1,10 @@
--- Parts by rising key are told by the part under each key; so rows of which one is put in are parts of which one is.
-use Rattle.std.proofs.Common.{◌≡◌, ◌∙◌, sym, ap, subst, refl, ℕ, ◌<◌, Bool, true, false, List, [], ◌∷◌, map, arith}
-use Rattle.std.specs.Prelude.{Option, Some, None, find, option_map, nat_lt, ◌==◌}
+-- Parts by rising key are told by the part under each key.
+use Rattle.std.proofs.Common.{◌≡◌, ◌∙◌, sym, ap, subst, refl, ℕ, ◌<◌, Bool, true, false, List, [], ◌∷◌, arith}
+use Rattle.std.specs.Prelude.{Option, Some, None, find, nat_lt, ◌==◌}
 use Rattle.std.proofs.lemmas.Bool.{eqb-true}
 use Rattle.std.proofs.lemmas.Bool.Decides.{nat_tests}
 use Rattle.std.proofs.lemmas.Option.{same_Some}
 use Rattle.csi_lists.proofs.Options.{some_is_not_none}
-use Rattle.csi_lists.proofs.Searches.{find-of_map}
 use Rattle.csi_stores.specs.Part.{StoredPart}
 use Rattle.csi_stores.specs.Content.{put_in, IsRising}
 use Rattle.csi_stores.proofs.RisingChanges.{AreAbove, above-more, rising-put}
@@ -109,16 +108,6 @@ put-there part old new up up_too own others = same-parts new (put_in part old) u
         let is : part.key ≡ key = eqb-true part.key key t in
         ap (λ (k : ℕ). part_at k new) (sym is) ∙ own ∙ sym (at-put_own part old) ∙ ap (λ (k : ℕ). part_at k (put_in part old)) is
     by key false t = others key t ∙ sym (at-put_other part old key t)
-
--- rows of which one is put in, by the key of each
-pub rows-put : {R : Type 0} (shown : R → StoredPart) (row : R) (old new : List R) → IsRising (map shown old) → IsRising (map shown new)
-    → find (λ (r : R). (shown r).key == (shown row).key) new ≡ Some row
-    → ((key : ℕ) → ((shown row).key == key) ≡ false → find (λ (r : R). (shown r).key == key) new ≡ find (λ (r : R). (shown r).key == key) old)
-    → map shown new ≡ put_in (shown row) (map shown old)
-rows-put shown row old new up up_too own others =
-    put-there (shown row) (map shown old) (map shown new) up up_too
-    (find-of_map (λ (part : StoredPart). part.key == (shown row).key) shown new ∙ ap (option_map shown) own)
-    (λ key differs. find-of_map (λ (part : StoredPart). part.key == key) shown new ∙ ap (option_map shown) (others key differs) ∙ sym (find-of_map (λ (part : StoredPart). part.key == key) shown old))
 
 -- ---- behind a head
 
