@@ -1,6 +1,6 @@
 //! Stops where much is committed at once: a store of an earlier version is opened, or a call begins a session, by which a row goes. Both files
 //! of the store stop after 0, 1, 2 and more calls, until a run ends with no stop; also where the power fails.
-use super::older::{FIRST, FORGETS, FORGOTTEN, puts};
+use super::older::{FORGETS, FORGOTTEN, puts};
 use super::playing::{Content, End, NEXT, NEXT_REPLY, PLAYED, PLAYED_NEXT, has_parts, played};
 use super::stops::{
     DATABASE, Image, LOG, LOST_DATABASE, LOST_LOG, MANY, NO_STOP, Stop, Way, left_by, left_closed,
@@ -19,27 +19,21 @@ struct Turn {
     after: Content,
 }
 
-// A store of version 1 is opened, and one of version 2, of which a row is left out. A call begins a session, by which a row goes.
-const TURNS: &[Turn] = &[
-    Turn {
-        before: FIRST,
-        frames: &[],
-        replies: &[],
-        after: PLAYED,
-    },
-    Turn {
-        before: FORGETS,
-        frames: &[],
-        replies: &[],
-        after: FORGOTTEN,
-    },
-    Turn {
-        before: PLAYED,
-        frames: NEXT,
-        replies: NEXT_REPLY,
-        after: PLAYED_NEXT,
-    },
-];
+// A store of version 2 is opened, of which a row is left out.
+const REWRITTEN: Turn = Turn {
+    before: FORGETS,
+    frames: &[],
+    replies: &[],
+    after: FORGOTTEN,
+};
+
+// A call begins a session, by which a row goes.
+const BEGUN: Turn = Turn {
+    before: PLAYED,
+    frames: NEXT,
+    replies: NEXT_REPLY,
+    after: PLAYED_NEXT,
+};
 
 // Files of a store that has this, which was closed.
 fn image_with(rt: &(impl Abort + AllocGlobal), content: Content) -> Image {
@@ -109,29 +103,42 @@ fn ends_at_last(rt: &(impl Abort + AllocGlobal), way: Way, turn: Turn) -> bool {
     false
 }
 
-// Takes each turn so.
-fn all_end_at_last(rt: &(impl Abort + AllocGlobal), way: Way) {
-    for (index, turn) in TURNS.iter().enumerate() {
-        assert!(rt; ends_at_last(rt, way, *turn), "turn {index}");
-    }
+#[test]
+fn stops_of_the_log_leave_version_2_or_version_3(rt: HostRuntime) {
+    assert!(&rt; ends_at_last(&rt, LOG, REWRITTEN));
 }
 
 #[test]
-fn stops_of_the_log_leave_what_was_there_or_is_to_be(rt: HostRuntime) {
-    all_end_at_last(&rt, LOG);
+fn stops_of_the_database_file_leave_version_2_or_version_3(rt: HostRuntime) {
+    assert!(&rt; ends_at_last(&rt, DATABASE, REWRITTEN));
 }
 
 #[test]
-fn stops_of_the_database_file_leave_what_was_there_or_is_to_be(rt: HostRuntime) {
-    all_end_at_last(&rt, DATABASE);
+fn stops_of_the_log_that_lose_bytes_leave_version_2_or_version_3(rt: HostRuntime) {
+    assert!(&rt; ends_at_last(&rt, LOST_LOG, REWRITTEN));
 }
 
 #[test]
-fn stops_of_the_log_that_lose_bytes_leave_what_was_there_or_is_to_be(rt: HostRuntime) {
-    all_end_at_last(&rt, LOST_LOG);
+fn stops_of_the_database_file_that_lose_bytes_leave_version_2_or_version_3(rt: HostRuntime) {
+    assert!(&rt; ends_at_last(&rt, LOST_DATABASE, REWRITTEN));
 }
 
 #[test]
-fn stops_of_the_database_file_that_lose_bytes_leave_what_was_there_or_is_to_be(rt: HostRuntime) {
-    all_end_at_last(&rt, LOST_DATABASE);
+fn stops_of_the_log_leave_one_session_or_the_next(rt: HostRuntime) {
+    assert!(&rt; ends_at_last(&rt, LOG, BEGUN));
+}
+
+#[test]
+fn stops_of_the_database_file_leave_one_session_or_the_next(rt: HostRuntime) {
+    assert!(&rt; ends_at_last(&rt, DATABASE, BEGUN));
+}
+
+#[test]
+fn stops_of_the_log_that_lose_bytes_leave_one_session_or_the_next(rt: HostRuntime) {
+    assert!(&rt; ends_at_last(&rt, LOST_LOG, BEGUN));
+}
+
+#[test]
+fn stops_of_the_database_file_that_lose_bytes_leave_one_session_or_the_next(rt: HostRuntime) {
+    assert!(&rt; ends_at_last(&rt, LOST_DATABASE, BEGUN));
 }
