@@ -26,15 +26,16 @@ static void put(sqlite3_stmt *upsert, uint64_t key, const unsigned char *value, 
     must(sqlite3_reset(upsert));
 }
 
-static void put_head(sqlite3_stmt *upsert, uint64_t next_id) {
-    unsigned char head[10] = {1, 0};
+static void put_head(sqlite3_stmt *upsert, uint64_t next_id, uint64_t session) {
+    unsigned char head[18] = {3, 0};
     number(head + 2, next_id);
-    put(upsert, 0, head, 10);
+    number(head + 10, session);
+    put(upsert, 0, head, 18);
 }
 
 /* a live volume of this id and of a name after it, with the reply to the call of this number */
 static void put_row(sqlite3_stmt *upsert, uint64_t id) {
-    unsigned char row[49] = {1, 1, 7};
+    unsigned char row[49] = {3, 1, 7};
     char name[24];
     snprintf(name, sizeof name, "v%06llu", (unsigned long long)id);
     memcpy(row + 3, name, 7);
@@ -58,11 +59,11 @@ int main(int count_of_words, char **words) {
     must(sqlite3_prepare_v2(db, "BEGIN", -1, &begin, NULL));
     must(sqlite3_prepare_v2(db, "COMMIT", -1, &commit, NULL));
     must(sqlite3_prepare_v2(db, "INSERT INTO parts (key, value) VALUES (?1, ?2) ON CONFLICT (key) DO UPDATE SET value = excluded.value", -1, &upsert, NULL));
-    put_head(upsert, 1);
+    put_head(upsert, 1, 0);
     for (uint64_t id = 1; id <= count; id++) {
         must(sqlite3_step(begin));
         must(sqlite3_reset(begin));
-        put_head(upsert, id + 1);
+        put_head(upsert, id + 1, 1);
         put_row(upsert, id);
         must(sqlite3_step(commit));
         must(sqlite3_reset(commit));

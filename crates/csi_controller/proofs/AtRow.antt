@@ -2,7 +2,7 @@
 use Rattle.std.proofs.Common.{◌≡◌, ◌≤◌, ℕ, Bool, List, [], ◌∷◌, get_or, length, refl, sym, ◌∙◌, ap, subst, arith}
 use Rattle.std.specs.Prelude.{Result, IfOk, OnErr}
 use Rattle.std.specs.declared.result.Result.TheVariants as results
-use Rattle.std.specs.Prelude.{Option, Some, None, option_map, find, position, ◌==◌, IsTrue, codes}
+use Rattle.std.specs.Prelude.{Option, Some, None, option_map, find, position, ◌==◌, IsTrue}
 use Rattle.std.specs.List.{position_or_len}
 use Rattle.std.proofs.Math.ListN.{set}
 use Rattle.std.proofs.lemmas.Bool.{eqb-true}
@@ -16,22 +16,26 @@ use Rattle.csi_types.specs.declared.call.Kind.TheVariants as kinds
 use Rattle.csi_types.specs.declared.call.Call.{Call}
 use Rattle.csi_types.specs.declared.call.Call.TheVariants.{CreateVolume, DeleteVolume, ControllerPublishVolume, ControllerUnpublishVolume, NodeStageVolume, NodeUnstageVolume, NodePublishVolume, NodeUnpublishVolume}
 use Rattle.csi_types.specs.declared.call.Party.TheVariants.{Controller}
-use Rattle.csi_types.specs.declared.fence.Verdict.{Verdict}
-use Rattle.csi_types.specs.declared.fence.Verdict.TheVariants.{Stale, Repeated, Fresh}
+use Rattle.csi_fence.specs.declared.fence.Verdict.{Verdict}
+use Rattle.csi_fence.specs.declared.fence.Verdict.TheVariants.{Stale, Repeated, Fresh}
 use Rattle.csi_types.specs.Call.{kind_of, is_party_of}
 use Rattle.csi_types.specs.Config.{Config}
-use Rattle.csi_types.specs.Fence.{Kept, verdict_of}
+use Rattle.csi_fence.specs.Delivery.{last_of}
+use Rattle.csi_fence.specs.Fence.{Kept, verdict_of, IsFresh}
 use Rattle.csi_types.specs.Frame.{Frame}
-use Rattle.csi_types.specs.Replies.{plain_reply, ok_reply, reply_frame}
-use Rattle.csi_types.specs.declared.status.Status.TheVariants.{Ok, NotFound}
+use Rattle.csi_types.specs.declared.reply.Reply.{Reply}
+use Rattle.csi_types.specs.Reply.{has_id_by_rule}
+use Rattle.csi_types.specs.Replies.{reply_frame}
+use Rattle.csi_types.specs.declared.status.Status.TheVariants.{Ok}
 use Rattle.csi_controller.specs.declared.row.NodeHolding.{NodeHolding}
 use Rattle.csi_controller.specs.declared.row.ControllerRow.{ControllerRow}
+use Rattle.csi_controller.specs.Nowhere.{IsCreate, reply_nowhere}
 use Rattle.csi_controller.specs.Repeats.{IsPlainRepeat}
 use Rattle.csi_controller.specs.State.{Volume, ControllerState, is_row_for}
-use Rattle.csi_controller.specs.Table.{Outcome, delete, publish, unpublish}
+use Rattle.csi_controller.specs.Table.{Outcome, Stays, controller_row, delete, publish, unpublish}
 use Rattle.csi_controller.specs.Fenced.{fenced_call, kept_for}
 use Rattle.csi_controller.specs.Shown.{volume_of_row}
-use Rattle.csi_controller.specs.Core.{Shows, IsSound, IsSoundRow, held_by, IsSameRow, IsAnsweredOk}
+use Rattle.csi_controller.specs.Core.{Shows, IsSound, IsSoundRow, held_by, IsSameRow}
 use Rattle.csi_controller.specs.Step.{Answers}
 use Rattle.csi_controller.specs.OneRow.{RowOutcome}
 use Rattle.csi_controller.specs.AtRow.{RowGives, row_after}
@@ -78,10 +82,10 @@ sound-refused p n rows place row new sound at is same =
     (sound-same n row new (sound-at p n rows place row sound at is) same.volume same.items)
 
 -- after a refusal the rows show the state that they showed
-pub shown-refused : (p : ControllerRow → Bool) (config : Config) (n : ℕ) (rows : List ControllerRow) (state : ControllerState) (place : ℕ) (row new : ControllerRow) → IsSound n rows
-    → Some place ≡ position p rows → row ≡ get_or rows place row → IsSameRow row new → Shows (record { config = config; next_id = n; rows = rows }) state → Shows (record { config = config; next_id = n; rows = set rows place new }) state
-shown-refused p config n rows state place row new sound at is same shown =
-    shown-same config n rows state place row new shown (FirstAt-is_at p rows place row (at-place p rows place row at is)) (rising-one rows sound.rising) same.volume same.items
+pub shown-refused : (p : ControllerRow → Bool) (config : Config) (n s : ℕ) (rows : List ControllerRow) (state : ControllerState) (place : ℕ) (row new : ControllerRow) → IsSound n rows
+    → Some place ≡ position p rows → row ≡ get_or rows place row → IsSameRow row new → Shows (record { config = config; next_id = n; session = s; rows = rows }) state → Shows (record { config = config; next_id = n; session = s; rows = set rows place new }) state
+shown-refused p config n s rows state place row new sound at is same shown =
+    shown-same config n s rows state place row new shown (FirstAt-is_at p rows place row (at-place p rows place row at is)) (rising-one rows sound.rising) same.volume same.items
 
 -- a call finds one row at most
 pub one-row : (n : ℕ) (rows : List ControllerRow) (call : Call) → IsSound n rows → AtMostOne (λ (r : ControllerRow). is_row_for call (volume_of_row r)) rows
@@ -106,13 +110,13 @@ deletes rows place row (NodePublishVolume id target capability readonly) first k
 deletes rows place row (NodeUnpublishVolume id target) first kind = absurd (let clash : kinds.NodeUnpublishVolume ≡ kinds.DeleteVolume = kind in cc)
 
 -- a call at its row
-pub there-answers : (config : Config) (n : ℕ) (rows : List ControllerRow) (counts : List ℕ) (state : ControllerState) (number : Number) (call : Call) (place : ℕ) (row new : ControllerRow) (frame : Frame)
-    → IsSound n rows → AreCounted config.nodes rows counts → Shows (record { config = config; next_id = n; rows = rows }) state
+pub there-answers : (config : Config) (n s : ℕ) (rows : List ControllerRow) (counts : List ℕ) (state : ControllerState) (number : Number) (call : Call) (place : ℕ) (row new : ControllerRow) (frame : Frame)
+    → IsSound n rows → AreCounted config.nodes rows counts → Shows (record { config = config; next_id = n; session = s; rows = rows }) state
     → FirstAt (λ (r : ControllerRow). is_row_for call (volume_of_row r)) rows place row
     → RowGives new frame (row_after number (kind_of call) (row_line config.nodes counts row call) row (verdict_of (Some row.last) number))
-    → Answers (record { config = config; next_id = n; rows = set rows place new }) frame (fenced_call config state number call (kept_for call state))
-there-answers config n rows counts state number call place row new frame sound counted shown first gives =
-    row-answers config n rows state number call place row new frame (row_line config.nodes counts row call) shown first (one-row n rows call sound) (rising-one rows sound.rising)
+    → Answers (record { config = config; next_id = n; session = s; rows = set rows place new }) frame (fenced_call config state number call (kept_for call state))
+there-answers config n s rows counts state number call place row new frame sound counted shown first gives =
+    row-answers config n s rows state number call place row new frame (row_line config.nodes counts row call) shown first (one-row n rows call sound) (rising-one rows sound.rising)
     (λ ends. deletes rows place row call first ((line-good config.nodes counts row call).ends ends))
     (line-told config n rows state counts place row call sound shown.shows counted first) gives
 
@@ -125,53 +129,67 @@ past-none p (x ∷ xs) past = grind (arith, past-none p xs)
 pub nowhere : (p : ControllerRow → Bool) (rows : List ControllerRow) → None ≡ position p rows → find p rows ≡ None
 nowhere p rows none = let past : length rows ≤ position_or_len p rows = grind (arith, nat_tests) in past-none p rows past
 
--- a call that has no row
-pub delete-nowhere : (config : Config) (n : ℕ) (rows : List ControllerRow) (state : ControllerState) (number : Number) (id : ℕ) (frame : Frame)
-    → Shows (record { config = config; next_id = n; rows = rows }) state → None ≡ position (λ (r : ControllerRow). r.id == id) rows → frame ≡ reply_frame number Controller kinds.DeleteVolume ok_reply
-    → Answers (record { config = config; next_id = n; rows = rows }) frame (fenced_call config state number (DeleteVolume id) (kept_for (DeleteVolume id) state))
-delete-nowhere config n rows state number id frame shown none is =
-    let none_found = nowhere (λ (r : ControllerRow). r.id == id) rows none in
-    nowhere-answers config n rows state number (DeleteVolume id) frame ok_reply shown none_found (ap (delete state id) (live-nowhere n rows state id shown.shows none_found)) is
+-- what the table answers to a call of an id that no row has
+pub nowhere-told : (config : Config) (n s : ℕ) (rows : List ControllerRow) (state : ControllerState) (call : Call) → Shows (record { config = config; next_id = n; session = s; rows = rows }) state
+    → find (λ (r : ControllerRow). is_row_for call (volume_of_row r)) rows ≡ None → IsTrue (is_party_of (kind_of call) Controller) → (IsCreate call → ⊥)
+    → controller_row config state call ≡ record { reply = reply_nowhere call; change = Stays }
+nowhere-told config n s rows state (CreateVolume name required limit capabilities) shown none party other = absurd (other tt)
+nowhere-told config n s rows state (DeleteVolume id) shown none party other = ap (delete state id) (live-nowhere n rows state id shown.shows none)
+nowhere-told config n s rows state (ControllerPublishVolume id node capability readonly) shown none party other =
+    let wanted : NodeHolding = record { node = node; capability = capability; readonly = readonly } in
+    ap (publish config state (held_by id wanted)) (live-nowhere n rows state id shown.shows none)
+nowhere-told config n s rows state (ControllerUnpublishVolume id node) shown none party other = ap (unpublish id node) (held-nowhere n rows state id node shown.shows none)
+nowhere-told config n s rows state (NodeStageVolume id capability) shown none party other = absurd cc
+nowhere-told config n s rows state (NodeUnstageVolume id) shown none party other = absurd cc
+nowhere-told config n s rows state (NodePublishVolume id target capability readonly) shown none party other = absurd cc
+nowhere-told config n s rows state (NodeUnpublishVolume id target) shown none party other = absurd cc
 
--- ControllerUnpublishVolume of an id that no row has is answered OK, and the rows show the state after it
-pub unpublish-nowhere : (config : Config) (n : ℕ) (rows : List ControllerRow) (state : ControllerState) (number : Number) (id : ℕ) (node : List ℕ) (frame : Frame)
-    → Shows (record { config = config; next_id = n; rows = rows }) state → None ≡ position (λ (r : ControllerRow). r.id == id) rows → frame ≡ reply_frame number Controller kinds.ControllerUnpublishVolume ok_reply
-    → Answers (record { config = config; next_id = n; rows = rows }) frame (fenced_call config state number (ControllerUnpublishVolume id node) (kept_for (ControllerUnpublishVolume id node) state))
-unpublish-nowhere config n rows state number id node frame shown none is =
-    let none_found = nowhere (λ (r : ControllerRow). r.id == id) rows none in
-    nowhere-answers config n rows state number (ControllerUnpublishVolume id node) frame ok_reply shown none_found (ap (unpublish id node) (held-nowhere n rows state id node shown.shows none_found)) is
+-- such a call is answered so, and the rows show the state after it
+pub told-nowhere : (config : Config) (n s : ℕ) (rows : List ControllerRow) (state : ControllerState) (number : Number) (call : Call) (reply : Reply)
+    → Shows (record { config = config; next_id = n; session = s; rows = rows }) state → find (λ (r : ControllerRow). is_row_for call (volume_of_row r)) rows ≡ None
+    → IsTrue (is_party_of (kind_of call) Controller) → (IsCreate call → ⊥) → reply ≡ reply_nowhere call
+    → Answers (record { config = config; next_id = n; session = s; rows = rows }) (reply_frame number Controller (kind_of call) reply) (fenced_call config state number call (kept_for call state))
+told-nowhere config n s rows state number call reply shown none party other is =
+    nowhere-answers config n s rows state number call (reply_frame number Controller (kind_of call) reply) (reply_nowhere call) shown none
+    (nowhere-told config n s rows state call shown none party other) (ap (reply_frame number Controller (kind_of call)) is)
 
--- ControllerPublishVolume of such an id is answered that there is no such volume
-pub publish-nowhere : (config : Config) (n : ℕ) (rows : List ControllerRow) (state : ControllerState) (number : Number) (id : ℕ) (wanted : NodeHolding) (frame : Frame)
-    → Shows (record { config = config; next_id = n; rows = rows }) state → None ≡ position (λ (r : ControllerRow). r.id == id) rows
-    → frame ≡ reply_frame number Controller kinds.ControllerPublishVolume (plain_reply NotFound (codes "volume"))
-    → Answers (record { config = config; next_id = n; rows = rows }) frame
-    (fenced_call config state number (ControllerPublishVolume id wanted.node wanted.capability wanted.readonly) (kept_for (ControllerPublishVolume id wanted.node wanted.capability wanted.readonly) state))
-publish-nowhere config n rows state number id wanted frame shown none is =
-    let none_found = nowhere (λ (r : ControllerRow). r.id == id) rows none in
-    nowhere-answers config n rows state number (ControllerPublishVolume id wanted.node wanted.capability wanted.readonly) frame (plain_reply NotFound (codes "volume")) shown none_found
-    (ap (publish config state (held_by id wanted)) (live-nowhere n rows state id shown.shows none_found)) is
+-- its reply has no id
+pub nowhere-allowed : (call : Call) → IsTrue (is_party_of (kind_of call) Controller) → (IsCreate call → ⊥) → IsTrue (has_id_by_rule (kind_of call) (reply_nowhere call))
+nowhere-allowed (CreateVolume name required limit capabilities) party other = absurd (other tt)
+nowhere-allowed (DeleteVolume id) party other = refl
+nowhere-allowed (ControllerPublishVolume id node capability readonly) party other = refl
+nowhere-allowed (ControllerUnpublishVolume id node) party other = refl
+nowhere-allowed (NodeStageVolume id capability) party other = absurd cc
+nowhere-allowed (NodeUnstageVolume id) party other = absurd cc
+nowhere-allowed (NodePublishVolume id target capability readonly) party other = absurd cc
+nowhere-allowed (NodeUnpublishVolume id target) party other = absurd cc
+
+-- a call that repeats a plain reply is of the present session
+pub repeat-now : (session : ℕ) (kept : Option Kept) (number : Number) → IsPlainRepeat session kept number → number.session ≡ session
+repeat-now session None number repeat = absurd repeat
+repeat-now session (Some kept) number repeat = repeat.0
 
 -- a call that the table answers with 0 is let through at its row
-pub let_through : (config : Config) (n : ℕ) (rows : List ControllerRow) (counts : List ℕ) (state : ControllerState) (number : Number) (call : Call) (place : ℕ) (row : ControllerRow)
-    → IsSound n rows → AreCounted config.nodes rows counts → Shows (record { config = config; next_id = n; rows = rows }) state
-    → FirstAt (λ (r : ControllerRow). is_row_for call (volume_of_row r)) rows place row → IsAnsweredOk config state number call
+pub let_through : (config : Config) (n s : ℕ) (rows : List ControllerRow) (counts : List ℕ) (state : ControllerState) (number : Number) (call : Call) (place : ℕ) (row : ControllerRow)
+    → IsSound n rows → AreCounted config.nodes rows counts → Shows (record { config = config; next_id = n; session = s; rows = rows }) state
+    → FirstAt (λ (r : ControllerRow). is_row_for call (volume_of_row r)) rows place row → IsFresh (last_of (kept_for call state)) number → (controller_row config state call).reply.status ≡ Ok
     → (verdict_of (Some row.last) number ≡ Fresh) × ((row_line config.nodes counts row call).reply.status ≡ Ok)
-let_through config n rows counts state number call place row sound counted shown first answered = (
-  ap (λ (k : Option Kept). verdict_of (option_map (λ (x : Kept). x.number) k) number) (sym (kept-there config n rows state call place row shown first)) ∙ answered.0,
-  ap (λ (o : Outcome). o.reply.status) (sym (line-told config n rows state counts place row call sound shown.shows counted first)) ∙ answered.1,
+let_through config n s rows counts state number call place row sound counted shown first fresh answered = (
+  ap (λ (k : Option Kept). verdict_of (option_map (λ (x : Kept). x.number) k) number) (sym (kept-there config n s rows state call place row shown first)) ∙ fresh,
+  ap (λ (o : Outcome). o.reply.status) (sym (line-told config n rows state counts place row call sound shown.shows counted first)) ∙ answered,
 )
 
 -- a call whose plain reply is kept, at its row, and without one
-pub repeat-there : (config : Config) (n : ℕ) (rows : List ControllerRow) (state : ControllerState) (number : Number) (call : Call) (place : ℕ) (row : ControllerRow)
-    → Shows (record { config = config; next_id = n; rows = rows }) state → FirstAt (λ (r : ControllerRow). is_row_for call (volume_of_row r)) rows place row
-    → IsPlainRepeat (kept_for call state) number → (verdict_of (Some row.last) number ≡ Repeated) × (row.reply.detail ≡ [])
-repeat-there config n rows state number call place row shown first repeat = subst (λ (k : Option Kept). IsPlainRepeat k number) (kept-there config n rows state call place row shown first) repeat
+pub repeat-there : (config : Config) (n s : ℕ) (rows : List ControllerRow) (state : ControllerState) (number : Number) (call : Call) (place : ℕ) (row : ControllerRow)
+    → Shows (record { config = config; next_id = n; session = s; rows = rows }) state → FirstAt (λ (r : ControllerRow). is_row_for call (volume_of_row r)) rows place row
+    → IsPlainRepeat state.session (kept_for call state) number → (verdict_of (Some row.last) number ≡ Repeated) × (row.reply.detail ≡ [])
+repeat-there config n s rows state number call place row shown first repeat =
+    let told = subst (λ (k : Option Kept). IsPlainRepeat state.session k number) (kept-there config n s rows state call place row shown first) repeat in (told.1, told.2)
 
 -- a call that has no row has no reply kept
-pub repeat-nowhere : (config : Config) (n : ℕ) (rows : List ControllerRow) (state : ControllerState) (number : Number) (call : Call)
-    → Shows (record { config = config; next_id = n; rows = rows }) state → find (λ (r : ControllerRow). is_row_for call (volume_of_row r)) rows ≡ None → IsPlainRepeat (kept_for call state) number → ⊥
-repeat-nowhere config n rows state number call shown none repeat = subst (λ (k : Option Kept). IsPlainRepeat k number) (kept-nowhere config n rows state call shown none) repeat
+pub repeat-nowhere : (config : Config) (n s : ℕ) (rows : List ControllerRow) (state : ControllerState) (number : Number) (call : Call)
+    → Shows (record { config = config; next_id = n; session = s; rows = rows }) state → find (λ (r : ControllerRow). is_row_for call (volume_of_row r)) rows ≡ None → IsPlainRepeat state.session (kept_for call state) number → ⊥
+repeat-nowhere config n s rows state number call shown none repeat = subst (λ (k : Option Kept). IsPlainRepeat state.session k number) (kept-nowhere config n s rows state call shown none) repeat
 
 -- what follows from a success and from a refusal alike
 pub either_way : {T E : Type 0} (r : Result T E) (P : T → Type 0) (Q R : Type 0) → ((x : T) → P x → R) → (Q → R) → IfOk r P → OnErr r Q → R

@@ -47,14 +47,15 @@ holdings-same (r ∷ rs) (c ∷ cs) id same =
     by false h own = h
 
 -- copies of a controller's rows show the same state
-pub shown-copies : (config : Config) (n : ℕ) (rows copies : List ControllerRow) (state : ControllerState) → AreSameRows rows copies → Shows (record { config = config; next_id = n; rows = rows }) state → Shows (record { config = config; next_id = n; rows = copies }) state
-shown-copies config n rows copies state same shown =
+pub shown-copies : (config : Config) (n s : ℕ) (rows copies : List ControllerRow) (state : ControllerState) → AreSameRows rows copies → Shows (record { config = config; next_id = n; session = s; rows = rows }) state → Shows (record { config = config; next_id = n; session = s; rows = copies }) state
+shown-copies config n s rows copies state same shown =
     record {
       shows = record {
         next = shown.shows.next;
         volumes = volumes-same rows copies same ∙ shown.shows.volumes;
         holdings = λ id. holdings-same rows copies id same ∙ shown.shows.holdings id;
       };
+      session = shown.session;
       next_from = shown.next_from;
       next_to = shown.next_to;
     }

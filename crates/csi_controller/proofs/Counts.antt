@@ -15,8 +15,8 @@ use Rattle.csi_types.proofs.Equality.{same_text-tells}
 use Rattle.csi_types.specs.declared.number.Number.{Number}
 use Rattle.csi_types.specs.declared.call.Call.{Call}
 use Rattle.csi_types.specs.declared.config.NodeSlots.{NodeSlots}
-use Rattle.csi_types.specs.declared.fence.Verdict.{Verdict}
-use Rattle.csi_types.specs.declared.fence.Verdict.TheVariants.{Stale, Repeated, Fresh}
+use Rattle.csi_fence.specs.declared.fence.Verdict.{Verdict}
+use Rattle.csi_fence.specs.declared.fence.Verdict.TheVariants.{Stale, Repeated, Fresh}
 use Rattle.csi_types.specs.Config.{Config}
 use Rattle.csi_types.specs.Frame.{Frame}
 use Rattle.csi_types.specs.Same.{same_text}
@@ -254,7 +254,7 @@ answered-counted nodes rows place row new counts after number call Fresh frame c
 -- ---- a row that is added
 
 -- one more row, without holdings, leaves every node's count
-added-one : (node : List ℕ) (rows : List ControllerRow) (row : ControllerRow) → row.holdings.items ≡ [] → count_held node (rows ++ row ∷ []) ≡ count_held node rows
+pub added-one : (node : List ℕ) (rows : List ControllerRow) (row : ControllerRow) → row.holdings.items ≡ [] → count_held node (rows ++ row ∷ []) ≡ count_held node rows
 added-one node [] row empty = count-cons (is_held node) row [] ∙ ap (λ (items : List NodeHolding). cond (list_any (λ (held : NodeHolding). same_text held.node node) items) 1 0 + count_held node []) empty
 added-one node (r ∷ rs) row empty = count-cons (is_held node) r (rs ++ row ∷ []) ∙ ap (λ n. cond (is_held node r) 1 0 + n) (added-one node rs row empty) ∙ sym (count-cons (is_held node) r rs)
 

@@ -1,46 +1,48 @@
--- A call that is delivered acts or rests.
-use Rattle.std.proofs.Common.{◌≡◌, ◌⊎◌, ℕ, List, Bool, true, false, not, refl, sym, ◌∙◌, ap, subst, inl, inr, arith}
-use Rattle.std.specs.Prelude.{Option, Some, None, option_map, is_some, find, ◌==◌, ◌&&◌, IsTrue}
-use Rattle.std.proofs.lemmas.Bool.{and_parts, eqb-true, not-false, not-true, true≢false, and_left}
+-- A call that is delivered acts, rests or misses.
+use Rattle.std.proofs.Common.{◌≡◌, ℕ, List, Bool, true, false, cond, refl, sym, ◌∙◌, ap, subst, inl, inr, arith}
+use Rattle.std.specs.Prelude.{Option, Some, None, option_map, is_some, find, nat_lt, ◌==◌, ◌&&◌, IsTrue}
+use Rattle.std.proofs.lemmas.Bool.{and_parts, eqb-true, true≢false, and_left}
 use Rattle.std.proofs.lemmas.Bool.Decides.{nat_tests}
 use Rattle.std.proofs.lemmas.Option.{none-some}
 use Rattle.csi_lists.proofs.Maps.{map-none}
 use Rattle.csi_lists.proofs.Members.{among-find, none_passes}
 use Rattle.csi_lists.proofs.Options.{none-from_map, option_map-map}
 use Rattle.csi_lists.proofs.Searches.{find-map, find-none, find-passes}
-use Rattle.csi_lists.specs.Members.{IsAmong}
-use Rattle.csi_types.proofs.Order.{before-trans}
-use Rattle.csi_types.proofs.Spent.{spent-earlier}
 use Rattle.csi_types.specs.declared.number.Number.{Number}
 use Rattle.csi_types.specs.declared.call.Call.{Call}
 use Rattle.csi_types.specs.declared.call.Kind.{Kind}
 use Rattle.csi_types.specs.declared.call.Call.TheVariants as calls
 use Rattle.csi_types.specs.declared.call.Party.TheVariants.{Controller}
 use Rattle.csi_types.specs.declared.holding.Holding.{Holding}
-use Rattle.csi_types.specs.declared.status.Status.TheVariants.{Ok, Aborted}
+use Rattle.csi_types.specs.declared.status.Status.TheVariants.{Ok}
 use Rattle.csi_types.specs.declared.reply.Reply.{Reply}
 use Rattle.csi_types.specs.Call.{kind_of, is_party_of}
 use Rattle.csi_types.specs.Config.{Config}
-use Rattle.csi_types.specs.Delivery.{Delivery, Acts, Rests, Misses, Becomes, IsSameView, IsDelivered, IsEmpty, IsClosed, last_of}
-use Rattle.csi_types.specs.Fence.{Kept, is_spent}
+use Rattle.csi_fence.proofs.Delivered.{IsKeptFor, answered-delivered}
+use Rattle.csi_fence.proofs.Judged.{Judgement, was_over, was_fresh, was_repeated, was_stale, was_judged}
+use Rattle.csi_fence.proofs.Views.{Carries, carried-acts, closed-view, empty-view}
+use Rattle.csi_fence.specs.Delivery.{Delivery, view_by, Acts, Misses, Becomes, IsDelivered, IsEmpty, IsClosed, last_of}
+use Rattle.csi_fence.specs.Fence.{Kept, is_spent, is_over, begins}
+use Rattle.csi_fence.specs.Fenced.{Fenced, answered_in}
 use Rattle.csi_types.specs.Key.{Key, Exists, Attached, Staged, Published, HasId, asked}
-use Rattle.csi_types.specs.Number.{is_before}
-use Rattle.csi_types.specs.Replies.{stale_reply}
 use Rattle.csi_types.specs.Reply.{has_id_by_rule}
 use Rattle.csi_types.specs.Same.{same_text}
 use Rattle.csi_controller.specs.State.{Volume, ControllerState, empty_controller, volume_with_id, live_volume, is_held_at, is_row_for, row_for}
 use Rattle.csi_controller.specs.Table.{Outcome, Change, Stays, changed, controller_row}
-use Rattle.csi_controller.specs.Fenced.{Fenced, kept_in, keep, carried_out, fenced_call, kept_for}
+use Rattle.csi_controller.specs.Fenced.{kept_in, keep, carried_out, kept_for, begun, controller_with, in_session}
 use Rattle.csi_controller.specs.Safe.{IsExclusive}
-use Rattle.csi_controller.specs.View.{held_in, kept_in_row, live_named, view_of, key_of, IsDeliveredTo}
-use Rattle.csi_controller.proofs.LastCalls.{row_of, kept_of_row, IsLater, IsFreshFor, kept_later, kept_after, row_known}
-use Rattle.csi_controller.proofs.Moves.{Move, was_refused, was_found, was_made, was_ended, was_ended_before, was_attached, was_attached_before, was_detached, was_detached_before, moved, Judgement, was_first, was_fresh, was_repeated, was_stale, was_judged}
-use Rattle.csi_controller.proofs.OrderlyStates.{IsOrderly, kept_same, keep_leaves, live_with_id, is_row}
+use Rattle.csi_controller.specs.View.{held_in, kept_in_row, live_named, view_of, key_of, IsThingOf, IsDeliveredTo}
+use Rattle.csi_controller.proofs.BegunThings.{among_row, has_begun, known_before}
+use Rattle.csi_controller.proofs.LastCalls.{row_of, kept_of_row, IsFreshFor, kept_later, kept_after, row_known}
+use Rattle.csi_controller.proofs.Moves.{Move, was_refused, was_found, was_made, was_ended, was_ended_before, was_attached, was_attached_before, was_detached, was_detached_before, moved}
+use Rattle.csi_controller.proofs.OrderlyStates.{IsOrderly, begun_orderly, kept_same, keep_leaves, live_with_id, is_row}
+use Rattle.csi_controller.proofs.RememberedStates.{AreRecent, changed_session}
+use Rattle.csi_controller.proofs.SafeStates.{begun_keeps}
 use Rattle.csi_controller.proofs.ThingMoves.{does}
 
 -- a new controller has nothing
 pub empty_view : IsEmpty (view_of empty_controller)
-empty_view = record { held = held; is_spent = λ key number. spent key number; kept = kept }
+empty_view = empty-view (held_in empty_controller) (kept_in_row empty_controller) held kept
   where
     held : (key : Key) → held_in empty_controller key ≡ None
     held (Exists name) = refl
@@ -54,15 +56,9 @@ empty_view = record { held = held; is_spent = λ key number. spent key number; k
     kept (Staged id node) = refl
     kept (Published id node target) = refl
 
-    spent : (key : Key) (number : Number) → is_spent (last_of (kept_in_row empty_controller key)) number ≡ false
-    spent key number = ap (λ (o : Option Kept). is_spent (last_of o) number) (kept key)
-
 -- what came before a spent number is spent
 pub closed_view : (state : ControllerState) → IsClosed (view_of state)
-closed_view state key earlier later before spent = spent-earlier (last_of (kept_in_row state key)) earlier later before spent
-
-same_view : (state : ControllerState) → IsSameView (view_of state) (view_of state)
-same_view state = record { held = λ key. refl; is_spent = λ key number. refl; kept = λ key. refl }
+closed_view state = closed-view state.session (held_in state) (kept_in_row state)
 
 -- what is kept changes nothing else of a thing
 held_keep : (call : Call) (kept : Kept) (state : ControllerState) (key : Key) → held_in (keep call kept state) key ≡ held_in state key
@@ -73,36 +69,6 @@ held_keep call kept state (Exists name) =
 held_keep call kept state (Attached id node) = refl
 held_keep call kept state (Staged id node) = refl
 held_keep call kept state (Published id node target) = refl
-
--- a number that isn't spent comes after each that is
-spent_on : (old : Option Kept) (kept : Kept) (number : Number) → is_spent (last_of old) kept.number ≡ false → is_spent (last_of old) number ≡ true → is_spent (Some kept.number) number ≡ true
-spent_on None kept number fresh spent = absurd (true≢false (sym spent))
-spent_on (Some last) kept number fresh spent = by (is_before kept.number number) refl
-  where
-    by : (b : Bool) → is_before kept.number number ≡ b → not (is_before kept.number number) ≡ true
-    by false e = ap not e
-    by true e = absurd (true≢false (sym (before-trans last.number kept.number number (not-false (is_before last.number kept.number) fresh) e) ∙ not-true (is_before last.number number) spent))
-
--- a number that was spent is spent by what is kept later
-later_spent : (kept : Kept) (old new : Option Kept) (number : Number) → IsLater kept old new → IsTrue (is_spent (last_of old) number) → IsTrue (is_spent (last_of new) number)
-later_spent kept old new number (inl same) spent = subst (λ (o : Option Kept). IsTrue (is_spent (last_of o) number)) (sym same) spent
-later_spent kept old new number (inr this) spent = subst (λ (o : Option Kept). IsTrue (is_spent (last_of o) number)) (sym this.0) (spent_on old kept number this.1 spent)
-
--- what is kept later is what was kept, or the new call
-either_kept : (kept : Kept) (old new : Option Kept) → IsLater kept old new → (new ≡ old) ⊎ (new ≡ Some kept) ⊎ (new ≡ None)
-either_kept kept old new (inl same) = inl same
-either_kept kept old new (inr this) = inr (inl this.0)
-
--- a number spends itself
-own_spent : (number : Number) → is_spent (Some number) number ≡ true
-own_spent number = grind (arith, nat_tests)
-
--- what is found for a thing is a volume of the state
-among_row : (state : ControllerState) (key : Key) (v : Volume) → row_of state key ≡ Some v → IsAmong v state.volumes
-among_row state (Exists name) v is = among-find (λ (u : Volume). same_text u.name name) state.volumes v is
-among_row state (Attached id node) v is = among-find (λ (u : Volume). u.id == id) state.volumes v is
-among_row state (Staged id node) v is = absurd (none-some v is)
-among_row state (Published id node target) v is = absurd (none-some v is)
 
 -- the call and its reply, as they are told
 abbrev told : Number → Call → Reply → Delivery
@@ -124,25 +90,24 @@ with_id config state _ _ (was_attached_before holding volume can held) ok = refl
 with_id config state _ _ (was_detached id node held there) ok = refl
 with_id config state _ _ (was_detached_before id node free) ok = refl
 
--- a fresh call acts
-acts : (config : Config) (state : ControllerState) (number : Number) (call : Call) (key : Key) (outcome : Outcome) → IsOrderly state → key_of state call ≡ Some key → Move config state call outcome
-    → is_spent (last_of (kept_for call state)) number ≡ false → Acts key (told number call outcome.reply) (view_of state) (view_of (carried_out state number call outcome).state)
-acts config state number call key outcome orderly is move fresh =
+-- what a fresh call does to the things, and what is kept of it
+carries : (config : Config) (state : ControllerState) (number : Number) (call : Call) (key : Key) (outcome : Outcome) → IsOrderly state → key_of state call ≡ Some key → Move config state call outcome
+    → is_spent (last_of (kept_for call state)) number ≡ false
+    → Carries key (told number call outcome.reply) (held_in state) (held_in (carried_out state number call outcome).state) (kept_in_row state) (kept_in_row (carried_out state number call outcome).state)
+carries config state number call key outcome orderly is move fresh =
     let kept : Kept = record { number = number; kind = kind_of call; reply = outcome.reply } in
     let next : ControllerState = changed state kept outcome.change in
     let does_so = does config state key call outcome kept orderly is move in
     let same = λ (other : Key). held_keep call kept next other in
-    let later = λ (other : Key). kept_later call kept state outcome.change other (fresh_rows kept.kind kept.reply other) in
     record {
       of_its_kind = refl;
       with_id = λ ok. with_id config state call outcome move ok;
       was_fresh = ap (λ (o : Option Kept). is_spent (last_of o) number) (known_kept state call key orderly is) ∙ fresh;
       done = λ ok. same key ∙ does_so.done ok;
-      spent = λ ok. subst (λ (o : Option Kept). IsTrue (is_spent (last_of o) number)) (sym (kept_after config state key call outcome kept orderly is move ok rows)) (own_spent number);
       refused = λ h. same key ∙ does_so.refused h;
       others = λ other h. same other ∙ does_so.others other h;
-      stays_spent = λ other n spent. later_spent kept (kept_in_row state other) (kept_in_row (keep call kept next) other) n (later other) spent;
-      keeps = λ other. either_kept kept (kept_in_row state other) (kept_in_row (keep call kept next) other) (later other);
+      own = λ ok. kept_after config state key call outcome kept orderly is move ok rows;
+      later = λ other. kept_later call kept state outcome.change other (fresh_rows kept.kind kept.reply other);
     }
   where
     rows : (v : Volume) → row_of state key ≡ Some v → is_row_for call v ≡ true
@@ -151,25 +116,6 @@ acts config state number call key outcome orderly is move fresh =
     fresh_rows : (kind : Kind) (reply : Reply) (other : Key) → IsFreshFor call (record { number = number; kind = kind; reply = reply }) (row_of state other)
     fresh_rows kind reply other v own same =
         sym (ap (λ (o : Option Volume). is_spent (last_of (option_map (λ volume. volume.kept) o)) number) (is_row state call v orderly (among_row state other v own) same)) ∙ fresh
-
--- a call that isn't carried out rests
-rests : (state : ControllerState) (number : Number) (call : Call) (key : Key) (row : Volume) (kind : Kind) (reply : Reply) → IsOrderly state → key_of state call ≡ Some key → row_for call state ≡ Some row
-    → is_spent (Some row.kept.number) number ≡ true → (reply.status ≡ Ok → row.kept ≡ record { number = number; kind = kind; reply = reply })
-    → Rests key (record { number = number; call = call; kind = kind; reply = reply }) (view_of state) (view_of state)
-rests state number call key row kind reply orderly is own spent kept =
-    let known : kept_in_row state key ≡ Some row.kept = known_kept state call key orderly is ∙ ap (option_map (λ (v : Volume). v.kept)) own in
-    record {
-      was_spent = subst (λ (o : Option Kept). IsTrue (is_spent (last_of o) number)) (sym known) spent;
-      was_kept = λ ok. known ∙ ap Some (kept ok);
-      same = same_view state;
-    }
-
-aborted : Aborted ≡ Ok → ⊥
-aborted h = cc
-
--- what is kept is the same under its own number
-renumbered : (kept : Kept) (number : Number) → number ≡ kept.number → kept ≡ record { number = number; kind = kept.kind; reply = kept.reply }
-renumbered kept number same = let back = sym same in λ i. record { number = back i; kind = kept.kind; reply = kept.reply }
 
 -- a call whose thing isn't known is the call of no row
 row_unknown : (state : ControllerState) (call : Call) → IsTrue (is_party_of (kind_of call) Controller) → key_of state call ≡ None → row_for call state ≡ None
@@ -244,59 +190,100 @@ misses config state number call outcome orderly none key move =
       keeps = λ other. inl refl;
     }
 
--- a call that is carried out, by its thing
-carried_becomes : (config : Config) (state : ControllerState) (number : Number) (call : Call) (outcome : Outcome) (o : Option Key) → IsOrderly state → IsExclusive state
-    → IsTrue (is_party_of (kind_of call) Controller) → key_of state call ≡ o → Move config state call outcome → is_spent (last_of (kept_for call state)) number ≡ false
-    → Becomes o (told number call outcome.reply) (view_of state) (view_of (carried_out state number call outcome).state)
-carried_becomes config state number call outcome (Some key) orderly safe party is move fresh = inl (acts config state number call key outcome orderly is move fresh)
-carried_becomes config state number call outcome None orderly safe party is move fresh =
+-- a call of a thing that isn't known leaves the state, where it is carried out
+unknown_leaves : (config : Config) (state : ControllerState) (number : Number) (call : Call) → IsOrderly state → IsExclusive state → IsTrue (is_party_of (kind_of call) Controller)
+    → key_of state call ≡ None → (carried_out state number call (controller_row config state call)).state ≡ state
+unknown_leaves config state number call orderly safe party is =
     let none = row_unknown state call party is in
-    subst (λ (after : ControllerState). Misses (told number call outcome.reply) (view_of state) (view_of after))
-    (sym (leaves state number call outcome none (unknown_stays config state call outcome orderly safe party none is move))) (misses config state number call outcome orderly none is move)
+    leaves state number call (controller_row config state call) none (unknown_stays config state call (controller_row config state call) orderly safe party none is (moved config state call))
 
--- a call that isn't, by its thing
-spent_becomes : (state : ControllerState) (number : Number) (call : Call) (row : Volume) (kind : Kind) (reply : Reply) (o : Option Key) → IsOrderly state → IsTrue (is_party_of (kind_of call) Controller)
-    → key_of state call ≡ o → row_for call state ≡ Some row
-    → is_spent (Some row.kept.number) number ≡ true → (reply.status ≡ Ok → row.kept ≡ record { number = number; kind = kind; reply = reply })
-    → Becomes o (record { number = number; call = call; kind = kind; reply = reply }) (view_of state) (view_of state)
-spent_becomes state number call row kind reply None orderly party is own spent kept = absurd (none-some row (sym (row_unknown state call party is) ∙ own))
-spent_becomes state number call row kind reply (Some key) orderly party is own spent kept = inr (rests state number call key row kind reply orderly is own spent kept)
+-- a call that is carried out, by its thing
+carried_becomes : (config : Config) (state : ControllerState) (number : Number) (call : Call) (o : Option Key) → IsOrderly state → IsExclusive state
+    → IsTrue (is_party_of (kind_of call) Controller) → key_of state call ≡ o → is_over state.session number ≡ false → is_spent (last_of (kept_for call state)) number ≡ false
+    → Becomes o (told number call (controller_row config state call).reply) (view_of state) (view_of (carried_out state number call (controller_row config state call)).state)
+carried_becomes config state number call (Some key) orderly safe party is not_over fresh =
+    let outcome : Outcome = controller_row config state call in
+    let kept : Kept = record { number = number; kind = kind_of call; reply = outcome.reply } in
+    let after : ControllerState = (carried_out state number call outcome).state in
+    inl (subst (λ session. Acts key (told number call outcome.reply) (view_of state) (view_by session (held_in after) (kept_in_row after))) (sym (changed_session state kept outcome.change))
+    (carried-acts state.session key (told number call outcome.reply) (held_in state) (held_in after) (kept_in_row state) (kept_in_row after) not_over
+    (carries config state number call key outcome orderly is (moved config state call) fresh)))
+carried_becomes config state number call None orderly safe party is not_over fresh =
+    subst (λ (after : ControllerState). Misses (told number call (controller_row config state call).reply) (view_of state) (view_of after))
+    (sym (unknown_leaves config state number call orderly safe party is))
+    (misses config state number call (controller_row config state call) orderly (row_unknown state call party is) is (moved config state call))
 
--- whatever the fence says
-judged_delivered : (config : Config) (state : ControllerState) (number : Number) (call : Call) (after : Fenced) → IsOrderly state → IsExclusive state → IsTrue (is_party_of (kind_of call) Controller)
-    → Judgement config state number call after → IsDelivered Controller number call (key_of state call) (view_of state) (view_of after.state) after.reply
-judged_delivered config state number call after orderly safe party (was_first none) = record {
-  kind = kind_of call;
-  reply = (controller_row config state call).reply;
-  is_answer = refl;
-  becomes = carried_becomes config state number call (controller_row config state call) (key_of state call) orderly safe party refl (moved config state call)
-      (ap (λ (o : Option Volume). is_spent (last_of (option_map (λ volume. volume.kept) o)) number) none);
-}
-judged_delivered config state number call after orderly safe party (was_fresh row own fresh) = record {
-  kind = kind_of call;
-  reply = (controller_row config state call).reply;
-  is_answer = refl;
-  becomes = carried_becomes config state number call (controller_row config state call) (key_of state call) orderly safe party refl (moved config state call)
-      (ap (λ (o : Option Volume). is_spent (last_of (option_map (λ volume. volume.kept) o)) number) own ∙ fresh);
-}
-judged_delivered config state number call after orderly safe party (was_repeated row own spent same) = record {
-  kind = row.kept.kind;
-  reply = row.kept.reply;
-  is_answer = refl;
-  becomes = spent_becomes state number call row row.kept.kind row.kept.reply (key_of state call) orderly party refl own spent (λ ok. renumbered row.kept number same);
-}
-judged_delivered config state number call after orderly safe party (was_stale row own spent) = record {
-  kind = kind_of call;
-  reply = stale_reply;
-  is_answer = refl;
-  becomes = spent_becomes state number call row (kind_of call) stale_reply (key_of state call) orderly party refl own spent (λ ok. absurd (aborted ok));
-}
+-- what is kept for a call is what is kept for its thing, if it has one
+is_kept_for : (state : ControllerState) (call : Call) (o : Option Key) → IsOrderly state → IsTrue (is_party_of (kind_of call) Controller) → key_of state call ≡ o → IsKeptFor o (kept_in_row state) (kept_for call state)
+is_kept_for state call None orderly party is = ap (option_map (λ (v : Volume). v.kept)) (row_unknown state call party is)
+is_kept_for state call (Some key) orderly party is = known_kept state call key orderly is
 
--- whichever call comes to a controller whose state is orderly and exclusive, it is delivered as the laws say
-pub delivered : (config : Config) (state : ControllerState) (number : Number) (call : Call) → IsOrderly state → IsExclusive state → IsTrue (is_party_of (kind_of call) Controller) → IsDeliveredTo config state number call
-delivered config state number call orderly safe party =
-    record {
-      thing = key_of state call;
-      is_thing = inl refl;
-      is_delivered = judged_delivered config state number call (fenced_call config state number call (kept_for call state)) orderly safe party (was_judged config state number call);
-    }
+-- what is so of a state, and once a later session has begun in it, is so of the state in which a call is judged
+in_its_session : (P : ControllerState → Type 0) (config : Config) (state : ControllerState) (number : Number) → P state → (begins state.session number ≡ true → P (begun number.session state)) → P (in_session config number state)
+in_its_session P config state number same later = by (begins state.session number) refl
+  where
+    by : (b : Bool) → begins state.session number ≡ b → P (cond b (begun number.session state) state)
+    by true e = later e
+    by false e = same
+
+-- a call that isn't over is of the session in which it is judged
+own_session : (config : Config) (state : ControllerState) (number : Number) → is_over state.session number ≡ false → is_over (in_session config number state).session number ≡ false
+own_session config state number not_over =
+    in_its_session (λ now. is_over now.session number ≡ false) config state number not_over (λ later. own number.session)
+  where
+    own : (n : ℕ) → nat_lt n n ≡ false
+    own n = grind (arith, nat_tests)
+
+-- a call that is over begins no session
+over_stays : (config : Config) (state : ControllerState) (number : Number) → is_over state.session number ≡ true → in_session config number state ≡ state
+over_stays config state number over = in_its_session (λ now. now ≡ state) config state number refl (λ later. absurd (not_both state.session number.session over later))
+  where
+    not_both : (a b : ℕ) → nat_lt b a ≡ true → nat_lt a b ≡ true → ⊥
+    not_both a b h k = grind (arith, nat_tests)
+
+-- a call of which nothing is known once its session has begun has no thing afterwards
+unknown_after : (config : Config) (state : ControllerState) (number : Number) (call : Call) (after : Fenced ControllerState) → IsOrderly (in_session config number state) → IsExclusive (in_session config number state)
+    → IsTrue (is_party_of (kind_of call) Controller) → key_of (in_session config number state) call ≡ None → Judgement (controller_with config) state number call after → key_of after.state call ≡ None
+unknown_after config state number call _ orderly safe party none (was_over over) = subst (λ now. key_of now call ≡ None) (over_stays config state number over) none
+unknown_after config state number call _ orderly safe party none (was_fresh not_over fresh) =
+    subst (λ now. key_of now call ≡ None) (sym (unknown_leaves config (in_session config number state) number call orderly safe party none)) none
+unknown_after config state number call _ orderly safe party none (was_repeated kept not_over is spent same) = none
+unknown_after config state number call _ orderly safe party none (was_stale kept not_over is spent) = none
+
+module _ (config : Config) (state : ControllerState) (number : Number) (call : Call) (orderly : IsOrderly state) (safe : IsExclusive state) (recent : AreRecent state) (party : IsTrue (is_party_of (kind_of call) Controller)) where
+  -- the state in which the call is judged, unless it is over
+  abbrev now : ControllerState
+  now = in_session config number state
+
+  -- it is orderly and exclusive too
+  orderly_now : IsOrderly now
+  orderly_now = in_its_session IsOrderly config state number orderly (λ later. begun_orderly number.session state orderly)
+
+  safe_now : IsExclusive now
+  safe_now = in_its_session IsExclusive config state number safe (λ later. begun_keeps number.session state safe)
+
+  -- the call's thing is the one that it has then
+  by_thing : (o : Option Key) → key_of now call ≡ o → IsThingOf state (answered_in (controller_with config) state number call).state call o
+  by_thing (Some key) is =
+      inl (sym (in_its_session (λ s. key_of s call ≡ Some key → key_of state call ≡ Some key) config state number (λ e. e) (λ later e. known_before number.session state call key orderly e) is))
+  by_thing None is = inr (refl, unknown_after config state number call (answered_in (controller_with config) state number call) orderly_now safe_now party is (was_judged (controller_with config) state number call))
+
+  -- where the fence lets it through, it is delivered
+  carried_delivered : is_over state.session number ≡ false → is_spent (last_of (kept_for call now)) number ≡ false
+      → IsDelivered Controller number call (key_of now call) (view_of now) (view_of (carried_out now number call (controller_row config now call)).state) (carried_out now number call (controller_row config now call)).reply
+  carried_delivered not_over fresh = record {
+    kind = kind_of call;
+    reply = (controller_row config now call).reply;
+    is_answer = refl;
+    becomes = carried_becomes config now number call (key_of now call) orderly_now safe_now party refl (own_session config state number not_over) fresh;
+  }
+
+  -- whichever call comes to a controller whose state is orderly and exclusive, and remembers no later session, it is delivered as the laws say
+  pub delivered : IsDeliveredTo config state number call
+  delivered =
+      record {
+        thing = key_of now call;
+        is_thing = by_thing (key_of now call) refl;
+        is_delivered = answered-delivered (controller_with config) held_in kept_in_row state number call (key_of now call) (has_begun state number orderly recent)
+            (is_kept_for now call (key_of now call) orderly_now party refl) carried_delivered;
+      }

@@ -39,12 +39,12 @@ le-last_id n (row ∷ rows) above rising =
     let rest : row.id ≤ last_id row.id rows = le-last_id row.id rows rising.0 rising.1 in omega (arith, first, rest)
 
 -- what is so of each of a list is so of its last
-each-last : {X : Type 0} (P : X → Type 0) (xs : List X) (x : X) → AllByRecursion P (xs ++ x ∷ []) → P x
+pub each-last : {X : Type 0} (P : X → Type 0) (xs : List X) (x : X) → AllByRecursion P (xs ++ x ∷ []) → P x
 each-last P [] x all = all.0
 each-last P (y ∷ ys) x all = each-last P ys x all.1
 
 -- what is so of each of a list is so of each of a front of it
-each-front : {X : Type 0} (P : X → Type 0) (xs ys : List X) → AllByRecursion P (xs ++ ys) → AllByRecursion P xs
+pub each-front : {X : Type 0} (P : X → Type 0) (xs ys : List X) → AllByRecursion P (xs ++ ys) → AllByRecursion P xs
 each-front P [] ys all = tt
 each-front P (x ∷ xs) ys all = (all.0, each-front P xs ys all.1)
 
@@ -115,15 +115,15 @@ pub sound-take : (n : ℕ) (rows : List ControllerRow) (k : ℕ) → IsSound n r
 sound-take n rows k sound = sound-front n (take k rows) (drop k rows) (subst (IsSound n) (sym (take-append-drop k rows)) sound)
 
 -- rows that are a record's have no first one that no record has there
-pub not-both : (n : ℕ) (rows : List ControllerRow) (place : ℕ) → IsFirstRefused n rows place → IsSound n rows → ⊥
+pub not-both : (n : ℕ) (rows : List ControllerRow) (place : ℕ) → IsFirstRefused (IsSound n) rows place → IsSound n rows → ⊥
 not-both n rows place first sound = first.refused (sound-take n rows place sound)
 
 -- where a row is the first that no record has there, none at a later place is
-not-earlier : (n : ℕ) (rows : List ControllerRow) (a b : ℕ) → IsFirstRefused n rows a → IsFirstRefused n rows b → a < b → ⊥
+not-earlier : (n : ℕ) (rows : List ControllerRow) (a b : ℕ) → IsFirstRefused (IsSound n) rows a → IsFirstRefused (IsSound n) rows b → a < b → ⊥
 not-earlier n rows a b one other less = one.refused (subst (IsSound n) (take-take a (b - 1) rows (omega arith)) (sound-take n (take (b - 1) rows) a other.before))
 
 -- there is one such place
-pub same-place : (n : ℕ) (rows : List ControllerRow) (a b : ℕ) → IsFirstRefused n rows a → IsFirstRefused n rows b → a ≡ b
+pub same-place : (n : ℕ) (rows : List ControllerRow) (a b : ℕ) → IsFirstRefused (IsSound n) rows a → IsFirstRefused (IsSound n) rows b → a ≡ b
 same-place n rows a b one other = by (cases_order a b)
   where
     by : (a ≡ b) ⊎ ((a < b) ⊎ (b < a)) → a ≡ b
@@ -170,7 +170,7 @@ pub record SoFar (n : ℕ) (rows : List ControllerRow) (place last : ℕ) (has :
   pub names : (name : List ℕ) → has name ≡ list_any (λ (row : ControllerRow). same_text row.name name) (take place rows)
 
 -- the rows up to a place and with it are those before it, and then the row there
-one-more : (rows : List ControllerRow) (place : ℕ) (row : ControllerRow) → place < length rows → row ≡ get_or rows place row → take (place + 1) rows ≡ take place rows ++ row ∷ []
+pub one-more : (rows : List ControllerRow) (place : ℕ) (row : ControllerRow) → place < length rows → row ≡ get_or rows place row → take (place + 1) rows ≡ take place rows ++ row ∷ []
 one-more rows place row inside is = take_more rows place row inside ∙ ap (λ (r : ControllerRow). take place rows ++ r ∷ []) (sym is)
 
 -- whether a row may follow is told by its place and by the last id so far
@@ -208,7 +208,7 @@ goes_on n rows place last has now_has row so inside is follows absent adds =
 
 -- where the rows before a place are a record's, and with the row there they aren't, that row is the first refused one
 refused-there : (n : ℕ) (rows : List ControllerRow) (place : ℕ) (row : ControllerRow) → IsSound n (take place rows) → place < length rows → row ≡ get_or rows place row
-    → (IsSound n (take place rows ++ row ∷ []) → ⊥) → IsFirstRefused n rows (place + 1)
+    → (IsSound n (take place rows ++ row ∷ []) → ⊥) → IsFirstRefused (IsSound n) rows (place + 1)
 refused-there n rows place row sound inside is fails =
     let back : place ≡ place + 1 - 1 = omega arith in
     record {
@@ -220,14 +220,14 @@ refused-there n rows place row sound inside is fails =
 
 -- so is a row that may not follow those before it, if its id isn't 0
 pub refused-rules : (n : ℕ) (rows : List ControllerRow) (place last : ℕ) (has : List ℕ → Bool) (row : ControllerRow) → SoFar n rows place last has → place < length rows → row ≡ get_or rows place row
-    → 0 < row.id → may_follow n place last row ≡ false → IsFirstRefused n rows (place + 1)
+    → 0 < row.id → may_follow n place last row ≡ false → IsFirstRefused (IsSound n) rows (place + 1)
 refused-rules n rows place last has row so inside is from fails =
     refused-there n rows place row so.sound inside is
     (λ whole. false≢true (sym fails ∙ sym (same-test n rows place last has row so inside) ∙ follows-sound n (take place rows) row from whole))
 
 -- and one whose name an earlier row has
 pub refused-name : (n : ℕ) (rows : List ControllerRow) (place last : ℕ) (has : List ℕ → Bool) (row : ControllerRow) → SoFar n rows place last has → place < length rows → row ≡ get_or rows place row
-    → has row.name ≡ true → IsFirstRefused n rows (place + 1)
+    → has row.name ≡ true → IsFirstRefused (IsSound n) rows (place + 1)
 refused-name n rows place last has row so inside is there =
     refused-there n rows place row so.sound inside is
     (λ whole. true≢false (sym there ∙ so.names row.name ∙ any-find_none (λ (r : ControllerRow). same_text r.name row.name) (take place rows) (new-name n (take place rows) row whole)))

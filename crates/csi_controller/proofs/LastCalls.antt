@@ -1,5 +1,5 @@
 -- What is kept of the last call of each thing's volume, after one more was carried out.
-use Rattle.std.proofs.Common.{◌≡◌, ◌⊎◌, ℕ, List, Bool, true, false, cond, refl, sym, ◌∙◌, ap, subst, inl, inr}
+use Rattle.std.proofs.Common.{◌≡◌, ℕ, List, Bool, true, false, cond, refl, sym, ◌∙◌, ap, subst, inl, inr}
 use Rattle.std.specs.Prelude.{Option, Some, None, option_map, find, ◌==◌}
 use Rattle.std.specs.Option.{option_or}
 use Rattle.std.proofs.lemmas.Option.{none-some}
@@ -10,8 +10,8 @@ use Rattle.csi_types.specs.declared.call.Call.{Call}
 use Rattle.csi_types.specs.declared.call.Call.TheVariants as calls
 use Rattle.csi_types.specs.declared.status.Status.TheVariants.{Ok}
 use Rattle.csi_types.specs.Config.{Config}
-use Rattle.csi_types.specs.Delivery.{last_of}
-use Rattle.csi_types.specs.Fence.{Kept, is_spent}
+use Rattle.csi_fence.proofs.Views.{IsLater}
+use Rattle.csi_fence.specs.Fence.{Kept, is_spent}
 use Rattle.csi_types.specs.Key.{Key, Exists, Attached, Staged, Published}
 use Rattle.csi_types.specs.Same.{same_text}
 use Rattle.csi_controller.specs.State.{Volume, ControllerState, volume_named, volume_with_id, is_row_for, row_for}
@@ -101,10 +101,6 @@ row_of-keep call kept state (Exists name) = find-map (λ v. same_text v.name nam
 row_of-keep call kept state (Attached id node) = find-map (λ v. v.id == id) (kept_in call kept) state.volumes (by_id id (kept_in call kept) (keep_leaves call kept))
 row_of-keep call kept state (Staged id node) = refl
 row_of-keep call kept state (Published id node target) = refl
-
--- what is kept then: what was, or this, and then what was kept didn't spend this number
-abbrev pub IsLater : Kept → Option Kept → Option Kept → Type 0
-IsLater kept old new = (new ≡ old) ⊎ ((new ≡ Some kept) × (is_spent (last_of old) kept.number ≡ false))
 
 -- the call's row keeps the call
 taken : (call : Call) (kept : Kept) (v : Volume) → is_row_for call v ≡ true → (kept_in call kept v).kept ≡ kept

@@ -28,7 +28,7 @@ use Rattle.csi_types.specs.declared.status.Status.TheVariants.{InvalidArgument, 
 use Rattle.csi_types.specs.Call.{is_party_of}
 use Rattle.csi_types.specs.Capacity.{is_bad_range, is_empty_range, wanted}
 use Rattle.csi_types.specs.Config.{Config}
-use Rattle.csi_types.specs.Fence.{Kept}
+use Rattle.csi_fence.specs.Fence.{Kept}
 use Rattle.csi_types.specs.Frame.{Frame}
 use Rattle.csi_types.specs.Replies.{plain_reply, ok_reply_with, reply_frame}
 use Rattle.csi_types.specs.Reply.{has_id_by_rule}
@@ -86,36 +86,36 @@ no_fault config state name required limit (capability ∷ others) e = by (is_bad
     by false false h = refl
 
 -- a name that no row has is no volume's in the state that the rows show
-named-nowhere : (config : Config) (n : ℕ) (rows : List ControllerRow) (state : ControllerState) (name : List ℕ) → Shows (record { config = config; next_id = n; rows = rows }) state → find (λ (r : ControllerRow). same_text r.name name) rows ≡ None → volume_named name state ≡ None
-named-nowhere config n rows state name shown none =
+named-nowhere : (config : Config) (n s : ℕ) (rows : List ControllerRow) (state : ControllerState) (name : List ℕ) → Shows (record { config = config; next_id = n; session = s; rows = rows }) state → find (λ (r : ControllerRow). same_text r.name name) rows ≡ None → volume_named name state ≡ None
+named-nowhere config n s rows state name shown none =
     ap (find (λ (v : Volume). same_text v.name name)) (sym shown.shows.volumes) ∙ find-of_map (λ (v : Volume). same_text v.name name) volume_of_row rows ∙ ap (option_map volume_of_row) none
 
 -- a new name is answered by how many rows there are and by the next id
-new-told : (config : Config) (n : ℕ) (rows : List ControllerRow) (state : ControllerState) (name : List ℕ) (required limit : ℕ) (wished : List Capability) → Shows (record { config = config; next_id = n; rows = rows }) state
+new-told : (config : Config) (n s : ℕ) (rows : List ControllerRow) (state : ControllerState) (name : List ℕ) (required limit : ℕ) (wished : List Capability) → Shows (record { config = config; next_id = n; session = s; rows = rows }) state
     → find (λ (r : ControllerRow). same_text r.name name) rows ≡ None → argument_fault required limit wished ≡ None
     → create config state name required limit wished ≡ new_line config.greatest (length rows) (next_shown n) name required limit wished
-new-told config n rows state name required limit wished shown none good =
+new-told config n s rows state name required limit wished shown none good =
     no_fault config state name required limit wished good
-    ∙ ap (create_named config state name required limit wished) (named-nowhere config n rows state name shown none)
+    ∙ ap (create_named config state name required limit wished) (named-nowhere config n s rows state name shown none)
     ∙ ap (λ k. new_line config.greatest k state.next_id name required limit wished) (ap length (sym shown.shows.volumes) ∙ length-view volume_of_row rows)
     ∙ ap (λ k. new_line config.greatest (length rows) k name required limit wished) (next-is n state.next_id shown.shows.next shown.next_from shown.next_to)
 
 -- a refusal of a new name
-pub fault-answers : (config : Config) (n : ℕ) (rows : List ControllerRow) (state : ControllerState) (number : Number) (name : List ℕ) (required limit : ℕ) (wished : List Capability) (frame : Frame) (reply : Reply)
-    → Shows (record { config = config; next_id = n; rows = rows }) state → find (λ (r : ControllerRow). same_text r.name name) rows ≡ None → argument_fault required limit wished ≡ Some reply
+pub fault-answers : (config : Config) (n s : ℕ) (rows : List ControllerRow) (state : ControllerState) (number : Number) (name : List ℕ) (required limit : ℕ) (wished : List Capability) (frame : Frame) (reply : Reply)
+    → Shows (record { config = config; next_id = n; session = s; rows = rows }) state → find (λ (r : ControllerRow). same_text r.name name) rows ≡ None → argument_fault required limit wished ≡ Some reply
     → frame ≡ reply_frame number Controller kinds.CreateVolume reply
-    → Answers (record { config = config; next_id = n; rows = rows }) frame (fenced_call config state number (CreateVolume name required limit wished) (kept_for (CreateVolume name required limit wished) state))
-fault-answers config n rows state number name required limit wished frame reply shown none fault is =
-    nowhere-answers config n rows state number (CreateVolume name required limit wished) frame reply shown none (with_fault config state name required limit wished reply fault) is
+    → Answers (record { config = config; next_id = n; session = s; rows = rows }) frame (fenced_call config state number (CreateVolume name required limit wished) (kept_for (CreateVolume name required limit wished) state))
+fault-answers config n s rows state number name required limit wished frame reply shown none fault is =
+    nowhere-answers config n s rows state number (CreateVolume name required limit wished) frame reply shown none (with_fault config state name required limit wished reply fault) is
 
 -- where a new name is refused, that is the answer, and the same rows show the state
-pub refused-answers : (config : Config) (n : ℕ) (rows : List ControllerRow) (state : ControllerState) (number : Number) (name : List ℕ) (required limit : ℕ) (wished : List Capability) (frame : Frame) (reply : Reply)
-    → Shows (record { config = config; next_id = n; rows = rows }) state → find (λ (r : ControllerRow). same_text r.name name) rows ≡ None → argument_fault required limit wished ≡ None
+pub refused-answers : (config : Config) (n s : ℕ) (rows : List ControllerRow) (state : ControllerState) (number : Number) (name : List ℕ) (required limit : ℕ) (wished : List Capability) (frame : Frame) (reply : Reply)
+    → Shows (record { config = config; next_id = n; session = s; rows = rows }) state → find (λ (r : ControllerRow). same_text r.name name) rows ≡ None → argument_fault required limit wished ≡ None
     → new_line config.greatest (length rows) (next_shown n) name required limit wished ≡ record { reply = reply; change = Stays }
     → frame ≡ reply_frame number Controller kinds.CreateVolume reply
-    → Answers (record { config = config; next_id = n; rows = rows }) frame (fenced_call config state number (CreateVolume name required limit wished) (kept_for (CreateVolume name required limit wished) state))
-refused-answers config n rows state number name required limit wished frame reply shown none good line is =
-    nowhere-answers config n rows state number (CreateVolume name required limit wished) frame reply shown none (new-told config n rows state name required limit wished shown none good ∙ line) is
+    → Answers (record { config = config; next_id = n; session = s; rows = rows }) frame (fenced_call config state number (CreateVolume name required limit wished) (kept_for (CreateVolume name required limit wished) state))
+refused-answers config n s rows state number name required limit wished frame reply shown none good line is =
+    nowhere-answers config n s rows state number (CreateVolume name required limit wished) frame reply shown none (new-told config n s rows state name required limit wished shown none good ∙ line) is
 
 -- a row without holdings, at the end
 held-append : (rows : List ControllerRow) (row : ControllerRow) (id : ℕ) → row.holdings.items ≡ [] → holdings_in (find (λ (r : ControllerRow). r.id == id) (rows ++ row ∷ [])) ≡ holdings_in (find (λ (r : ControllerRow). r.id == id) rows)
@@ -142,18 +142,18 @@ same_either_way true x = refl
 same_either_way false x = refl
 
 -- a volume is made
-pub made-answers : (config : Config) (n : ℕ) (rows : List ControllerRow) (state : ControllerState) (number : Number) (name : List ℕ) (required limit capacity id : ℕ) (wished : List Capability) (row : ControllerRow) (frame : Frame)
-    → Shows (record { config = config; next_id = n; rows = rows }) state → find (λ (r : ControllerRow). same_text r.name name) rows ≡ None → argument_fault required limit wished ≡ None
+pub made-answers : (config : Config) (n s : ℕ) (rows : List ControllerRow) (state : ControllerState) (number : Number) (name : List ℕ) (required limit capacity id : ℕ) (wished : List Capability) (row : ControllerRow) (frame : Frame)
+    → Shows (record { config = config; next_id = n; session = s; rows = rows }) state → find (λ (r : ControllerRow). same_text r.name name) rows ≡ None → argument_fault required limit wished ≡ None
     → new_line config.greatest (length rows) (next_shown n) name required limit wished ≡ record { reply = ok_reply_with id; change = Makes name capacity wished }
     → id ≡ n → 0 < id → n < 18446744073709551616 → frame ≡ reply_frame number Controller kinds.CreateVolume (ok_reply_with id)
     → volume_of_row row ≡ made_volume number id name capacity wished → row.holdings.items ≡ []
-    → Answers (record { config = config; next_id = (n + 1) % 18446744073709551616; rows = rows ++ row ∷ [] }) frame (fenced_call config state number (CreateVolume name required limit wished) (kept_for (CreateVolume name required limit wished) state))
-made-answers config n rows state number name required limit capacity id wished row frame shown none good line is from fits is_frame volume empty =
+    → Answers (record { config = config; next_id = (n + 1) % 18446744073709551616; session = s; rows = rows ++ row ∷ [] }) frame (fenced_call config state number (CreateVolume name required limit wished) (kept_for (CreateVolume name required limit wished) state))
+made-answers config n s rows state number name required limit capacity id wished row frame shown none good line is from fits is_frame volume empty =
     let call : Call = CreateVolume name required limit wished in
     let kept : Kept = record { number = number; kind = kinds.CreateVolume; reply = ok_reply_with id } in
     let next : state.next_id ≡ n = next-is n state.next_id shown.shows.next shown.next_from shown.next_to ∙ next_self n (omega arith) in
-    let found : kept_for call state ≡ None = ap (option_map (λ (v : Volume). v.kept)) (named-nowhere config n rows state name shown none) in
-    let whole : controller_row config state call ≡ record { reply = ok_reply_with id; change = Makes name capacity wished } = new-told config n rows state name required limit wished shown none good ∙ line in
+    let found : kept_for call state ≡ None = ap (option_map (λ (v : Volume). v.kept)) (named-nowhere config n s rows state name shown none) in
+    let whole : controller_row config state call ≡ record { reply = ok_reply_with id; change = Makes name capacity wished } = new-told config n s rows state name required limit wished shown none good ∙ line in
     let others : map (kept_in call kept) (map volume_of_row rows) ≡ map volume_of_row rows = map-none_shown volume_of_row (λ (v : Volume). same_text v.name name) (λ (v : Volume). record v { kept = kept }) rows none in
     let new : Volume = record { id = state.next_id; name = name; capacity = capacity; capabilities = wished; is_live = true; kept = kept } in
     let with_id : ℕ → Volume = λ k. record { id = k; name = name; capacity = capacity; capabilities = wished; is_live = true; kept = kept } in
@@ -161,8 +161,8 @@ made-answers config n rows state number name required limit capacity id wished r
     let old : map volume_of_row rows ≡ map (kept_in call kept) state.volumes = sym (ap (map (kept_in call kept)) (sym shown.shows.volumes) ∙ others) in
     let volumes : map volume_of_row (rows ++ row ∷ []) ≡ map (kept_in call kept) (state.volumes ++ new ∷ [])
     = map-append volume_of_row rows (row ∷ []) ∙ (λ i. old i ++ last i ∷ []) ∙ sym (map-append (kept_in call kept) state.volumes (new ∷ [])) in
-    subst (λ (k : Option Kept). Answers (record { config = config; next_id = (n + 1) % 18446744073709551616; rows = rows ++ row ∷ [] }) frame (fenced_call config state number call k)) (sym found)
-    (subst (λ (o : Outcome). Answers (record { config = config; next_id = (n + 1) % 18446744073709551616; rows = rows ++ row ∷ [] }) frame (carried_out state number call o)) (sym whole)
+    subst (λ (k : Option Kept). Answers (record { config = config; next_id = (n + 1) % 18446744073709551616; session = s; rows = rows ++ row ∷ [] }) frame (fenced_call config state number call k)) (sym found)
+    (subst (λ (o : Outcome). Answers (record { config = config; next_id = (n + 1) % 18446744073709551616; session = s; rows = rows ++ row ∷ [] }) frame (carried_out state number call o)) (sym whole)
     (record {
       reply = ap Some (sym is_frame);
       shown = record {
@@ -171,6 +171,7 @@ made-answers config n rows state number name required limit capacity id wished r
           volumes = volumes;
           holdings = λ k. held-append rows row k empty ∙ shown.shows.holdings k;
         };
+        session = shown.session;
         next_from = omega arith;
         next_to = omega (arith, next);
       };
@@ -265,10 +266,10 @@ ok-both (results.Err e) P S Q f p q = tt
 
 -- the rows with the one that was made, and the next id after it, are the new core's parts
 pub parts-made : (old new : Core) (number : Number) (id : ℕ) (name : List ℕ) (capacity : ℕ) (wished : List Capability) (made : IsMade old new number id name capacity wished)
-    → record { config = old.config; next_id = (old.next_id + 1) % 18446744073709551616; rows = rows_of old.catalog ++ made.row ∷ [] } ≡ parts_of new
+    → record { config = old.config; next_id = (old.next_id + 1) % 18446744073709551616; session = old.session; rows = rows_of old.catalog ++ made.row ∷ [] } ≡ parts_of new
 parts-made old new number id name capacity wished made =
-    let config = sym made.config in let next = sym made.next in let rows = sym made.rows in
-    λ i. record { config = config i; next_id = next i; rows = rows i }
+    let config = sym made.config in let next = sym made.next in let rows = sym made.rows in let session = sym made.session in
+    λ i. record { config = config i; next_id = next i; session = session i; rows = rows i }
 
 -- no row has the next id
 pub fresh-id : (n : ℕ) (rows : List ControllerRow) (id : ℕ) → IsSound n rows → id ≡ n → 0 < id → find (λ (r : ControllerRow). r.id == id) rows ≡ None

@@ -1,26 +1,21 @@
--- The controller's table and its fence, opened once: each answer that they give, and what is so where they give it.
+-- The controller's table, opened once: each answer that it gives, and what is so where it gives it.
 use Rattle.std.proofs.Common.{◌≡◌, ℕ, ◌^◌, List, [], ◌∷◌, Bool, true, false, cond, not, refl, ◌∙◌, ap}
-use Rattle.std.specs.Prelude.{Option, Some, None, option_map, find, ◌||◌, nat_le, nat_lt, length, codes}
+use Rattle.std.specs.Prelude.{Option, Some, None, find, ◌||◌, nat_le, nat_lt, length, codes}
 use Rattle.std.proofs.lemmas.Bool.{not-false}
-use Rattle.csi_types.proofs.Equality.{same_holding-tells, same_number-tells}
+use Rattle.csi_types.proofs.Equality.{same_holding-tells}
 use Rattle.csi_types.specs.declared.capability.Capability.{Capability}
 use Rattle.csi_types.specs.declared.holding.Holding.{Holding}
-use Rattle.csi_types.specs.declared.number.Number.{Number}
 use Rattle.csi_types.specs.declared.call.Call.{Call}
 use Rattle.csi_types.specs.declared.call.Call.TheVariants as calls
-use Rattle.csi_types.specs.declared.fence.Verdict.TheVariants.{Stale, Repeated, Fresh}
 use Rattle.csi_types.specs.declared.status.Status.{Status}
 use Rattle.csi_types.specs.declared.status.Status.TheVariants.{Ok, InvalidArgument, NotFound, AlreadyExists, ResourceExhausted, FailedPrecondition, OutOfRange, Unimplemented}
-use Rattle.csi_types.specs.Call.{kind_of}
 use Rattle.csi_types.specs.Capacity.{is_bad_range, is_empty_range, wanted}
 use Rattle.csi_types.specs.Config.{Config, has_node}
-use Rattle.csi_types.specs.Fence.{is_spent, verdict_of_spent}
 use Rattle.csi_types.specs.Holding.{same_holding, is_compatible}
-use Rattle.csi_types.specs.Replies.{ok_reply_with, stale_reply}
-use Rattle.csi_types.specs.Same.{same_number, has_capability}
-use Rattle.csi_controller.specs.State.{Volume, ControllerState, volume_named, live_volume, holdings_of, holding_at, row_for}
+use Rattle.csi_types.specs.Replies.{ok_reply_with}
+use Rattle.csi_types.specs.Same.{has_capability}
+use Rattle.csi_controller.specs.State.{Volume, ControllerState, volume_named, live_volume, holdings_of, holding_at}
 use Rattle.csi_controller.specs.Table.{Outcome, Stays, Makes, Ends, Attaches, Detaches, refused, met, done, serves, create_named, create, delete_live, delete, is_full, attach, publish_held, publish, unpublish, controller_row}
-use Rattle.csi_controller.specs.Fenced.{Fenced, answered_only, carried_out, judged, fenced_call, kept_for}
 
 -- a range that can be met
 pub record IsRange (required limit : ℕ) : Type 0 where
@@ -163,35 +158,3 @@ moved config state (calls.NodeStageVolume id capability) = was_refused (calls.No
 moved config state (calls.NodeUnstageVolume id) = was_refused (calls.NodeUnstageVolume id) Unimplemented [] unimplemented
 moved config state (calls.NodePublishVolume id target capability readonly) = was_refused (calls.NodePublishVolume id target capability readonly) Unimplemented [] unimplemented
 moved config state (calls.NodeUnpublishVolume id target) = was_refused (calls.NodeUnpublishVolume id target) Unimplemented [] unimplemented
-
--- what the fence makes of a call, by the call's row if it has one
-pub data Judgement (config : Config) (state : ControllerState) (number : Number) (call : Call) : Fenced → Type 0 where
-  was_first : row_for call state ≡ None → Judgement config state number call (carried_out state number call (controller_row config state call))
-  was_fresh : (row : Volume) → row_for call state ≡ Some row → is_spent (Some row.kept.number) number ≡ false
-      → Judgement config state number call (carried_out state number call (controller_row config state call))
-  was_repeated : (row : Volume) → row_for call state ≡ Some row → is_spent (Some row.kept.number) number ≡ true → number ≡ row.kept.number
-      → Judgement config state number call (answered_only state number row.kept.kind row.kept.reply)
-  was_stale : (row : Volume) → row_for call state ≡ Some row → is_spent (Some row.kept.number) number ≡ true
-      → Judgement config state number call (answered_only state number (kind_of call) stale_reply)
-
--- a call with a spent number is judged so, as a repetition or as stale
-spent_judged : (config : Config) (state : ControllerState) (number : Number) (call : Call) (row : Volume) (b : Bool) → row_for call state ≡ Some row → is_spent (Some row.kept.number) number ≡ true
-    → same_number number row.kept.number ≡ b → Judgement config state number call (judged config state number call row.kept (cond b Repeated Stale))
-spent_judged config state number call row true is spent same = was_repeated row is spent ((same_number-tells number row.kept.number).0 same)
-spent_judged config state number call row false is spent same = was_stale row is spent
-
--- a call that has a row is judged so
-row_judged : (config : Config) (state : ControllerState) (number : Number) (call : Call) (row : Volume) (b : Bool) → row_for call state ≡ Some row → is_spent (Some row.kept.number) number ≡ b
-    → Judgement config state number call (judged config state number call row.kept (cond b (verdict_of_spent (Some row.kept.number) number) Fresh))
-row_judged config state number call row true is spent = spent_judged config state number call row (same_number number row.kept.number) is spent refl
-row_judged config state number call row false is spent = was_fresh row is spent
-
--- each call is judged so, by its row if it has one
-by_row : (config : Config) (state : ControllerState) (number : Number) (call : Call) (o : Option Volume) → row_for call state ≡ o
-    → Judgement config state number call (fenced_call config state number call (option_map (λ volume. volume.kept) o))
-by_row config state number call None is = was_first is
-by_row config state number call (Some row) is = row_judged config state number call row (is_spent (Some row.kept.number) number) is refl
-
--- each call is judged so
-pub was_judged : (config : Config) (state : ControllerState) (number : Number) (call : Call) → Judgement config state number call (fenced_call config state number call (kept_for call state))
-was_judged config state number call = by_row config state number call (row_for call state) refl

@@ -10,16 +10,17 @@ use Rattle.csi_lists.proofs.Searches.{find-append, find-map, find-passes}
 use Rattle.csi_types.specs.declared.number.Number.{Number}
 use Rattle.csi_types.specs.declared.call.Call.{Call}
 use Rattle.csi_types.specs.Config.{Config}
-use Rattle.csi_types.specs.Fence.{Kept}
+use Rattle.csi_fence.proofs.FramesKeep.{Leads, frame_leads}
+use Rattle.csi_fence.specs.Fence.{Kept}
 use Rattle.csi_types.specs.Frame.{Frame}
 use Rattle.csi_types.specs.Same.{same_text}
 use Rattle.csi_controller.specs.State.{Volume, ControllerState, empty_controller, volume_named, volume_with_id}
 use Rattle.csi_controller.specs.Table.{Outcome, Change, Stays, Makes, Ends, Attaches, Detaches, changed, ended, controller_row}
-use Rattle.csi_controller.specs.Fenced.{fenced, carried_out, kept_in, after_frames}
+use Rattle.csi_controller.specs.Fenced.{fenced, carried_out, kept_in, begun, controller_with, after_frames}
 use Rattle.csi_controller.specs.View.{AreNamed, live_named, HasVolume, WasMade, KeepsNames}
-use Rattle.csi_controller.proofs.FramesKeep.{frame_leads}
+use Rattle.csi_controller.proofs.Forgotten.{find-kept, found_live, live_named-begun}
 use Rattle.csi_controller.proofs.Moves.{Move, was_refused, was_found, was_made, was_ended, was_ended_before, was_attached, was_attached_before, was_detached, was_detached_before, moved}
-use Rattle.csi_controller.proofs.OrderlyStates.{IsOrderly, reached_orderly, named_by_id, with_id_by_name, is_named, LeavesNames, kept_same, keep_leaves, end_leaves}
+use Rattle.csi_controller.proofs.OrderlyStates.{IsOrderly, begun_orderly, reached_orderly, named_by_id, with_id_by_name, is_named, is_with_id, LeavesNames, kept_same, keep_leaves, end_leaves}
 use Rattle.csi_controller.proofs.ThingMoves.{none_named}
 
 -- in an orderly state names and ids belong together
@@ -150,7 +151,41 @@ carried_names config state number call =
           (changed_stays state _ (controller_row config state call).change volume (was_there state id volume is));
     }
 
--- and under any frame
-pub keeps_names : (config : Config) (state : ControllerState) (frame : Frame) → KeepsNames state (fenced config state frame).state
-keeps_names config state frame =
-    frame_leads KeepsNames config (λ s. record { grows = omega arith; comes = λ id w is. inl (was_there s id w is); stays = λ id w is live. was_there s id w is }) (carried_names config) state frame
+-- nothing changes
+same_names : (state : ControllerState) → KeepsNames state state
+same_names state = record { grows = omega arith; comes = λ id w is. inl (was_there state id w is); stays = λ id w is live. was_there state id w is }
+
+-- a volume that is there once a session has begun was there
+was_there_before : (session : ℕ) (state : ControllerState) (volume : Volume) → IsOrderly state → HasVolume (begun session state) volume → HasVolume state volume
+was_there_before session state volume orderly has =
+    let live = found_live (λ (v : Volume). v.id == volume.id) session state has.there has.is_found in
+    record { there = has.there; is_found = is_with_id state volume.id has.there orderly live.0 live.2; same_name = has.same_name }
+
+-- so does each that comes after
+comes_before : (session : ℕ) (state : ControllerState) (volume : Volume) → IsOrderly state → Comes (begun session state) volume → Comes state volume
+comes_before session state volume orderly (inl has) = inl (was_there_before session state volume orderly has)
+comes_before session state volume orderly (inr made) =
+    inr (record { has_next = made.has_next; is_live = made.is_live; was_free = sym (live_named-begun session state volume.name) ∙ made.was_free })
+
+-- what is so of names once a session has begun was so of them before it
+begun_names : (session : ℕ) (state after : ControllerState) → IsOrderly state → KeepsNames (begun session state) after → KeepsNames state after
+begun_names session state after orderly keeps =
+    record {
+      grows = keeps.grows;
+      comes = λ id volume is. comes_before session state volume orderly (keeps.comes id volume is);
+      stays = λ id volume is live. keeps.stays id volume (find-kept (λ (v : Volume). v.id == id) (λ (v : Volume). v.is_live) state.volumes volume is live) live;
+    }
+
+-- names and ids of an orderly state stay as they are
+names_lead : (config : Config) → Leads (controller_with config) (λ old new. IsOrderly old → KeepsNames old new)
+names_lead config =
+    record {
+      sets_session = λ session state. refl;
+      stays = λ state orderly. same_names state;
+      begins = λ session state after later keeps orderly. begun_names session state after orderly (keeps (begun_orderly session state orderly));
+      carries = λ state number call goes orderly. carried_names config state number call;
+    }
+
+-- under any frame
+pub keeps_names : (config : Config) (state : ControllerState) (frame : Frame) → IsOrderly state → KeepsNames state (fenced config state frame).state
+keeps_names config state frame orderly = frame_leads (controller_with config) (λ old new. IsOrderly old → KeepsNames old new) (names_lead config) state frame orderly

@@ -3,7 +3,7 @@
 use Rattle.std.proofs.Common.{◌≡◌, ◌⊎◌, ℕ, ◌+◌, ◌<◌, List, [], ◌∷◌, ◌++◌, map, Bool, true, false, cond, refl, sym, ◌∙◌, ap, subst, inl, inr, arith}
 use Rattle.std.specs.Prelude.{Some, None, option_map, ◌==◌, ◌&&◌}
 use Rattle.std.proofs.lemmas.Bool.{and_parts, eqb-true, eq-eqb, ne_eqb}
-use Rattle.csi_lists.proofs.Members.{among-either, among-find, among-map}
+use Rattle.csi_lists.proofs.Members.{among-either, among-find, among-kept, among-map}
 use Rattle.csi_lists.proofs.Options.{option_or-some}
 use Rattle.csi_lists.proofs.Searches.{find-append, find-append_one, find-map, find-none, find-passes}
 use Rattle.csi_lists.specs.Members.{IsAmong}
@@ -12,14 +12,15 @@ use Rattle.csi_types.specs.declared.number.Number.{Number}
 use Rattle.csi_types.specs.declared.call.Call.{Call}
 use Rattle.csi_types.specs.declared.call.Call.TheVariants as calls
 use Rattle.csi_types.specs.Config.{Config}
-use Rattle.csi_types.specs.Fence.{Kept}
+use Rattle.csi_fence.proofs.FramesKeep.{IsKept, frames_keep}
+use Rattle.csi_fence.specs.Fence.{Kept}
 use Rattle.csi_types.specs.Frame.{Frame}
 use Rattle.csi_types.specs.Same.{same_text}
 use Rattle.csi_controller.specs.State.{Volume, ControllerState, empty_controller, volume_named, volume_with_id, live_volume, is_row_for, row_for}
 use Rattle.csi_controller.specs.Table.{Outcome, ended, changed, controller_row}
-use Rattle.csi_controller.specs.Fenced.{kept_in, carried_out, after_frames}
+use Rattle.csi_controller.specs.Fenced.{kept_in, carried_out, begun, controller_with, after_frames}
 use Rattle.csi_controller.specs.Laws.{keeping}
-use Rattle.csi_controller.proofs.FramesKeep.{frames_keep}
+use Rattle.csi_controller.proofs.Forgotten.{find-kept}
 use Rattle.csi_controller.proofs.Moves.{Move, was_refused, was_found, was_made, was_ended, was_ended_before, was_attached, was_attached_before, was_detached, was_detached_before, moved}
 
 -- the volume is the one of its name and of its id
@@ -168,6 +169,26 @@ carried_orderly : (config : Config) (state : ControllerState) (number : Number) 
 carried_orderly config state number call orderly =
     map_orderly (kept_in call _) (keep_leaves call _) (changed state _ (controller_row config state call).change) (changed_orderly config state call (controller_row config state call) _ (moved config state call) orderly)
 
+-- and so does a session that begins
+pub begun_orderly : (session : ℕ) (state : ControllerState) → IsOrderly state → IsOrderly (begun session state)
+begun_orderly session state orderly w among =
+    let kept = among-kept (λ (v : Volume). v.is_live) state.volumes w among in
+    let own = orderly w kept.0 in
+    record {
+      by_name = find-kept (λ (v : Volume). same_text v.name w.name) (λ (v : Volume). v.is_live) state.volumes w own.by_name kept.1;
+      by_id = find-kept (λ (v : Volume). v.id == w.id) (λ (v : Volume). v.is_live) state.volumes w own.by_id kept.1;
+      given = own.given;
+    }
+
+-- so each frame does
+pub orderly_kept : (config : Config) → IsKept (controller_with config) IsOrderly
+orderly_kept config =
+    record {
+      sets_session = λ session state. refl;
+      begins = λ session state later. begun_orderly session state;
+      carries = λ state number call goes. carried_orderly config state number call;
+    }
+
 -- every state that frames lead to is orderly
 pub reached_orderly : (config : Config) (frames : List Frame) → IsOrderly (after_frames config empty_controller frames)
-reached_orderly config frames = frames_keep IsOrderly config (carried_orderly config) empty_controller frames (λ v among. absurd among)
+reached_orderly config frames = frames_keep (controller_with config) IsOrderly (orderly_kept config) empty_controller frames (λ v among. absurd among)

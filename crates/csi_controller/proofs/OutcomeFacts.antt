@@ -16,7 +16,7 @@ use Rattle.csi_types.specs.declared.status.Status.TheVariants.{Ok, InvalidArgume
 use Rattle.csi_types.specs.declared.reply.Reply.{Reply}
 use Rattle.csi_types.specs.Capacity.{is_bad_range, is_empty_range, wanted}
 use Rattle.csi_types.specs.Config.{Config, has_node}
-use Rattle.csi_types.specs.Fence.{Kept}
+use Rattle.csi_fence.specs.Fence.{Kept}
 use Rattle.csi_types.specs.Holding.{same_holding}
 use Rattle.csi_types.specs.Replies.{ok_reply, ok_reply_with}
 use Rattle.csi_types.specs.Same.{same_text, same_capability, has_capability}

@@ -13,16 +13,18 @@ use Rattle.csi_types.specs.declared.number.Number.{Number}
 use Rattle.csi_types.specs.declared.call.Call.{Call}
 use Rattle.csi_types.specs.Capacity.{wanted}
 use Rattle.csi_types.specs.Config.{Config}
-use Rattle.csi_types.specs.Fence.{Kept}
+use Rattle.csi_fence.proofs.FramesKeep as each
+use Rattle.csi_fence.proofs.FramesKeep.{IsKept}
+use Rattle.csi_fence.specs.Fence.{Kept}
 use Rattle.csi_types.specs.Frame.{Frame}
 use Rattle.csi_types.specs.Holding.{is_compatible}
 use Rattle.csi_types.specs.Same.{same_text}
 use Rattle.csi_controller.specs.State.{Volume, ControllerState, empty_controller, live_volume, holdings_of, is_held_at, holding_at, is_row_for}
 use Rattle.csi_controller.specs.Table.{Outcome, Change, Stays, Makes, Ends, Attaches, Detaches, controller_row, ended, changed}
-use Rattle.csi_controller.specs.Fenced.{kept_in, keep, carried_out, fenced, after_frames}
+use Rattle.csi_controller.specs.Fenced.{kept_in, keep, carried_out, begun, controller_with, after_frames}
 use Rattle.csi_controller.specs.Safe.{AreExclusive, IsExclusive}
+use Rattle.csi_controller.proofs.Forgotten.{live_volume-begun}
 use Rattle.csi_controller.proofs.HoldingsApart.{apart}
-use Rattle.csi_controller.proofs.FramesKeep as each
 use Rattle.csi_controller.proofs.Moves.{Move, was_refused, was_found, was_made, was_ended, was_ended_before, was_attached, was_attached_before, was_detached, was_detached_before, moved}
 
 -- a change keeps that
@@ -134,16 +136,29 @@ keep_keeps call kept state safe = record {
       ∙ is_some-map (kept_in call kept) (live_volume h.volume state) ∙ safe.attached_while_live h among;
 }
 
--- a call that is carried out keeps it, a frame does, and any list of frames
+-- a call that is carried out keeps it
 carried_keeps : (config : Config) (state : ControllerState) (number : Number) (call : Call) → IsExclusive state → IsExclusive (carried_out state number call (controller_row config state call)).state
 carried_keeps config state number call safe =
     keep_keeps call _ (changed state _ (controller_row config state call).change) (move_keeps config state call (controller_row config state call) (moved config state call) _ safe)
 
-pub fenced_keeps : (config : Config) (state : ControllerState) (frame : Frame) → IsExclusive state → IsExclusive (fenced config state frame).state
-fenced_keeps config state frame safe = each.frame_keeps IsExclusive config (carried_keeps config) state frame safe
+-- and so does a session that begins, since what is held is live
+pub begun_keeps : (session : ℕ) (state : ControllerState) → IsExclusive state → IsExclusive (begun session state)
+begun_keeps session state safe = record {
+  exclusive = safe.exclusive;
+  attached_while_live = λ h among. ap is_some (live_volume-begun session state h.volume) ∙ safe.attached_while_live h among;
+}
+
+-- so each frame does, and any list of frames
+pub exclusive_kept : (config : Config) → IsKept (controller_with config) IsExclusive
+exclusive_kept config =
+    record {
+      sets_session = λ session state. refl;
+      begins = λ session state later. begun_keeps session state;
+      carries = λ state number call goes. carried_keeps config state number call;
+    }
 
 pub frames_keep : (config : Config) (state : ControllerState) (frames : List Frame) → IsExclusive state → IsExclusive (after_frames config state frames)
-frames_keep config state frames safe = each.frames_keep IsExclusive config (carried_keeps config) state frames safe
+frames_keep config state frames safe = each.frames_keep (controller_with config) IsExclusive (exclusive_kept config) state frames safe
 
 -- it is so of a controller that has answered nothing
 pub empty_exclusive : IsExclusive empty_controller

@@ -11,7 +11,7 @@ use Rattle.csi_controller.proofs.Sound.{rising-one}
 
 -- the state in which the holdings stand by rising id
 abbrev state_by_id : Parts → ControllerState
-state_by_id parts = record { volumes = map volume_of_row parts.rows; next_id = next_shown parts.next_id; holdings = attached parts.rows }
+state_by_id parts = record { volumes = map volume_of_row parts.rows; next_id = next_shown parts.next_id; session = parts.session; holdings = attached parts.rows }
 
 -- a next id below 2^64, where 0 stands for 2^64, is from 1 to 2^64 and told by its 64 bits
 next-by : (n : ℕ) (b : Bool) → (n == 0) ≡ b → n < 2 ^ 64 → (n ≡ cond b (2 ^ 64) n % 2 ^ 64) × (1 ≤ cond b (2 ^ 64) n) × (cond b (2 ^ 64) n ≤ 2 ^ 64)
@@ -29,6 +29,7 @@ shows-a_state parts sound below =
           volumes = refl;
           holdings = λ id. sym (attached-of parts.rows id (rising-one parts.rows sound.rising));
         };
+        session = refl;
         next_from = next.1;
         next_to = next.2;
       },

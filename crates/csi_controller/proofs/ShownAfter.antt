@@ -12,18 +12,19 @@ use Rattle.csi_types.specs.declared.holding.Holding.{Holding}
 use Rattle.csi_types.specs.declared.call.Call.{Call}
 use Rattle.csi_types.specs.declared.call.Call.TheVariants.{DeleteVolume}
 use Rattle.csi_types.specs.declared.call.Party.TheVariants.{Controller}
-use Rattle.csi_types.specs.declared.fence.Verdict.{Verdict}
-use Rattle.csi_types.specs.declared.fence.Verdict.TheVariants.{Stale, Repeated, Fresh}
+use Rattle.csi_fence.specs.declared.fence.Verdict.{Verdict}
+use Rattle.csi_fence.specs.declared.fence.Verdict.TheVariants.{Stale, Repeated, Fresh}
 use Rattle.csi_types.specs.declared.reply.Reply.{Reply}
 use Rattle.csi_types.specs.Call.{kind_of}
 use Rattle.csi_types.specs.Config.{Config}
-use Rattle.csi_types.specs.Fence.{Kept, verdict_of}
+use Rattle.csi_fence.specs.Fence.{Kept, verdict_of}
+use Rattle.csi_fence.specs.Fenced.{judged}
 use Rattle.csi_types.specs.Frame.{Frame}
 use Rattle.csi_types.specs.Replies.{reply_frame}
 use Rattle.csi_controller.specs.declared.row.ControllerRow.{ControllerRow}
 use Rattle.csi_controller.specs.State.{Volume, ControllerState, is_row_for, row_for}
 use Rattle.csi_controller.specs.Table.{Outcome, Stays, controller_row, changed, ended}
-use Rattle.csi_controller.specs.Fenced.{kept_in, keep, carried_out, judged, fenced_call, kept_for}
+use Rattle.csi_controller.specs.Fenced.{kept_in, keep, carried_out, controller_with, fenced_call, kept_for}
 use Rattle.csi_controller.specs.Shown.{volume_of_row, holdings_in}
 use Rattle.csi_controller.specs.Core.{Shows, held_by}
 use Rattle.csi_controller.specs.Step.{Answers}
@@ -45,6 +46,13 @@ next-after state kept id RowEnds = refl
 next-after state kept id (RowAttaches held) = refl
 next-after state kept id (RowDetaches node) = refl
 
+-- it leaves the session
+session-after : (state : ControllerState) (kept : Kept) (id : ℕ) (change : RowChange) → (changed state kept (change_of id change)).session ≡ state.session
+session-after state kept id RowStays = refl
+session-after state kept id RowEnds = refl
+session-after state kept id (RowAttaches held) = refl
+session-after state kept id (RowDetaches node) = refl
+
 list-after : (state : ControllerState) (kept : Kept) (id : ℕ) (change : RowChange) → (changed state kept (change_of id change)).holdings ≡ held_after id change state.holdings
 list-after state kept id RowStays = refl
 list-after state kept id RowEnds = refl
@@ -58,18 +66,19 @@ made-after state kept id (RowAttaches held) = refl
 made-after state kept id (RowDetaches node) = refl
 
 -- the rows where one is another, and a state that changed so
-pub shown-after : (config : Config) (n : ℕ) (rows : List ControllerRow) (state new_state : ControllerState) (place : ℕ) (row new : ControllerRow) (change : RowChange)
-    → Shows (record { config = config; next_id = n; rows = rows }) state → IsAt rows place row → ((id : ℕ) → AtMostOne (λ (r : ControllerRow). r.id == id) rows)
-    → new_state.next_id ≡ state.next_id → map volume_of_row (set rows place new) ≡ new_state.volumes → new_state.holdings ≡ held_after row.id change state.holdings
+pub shown-after : (config : Config) (n s : ℕ) (rows : List ControllerRow) (state new_state : ControllerState) (place : ℕ) (row new : ControllerRow) (change : RowChange)
+    → Shows (record { config = config; next_id = n; session = s; rows = rows }) state → IsAt rows place row → ((id : ℕ) → AtMostOne (λ (r : ControllerRow). r.id == id) rows)
+    → new_state.next_id ≡ state.next_id → new_state.session ≡ state.session → map volume_of_row (set rows place new) ≡ new_state.volumes → new_state.holdings ≡ held_after row.id change state.holdings
     → new.id ≡ row.id → new.holdings.items ≡ items_after change row.holdings.items
-    → Shows (record { config = config; next_id = n; rows = set rows place new }) new_state
-shown-after config n rows state new_state place row new change shown at one next volumes holdings same items =
+    → Shows (record { config = config; next_id = n; session = s; rows = set rows place new }) new_state
+shown-after config n s rows state new_state place row new change shown at one next session volumes holdings same items =
     record {
       shows = record {
         next = shown.shows.next ∙ ap (λ k. k % 2 ^ 64) (sym next);
         volumes = volumes;
         holdings = λ id. by id (row.id == id) refl ∙ ap (λ all. filter (λ (h : Holding). h.volume == id) all) (sym holdings);
       };
+      session = shown.session ∙ sym session;
       next_from = subst (λ k. 1 ≤ k) (sym next) shown.next_from;
       next_to = subst (λ k. k ≤ 2 ^ 64) (sym next) shown.next_to;
     }
@@ -99,12 +108,12 @@ same-volumes (r ∷ rs) zero row new at same = ap (λ v. v ∷ map volume_of_row
 same-volumes (r ∷ rs) (suc place) row new at same = ap (λ vs. volume_of_row r ∷ vs) (same-volumes rs place row new at same)
 
 -- rows with one in a row's place that says the same show the same state
-pub shown-same : (config : Config) (n : ℕ) (rows : List ControllerRow) (state : ControllerState) (place : ℕ) (row new : ControllerRow)
-    → Shows (record { config = config; next_id = n; rows = rows }) state → IsAt rows place row → ((id : ℕ) → AtMostOne (λ (r : ControllerRow). r.id == id) rows)
+pub shown-same : (config : Config) (n s : ℕ) (rows : List ControllerRow) (state : ControllerState) (place : ℕ) (row new : ControllerRow)
+    → Shows (record { config = config; next_id = n; session = s; rows = rows }) state → IsAt rows place row → ((id : ℕ) → AtMostOne (λ (r : ControllerRow). r.id == id) rows)
     → volume_of_row new ≡ volume_of_row row → new.holdings.items ≡ row.holdings.items
-    → Shows (record { config = config; next_id = n; rows = set rows place new }) state
-shown-same config n rows state place row new shown at one volume items =
-    shown-after config n rows state state place row new RowStays shown at one refl (same-volumes rows place row new at volume ∙ shown.shows.volumes) refl (ap (λ (v : Volume). v.id) volume) items
+    → Shows (record { config = config; next_id = n; session = s; rows = set rows place new }) state
+shown-same config n s rows state place row new shown at one volume items =
+    shown-after config n s rows state state place row new RowStays shown at one refl refl (same-volumes rows place row new at volume ∙ shown.shows.volumes) refl (ap (λ (v : Volume). v.id) volume) items
 
 -- what becomes of a volume where a deletion is carried out and kept: it changes where it has the id
 kept_and_ended : (id : ℕ) (kept : Kept) (volume : Volume) → kept_in (DeleteVolume id) kept (ended id volume) ≡ cond (volume.id == id) (record volume { is_live = false; kept = kept }) volume
@@ -131,84 +140,85 @@ volumes-after call kept rows place row new RowEnds first one ends is =
     ∙ ap (λ (k : Call). map (kept_in k kept) (map (ended row.id) (map volume_of_row rows))) (sym deletes)
 
 -- a call that is carried out at its row
-fresh-answers : (config : Config) (n : ℕ) (rows : List ControllerRow) (state : ControllerState) (number : Number) (call : Call) (place : ℕ) (row new : ControllerRow) (frame : Frame) (outcome : RowOutcome)
-    → Shows (record { config = config; next_id = n; rows = rows }) state → FirstAt (λ (r : ControllerRow). is_row_for call (volume_of_row r)) rows place row
+fresh-answers : (config : Config) (n s : ℕ) (rows : List ControllerRow) (state : ControllerState) (number : Number) (call : Call) (place : ℕ) (row new : ControllerRow) (frame : Frame) (outcome : RowOutcome)
+    → Shows (record { config = config; next_id = n; session = s; rows = rows }) state → FirstAt (λ (r : ControllerRow). is_row_for call (volume_of_row r)) rows place row
     → AtMostOne (λ (r : ControllerRow). is_row_for call (volume_of_row r)) rows → ((id : ℕ) → AtMostOne (λ (r : ControllerRow). r.id == id) rows)
     → (outcome.change ≡ RowEnds → call ≡ DeleteVolume row.id) → RowGives new frame (row_after number (kind_of call) outcome row Fresh)
-    → Answers (record { config = config; next_id = n; rows = set rows place new }) frame (carried_out state number call (outcome_of row.id outcome))
-fresh-answers config n rows state number call place row new frame outcome shown first one ids ends gives =
+    → Answers (record { config = config; next_id = n; session = s; rows = set rows place new }) frame (carried_out state number call (outcome_of row.id outcome))
+fresh-answers config n s rows state number call place row new frame outcome shown first one ids ends gives =
     let kept : Kept = record { number = number; kind = kind_of call; reply = outcome.reply } in
     let volumes : (changed state kept (change_of row.id outcome.change)).volumes ≡ volumes_after row.id outcome.change (map volume_of_row rows)
     = made-after state kept row.id outcome.change ∙ ap (volumes_after row.id outcome.change) (sym shown.shows.volumes) in
     record {
       reply = ap Some (sym gives.reply);
-      shown = shown-after config n rows state (keep call kept (changed state kept (change_of row.id outcome.change))) place row new outcome.change shown
-          (FirstAt-is_at (λ (r : ControllerRow). is_row_for call (volume_of_row r)) rows place row first) ids (next-after state kept row.id outcome.change)
+      shown = shown-after config n s rows state (keep call kept (changed state kept (change_of row.id outcome.change))) place row new outcome.change shown
+          (FirstAt-is_at (λ (r : ControllerRow). is_row_for call (volume_of_row r)) rows place row first) ids (next-after state kept row.id outcome.change) (session-after state kept row.id outcome.change)
           (volumes-after call kept rows place row new outcome.change first one ends gives.volume ∙ ap (map (kept_in call kept)) (sym volumes))
           (list-after state kept row.id outcome.change) (ap (λ (v : Volume). v.id) gives.volume) gives.items;
     }
 
 -- a call, behind the fence, at its row
-judged-answers : (config : Config) (n : ℕ) (rows : List ControllerRow) (state : ControllerState) (number : Number) (call : Call) (place : ℕ) (row new : ControllerRow) (frame : Frame) (outcome : RowOutcome)
-    → Shows (record { config = config; next_id = n; rows = rows }) state → FirstAt (λ (r : ControllerRow). is_row_for call (volume_of_row r)) rows place row
+judged-answers : (config : Config) (n s : ℕ) (rows : List ControllerRow) (state : ControllerState) (number : Number) (call : Call) (place : ℕ) (row new : ControllerRow) (frame : Frame) (outcome : RowOutcome)
+    → Shows (record { config = config; next_id = n; session = s; rows = rows }) state → FirstAt (λ (r : ControllerRow). is_row_for call (volume_of_row r)) rows place row
     → AtMostOne (λ (r : ControllerRow). is_row_for call (volume_of_row r)) rows → ((id : ℕ) → AtMostOne (λ (r : ControllerRow). r.id == id) rows)
     → (outcome.change ≡ RowEnds → call ≡ DeleteVolume row.id) → controller_row config state call ≡ outcome_of row.id outcome → (verdict : Verdict) → RowGives new frame (row_after number (kind_of call) outcome row verdict)
-    → Answers (record { config = config; next_id = n; rows = set rows place new }) frame (judged config state number call (record { number = row.last; kind = row.kind; reply = row.reply }) verdict)
-judged-answers config n rows state number call place row new frame outcome shown first one ids ends line Stale gives =
-    record { reply = ap Some (sym gives.reply); shown = shown-same config n rows state place row new shown (FirstAt-is_at (λ (r : ControllerRow). is_row_for call (volume_of_row r)) rows place row first) ids gives.volume gives.items }
-judged-answers config n rows state number call place row new frame outcome shown first one ids ends line Repeated gives =
-    record { reply = ap Some (sym gives.reply); shown = shown-same config n rows state place row new shown (FirstAt-is_at (λ (r : ControllerRow). is_row_for call (volume_of_row r)) rows place row first) ids gives.volume gives.items }
-judged-answers config n rows state number call place row new frame outcome shown first one ids ends line Fresh gives =
-    subst (λ (o : Outcome). Answers (record { config = config; next_id = n; rows = set rows place new }) frame (carried_out state number call o)) (sym line)
-    (fresh-answers config n rows state number call place row new frame outcome shown first one ids ends gives)
+    → Answers (record { config = config; next_id = n; session = s; rows = set rows place new }) frame (judged (controller_with config) state number call (record { number = row.last; kind = row.kind; reply = row.reply }) verdict)
+judged-answers config n s rows state number call place row new frame outcome shown first one ids ends line Stale gives =
+    record { reply = ap Some (sym gives.reply); shown = shown-same config n s rows state place row new shown (FirstAt-is_at (λ (r : ControllerRow). is_row_for call (volume_of_row r)) rows place row first) ids gives.volume gives.items }
+judged-answers config n s rows state number call place row new frame outcome shown first one ids ends line Repeated gives =
+    record { reply = ap Some (sym gives.reply); shown = shown-same config n s rows state place row new shown (FirstAt-is_at (λ (r : ControllerRow). is_row_for call (volume_of_row r)) rows place row first) ids gives.volume gives.items }
+judged-answers config n s rows state number call place row new frame outcome shown first one ids ends line Fresh gives =
+    subst (λ (o : Outcome). Answers (record { config = config; next_id = n; session = s; rows = set rows place new }) frame (carried_out state number call o)) (sym line)
+    (fresh-answers config n s rows state number call place row new frame outcome shown first one ids ends gives)
 
 -- a call that has a row is answered as the row answers it, behind the fence, and the rows with the new one show the state then
-pub row-answers : (config : Config) (n : ℕ) (rows : List ControllerRow) (state : ControllerState) (number : Number) (call : Call) (place : ℕ) (row new : ControllerRow) (frame : Frame) (outcome : RowOutcome)
-    → Shows (record { config = config; next_id = n; rows = rows }) state → FirstAt (λ (r : ControllerRow). is_row_for call (volume_of_row r)) rows place row
+pub row-answers : (config : Config) (n s : ℕ) (rows : List ControllerRow) (state : ControllerState) (number : Number) (call : Call) (place : ℕ) (row new : ControllerRow) (frame : Frame) (outcome : RowOutcome)
+    → Shows (record { config = config; next_id = n; session = s; rows = rows }) state → FirstAt (λ (r : ControllerRow). is_row_for call (volume_of_row r)) rows place row
     → AtMostOne (λ (r : ControllerRow). is_row_for call (volume_of_row r)) rows → ((id : ℕ) → AtMostOne (λ (r : ControllerRow). r.id == id) rows)
     → (outcome.change ≡ RowEnds → call ≡ DeleteVolume row.id) → controller_row config state call ≡ outcome_of row.id outcome → RowGives new frame (row_after number (kind_of call) outcome row (verdict_of (Some row.last) number))
-    → Answers (record { config = config; next_id = n; rows = set rows place new }) frame (fenced_call config state number call (kept_for call state))
-row-answers config n rows state number call place row new frame outcome shown first one ids ends line gives =
+    → Answers (record { config = config; next_id = n; session = s; rows = set rows place new }) frame (fenced_call config state number call (kept_for call state))
+row-answers config n s rows state number call place row new frame outcome shown first one ids ends line gives =
     let found : row_for call state ≡ Some (volume_of_row row)
     = ap (find (is_row_for call)) (sym shown.shows.volumes) ∙ find-of_map (is_row_for call) volume_of_row rows ∙ ap (option_map volume_of_row) (FirstAt-find (λ (r : ControllerRow). is_row_for call (volume_of_row r)) rows place row first) in
     let kept : kept_for call state ≡ Some (record { number = row.last; kind = row.kind; reply = row.reply }) = ap (option_map (λ (v : Volume). v.kept)) found in
-    subst (λ (k : Option Kept). Answers (record { config = config; next_id = n; rows = set rows place new }) frame (fenced_call config state number call k)) (sym kept)
-    (judged-answers config n rows state number call place row new frame outcome shown first one ids ends line (verdict_of (Some row.last) number) gives)
+    subst (λ (k : Option Kept). Answers (record { config = config; next_id = n; session = s; rows = set rows place new }) frame (fenced_call config state number call k)) (sym kept)
+    (judged-answers config n s rows state number call place row new frame outcome shown first one ids ends line (verdict_of (Some row.last) number) gives)
 
 -- a call that has no row, and changes nothing
-pub nowhere-answers : (config : Config) (n : ℕ) (rows : List ControllerRow) (state : ControllerState) (number : Number) (call : Call) (frame : Frame) (reply : Reply)
-    → Shows (record { config = config; next_id = n; rows = rows }) state → find (λ (r : ControllerRow). is_row_for call (volume_of_row r)) rows ≡ None
+pub nowhere-answers : (config : Config) (n s : ℕ) (rows : List ControllerRow) (state : ControllerState) (number : Number) (call : Call) (frame : Frame) (reply : Reply)
+    → Shows (record { config = config; next_id = n; session = s; rows = rows }) state → find (λ (r : ControllerRow). is_row_for call (volume_of_row r)) rows ≡ None
     → controller_row config state call ≡ record { reply = reply; change = Stays } → frame ≡ reply_frame number Controller (kind_of call) reply
-    → Answers (record { config = config; next_id = n; rows = rows }) frame (fenced_call config state number call (kept_for call state))
-nowhere-answers config n rows state number call frame reply shown none line is =
+    → Answers (record { config = config; next_id = n; session = s; rows = rows }) frame (fenced_call config state number call (kept_for call state))
+nowhere-answers config n s rows state number call frame reply shown none line is =
     let kept : Kept = record { number = number; kind = kind_of call; reply = reply } in
     let found : kept_for call state ≡ None
     = ap (option_map (λ (v : Volume). v.kept)) (ap (find (is_row_for call)) (sym shown.shows.volumes) ∙ find-of_map (is_row_for call) volume_of_row rows ∙ ap (option_map volume_of_row) none) in
     let volumes : map (kept_in call kept) state.volumes ≡ state.volumes
     = ap (map (kept_in call kept)) (sym shown.shows.volumes) ∙ map-none_shown volume_of_row (is_row_for call) (λ (v : Volume). record v { kept = kept }) rows none ∙ shown.shows.volumes in
-    let answer : Answers (record { config = config; next_id = n; rows = rows }) frame (carried_out state number call (record { reply = reply; change = Stays }))
+    let answer : Answers (record { config = config; next_id = n; session = s; rows = rows }) frame (carried_out state number call (record { reply = reply; change = Stays }))
     = record {
       reply = ap Some (sym is);
       shown = record {
         shows = record { next = shown.shows.next; volumes = shown.shows.volumes ∙ sym volumes; holdings = shown.shows.holdings };
+        session = shown.session;
         next_from = shown.next_from;
         next_to = shown.next_to;
       };
     } in
-    subst (λ (k : Option Kept). Answers (record { config = config; next_id = n; rows = rows }) frame (fenced_call config state number call k)) (sym found)
-    (subst (λ (o : Outcome). Answers (record { config = config; next_id = n; rows = rows }) frame (carried_out state number call o)) (sym line) answer)
+    subst (λ (k : Option Kept). Answers (record { config = config; next_id = n; session = s; rows = rows }) frame (fenced_call config state number call k)) (sym found)
+    (subst (λ (o : Outcome). Answers (record { config = config; next_id = n; session = s; rows = rows }) frame (carried_out state number call o)) (sym line) answer)
 
 -- nothing is kept for a call that has no row
-pub kept-nowhere : (config : Config) (n : ℕ) (rows : List ControllerRow) (state : ControllerState) (call : Call)
-    → Shows (record { config = config; next_id = n; rows = rows }) state → find (λ (r : ControllerRow). is_row_for call (volume_of_row r)) rows ≡ None → kept_for call state ≡ None
-kept-nowhere config n rows state call shown none =
+pub kept-nowhere : (config : Config) (n s : ℕ) (rows : List ControllerRow) (state : ControllerState) (call : Call)
+    → Shows (record { config = config; next_id = n; session = s; rows = rows }) state → find (λ (r : ControllerRow). is_row_for call (volume_of_row r)) rows ≡ None → kept_for call state ≡ None
+kept-nowhere config n s rows state call shown none =
     ap (option_map (λ (v : Volume). v.kept))
     (ap (find (is_row_for call)) (sym shown.shows.volumes) ∙ find-of_map (is_row_for call) volume_of_row rows ∙ ap (option_map volume_of_row) none)
 
 -- what is kept in the row of a call
-pub kept-there : (config : Config) (n : ℕ) (rows : List ControllerRow) (state : ControllerState) (call : Call) (place : ℕ) (row : ControllerRow)
-    → Shows (record { config = config; next_id = n; rows = rows }) state → FirstAt (λ (r : ControllerRow). is_row_for call (volume_of_row r)) rows place row
+pub kept-there : (config : Config) (n s : ℕ) (rows : List ControllerRow) (state : ControllerState) (call : Call) (place : ℕ) (row : ControllerRow)
+    → Shows (record { config = config; next_id = n; session = s; rows = rows }) state → FirstAt (λ (r : ControllerRow). is_row_for call (volume_of_row r)) rows place row
     → kept_for call state ≡ Some (record { number = row.last; kind = row.kind; reply = row.reply })
-kept-there config n rows state call place row shown first =
+kept-there config n s rows state call place row shown first =
     ap (option_map (λ (v : Volume). v.kept))
     (ap (find (is_row_for call)) (sym shown.shows.volumes) ∙ find-of_map (is_row_for call) volume_of_row rows ∙ ap (option_map volume_of_row) (FirstAt-find (λ (r : ControllerRow). is_row_for call (volume_of_row r)) rows place row first))

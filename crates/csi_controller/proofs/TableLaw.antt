@@ -12,22 +12,29 @@ use Rattle.csi_types.specs.declared.number.Number.{Number}
 use Rattle.csi_types.specs.declared.call.Call.{Call}
 use Rattle.csi_types.specs.declared.call.Call.TheVariants as calls
 use Rattle.csi_types.specs.declared.call.Party.TheVariants.{Controller}
-use Rattle.csi_types.specs.declared.fence.Verdict.TheVariants.{Fresh}
+use Rattle.csi_fence.specs.declared.fence.Verdict.TheVariants.{Fresh}
 use Rattle.csi_types.specs.declared.status.Status.TheVariants.{InvalidArgument, OutOfRange, ResourceExhausted}
 use Rattle.csi_types.specs.declared.reply.Reply.{Reply}
 use Rattle.csi_types.specs.Call.{kind_of}
 use Rattle.csi_types.specs.Capacity.{is_bad_range, is_empty_range, wanted}
 use Rattle.csi_types.specs.Config.{Config}
-use Rattle.csi_types.specs.Fence.{Kept, verdict_of}
+use Rattle.csi_fence.proofs.FramesKeep.{own_session, session_keeps}
+use Rattle.csi_fence.proofs.LetThrough.{fresh-after, is_carried_out, stays-in_session}
+use Rattle.csi_fence.proofs.Spent.{not_over-own}
+use Rattle.csi_fence.specs.Delivery.{last_of}
+use Rattle.csi_fence.specs.Fence.{Kept, verdict_of}
+use Rattle.csi_fence.specs.Fenced.{Fenced}
+use Rattle.csi_fence.specs.Lawful.{IsLawful, IsIdempotent}
 use Rattle.csi_types.specs.Number.{IsBefore}
 use Rattle.csi_types.specs.Replies.{ok_reply_with, call_frame, reply_frame}
 use Rattle.csi_types.specs.Same.{same_text, has_capability}
 use Rattle.csi_controller.specs.State.{Volume, ControllerState, volume_named, live_volume, is_row_for, row_for}
 use Rattle.csi_controller.specs.Table.{Outcome, Change, Stays, Makes, refused, create_named, delete, publish, controller_row, changed}
-use Rattle.csi_controller.specs.Fenced.{Fenced, fenced, fenced_call, kept_for, kept_in, keep, carried_out}
-use Rattle.csi_controller.specs.Laws.{IsLetThrough, IsSameApart, IsDone, IsMadeAs, IsIdempotent, LeavesOthers, IsLawful, reply_at, state_after, keeping}
-use Rattle.csi_controller.proofs.OrderlyStates.{IsOrderly, kept_same, kept_in-row}
+use Rattle.csi_controller.specs.Fenced.{fenced, kept_for, kept_in, keep, carried_out, controller_with, in_session}
+use Rattle.csi_controller.specs.Laws.{IsLetThrough, IsSameApart, IsDone, IsMadeAs, LeavesOthers, state_after, keeping, plugin_with}
+use Rattle.csi_controller.proofs.OrderlyStates.{IsOrderly, orderly_kept, kept_same, kept_in-row}
 use Rattle.csi_controller.proofs.OutcomeFacts.{IsReady, row_facts}
+use Rattle.csi_controller.proofs.RememberedStates.{changed_session}
 
 -- what is kept changes no answer of the table
 length-map : (f : Volume → Volume) (xs : List Volume) → length (map f xs) ≡ length xs
@@ -113,64 +120,58 @@ done-keep by kept state reply (calls.NodeUnpublishVolume id target) h = absurd h
 same_keep : (call : Call) (kept : Kept) (state : ControllerState) → IsSameApart state (keep call kept state)
 same_keep call kept state k = ap (λ (volumes : List Volume). record state { volumes = volumes }) (sym (map-map (keeping k) (kept_in call kept) state.volumes (kept_same call kept k)))
 
--- the fence
-let_through : (config : Config) (state : ControllerState) (number : Number) (call : Call) (kept : Option Kept) → verdict_of (option_map (λ k. k.number) kept) number ≡ Fresh
-    → fenced_call config state number call kept ≡ carried_out state number call (controller_row config state call)
-let_through config state number call None h = refl
-let_through config state number call (Some kept) h = rw h refl
-
--- a call that the fence lets through is carried out
-pub is_carried_out : (config : Config) (state : ControllerState) (number : Number) (call : Call) → IsLetThrough state number call
-    → fenced config state (call_frame number Controller call) ≡ carried_out state number call (controller_row config state call)
-is_carried_out config state number call h = let_through config state number call (kept_for call state) h
-
--- a later number is fresh
-fresh : (last later : Number) → IsBefore last later → verdict_of (Some last) later ≡ Fresh
-fresh last later h = rw h refl
-
 -- the row of a call, where there is one, keeps the call
 later_through : (call : Call) (kept : Kept) (later : Number) (o : Option Volume) (f : (v : Volume) → o ≡ Some v → (kept_in call kept v).kept ≡ kept) → IsBefore kept.number later
-    → verdict_of (option_map (λ (k : Kept). k.number) (option_map (λ (v : Volume). v.kept) (option_map (kept_in call kept) o))) later ≡ Fresh
+    → verdict_of (last_of (option_map (λ (v : Volume). v.kept) (option_map (kept_in call kept) o))) later ≡ Fresh
 later_through call kept later None f before = refl
 later_through call kept later (Some v) f before =
-    ap (λ (k : Kept). verdict_of (Some k.number) later) (f v refl) ∙ fresh kept.number later before
+    ap (λ (k : Kept). verdict_of (Some k.number) later) (f v refl) ∙ fresh-after kept.number later before
 
--- after a call was kept, the fence lets it through under a later number
-is_later_through : (call : Call) (kept : Kept) (state : ControllerState) (later : Number) → IsBefore kept.number later → IsLetThrough (keep call kept state) later call
-is_later_through call kept state later before =
+-- after a call was kept, the fence lets it through under a later number of the session
+is_later_through : (config : Config) (call : Call) (kept : Kept) (state : ControllerState) (later : Number) → later.session ≡ state.session → IsBefore kept.number later → IsLetThrough config (keep call kept state) later call
+is_later_through config call kept state later session before =
     let found = find-map (is_row_for call) (kept_in call kept) state.volumes (kept_in-row call kept) in
-    ap (λ (o : Option Volume). verdict_of (option_map (λ (k : Kept). k.number) (option_map (λ (v : Volume). v.kept) o)) later) found
-    ∙ later_through call kept later (row_for call state) (λ v is. let own : is_row_for call v ≡ true = find-passes (is_row_for call) state.volumes v is in rw own refl) before
+    record {
+      not_over = not_over-own state.session later session;
+      fresh = ap (λ (now : ControllerState). verdict_of (last_of (kept_for call now)) later) (stays-in_session (controller_with config) (keep call kept state) later session)
+          ∙ ap (λ (o : Option Volume). verdict_of (last_of (option_map (λ (v : Volume). v.kept) o)) later) found
+          ∙ later_through call kept later (row_for call state) (λ v is. let own : is_row_for call v ≡ true = find-passes (is_row_for call) state.volumes v is in rw own refl) before;
+    }
 
 -- a call that is ready, once more
-once_more : (config : Config) (next : ControllerState) (kept : Kept) (later : Number) (call : Call) (reply : Reply) → IsBefore kept.number later → IsReady config next call reply
+once_more : (config : Config) (next : ControllerState) (kept : Kept) (later : Number) (call : Call) (reply : Reply) → later.session ≡ next.session → IsBefore kept.number later → IsReady config next call reply
     → ((fenced config (keep call kept next) (call_frame later Controller call)).reply ≡ Some (reply_frame later Controller (kind_of call) reply))
     × IsSameApart (keep call kept next) (fenced config (keep call kept next) (call_frame later Controller call)).state
-once_more config next kept later call reply before ready =
+once_more config next kept later call reply session before ready =
     let after : ControllerState = keep call kept next in
     let row : controller_row config after call ≡ record { reply = reply; change = Stays } = row-keep config call kept next call ∙ ready.again in
     let e : fenced config after (call_frame later Controller call) ≡ carried_out after later call (record { reply = reply; change = Stays }) =
-    is_carried_out config after later call (is_later_through call kept next later before) ∙ ap (carried_out after later call) row in
-    (ap (λ (f : Fenced). f.reply) e, subst (λ (f : Fenced). IsSameApart after f.state) (sym e) (same_keep call (record { number = later; kind = kind_of call; reply = reply }) after))
+    is_carried_out (controller_with config) after later call (is_later_through config call kept next later session before)
+    ∙ ap (λ (now : ControllerState). carried_out now later call (controller_row config now call)) (stays-in_session (controller_with config) after later session)
+    ∙ ap (carried_out after later call) row in
+    (ap (λ (f : Fenced ControllerState). f.reply) e, subst (λ (f : Fenced ControllerState). IsSameApart after f.state) (sym e) (same_keep call (record { number = later; kind = kind_of call; reply = reply }) after))
 
 -- a row that isn't the call's stays as it was
 kept_in-other : (call : Call) (kept : Kept) (v : Volume) → not (is_row_for call v) ≡ true → kept_in call kept v ≡ v
 kept_in-other call kept v h = let other : is_row_for call v ≡ false = not-true (is_row_for call v) h in rw other refl
 
 -- in an orderly state each call that the fence lets through is lawful
-pub is_lawful : (config : Config) (state : ControllerState) (number : Number) (call : Call) → IsOrderly state → IsLetThrough state number call → IsLawful config state number call
+pub is_lawful : (config : Config) (state : ControllerState) (number : Number) (call : Call) → IsOrderly state → IsLetThrough config state number call → IsLawful (plugin_with config) state number call
 is_lawful config state number call orderly through =
-    let outcome : Outcome = controller_row config state call in
+    let now : ControllerState = in_session config number state in
+    let outcome : Outcome = controller_row config now call in
     let kept : Kept = record { number = number; kind = kind_of call; reply = outcome.reply } in
-    let next : ControllerState = changed state kept outcome.change in
-    let e : state_after config state number call ≡ keep call kept next = ap (λ (f : Fenced). f.state) (is_carried_out config state number call through) in
-    let facts = row_facts config state call orderly in
+    let next : ControllerState = changed now kept outcome.change in
+    let e : state_after config state number call ≡ keep call kept next = ap (λ (f : Fenced ControllerState). f.state) (is_carried_out (controller_with config) state number call through) in
+    let session : number.session ≡ next.session =
+    own_session (controller_with config) (λ session s. refl) state number through.not_over ∙ sym (changed_session now kept outcome.change) in
+    let facts = row_facts config now call (session_keeps (controller_with config) IsOrderly (orderly_kept config) state number orderly) in
     record {
-      refused = λ h. subst (IsSameApart state) (sym e) (subst (λ (c : Change). IsSameApart state (keep call kept (changed state kept c))) (sym (facts.stays h)) (same_keep call kept state));
-      done = λ h. subst (λ (after : ControllerState). IsDone after (reply_at config state call) call) (sym e) (done-keep call kept next (reply_at config state call) call ((facts.ready h kept).is_done));
-      again = λ h. subst (λ (after : ControllerState). IsIdempotent config after (reply_at config state call) number call) (sym e)
-          (λ later session before. once_more config next kept later call (reply_at config state call) before (facts.ready h kept));
-      others = subst (λ (after : ControllerState). LeavesOthers state after call) (sym e)
+      refused = λ h. subst (IsSameApart now) (sym e) (subst (λ (c : Change). IsSameApart now (keep call kept (changed now kept c))) (sym (facts.stays h)) (same_keep call kept now));
+      done = λ h. subst (λ (after : ControllerState). IsDone after outcome.reply call) (sym e) (done-keep call kept next outcome.reply call ((facts.ready h kept).is_done));
+      again = λ h. subst (λ (after : ControllerState). IsIdempotent (plugin_with config) after outcome.reply number call) (sym e)
+          (λ later same before. once_more config next kept later call outcome.reply (same ∙ session) before (facts.ready h kept));
+      others = subst (λ (after : ControllerState). LeavesOthers now after call) (sym e)
           (record {
             volumes = filter-map (λ (v : Volume). not (is_row_for call v)) (kept_in call kept) next.volumes (λ v. ap not (kept_in-row call kept v)) (kept_in-other call kept) ∙ (facts.others kept).volumes;
             holdings = (facts.others kept).holdings;

@@ -1,11 +1,11 @@
 -- What the row of a call's volume gives behind the fence, and what it and the counts of the nodes are then. Only private functions cite it.
-use Rattle.std.specs.Prelude.{◌≡◌, ℕ, List}
+use Rattle.std.specs.Prelude.{◌≡◌, ℕ, List, Option, Some, None}
 use Rattle.csi_types.specs.declared.number.Number.{Number}
 use Rattle.csi_types.specs.declared.call.Kind.{Kind}
 use Rattle.csi_types.specs.declared.call.Call.{Call}
 use Rattle.csi_types.specs.declared.call.Party.TheVariants.{Controller}
-use Rattle.csi_types.specs.declared.fence.Verdict.{Verdict}
-use Rattle.csi_types.specs.declared.fence.Verdict.TheVariants.{Stale, Repeated, Fresh}
+use Rattle.csi_fence.specs.declared.fence.Verdict.{Verdict}
+use Rattle.csi_fence.specs.declared.fence.Verdict.TheVariants.{Stale, Repeated, Fresh}
 use Rattle.csi_types.specs.Call.{kind_of}
 use Rattle.csi_types.specs.Frame.{Frame}
 use Rattle.csi_types.specs.Replies.{stale_reply, reply_frame}
@@ -53,6 +53,12 @@ counts_after nodes change Fresh counts = recounted nodes (count_change_by change
 pub record RowAnswers (nodes : List NodeSlots) (old new : ControllerRow) (before after : List ℕ) (number : Number) (call : Call) (verdict : Verdict) (frame : Frame) : Type 0 where
   pub gives : RowGives new frame (row_after number (kind_of call) (row_line nodes before old call) old verdict)
   pub counts : after ≡ counts_after nodes (row_line nodes before old call).change verdict before
+
+-- the row that the answer says was changed
+abbrev pub row_named : Verdict → ℕ → Option ℕ
+row_named Stale id = None
+row_named Repeated id = None
+row_named Fresh id = Some id
 
 -- a refusal leaves row and counts so
 pub record IsLeft (old new : ControllerRow) (before after : List ℕ) : Type 0 where

@@ -1,9 +1,10 @@
 -- The rows of a catalog, and how its two maps belong together.
-use Rattle.std.specs.Prelude.{◌≡◌, ℕ, List, map, String}
+use Rattle.std.specs.Prelude.{◌≡◌, ℕ, ◌<◌, ◌==◌, Bool, false, List, map, find, Option, Some, None, String}
 use Rattle.std.specs.String.{string_bytes}
-use Rattle.indexmap.specs.IndexMap.{values}
+use Rattle.indexmap.specs.IndexMap.{values, spare}
 use Rattle.csi_controller.specs.declared.row.ControllerRow.{ControllerRow}
 use Rattle.csi_controller.specs.declared.catalog.Catalog.{Catalog}
+use Rattle.csi_controller.specs.WithoutSession.{stays_in}
 
 -- the rows in order
 abbrev pub rows_of : Catalog → List ControllerRow
@@ -25,3 +26,22 @@ by_text entry = (string_bytes entry.0, entry.1)
 pub record IsIndexed (catalog : Catalog) : Type 0 where
   pub rows : catalog.rows.entries ≡ map by_id (rows_of catalog)
   pub ids : map by_text catalog.ids.entries ≡ map by_name (rows_of catalog)
+
+-- one more row and its name need no memory
+pub record HasRoom (catalog : Catalog) : Type 0 where
+  pub rows : 0 < spare catalog.rows
+  pub ids : 0 < spare catalog.ids
+
+-- both maps have the entries that they had
+pub record AreSameEntries (old new : Catalog) : Type 0 where
+  pub rows : new.rows.entries ≡ old.rows.entries
+  pub ids : new.ids.entries ≡ old.ids.entries
+
+-- the row stays in this session, if there is one
+abbrev pub is_row_kept : ℕ → Option ControllerRow → Bool
+is_row_kept session None = false
+is_row_kept session (Some row) = stays_in session row
+
+-- so does the row of this id
+abbrev pub is_kept : ℕ → ℕ → List ControllerRow → Bool
+is_kept session id rows = is_row_kept session (find (λ row. row.id == id) rows)

@@ -17,18 +17,22 @@ use Rattle.csi_controller.specs.declared.row.NodeHolding.{NodeHolding}
 use Rattle.csi_controller.specs.declared.row.ControllerRow.{ControllerRow}
 use Rattle.csi_controller.specs.State.{ControllerState}
 use Rattle.csi_controller.specs.Table.{controller_row}
+use Rattle.csi_controller.specs.Fenced.{in_session}
 use Rattle.csi_controller.specs.Laws.{IsLetThrough}
 use Rattle.csi_controller.specs.Shown.{RowsShow, volume_of_row}
 
--- what a controller is to its callers: its configuration, the next id (0 once all were given), and its rows by rising id
+-- what a controller is to its callers: its configuration, the next id (0 once all were given), the greatest session that came,
+-- and its rows by rising id
 pub record Parts : Type 0 where
   pub config : Config
   pub next_id : ℕ
+  pub session : ℕ
   pub rows : List ControllerRow
 
 -- these parts show the state; its next id is from 1 to 2^64
 pub record Shows (parts : Parts) (state : ControllerState) : Type 0 where
   pub shows : RowsShow parts.next_id parts.rows state
+  pub session : parts.session ≡ state.session
   pub next_from : 1 ≤ state.next_id
   pub next_to : state.next_id ≤ 2 ^ 64
 
@@ -71,6 +75,15 @@ pub record IsSound (next_id : ℕ) (rows : List ControllerRow) : Type 0 where
   pub rising : IsRising rows
   pub names : (name : List ℕ) → AtMostOne (λ (row : ControllerRow). same_text row.name name) rows
 
+-- a row's last call is of no later session than the greatest that came; and of that one, where the volume was deleted
+pub record IsCurrentRow (session : ℕ) (row : ControllerRow) : Type 0 where
+  pub before : row.last.session ≤ session
+  pub gone : row.live ≡ false → row.last.session ≡ session
+
+-- the rules of all rows, by the greatest session that came
+abbrev pub IsCurrent : ℕ → List ControllerRow → Type 0
+IsCurrent session rows = AllByRecursion (IsCurrentRow session) rows
+
 -- a refusal leaves a row so
 pub record IsSameRow (old new : ControllerRow) : Type 0 where
   pub volume : volume_of_row new ≡ volume_of_row old
@@ -87,6 +100,7 @@ IsUndoing (calls.NodeUnstageVolume id) = ⊥
 IsUndoing (calls.NodePublishVolume id target capability readonly) = ⊥
 IsUndoing (calls.NodeUnpublishVolume id target) = ⊥
 
--- the table answers the call, with 0
+-- the table answers the call with 0, in the state in which it is judged
 abbrev pub IsAnsweredOk : Config → ControllerState → Number → Call → Type 0
-IsAnsweredOk config state number call = IsLetThrough state number call × ((controller_row config state call).reply.status ≡ Ok)
+IsAnsweredOk config state number call =
+    IsLetThrough config state number call × ((controller_row config (in_session config number state) call).reply.status ≡ Ok)

@@ -2,13 +2,14 @@
 use Rattle.csi_controller.specs.declared.controller.core_parts.Core.{Core}
 use Rattle.csi_controller.specs.Catalog.{rows_of, IsIndexed}
 use Rattle.csi_controller.specs.Counts.{AreCounted}
-use Rattle.csi_controller.specs.Core.{Parts, IsSound}
+use Rattle.csi_controller.specs.Core.{Parts, IsSound, IsCurrent}
 
 abbrev pub parts_of : Core → Parts
-parts_of core = record { config = core.config; next_id = core.next_id; rows = rows_of core.catalog }
+parts_of core = record { config = core.config; next_id = core.next_id; session = core.session; rows = rows_of core.catalog }
 
 -- the rules of its rows, those of its maps, and those of its counts
 pub record IsSoundCore (core : Core) : Type 0 where
   pub sound : IsSound core.next_id (rows_of core.catalog)
+  pub current : IsCurrent core.session (rows_of core.catalog)
   pub indexed : IsIndexed core.catalog
   pub counted : AreCounted core.config.nodes (rows_of core.catalog) core.counts

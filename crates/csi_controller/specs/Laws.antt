@@ -1,6 +1,6 @@
 -- Laws that the controller's table keeps, in the words of CSI's spec.md ("idempotent" calls, and what each
 -- call ensures), apart from what is kept of the last call.
-use Rattle.std.specs.Prelude.{◌≡◌, ◌⊎◌, ◌≤◌, ℕ, ◌==◌, List, map, filter, Bool, true, not, Option, Some, None, option_map, IsTrue}
+use Rattle.std.specs.Prelude.{◌≡◌, ◌⊎◌, ◌≤◌, ℕ, ◌==◌, List, map, filter, Bool, true, not, Option, Some, None, IsTrue}
 use Rattle.std.specs.List.{AllByRecursion}
 use Rattle.csi_types.specs.declared.capability.Capability.{Capability}
 use Rattle.csi_types.specs.declared.holding.Holding.{Holding}
@@ -10,16 +10,14 @@ use Rattle.csi_types.specs.declared.call.Call.TheVariants as calls
 use Rattle.csi_types.specs.declared.call.Party.TheVariants.{Controller}
 use Rattle.csi_types.specs.declared.reply.Reply.{Reply}
 use Rattle.csi_types.specs.Config.{Config}
-use Rattle.csi_types.specs.Fence as fence
-use Rattle.csi_types.specs.Fence.{Kept}
-use Rattle.csi_types.specs.Lawful as lawful
-use Rattle.csi_types.specs.Lawful.{Plugin}
-use Rattle.csi_types.specs.Frame.{Frame}
+use Rattle.csi_fence.specs.Fence.{Kept}
+use Rattle.csi_fence.specs.Lawful as lawful
+use Rattle.csi_fence.specs.Lawful.{Plugin, TableLaw}
 use Rattle.csi_types.specs.Replies.{call_frame}
 use Rattle.csi_types.specs.Same.{has_capability}
 use Rattle.csi_controller.specs.State.{Volume, ControllerState, empty_controller, live_volume, holding_at, is_row_for}
 use Rattle.csi_controller.specs.Table.{controller_row}
-use Rattle.csi_controller.specs.Fenced.{fenced, kept_for, after_frames}
+use Rattle.csi_controller.specs.Fenced.{controller_with, fenced}
 
 -- the table's reply to a call, and the state after it
 abbrev pub reply_at : Config → ControllerState → Call → Reply
@@ -30,8 +28,8 @@ abbrev pub state_after : Config → ControllerState → Number → Call → Cont
 state_after config state number call = (fenced config state (call_frame number Controller call)).state
 
 -- the fence lets the call through to the table
-abbrev pub IsLetThrough : ControllerState → Number → Call → Type 0
-IsLetThrough state number call = fence.IsLetThrough (option_map (λ kept. kept.number) (kept_for call state)) number
+abbrev pub IsLetThrough : Config → ControllerState → Number → Call → Type 0
+IsLetThrough config state number call = lawful.IsLetThrough (controller_with config) state number call
 
 -- the volume, with this kept
 abbrev pub keeping : Kept → Volume → Volume
@@ -85,26 +83,13 @@ pub record LeavesOthers (old new : ControllerState) (call : Call) : Type 0 where
 abbrev pub plugin_with : Config → Plugin ControllerState
 plugin_with config =
     record {
-      party = Controller;
+      machine = controller_with config;
       reply_at = reply_at config;
-      answer = λ state frame. (fenced config state frame).reply;
-      after = λ state frame. (fenced config state frame).state;
       is_same = IsSameApart;
       is_done = IsDone;
       leaves_others = LeavesOthers;
     }
 
--- the call again gets the same reply and changes nothing
-abbrev pub IsIdempotent : Config → ControllerState → Reply → Number → Call → Type 0
-IsIdempotent config state reply number call = lawful.IsIdempotent (plugin_with config) state reply number call
-
--- what is so of one call that the table answers
-abbrev pub IsLawful : Config → ControllerState → Number → Call → Type 0
-IsLawful config state number call = lawful.IsLawful (plugin_with config) state number call
-
 -- the laws, for every state that frames reach and every call that the table answers there
 abbrev pub ControllerTableLaw : Type 0
-ControllerTableLaw =
-    (config : Config) (frames : List Frame) (number : Number) (call : Call)
-    → IsLetThrough (after_frames config empty_controller frames) number call
-    → IsLawful config (after_frames config empty_controller frames) number call
+ControllerTableLaw = (config : Config) → TableLaw (plugin_with config) empty_controller

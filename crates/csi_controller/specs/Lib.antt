@@ -9,12 +9,14 @@ pub mod OneRow
 pub mod RowTable
 pub mod AtRow
 pub mod Making
+pub mod Nowhere
 pub mod Step
 pub mod Line
 pub mod Catalog
 pub mod Counts
 pub mod CoreParts
 pub mod Views
+pub mod WithoutSession
 pub mod Exclusive
 pub mod Safe
 pub mod View
@@ -22,3 +24,5 @@ pub mod SoundRow
 pub mod Judging
 pub mod Repeats
 pub mod RowsLaw
+pub mod CoreAnswers
+pub mod Beginning

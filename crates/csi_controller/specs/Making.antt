@@ -1,7 +1,8 @@
 -- A volume that is made: what a new name is answered, and what a core is then. Only private functions cite it.
-use Rattle.std.specs.Prelude.{◌≡◌, ℕ, ◌<◌, ◌^◌, List, [], ◌∷◌, ◌++◌, true, ◌||◌, nat_le, nat_lt, if◌then◌else◌, codes, ◌+◌, ◌%◌}
+use Rattle.std.specs.Prelude.{◌≡◌, ℕ, ◌<◌, ◌^◌, List, [], ◌∷◌, ◌++◌, Some, true, ◌||◌, nat_le, nat_lt, if◌then◌else◌, codes, ◌+◌, ◌%◌}
 use Rattle.csi_types.specs.declared.capability.Capability.{Capability}
 use Rattle.csi_types.specs.declared.number.Number.{Number}
+use Rattle.csi_fence.specs.declared.answer.Answer.{Answer}
 use Rattle.csi_types.specs.declared.call.Kind.TheVariants.{CreateVolume}
 use Rattle.csi_types.specs.declared.status.Status.TheVariants.{ResourceExhausted, OutOfRange}
 use Rattle.csi_types.specs.Capacity.{wanted}
@@ -18,6 +19,10 @@ abbrev pub made_volume : Number → ℕ → List ℕ → ℕ → List Capability
 made_volume number id name capacity capabilities =
     record { id = id; name = name; capacity = capacity; capabilities = capabilities; is_live = true; kept = record { number = number; kind = CreateVolume; reply = ok_reply_with id } }
 
+-- the answer to the CreateVolume that made it
+abbrev pub made_answer : ℕ → Answer
+made_answer id = record { kind = CreateVolume; reply = ok_reply_with id; row = Some id }
+
 -- CreateVolume of a new name, by what the controller has
 abbrev pub new_line : ℕ → ℕ → ℕ → List ℕ → ℕ → ℕ → List Capability → Outcome
 new_line greatest count next name required limit capabilities =
@@ -25,7 +30,7 @@ new_line greatest count next name required limit capabilities =
     else if nat_le 4096 count || nat_le (2 ^ 64) next then refused ResourceExhausted (codes "volumes")
     else record { reply = ok_reply_with next; change = Makes name (wanted required limit) capabilities }
 
--- the volume was made, and stands last
+-- the volume was made in the present session, and stands last
 pub record IsMade (old new : Core) (number : Number) (id : ℕ) (name : List ℕ) (capacity : ℕ) (capabilities : List Capability) : Type 0 where
   pub row : ControllerRow
   pub volume : volume_of_row row ≡ made_volume number id name capacity capabilities
@@ -33,4 +38,5 @@ pub record IsMade (old new : Core) (number : Number) (id : ℕ) (name : List ℕ
   pub rows : rows_of new.catalog ≡ rows_of old.catalog ++ row ∷ []
   pub next : new.next_id ≡ (old.next_id + 1) % 2 ^ 64
   pub config : new.config ≡ old.config
+  pub session : new.session ≡ old.session
   pub fits : old.next_id < 2 ^ 64

@@ -1,12 +1,13 @@
 -- What a controller knows: the volumes that it made, and one list of all holdings. CSI's spec.md, "Volume
--- Lifecycle"; that a name is never used again, and what is kept of the last call, are this profile's own.
+-- Lifecycle"; that a deleted volume's name is spent until a later session begins, and what is kept of the last call, are this
+-- profile's own.
 use Rattle.std.specs.Prelude.{ℕ, ◌==◌, List, [], filter, find, count_by, Bool, ◌&&◌, Option}
 use Rattle.csi_types.specs.declared.capability.Capability.{Capability}
 use Rattle.csi_types.specs.declared.holding.Holding.{Holding}
 use Rattle.csi_types.specs.declared.call.Call.{Call}
 use Rattle.csi_types.specs.declared.call.Call.TheVariants as calls
 use Rattle.csi_types.specs.Same.{same_text}
-use Rattle.csi_types.specs.Fence.{Kept}
+use Rattle.csi_fence.specs.Fence.{Kept}
 
 -- a volume that was made, deleted since or not, and what is kept of the last call that was answered for it
 pub record Volume : Type 0 where
@@ -17,21 +18,23 @@ pub record Volume : Type 0 where
   pub is_live : Bool
   pub kept : Kept
 
--- every volume that was made, the id of the next one, and all holdings of all volumes, the newest last
+-- the volumes, the id of the next one, the greatest session that came (0 before any did), and all holdings of all volumes, the
+-- newest last. A volume that was deleted is forgotten where a later session begins
 pub record ControllerState : Type 0 where
   pub volumes : List Volume
   pub next_id : ℕ
+  pub session : ℕ
   pub holdings : List Holding
 
 -- a controller that has answered nothing
 abbrev pub empty_controller : ControllerState
-empty_controller = record { volumes = []; next_id = 1; holdings = [] }
+empty_controller = record { volumes = []; next_id = 1; session = 0; holdings = [] }
 
--- the volume of this name, deleted or not
+-- the volume of this name, deleted or not, unless it is forgotten
 abbrev pub volume_named : List ℕ → ControllerState → Option Volume
 volume_named name state = find (λ volume. same_text volume.name name) state.volumes
 
--- the volume of this id, deleted or not
+-- the volume of this id, deleted or not, unless it is forgotten
 abbrev pub volume_with_id : ℕ → ControllerState → Option Volume
 volume_with_id id state = find (λ volume. volume.id == id) state.volumes
 

@@ -12,7 +12,7 @@ use Rattle.csi_types.specs.declared.status.Status.TheVariants.{InvalidArgument, 
 use Rattle.csi_types.specs.declared.reply.Reply.{Reply}
 use Rattle.csi_types.specs.Capacity.{is_bad_range, is_empty_range, wanted}
 use Rattle.csi_types.specs.Config.{Config, has_node}
-use Rattle.csi_types.specs.Fence.{Kept}
+use Rattle.csi_fence.specs.Fence.{Kept}
 use Rattle.csi_types.specs.Holding.{same_holding, is_compatible}
 use Rattle.csi_types.specs.Replies.{plain_reply, ok_reply, ok_reply_with}
 use Rattle.csi_types.specs.Same.{same_text, has_capability}

@@ -7,8 +7,8 @@ use Rattle.csi_types.specs.declared.call.Call.TheVariants as calls
 use Rattle.csi_types.specs.declared.call.Party.TheVariants.{Controller}
 use Rattle.csi_types.specs.Call.{kind_of, is_party_of}
 use Rattle.csi_types.specs.Config.{Config}
-use Rattle.csi_types.specs.Delivery.{View, view_by, IsDelivered, IsEmpty, IsClosed}
-use Rattle.csi_types.specs.Fence.{Kept}
+use Rattle.csi_fence.specs.Delivery.{View, view_by, IsDelivered, IsEmpty, IsClosed}
+use Rattle.csi_fence.specs.Fence.{Kept}
 use Rattle.csi_types.specs.Frame.{Frame}
 use Rattle.csi_types.specs.Key.{Key, Exists, Attached, Staged, Published, Form, HasId, AttachedAs}
 use Rattle.csi_types.specs.Replies.{call_frame}
@@ -27,7 +27,7 @@ held_in state (Attached id node) = option_map (λ holding. AttachedAs holding.ca
 held_in state (Staged id node) = None
 held_in state (Published id node target) = None
 
--- what is kept of the last call that was answered for a thing's volume, deleted or not
+-- what is kept of the last call that was answered for a thing's volume, deleted or not, unless it is forgotten
 abbrev pub kept_in_row : ControllerState → Key → Option Kept
 kept_in_row state (Exists name) = option_map (λ volume. volume.kept) (volume_named name state)
 kept_in_row state (Attached id node) = option_map (λ volume. volume.kept) (volume_with_id id state)
@@ -36,9 +36,9 @@ kept_in_row state (Published id node target) = None
 
 -- the controller by its things
 abbrev pub view_of : ControllerState → View
-view_of state = view_by (held_in state) (kept_in_row state)
+view_of state = view_by state.session (held_in state) (kept_in_row state)
 
--- the thing that a call to the controller does or undoes, where the call's volume was made
+-- the thing that a call to the controller does or undoes, where the controller has the call's volume
 abbrev pub key_of : ControllerState → Call → Option Key
 key_of state (calls.CreateVolume name required limit capabilities) = Some (Exists name)
 key_of state (calls.DeleteVolume id) = option_map (λ volume. Exists volume.name) (volume_with_id id state)

@@ -6,9 +6,10 @@ use Rattle.csi_types.specs.declared.holding.Holding.{Holding}
 use Rattle.csi_controller.specs.Shown.{volume_of_row, holdings_in_row, holdings_in}
 use Rattle.csi_controller.specs.Core.{IsSameRow}
 
--- a record's next id (0 once all were given), and its rows by rising id
+-- a record's next id (0 once all were given), the greatest session that came, and its rows by rising id
 pub record RecordParts : Type 0 where
   pub next_id : ℕ
+  pub session : ℕ
   pub rows : List ControllerRow
 
 -- id and capacity of a volume, unless it was deleted

@@ -1,5 +1,5 @@
 -- Worked examples of the controller's table and fence, which the checker computes.
-use Rattle.std.specs.Prelude.{◌≡◌, ℕ, List, [], ◌∷◌, ◌++◌, Bool, true, false, Option, Some, None, codes}
+use Rattle.std.specs.Prelude.{◌≡◌, ℕ, List, [], ◌∷◌, ◌++◌, length, Bool, true, false, Option, Some, None, codes}
 use Rattle.csi_types.specs.declared.number.Number.{Number}
 use Rattle.csi_types.specs.declared.mode.Mode.{Mode}
 use Rattle.csi_types.specs.declared.mode.Mode.TheVariants.{SingleNodeWriter, MultiNodeReaderOnly, MultiNodeSingleWriter}
@@ -37,9 +37,13 @@ four_nodes = record { greatest = 1000; nodes = slots (codes "n1") 4 ∷ slots (c
 abbrev pub one_slot : Config
 one_slot = record { greatest = 1000; nodes = slots (codes "n1") 1 ∷ [] }
 
--- the call of this number of session 1
+-- the call of this number of a session
+abbrev pub call_in : ℕ → ℕ → Call → Frame
+call_in session call_number call = call_frame (record { session = session; call = call_number }) Controller call
+
+-- of session 1
 abbrev pub call_at : ℕ → Call → Frame
-call_at call_number call = call_frame (record { session = 1; call = call_number }) Controller call
+call_at call_number call = call_in 1 call_number call
 
 -- the reply in a frame
 abbrev pub reply_in_body : Body → List Reply
@@ -95,7 +99,7 @@ pub record SlotsRow : Type 0 where
   pub unknown_node : replies one_slot (call_at 1 (create_v (block SingleNodeWriter ∷ [])) ∷ call_at 2 (publish_at (codes "n2") (block SingleNodeWriter) false) ∷ [])
       ≡ ok_reply_with 1 ∷ plain_reply NotFound (codes "node") ∷ []
 
--- a name that was created is found again where it serves, and is spent for good once it is deleted
+-- a name that was created is found again where it serves, and is spent for its session once it is deleted
 pub record NameRow : Type 0 where
   pub created_again : replies four_nodes (call_at 1 (create_v (block SingleNodeWriter ∷ [])) ∷ call_at 2 (CreateVolume (codes "v") 5 20 (block SingleNodeWriter ∷ []))
       ∷ call_at 3 (CreateVolume (codes "v") 11 0 (block SingleNodeWriter ∷ [])) ∷ call_at 4 (DeleteVolume 1) ∷ call_at 5 (create_v (block SingleNodeWriter ∷ [])) ∷ [])
@@ -106,6 +110,17 @@ pub record FenceRow : Type 0 where
   pub repeated : replies four_nodes (call_at 1 (create_v (block SingleNodeWriter ∷ [])) ∷ call_at 2 (publish_at (codes "n1") (block SingleNodeWriter) false)
       ∷ call_at 2 (ControllerUnpublishVolume 1 (codes "n1")) ∷ call_at 1 (create_v (block SingleNodeWriter ∷ [])) ∷ call_at 3 (DeleteVolume 1) ∷ [])
       ≡ ok_reply_with 1 ∷ ok_reply ∷ ok_reply ∷ plain_reply Aborted (codes "stale") ∷ plain_reply FailedPrecondition (codes "n1") ∷ []
+
+-- v was deleted in session 1, and session 2 has begun with another volume
+abbrev pub two_sessions : List Frame
+two_sessions = call_in 1 1 (create_v (block SingleNodeWriter ∷ [])) ∷ call_in 1 2 (DeleteVolume 1) ∷ call_in 2 1 (CreateVolume (codes "w") 10 0 (block SingleNodeWriter ∷ [])) ∷ []
+
+-- v is forgotten then: a call of session 1 is stale, though it was the last one for v, and v is made anew under the next id
+pub record SessionRow : Type 0 where
+  pub one_volume : length (after_frames four_nodes empty_controller two_sessions).volumes ≡ 1
+  pub session : (after_frames four_nodes empty_controller two_sessions).session ≡ 2
+  pub made_anew : replies four_nodes (two_sessions ++ call_in 1 2 (DeleteVolume 1) ∷ call_in 2 2 (create_v (block SingleNodeWriter ∷ [])) ∷ [])
+      ≡ ok_reply_with 1 ∷ ok_reply ∷ ok_reply_with 2 ∷ plain_reply Aborted (codes "stale") ∷ ok_reply_with 3 ∷ []
 
 -- a controller that has answered nothing is shown by a record without rows, whose next id is 1
 abbrev pub EmptyIsShown : Type 0

@@ -1,16 +1,17 @@
 //! A controller's rows by id and by name. No look-up walks them.
-ghost use Rattle.std.specs.Prelude.{◌≡◌, ◌==◌, ◌++◌, ◌∷◌, [], None, Some, length, find, position, option_map, OnOk, OnErr, IfOk, IfSome, ◌<◌};
+ghost use Rattle.std.specs.Prelude.{◌≡◌, ◌==◌, ◌++◌, ◌∷◌, [], None, Some, length, map, filter, find, position, option_map, OnOk, OnErr, IfOk, IfSome, ◌<◌};
 ghost use Rattle.std.specs.Option.{option_copied};
 ghost use Rattle.std.specs.String.{string_bytes};
-ghost use Rattle.indexmap.specs.IndexMap.{index_map_len};
+ghost use Rattle.indexmap.specs.IndexMap.{index_map_len, values};
 ghost use Rattle.csi_types.specs.Same.{same_text};
-ghost use Rattle.csi_controller.specs.Catalog.{rows_of, IsIndexed};
-ghost use Rattle.csi_controller.specs.Core.{IsSound};
+ghost use Rattle.csi_controller.specs.Catalog.{rows_of, by_id, is_kept, IsIndexed, HasRoom, AreSameEntries};
+ghost use Rattle.csi_controller.specs.Core.{IsSound, IsRising};
+ghost use Rattle.csi_controller.specs.WithoutSession.{stays_in};
 ghost use Rattle.csi_controller.specs.Views.{AreSameRows};
 
 use crate::controller::copies::copied_row;
-use crate::fault::CoreFault;
 use crate::row::ControllerRow;
+use csi_fence::CoreFault;
 use csi_types::{Name, VolumeId};
 use indexmap::IndexMap;
 use std::alloc::{AllocError, Global};
@@ -27,6 +28,24 @@ fn text_of(alloc: Global, name: &Name) -> Result<String, AllocError>
     ensures { IfOk result (λ text. string_bytes text ≡ name.now) }
 {
     String::from_str(alloc, name.as_str())
+}
+
+/// Whether the row stays in this session: its volume is live, or its last call is of that session.
+pub fn stays(row: &ControllerRow, session: u64) -> bool
+    ensures { result ≡ stays_in session row.now }
+{
+    row.live || row.last.session == session
+}
+
+// Whether the row of this id stays in this session.
+fn is_id_kept(rows: &IndexMap<VolumeId, ControllerRow>, id: VolumeId, session: u64) -> bool
+    requires { rows.now.entries ≡ map by_id (values rows.now) }
+    ensures { result ≡ is_kept session id (values rows.now) }
+{
+    match rows.get(&id) {
+        Some(row) => stays(row, session),
+        None => false,
+    }
 }
 
 impl Catalog {
@@ -70,6 +89,13 @@ impl Catalog {
         ensures { result ≡ length (rows_of self.now) }
     {
         self.rows().len()
+    }
+
+    /// How many of them are of live volumes.
+    pub fn live(&self) -> usize
+        ensures { result ≡ length (filter (λ row. row.live) (rows_of self.now)) }
+    {
+        self.rows().iter().filter(|row| row.live).count()
     }
 
     /// Where the row of this id is. Where no row is, no id is hashed.
@@ -126,6 +152,33 @@ impl Catalog {
         }
     }
 
+    /// Makes room for one more row, and gives the text of its name. The rows stay as they were.
+    pub fn make_room(&mut self, alloc: Global, name: &Name) -> Result<String, CoreFault>
+        ensures text { IfOk result (λ text. string_bytes text ≡ name.now) }
+        ensures room { OnOk result (HasRoom self.new) }
+        ensures same { AreSameEntries self.old self.new }
+    {
+        let text = text_of(alloc, name)?;
+        self.ids.reserve(1)?;
+        self.rows.reserve(1)?;
+        Ok(text)
+    }
+
+    /// Puts a row into the room that was made, the last one, under the text of its name. It takes no memory.
+    pub fn put(&mut self, text: String, row: ControllerRow)
+        requires indexed { IsIndexed self.old }
+        requires room { HasRoom self.old }
+        requires text { string_bytes text ≡ row.name }
+        requires new_id { find (λ other. other.id == row.id) (rows_of self.old) ≡ None }
+        requires new_name { find (λ other. same_text other.name row.name) (rows_of self.old) ≡ None }
+        ensures added { rows_of self.new ≡ rows_of self.old ++ row ∷ [] }
+        ensures indexed { IsIndexed self.new }
+    {
+        let id = row.id;
+        self.ids.insert(text, id).unwrap();
+        self.rows.insert(id, row).unwrap();
+    }
+
     /// Adds a row, the last one. A refusal changes nothing.
     pub fn add(&mut self, alloc: Global, row: ControllerRow) -> Result<(), CoreFault>
         requires indexed { IsIndexed self.old }
@@ -135,16 +188,23 @@ impl Catalog {
         ensures err { OnErr result (rows_of self.new ≡ rows_of self.old) }
         ensures indexed { IsIndexed self.new }
     {
-        let id = row.id;
-        let name = text_of(alloc, &row.name)?;
-        self.ids.insert(name, id)?;
-        match self.rows.insert(id, row) {
-            Ok(_) => Ok(()),
-            Err(_) => {
-                self.ids.pop();
-                Err(CoreFault::NoMemory)
-            }
-        }
+        let text = self.make_room(alloc, &row.name)?;
+        self.put(text, row);
+        Ok(())
+    }
+
+    /// Forgets the volumes that were deleted and whose last calls are of other sessions than this one. The other rows keep their
+    /// order, and the room that there was stays. It takes no memory.
+    pub fn forget(&mut self, session: u64)
+        requires indexed { IsIndexed self.old }
+        requires rising { IsRising (rows_of self.old) }
+        ensures rows { rows_of self.new ≡ filter (stays_in session) (rows_of self.old) }
+        ensures indexed { IsIndexed self.new }
+        ensures room { HasRoom self.old → HasRoom self.new }
+    {
+        let rows = &self.rows;
+        self.ids.retain(|_text, id| is_id_kept(rows, *id, session));
+        self.rows.retain(|_id, row| stays(row, session));
     }
 
     /// The same rows again.

@@ -10,6 +10,7 @@ ghost use Rattle.csi_types.specs.Replies.{call_frame};
 
 mod at_row;
 mod attached;
+mod beginning;
 mod changes;
 pub(crate) mod copies;
 mod core_parts;
@@ -25,24 +26,22 @@ mod readers;
 mod replies;
 mod row_table;
 mod step;
+mod without_row;
 
 use crate::catalog::Catalog;
-use crate::fault::CoreFault;
 use crate::record::ControllerRecord;
 use crate::row::ControllerRow;
 use attached::attachments;
 use core_parts::Core;
 use counts::counted;
-use csi_types::{
-    Body, Call, CallRef, CapabilityList, CapabilityRef, Config, Frame, Holding, Kind, Name, Number,
-    Party, Reply, VolumeId,
-};
+use csi_fence::{Answer, CoreFault};
+use csi_types::{Body, CallRef, Config, Frame, Holding, Name, Number, Party, VolumeId};
 use std::alloc::Global;
 use std::marker::Model;
 
 /// The controller plugin of CSI's spec.md, "Controller Service RPC": the volumes that it made, the nodes at
-/// which each is published, and the last call that it answered for each. A contract sees its configuration,
-/// its next id and its rows by rising id.
+/// which each is published, the last call that it answered for each, and the greatest session of which a call came. A contract
+/// sees its configuration, its next id, that session and its rows by rising id.
 #[derive(Drop)]
 pub struct Controller {
     core: Core,
@@ -60,14 +59,14 @@ impl Model for Controller {
 }
 
 impl Controller {
-    ghost use Rattle.csi_controller.specs.RowsLaw.{last_call};
-    ghost use Rattle.csi_controller.specs.State.{ControllerState, empty_controller, volume_named, row_for};
+    ghost use Rattle.csi_controller.specs.RowsLaw.{Changes};
+    ghost use Rattle.csi_controller.specs.State.{ControllerState, empty_controller, volume_named};
     ghost use Rattle.csi_controller.specs.Fenced.{fenced, kept_for};
     ghost use Rattle.csi_controller.specs.Repeats.{IsPlainRepeat};
     ghost use Rattle.csi_controller.specs.Step.{answer_frame};
     ghost use Rattle.csi_lists.specs.Members.{EachTwo};
     ghost use Rattle.csi_controller.specs.Views.{shown_if_live, attached, IsHeldBefore, HasHoldingsOf, IsCopyOf, IsRowOf};
-    ghost use Rattle.csi_controller.specs.Core.{Shows, IsSound, IsAnsweredOk, IsUndoing};
+    ghost use Rattle.csi_controller.specs.Core.{Shows, IsSound, IsCurrent, IsAnsweredOk, IsUndoing};
 
     /// A controller that made no volume. It takes no memory.
     pub fn new(alloc: Global, config: Config) -> Controller
@@ -82,6 +81,7 @@ impl Controller {
                 alloc,
                 config,
                 next_id: 1,
+                session: 0,
                 catalog,
                 counts,
             },
@@ -89,14 +89,16 @@ impl Controller {
     }
 
     /// Answers a call: the fence, then the table ("CreateVolume", "DeleteVolume", "ControllerPublishVolume"
-    /// and "ControllerUnpublishVolume" of CSI's spec.md; the fence is this profile's own). A reply and another
-    /// plugin's call get no answer, change nothing and take no memory. None is taken by a DeleteVolume and a
-    /// ControllerUnpublishVolume that the table answers with `Ok`, nor by a kept reply without a detail that is given
-    /// again. A refusal for want of memory leaves the controller as it was.
+    /// and "ControllerUnpublishVolume" of CSI's spec.md; the fence is this profile's own). A call of an earlier session than the
+    /// greatest that came is refused as stale. One of a later session begins it: the volumes that were deleted before are forgotten,
+    /// and then it is answered. A reply and another plugin's call get no answer, change nothing and take no memory. None is taken by a
+    /// DeleteVolume and a ControllerUnpublishVolume that the table answers with `Ok`, nor by a kept reply without a detail that is
+    /// given again. A refusal for want of memory leaves the controller as it was.
     pub fn step(&mut self, frame: &Frame) -> Result<Option<Frame>, CoreFault>
         // the answer and the new state are the definition's
         ensures reply { (state : ControllerState) → Shows self.old state → IfOk result (λ reply. reply ≡ (fenced self.old.config state frame.now).reply) }
         ensures state { (state : ControllerState) → Shows self.old state → OnOk result (Shows self.new (fenced self.old.config state frame.now).state) }
+        ensures current { IsCurrent self.new.session self.new.rows }
         ensures config { self.new.config ≡ self.old.config }
         ensures err { (state : ControllerState) → Shows self.old state → OnErr result (Shows self.new state) }
         // what takes no memory succeeds
@@ -104,26 +106,30 @@ impl Controller {
         ensures undone { (state : ControllerState) (call : OneCall) → Shows self.old state → frame.now.body ≡ Body.Call call → IsUndoing call
             → IsAnsweredOk self.old.config state frame.now.number call → IsOk result }
         ensures repeated { (state : ControllerState) (call : OneCall) → Shows self.old state → frame.now.body ≡ Body.Call call
-            → IsPlainRepeat (kept_for call state) frame.now.number → IsOk result }
+            → IsPlainRepeat state.session (kept_for call state) frame.now.number → IsOk result }
     {
         self.core.step(frame)
     }
 
-    /// Answers a call as `step` answers a frame of it, by the kind and the reply that the frame of the answer has: those that were
-    /// kept, where the call comes again. Another plugin's call, and a call with a text outside its limits, which no frame has, get no
+    /// Answers a call as `step` answers a frame of it, by the kind and the reply that the frame of the answer has (those that were
+    /// kept, where the call comes again), and says which volume's row it changed or made. Another plugin's call, and a call with a text outside its limits, which no frame has, get no
     /// answer, change nothing and take no memory. Beyond that it takes memory where `step` does. A refusal for want of memory leaves
     /// the controller as it was.
     pub fn answer(
         &mut self,
         number: Number,
         call: &CallRef<'_>,
-    ) -> Result<Option<(Kind, Reply)>, CoreFault>
+    ) -> Result<Option<Answer>, CoreFault>
         // what a frame of the call gets, for any plugin that it is for
         ensures reply { (state : ControllerState) (party : OneParty) → Shows self.old state → IsAllowed party (Body.Call (lent_call call.now)) → HasFitTexts (lent_call call.now)
             → IfOk result (λ answer. option_map (answer_frame number) answer ≡ (fenced self.old.config state (call_frame number party (lent_call call.now))).reply) }
         ensures state { (state : ControllerState) (party : OneParty) → Shows self.old state → IsAllowed party (Body.Call (lent_call call.now)) → HasFitTexts (lent_call call.now)
             → OnOk result (Shows self.new (fenced self.old.config state (call_frame number party (lent_call call.now))).state) }
-        ensures allowed { IfOk result (λ answer. IfSome answer (λ own. IsAllowed Party.Controller (Body.Reply own.0 own.1))) }
+        // which row was changed or made, and what stays as it was
+        ensures changes { IfOk result (λ answer. IfSome answer (λ own. Changes own.row number self.old self.new)) }
+        ensures current { IsCurrent self.new.session self.new.rows }
+        ensures unanswered { result ≡ Ok None → self.new ≡ self.old }
+        ensures allowed { IfOk result (λ answer. IfSome answer (λ own. IsAllowed Party.Controller (Body.Reply own.kind own.reply))) }
         ensures config { self.new.config ≡ self.old.config }
         ensures err { (state : ControllerState) → Shows self.old state → OnErr result (Shows self.new state) }
         // no frame has a call with such a text
@@ -131,8 +137,9 @@ impl Controller {
         // what takes no memory succeeds
         ensures others { IsTrue (not (is_party_of (kind_of (lent_call call.now)) Party.Controller)) → result ≡ Ok None }
         ensures undone { (state : ControllerState) → Shows self.old state → IsUndoing (lent_call call.now) → IsAnsweredOk self.old.config state number (lent_call call.now) → IsOk result }
-        ensures repeated { (state : ControllerState) → Shows self.old state → IsPlainRepeat (kept_for (lent_call call.now) state) number → IsOk result }
+        ensures repeated { (state : ControllerState) → Shows self.old state → IsPlainRepeat state.session (kept_for (lent_call call.now) state) number → IsOk result }
     {
+        self.assert_current();
         if !call.is_within_limits() {
             return Ok(None);
         }
@@ -146,7 +153,7 @@ impl Controller {
         self.core.volume(name.as_str())
     }
 
-    /// The id of the volume of this name, deleted or not. It takes no memory.
+    /// The id of the volume of this name, deleted or not, unless it is forgotten. It takes no memory.
     pub fn id_of(&self, name: &Name) -> Option<VolumeId>
         ensures { (state : ControllerState) → Shows self.now state → result ≡ option_map (λ volume. volume.id) (volume_named name.now state) }
     {
@@ -161,6 +168,14 @@ impl Controller {
         self.core.next_id
     }
 
+    /// The greatest session of which a call came, 0 before any did. It takes no memory.
+    pub fn session(&self) -> u64
+        ensures value { result ≡ self.now.session }
+        ensures state { (state : ControllerState) → Shows self.now state → result ≡ state.session }
+    {
+        self.core.session
+    }
+
     /// The controller of a record, under a configuration that need not be the one that it was made under: what
     /// the record holds stays, also where the configuration wouldn't grant it. It takes no memory.
     pub fn from_record(
@@ -168,9 +183,11 @@ impl Controller {
         config: Config,
         kept: ControllerRecord,
     ) -> Result<Controller, CoreFault>
-        ensures { result ≡ Ok (record { config = config; next_id = kept.next_id; rows = kept.rows }) }
+        ensures current { IfOk result (λ made. IsCurrent made.session made.rows) }
+        ensures value { result ≡ Ok (record { config = config; next_id = kept.next_id; session = kept.session; rows = kept.rows }) }
     {
         let next_id = kept.next_id();
+        let session = kept.session();
         let catalog = kept.into_catalog();
         config.fit_law();
         let counts = counted(config.nodes(), catalog.rows());
@@ -179,6 +196,7 @@ impl Controller {
                 alloc,
                 config,
                 next_id,
+                session,
                 catalog,
                 counts,
             },
@@ -188,14 +206,14 @@ impl Controller {
     /// The record of this controller.
     pub fn record(&self) -> Result<ControllerRecord, CoreFault>
         ensures { (state : ControllerState) → Shows self.now state →
-            IfOk result (λ kept. Shows (record { config = self.now.config; next_id = kept.next_id; rows = kept.rows }) state) }
+            IfOk result (λ kept. Shows (record { config = self.now.config; next_id = kept.next_id; session = kept.session; rows = kept.rows }) state) }
     {
         let core = &self.core;
         let catalog = core.catalog.copied(core.alloc, core.next_id)?;
-        Ok(ControllerRecord::new(core.next_id, catalog))
+        Ok(ControllerRecord::new(core.next_id, core.session, catalog))
     }
 
-    /// The row of the volume of this id, deleted or not, as the record has it. Where there is none it takes no memory.
+    /// The row of the volume of this id, deleted or not, unless it is forgotten, as the record has it. Where there is none it takes no memory.
     pub fn row(&self, id: VolumeId) -> Result<Option<ControllerRow>, CoreFault>
         ensures copy { IfOk result (λ copy. IsCopyOf (find (λ row. row.id == id) self.now.rows) copy) }
         ensures state { (state : ControllerState) → Shows self.now state → IfOk result (IsRowOf state id) }
@@ -204,22 +222,11 @@ impl Controller {
         self.core.row(id)
     }
 
-    /// The row of the volume of this id, deleted or not, as the controller has it. It takes no memory.
+    /// The row of the volume of this id, deleted or not, unless it is forgotten, as the controller has it. It takes no memory.
     pub fn row_with_id(&self, id: VolumeId) -> Option<&ControllerRow>
         ensures { option_copied result ≡ find (λ row. row.id == id) self.now.rows }
     {
         self.core.catalog.with_id(id)
-    }
-
-    /// The id of the volume of this call, deleted or not, and the number of the last call that was answered for it; none where there is
-    /// no such volume. A CreateVolume's volume is that of its name, and each other call's that of its id. It takes no memory.
-    /// This profile's own.
-    pub fn last_for(&self, call: &Call) -> Option<(VolumeId, Number)>
-        ensures { (state : ControllerState) → Shows self.now state → result ≡ option_map last_call (row_for call.now state) }
-    {
-        // the proof has to be told the types of a lent call's parts
-        let _parts: Option<(&CapabilityList, CapabilityRef<'_>)> = None;
-        self.core.last_for(&call.lend())
     }
 
     /// Where each volume is held, by rising id, and for each volume in the order of its row.
@@ -234,6 +241,13 @@ impl Controller {
     // Nothing that runs: the rules of the rows hold.
     pub(crate) fn assert_sound(&self)
         ensures { IsSound self.now.next_id self.now.rows }
+    {
+        let _core = &self.core;
+    }
+
+    // Nothing that runs: no row is of a later session, and each of a deleted volume is of this one.
+    pub(crate) fn assert_current(&self)
+        ensures { IsCurrent self.now.session self.now.rows }
     {
         let _core = &self.core;
     }

@@ -4,9 +4,10 @@ ghost use Rattle.std.specs.BTreeSet.{contains_by};
 ghost use Rattle.std.specs.Cmp.Lexicographic.{slice_cmp};
 ghost use Rattle.std.specs.Ordering.{nat_cmp};
 ghost use Rattle.csi_types.specs.Same.{same_text};
-ghost use Rattle.csi_controller.specs.Core.{IsSound};
-ghost use Rattle.csi_controller.specs.Judging.{IsFirstRefused, may_follow as is_fit_after};
+ghost use Rattle.csi_controller.specs.Core.{IsSound, IsCurrent};
+ghost use Rattle.csi_controller.specs.Judging.{AreRecorded, IsFirstRefused, earlier_of, is_current_row, may_follow as is_fit_after};
 
+use crate::catalog::stays;
 use crate::row::ControllerRow;
 use crate::sound_row::is_sound_row;
 use csi_types::NoMemory;
@@ -35,14 +36,21 @@ fn add_name<'a>(names: &mut BTreeSet<&'a str>, name: &'a str) -> Result<bool, No
     }
 }
 
-/// The place, counted from 1, of the first row that no record with this next id has there; `None` where all these rows
-/// are a record's. The names are kept in order, so that each row is compared with few others.
+// Whether the row's last call is of no later session than this one, and of this one where its volume was deleted.
+fn is_current(session: u64, row: &ControllerRow) -> bool
+    ensures { result ≡ is_current_row session row.now }
+{
+    row.last.session <= session && stays(row, session)
+}
+
+/// The place, counted from 1, of the first row that no record with this next id has there, whatever its session is; `None` where
+/// all these rows are a record's. The names are kept in order, so that each row is compared with few others.
 pub(crate) fn first_refused(
     alloc: Global,
     next_id: u64,
     rows: &[ControllerRow],
 ) -> Result<Option<u64>, NoMemory>
-    ensures { IfOk result (λ found. MatchOption found (IsSound next_id rows.now) (IsFirstRefused next_id rows.now)) }
+    ensures { IfOk result (λ found. MatchOption found (IsSound next_id rows.now) (IsFirstRefused (IsSound next_id) rows.now)) }
 {
     let mut names = BTreeSet::new(alloc);
     let mut last = 0;
@@ -58,4 +66,47 @@ pub(crate) fn first_refused(
         last = id;
     }
     Ok(None)
+}
+
+// The place, counted from 1, of the first row that isn't one of this session.
+fn first_not_current(session: u64, rows: &[ControllerRow]) -> Option<u64>
+    ensures { MatchOption result (IsCurrent session rows.now) (IsFirstRefused (IsCurrent session) rows.now) }
+{
+    for (index, row) in rows.iter().enumerate() {
+        if !is_current(session, row) {
+            return Some(index as u64 + 1);
+        }
+    }
+    None
+}
+
+// The earlier of two places, of which neither, one or both may be there.
+fn earlier(first: Option<u64>, second: Option<u64>) -> Option<u64>
+    ensures { result ≡ earlier_of first second }
+{
+    match (first, second) {
+        (Some(first), Some(second)) => {
+            if first <= second {
+                Some(first)
+            } else {
+                Some(second)
+            }
+        }
+        (Some(first), None) => Some(first),
+        (None, second) => second,
+    }
+}
+
+/// The place, counted from 1, of the first row that no record with this next id and this session has there; `None` where all these
+/// rows are a record's.
+pub(crate) fn first_unfit(
+    alloc: Global,
+    next_id: u64,
+    session: u64,
+    rows: &[ControllerRow],
+) -> Result<Option<u64>, NoMemory>
+    ensures { IfOk result (λ found. MatchOption found (AreRecorded next_id session rows.now) (IsFirstRefused (AreRecorded next_id session) rows.now)) }
+{
+    let found = first_refused(alloc, next_id, rows)?;
+    Ok(earlier(found, first_not_current(session, rows)))
 }

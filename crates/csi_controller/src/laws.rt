@@ -1,10 +1,9 @@
 //! The laws of the controller.
 ghost use Rattle.std.specs.List.{AllByRecursion};
-ghost use Rattle.csi_controller.specs.Core.{Shows, IsSound};
+ghost use Rattle.csi_controller.specs.Core.{Shows, IsSound, IsCurrent};
 ghost use Rattle.csi_controller.specs.Exclusive.{IsRowExclusive};
 ghost use Rattle.csi_controller.specs.Laws.{ControllerTableLaw};
-ghost use Rattle.csi_controller.specs.RowsLaw.{ControllerRowsLaw};
-ghost use Rattle.csi_controller.specs.Safe.{ControllerSafetyLaw};
+ghost use Rattle.csi_controller.specs.Safe.{ControllerSafetyLaw, ControllerSessionsLaw};
 ghost use Rattle.csi_controller.specs.State.{ControllerState};
 ghost use Rattle.csi_controller.specs.View.{ControllerDeliveryLaw, ControllerNamesLaw};
 
@@ -12,7 +11,8 @@ use crate::controller::Controller;
 
 /// A law, and nothing that runs: in every state that frames lead to, and for every call that the table
 /// answers there, a refusal changes nothing, a success brings about what the call asks, the same call again
-/// is met, and other volumes stay as they are (CSI's spec.md, "CreateVolume" to "ControllerUnpublishVolume").
+/// in its session is met, and other volumes stay as they are (CSI's spec.md, "CreateVolume" to "ControllerUnpublishVolume"). A call
+/// of a later session than the greatest that came is judged where that session has begun: volumes that were deleted are forgotten.
 pub fn table_law()
     ensures { ControllerTableLaw }
 {}
@@ -29,10 +29,17 @@ pub fn safety_law()
 /// out, and then its number wasn't spent, an `Ok` leaves its thing as asked and the number spent, a refusal leaves
 /// the thing as it was, and other things are as they were; or it isn't, since its number was spent, and then
 /// nothing changes, and an `Ok` is the reply that was kept for that number; or the controller doesn't have its
-/// volume, and then all things are as they were, and an `Ok` asks for nothing (CSI's spec.md, "Concurrency"; the
-/// numbers are this profile's own).
+/// volume, which it may have forgotten, and then all things are as they were, and an `Ok` asks for nothing. What was
+/// spent stays so, also where a volume is forgotten (CSI's spec.md, "Concurrency"; numbers and sessions are this profile's own).
 pub fn delivery_law()
     ensures { ControllerDeliveryLaw }
+{}
+
+/// A law, and nothing that runs: in every state that frames lead to, each volume that was deleted and isn't forgotten had its
+/// last call in the greatest session that came, and none had one in a later session; so there are no more rows than live volumes
+/// and volumes whose last call is of that session, however many were made (this profile's own).
+pub fn sessions_law()
+    ensures { ControllerSessionsLaw }
 {}
 
 /// A law, and nothing that runs: in every state that frames lead to, a volume that is found by its name is found
@@ -68,9 +75,10 @@ pub fn sound_law(controller: &Controller)
     controller.assert_sound();
 }
 
-/// A law, and nothing that runs: what a controller shows tells its next id and its rows; and a frame changes at most the row that its
-/// call has then, so that where the call has no row after the frame, or its row's last number is as before the frame, the state is as before.
-/// This profile's own.
-pub fn rows_law()
-    ensures { ControllerRowsLaw }
-{}
+/// A law, and nothing that runs: in every controller, whatever it was asked and whichever record it was made of, no row's last call
+/// is of a later session than the greatest that came, and that of a volume that was deleted is of that session. This profile's own.
+pub fn current_law(controller: &Controller)
+    ensures { IsCurrent controller.now.session controller.now.rows }
+{
+    controller.assert_current();
+}

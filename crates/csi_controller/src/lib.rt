@@ -4,7 +4,6 @@
 
 mod catalog;
 mod controller;
-mod fault;
 mod judging;
 mod laws;
 mod record;
@@ -13,9 +12,10 @@ mod sound_row;
 mod worked;
 
 pub use controller::Controller;
-pub use fault::{CoreFault, RecordFault};
+pub use csi_fence::{Answer, CoreFault, RecordFault};
 pub use laws::{
-    delivery_law, exclusive_law, names_law, rows_law, safety_law, showing_law, sound_law, table_law,
+    current_law, delivery_law, exclusive_law, names_law, safety_law, sessions_law, showing_law,
+    sound_law, table_law,
 };
 pub use record::ControllerRecord;
 pub use row::{ControllerRow, NodeHolding};

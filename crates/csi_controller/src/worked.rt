@@ -1,5 +1,5 @@
 //! Worked examples of the controller's table and fence. Each function proves a statement, and does nothing.
-ghost use Rattle.csi_controller.specs.Worked.{OneNodeRow, BothModesRow, SingleWriterRow, SlotsRow, NameRow, FenceRow, EmptyIsShown, LawsTellPublish};
+ghost use Rattle.csi_controller.specs.Worked.{OneNodeRow, BothModesRow, SingleWriterRow, SlotsRow, NameRow, FenceRow, SessionRow, EmptyIsShown, LawsTellPublish};
 
 fn one_node()
     ensures { OneNodeRow }
@@ -23,6 +23,10 @@ fn names()
 
 fn fence()
     ensures { FenceRow }
+{}
+
+fn sessions()
+    ensures { SessionRow }
 {}
 
 fn empty()

@@ -1,4 +1,4 @@
--- What each version of frames and of records has. Whatever tells one version from another stands here. This profile's own.
+-- What each version of frames has. Whatever tells one version from another stands here. This profile's own.
 use Rattle.std.specs.Prelude.{ℕ, zero, suc, Bool, true, false, not, ◌&&◌, if◌then◌else◌, Option, Some, None}
 use Rattle.csi_types.specs.declared.mode.Mode.{Mode}
 use Rattle.csi_types.specs.declared.mode.Mode.TheVariants.{SingleNodeWriter, SingleNodeReaderOnly, MultiNodeReaderOnly, MultiNodeSingleWriter, MultiNodeMultiWriter, SingleNodeSingleWriter, SingleNodeMultiWriter}

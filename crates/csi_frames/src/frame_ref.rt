@@ -6,9 +6,9 @@ ghost use Rattle.csi_frames.specs.Reading.{first_frame};
 ghost use Rattle.csi_frames.specs.Spelling.{spelling};
 
 use crate::body::body_of;
-use crate::borrowed::{BodyRef, BorrowedFrame};
+use crate::borrowed::{BodyRef, BorrowedFrame, PartyRef};
 use crate::{lending, owned};
-use csi_types::{CallRef, CapabilityList, Frame, NoMemory, Number};
+use csi_types::{CallRef, CapabilityList, Frame, NoMemory, Number, Party};
 use std::alloc::Global;
 
 /// A frame whose texts are slices of the bytes that it was read from. A contract sees the frame that it stands for, by its
@@ -22,7 +22,7 @@ pub struct FrameRef<'a> {
 }
 
 impl<'a> FrameRef<'a> {
-    ghost use Rattle.std.specs.Prelude.{◌≡◌, IfOk, IsOk, IfSome, option_map};
+    ghost use Rattle.std.specs.Prelude.{◌≡◌, ◌↔◌, IfOk, IsOk, IsTrue, IfSome, option_map};
     ghost use Rattle.csi_types.specs.Lent.{lent_call, HasFitTexts};
     ghost use Rattle.csi_types.specs.Limits.{IsFrame};
     ghost use Rattle.csi_frames.specs.Borrowed.{owned};
@@ -55,6 +55,20 @@ impl<'a> FrameRef<'a> {
         ensures { result ≡ (lent self.now).number }
     {
         self.frame.number
+    }
+
+    /// Whether a call is for this plugin, or a reply from it. It takes no memory.
+    #[inline]
+    pub fn is_for(&self, party: &Party) -> bool
+        ensures { IsTrue result ↔ ((lent self.now).party ≡ party.now) }
+    {
+        match self.frame.party {
+            PartyRef::Controller => matches!(party, Party::Controller),
+            PartyRef::Node(id) => match party {
+                Party::Controller => false,
+                Party::Node(own) => id == own.as_str(),
+            },
+        }
     }
 
     /// The capabilities of a CreateVolume, with texts of their own. Of any other call, and of a reply, they are none, which takes

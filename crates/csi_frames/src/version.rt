@@ -1,11 +1,11 @@
-//! Versions of frames and of records. What a version has is told here and nowhere else.
+//! Versions of frames. What a version has is told here and nowhere else.
 ghost use Rattle.std.specs.Prelude.{◌≡◌, false};
 ghost use Rattle.csi_frames.specs.Version.{version_number, version_from_number, has_mode, is_new_mode, has_kind, least_count, owes_new_mode, version_with, takes_mode, mode_in, kind_in_version};
 
 use crate::body_kind::BodyKind;
 use csi_types::{Kind, Mode};
 
-/// A version of frames and of records. Their bytes say which one it is. This profile's own.
+/// A version of frames. Their bytes say which one it is. This profile's own.
 #[derive(Clone, Copy, Debug, PartialEq, Eq)]
 pub enum Version {
     /// The first one.

@@ -37,7 +37,7 @@ made_entry row =
 
 abbrev pub controller_entry : RecordParts → Data
 controller_entry kept =
-    object (member (codes "next_id") (whole kept.next_id) (member (codes "plugin") (string (codes "controller")) (member (codes "volumes") (entries made_entry kept.rows) no_members)))
+    object (member (codes "next_id") (whole kept.next_id) (member (codes "plugin") (string (codes "controller")) (member (codes "session") (whole kept.session) (member (codes "volumes") (entries made_entry kept.rows) no_members))))
 
 -- ---- a node's: volumes for which it answered a call, how each is staged and where it is published
 
@@ -54,4 +54,4 @@ answered_entry row =
 
 abbrev pub node_entry : NodeParts → Data
 node_entry kept =
-    object (member (codes "node") (string kept.id) (member (codes "plugin") (string (codes "node")) (member (codes "volumes") (entries answered_entry kept.rows) no_members)))
+    object (member (codes "node") (string kept.id) (member (codes "plugin") (string (codes "node")) (member (codes "session") (whole kept.session) (member (codes "volumes") (entries answered_entry kept.rows) no_members))))

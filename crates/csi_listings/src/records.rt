@@ -86,6 +86,7 @@ impl Entry for ControllerRecord {
         let mut map = Map::new(alloc);
         put(&mut map, alloc, "next_id", Value::from(self.next_id()))?;
         put_text(&mut map, alloc, "plugin", "controller")?;
+        put(&mut map, alloc, "session", Value::from(self.session()))?;
         put_array(&mut map, alloc, "volumes", self.rows())?;
         Ok(Value::Object(map))
     }
@@ -139,6 +140,7 @@ impl Entry for NodeRecord {
         let mut map = Map::new(alloc);
         put_text(&mut map, alloc, "node", self.id().as_str())?;
         put_text(&mut map, alloc, "plugin", "node")?;
+        put(&mut map, alloc, "session", Value::from(self.session()))?;
         put_array(&mut map, alloc, "volumes", self.rows())?;
         Ok(Value::Object(map))
     }

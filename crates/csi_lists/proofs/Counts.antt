@@ -1,7 +1,8 @@
 -- How many of a list pass.
-use Rattle.std.proofs.Common.{◌≡◌, ◌≤◌, ◌+◌, suc, List, [], ◌∷◌, map, Bool, true, false, cond, not, length, refl, sym, ◌∙◌, ap, arith}
+use Rattle.std.proofs.Common.{◌≡◌, ◌⊎◌, ◌≤◌, ◌+◌, suc, List, [], ◌∷◌, map, Bool, true, false, cond, not, length, refl, sym, ◌∙◌, ap, inl, inr, arith}
 use Rattle.std.specs.Prelude.{None, find, filter, count_by, nat_lt, ◌||◌}
 use Rattle.std.specs.List.{list_any}
+use Rattle.std.proofs.lemmas.Bool.{false≢true}
 use Rattle.std.proofs.lemmas.List.Sums.{length-filter, sum_by-cons}
 use Rattle.csi_lists.specs.Members.{IsAmong}
 use Rattle.csi_lists.specs.Places.{AtMostOne}
@@ -62,3 +63,17 @@ no_fewer p x xs = by (p x)
     by : (b : Bool) → length (filter p xs) ≤ length (cond b (x ∷ filter p xs) (filter p xs))
     by true = omega arith
     by false = omega arith
+
+-- one that passes counts as one
+counted : (b : Bool) → b ≡ true → 1 ≤ cond b 1 0
+counted true e = omega arith
+counted false e = absurd (false≢true e)
+
+-- where each passes one of two tests, there are at most as many as pass the one and as pass the other
+pub count-either : {X : Type 0} (p q : X → Bool) (xs : List X) → ((x : X) → IsAmong x xs → (p x ≡ true) ⊎ (q x ≡ true)) → length xs ≤ count_by p xs + count_by q xs
+count-either p q [] each = omega arith
+count-either p q (x ∷ xs) each = by (each x (inl refl)) (count-either p q xs (λ y among. each y (inr among)))
+  where
+    by : (p x ≡ true) ⊎ (q x ≡ true) → length xs ≤ count_by p xs + count_by q xs → suc (length xs) ≤ count_by p (x ∷ xs) + count_by q (x ∷ xs)
+    by (inl e) h = omega (arith, count-cons p x xs, count-cons q x xs, counted (p x) e, h)
+    by (inr e) h = omega (arith, count-cons p x xs, count-cons q x xs, counted (q x) e, h)

@@ -8,3 +8,4 @@ pub mod Tests
 pub mod Maps
 pub mod Places
 pub mod Counts
+pub mod PassingByKey

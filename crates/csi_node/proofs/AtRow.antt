@@ -1,30 +1,33 @@
--- A call at its volume's row, or at the place of a new one: what the rows answer, and their rules afterwards.
-use Rattle.std.proofs.Common.{◌≡◌, ℕ, zero, suc, ◌<◌, ◌≤◌, List, [], ◌∷◌, ◌++◌, map, length, get_or, set, take, drop, refl, sym, ◌∙◌, ap, subst, arith, Result, Ok, Err, IfOk, Some}
-use Rattle.std.specs.Prelude.{OnErr}
+-- A call of the present session at its volume's row, or at the place of a new one: what the rows answer, and their rules afterwards.
+use Rattle.std.proofs.Common.{◌≡◌, ℕ, zero, suc, ◌<◌, ◌≤◌, List, [], ◌∷◌, ◌++◌, map, length, get_or, set, take, drop, refl, sym, ◌∙◌, ap, subst, arith, Result, Ok, Err, IfOk, Some, None}
+use Rattle.std.specs.Prelude.{All, OnErr, Option, codes}
 use Rattle.std.specs.List.{insert}
 use Rattle.std.proofs.lemmas.List.{map-set, map-append, take-map, drop-map, length-map}
+use Rattle.std.proofs.lemmas.List.Elements.{All-set}
+use Rattle.std.proofs.Math.Seq.{map-set_same}
+use Rattle.std.proofs.lemmas.Option.{same_Some}
 use Rattle.csi_types.specs.declared.call.Call.{Call}
-use Rattle.csi_types.specs.declared.call.Kind.{Kind}
 use Rattle.csi_types.specs.declared.number.Number.{Number}
-use Rattle.csi_types.specs.declared.reply.Reply.{Reply}
-use Rattle.csi_types.specs.declared.fence.Verdict.{Verdict}
-use Rattle.csi_types.specs.declared.fence.Verdict.TheVariants.{Stale, Repeated, Fresh}
-use Rattle.csi_types.specs.Fence.{verdict_of}
-use Rattle.csi_types.specs.Frame.{Frame}
+use Rattle.csi_types.specs.declared.status.Status.TheVariants.{ResourceExhausted}
 use Rattle.csi_types.specs.Call.{kind_of}
 use Rattle.csi_types.specs.Replies.{plain_reply}
-use Rattle.csi_types.specs.declared.status.Status.TheVariants.{ResourceExhausted}
-use Rattle.std.specs.Prelude.{codes}
+use Rattle.csi_fence.specs.declared.answer.Answer.{Answer}
+use Rattle.csi_fence.specs.declared.fence.Verdict.{Verdict}
+use Rattle.csi_fence.specs.declared.fence.Verdict.TheVariants.{Stale, Repeated, Fresh}
+use Rattle.csi_fence.specs.Fence.{Kept, verdict_of}
 use Rattle.csi_node.specs.declared.row.NodeRow.{NodeRow}
+use Rattle.csi_node.specs.Changes.{Changes, put_row}
+use Rattle.csi_node.specs.Fenced.{answer_frame, answered_in, fenced_call, kept_for}
+use Rattle.csi_node.specs.OneRow.{RowShown, shown, row_anew, table_answer, IsSoundRow, IsAfter, RowAnswers}
+use Rattle.csi_node.specs.Record.{parts, parts_of, id_at, IsAt, IsCurrent, IsCurrentRow, IsGapFor, IsSound, Shows}
 use Rattle.csi_node.specs.State.{NodeState, volume_of}
-use Rattle.csi_node.specs.Table.{lifecycle_row}
-use Rattle.csi_node.specs.Fenced.{Fenced, answer_frame, fenced_call, kept_for}
-use Rattle.csi_node.specs.Shown.{RowsShow}
-use Rattle.csi_node.specs.OneRow.{RowShown, shown, alone, row_anew, IsSoundRow, IsAfter, RowAnswers}
-use Rattle.csi_node.specs.Record.{parts, id_at, IsAt, IsGapFor, IsSound, Gives}
-use Rattle.csi_node.proofs.ShownAfter.{row_of, all-from_shows, shows-from_all}
-use Rattle.csi_node.proofs.AnsweredRows.{GivesAll, gives-again, gives-anew, gives-full}
-use Rattle.csi_node.proofs.RecordRules.{id_at-parts, found-at, absent-gap, after-set, after-insert, rules-set, rules-insert}
+use Rattle.csi_node.specs.Step.{Answers, Gives}
+use Rattle.csi_node.proofs.ShownAfter.{RowsAfter, ShowsAll, row_of, all-from_shows, shows-from_all}
+use Rattle.csi_node.proofs.AnsweredRows.{GivesAll, answered-now, fenced-session, gives-again, gives-anew, gives-full}
+use Rattle.csi_node.proofs.ChangedRows.{after-now, staying-now, not_again, put-changes, same-changes}
+use Rattle.csi_node.proofs.PutRows.{after-put, put-all, put-insert, put-set, rules-put}
+use Rattle.csi_node.proofs.Readers.{rows_rise}
+use Rattle.csi_node.proofs.RecordRules.{id_at-parts, found-at, absent-gap}
 
 -- the row at a place, of the rows as they are shown, is what is shown of the row there
 pub parts-at : (rows : List NodeRow) (place : ℕ) (d : NodeRow) → get_or (parts rows) place (shown d) ≡ shown (get_or rows place d)
@@ -39,16 +42,11 @@ parts-insert rows place row =
     ∙ ap (λ (front : List RowShown). front ++ shown row ∷ map shown (drop place rows)) (sym (take-map shown place rows))
     ∙ ap (λ (back : List RowShown). take place (map shown rows) ++ shown row ∷ back) (sym (drop-map shown place rows))
 
--- rows that show what a call leads to, as they are shown, show it themselves
-gives-from_all : (rows : List NodeRow) (frame : Frame) (fenced : Fenced) → GivesAll (parts rows) frame fenced → Gives rows frame fenced
-gives-from_all rows frame fenced gives = record { reply = gives.reply; shows = shows-from_all rows fenced.state gives.shows }
-
 -- a row that is there
 pub record There (rows : List NodeRow) (id place : ℕ) (row : NodeRow) : Type 0 where
   pub own : row.id ≡ id
   pub found : row_of id (parts rows) ≡ Some (shown row)
   pub rules : IsSoundRow (shown row)
-  pub at_place : row.id ≡ id_at (parts rows) place
 
 -- the row at the place of an id is that id's, is found by it, and keeps the rules
 pub there : (rows : List NodeRow) (id place : ℕ) (row : NodeRow) → row ≡ get_or rows place row → IsSound (parts rows) → IsAt (parts rows) id place → There rows id place row
@@ -61,58 +59,171 @@ there rows id place row is rules at =
       own = at_place ∙ at.has_id;
       found = found-at (parts rows) id place (shown row) rules.rising at ∙ ap Some shown_at;
       rules = subst IsSoundRow shown_at (rules.each place (shown row) at.within);
-      at_place = at_place;
     }
 
+-- what is so of each row is so of the one at a place
+pub there-each : (P : RowShown → Type 0) (rows : List NodeRow) (id place : ℕ) (row : NodeRow) → row ≡ get_or rows place row → IsAt (parts rows) id place → All P (parts rows) → P (shown row)
+there-each P rows id place row is at all = subst P (parts-at rows place row ∙ ap shown (sym is)) (all place (shown row) at.within)
+
+-- a row in its place is put
+pub set-put : (rows : List NodeRow) (id place : ℕ) (new : NodeRow) → IsSound (parts rows) → IsAt (parts rows) id place → new.id ≡ id → parts (set rows place new) ≡ put_row (shown new) (parts rows)
+set-put rows id place new rules at own = map-set shown rows place new ∙ sym (put-set (parts rows) id place (shown new) rules.rising at own)
+
+-- and so is a new row in the gap for it
+pub insert-put : (rows : List NodeRow) (id place : ℕ) (new : NodeRow) → IsGapFor (parts rows) id place → new.id ≡ id → parts (insert rows place new) ≡ put_row (shown new) (parts rows)
+insert-put rows id place new gap own = parts-insert rows place new ∙ sym (put-insert (parts rows) id place (shown new) gap own)
+
 -- a row keeps its id
-pub answers-id : (number : Number) (call : Call) (old new : RowShown) (answer : Kind × Reply) (verdict : Verdict) → RowAnswers number call old new answer verdict → new.id ≡ old.id
+pub answers-id : (number : Number) (call : Call) (old new : RowShown) (answer : Answer) (verdict : Verdict) → RowAnswers number call old new answer verdict → new.id ≡ old.id
 answers-id number call old new answer Stale h = ap (λ (r : RowShown). r.id) h.1
 answers-id number call old new answer Repeated h = ap (λ (r : RowShown). r.id) h.1
 answers-id number call old new answer Fresh h = h.1.id
 
 -- a row keeps its id, whether its call is answered or ends in an error
-pub kept_id : {E : Type 0} (r : Result (Kind × Reply) E) (number : Number) (call : Call) (old new : RowShown) (verdict : Verdict)
+pub kept_id : {E : Type 0} (r : Result Answer E) (number : Number) (call : Call) (old new : RowShown) (verdict : Verdict)
     → IfOk r (λ answer. RowAnswers number call old new answer verdict) → OnErr r (new ≡ old) → new.id ≡ old.id
 kept_id (Ok answer) number call old new verdict ok err = answers-id number call old new answer verdict ok
 kept_id (Err fault) number call old new verdict ok err = ap (λ (r : RowShown). r.id) err
 
--- a call of a volume that has a row
-pub gives-there : (node : List ℕ) (id : ℕ) (number : Number) (call : Call) (rows : List NodeRow) (place : ℕ) (row new : NodeRow) (state : NodeState) → volume_of call ≡ Some id
-    → IsSound (parts rows) → IsAt (parts rows) id place → There rows id place row → RowsShow rows state
-    → (answer : Kind × Reply) → RowAnswers number call (shown row) (shown new) answer (verdict_of (Some row.last) number)
-    → Gives (set rows place new) (answer_frame node number answer) (fenced_call node state number call (kept_for call state))
-gives-there node id number call rows place row new state v rules at is shows answer answers =
-    let own : new.id ≡ id = answers-id number call (shown row) (shown new) answer _ answers ∙ is.own in
-    gives-from_all (set rows place new) _ _ (subst (λ (l : List RowShown). GivesAll l (answer_frame node number answer) (fenced_call node state number call (kept_for call state))) (sym (map-set shown rows place new))
-    (gives-again node id number call (parts rows) (set (parts rows) place (shown new)) state v (all-from_shows rows state shows) (shown row) (shown new) answer is.found
-    (after-set (parts rows) id place (shown new) (shown row) rules.rising at own) answers))
+-- a row that keeps a call is of the call's session
+pub own-current : (number : Number) (row : RowShown) → row.kept.number ≡ number → IsCurrentRow number.session row
+own-current number row own = let same : row.kept.number.session ≡ number.session = ap (λ (n : Number). n.session) own in record { before = omega (arith, same); empty = λ none. same }
 
--- the rules then
+-- a row stays of this session, whether its call is answered or ends in an error
+kept_current : {E : Type 0} (r : Result Answer E) (number : Number) (call : Call) (old new : RowShown) (verdict : Verdict)
+    → IfOk r (λ answer. RowAnswers number call old new answer verdict) → OnErr r (new ≡ old) → IsCurrentRow number.session old → IsCurrentRow number.session new
+kept_current (Ok answer) number call old new verdict ok err current = by verdict ok
+  where
+    by : (verdict : Verdict) → RowAnswers number call old new answer verdict → IsCurrentRow number.session new
+    by Stale h = subst (IsCurrentRow number.session) (sym h.1) current
+    by Repeated h = subst (IsCurrentRow number.session) (sym h.1) current
+    by Fresh h = own-current number new (ap (λ (k : Kept). k.number) h.1.kept)
+kept_current (Err fault) number call old new verdict ok err current = subst (IsCurrentRow number.session) (sym err) current
+
+-- the rules of the rows then
 pub rules-there : (id : ℕ) (rows : List NodeRow) (place : ℕ) (row new : NodeRow) → IsSound (parts rows) → IsAt (parts rows) id place → There rows id place row → IsSoundRow (shown new) → new.id ≡ row.id
     → IsSound (parts (set rows place new))
 rules-there id rows place row new rules at is own same =
-    subst IsSound (sym (map-set shown rows place new)) (rules-set (parts rows) place (shown new) rules own (same ∙ is.at_place) at.within)
+    subst IsSound (sym (set-put rows id place new rules at (same ∙ is.own)))
+    (rules-put (parts rows) (shown new) rules own (λ none. clash (sym (subst (λ (n : ℕ). row_of n (parts rows) ≡ Some (shown row)) (sym (same ∙ is.own)) is.found) ∙ none)))
+  where
+    clash : {A : Type 0} → Some (shown row) ≡ None → A
+    clash h = cc
 
--- the first call of a volume
-pub gives-first : (node : List ℕ) (id : ℕ) (number : Number) (call : Call) (rows : List NodeRow) (place : ℕ) (new : NodeRow) (state : NodeState) (answer : Kind × Reply) → volume_of call ≡ Some id
-    → IsGapFor (parts rows) id place → length rows < 4096 → RowsShow rows state
-    → answer ≡ (kind_of call, (lifecycle_row (alone (row_anew id number (kind_of call))) call).reply)
-    → IsAfter number call (row_anew id number (kind_of call)) (shown new)
-    → Gives (insert rows place new) (answer_frame node number answer) (fenced_call node state number call (kept_for call state))
-gives-first node id number call rows place new state answer v gap few shows is after =
-    gives-from_all (insert rows place new) _ _ (subst (λ (l : List RowShown). GivesAll l (answer_frame node number answer) (fenced_call node state number call (kept_for call state))) (sym (parts-insert rows place new))
-    (gives-anew node id number call (parts rows) (insert (parts rows) place (shown new)) state v (all-from_shows rows state shows) (shown new) answer (absent-gap (parts rows) id place gap)
-    (let many = length-map rows shown in omega arith) (after-insert (parts rows) id place (shown new) gap after.id) is after))
+-- and of their sessions
+pub current-there : {E : Type 0} (r : Result Answer E) (number : Number) (call : Call) (id : ℕ) (rows : List NodeRow) (place : ℕ) (row new : NodeRow) → row ≡ get_or rows place row → IsAt (parts rows) id place
+    → IsCurrent number.session (parts rows) → IfOk r (λ answer. RowAnswers number call (shown row) (shown new) answer (verdict_of (Some row.last) number)) → OnErr r (shown new ≡ shown row)
+    → IsCurrent number.session (parts (set rows place new))
+current-there r number call id rows place row new is at current ok err =
+    subst (IsCurrent number.session) (sym (map-set shown rows place new))
+    (All-set (IsCurrentRow number.session) (parts rows) place (shown new)
+    (kept_current r number call (shown row) (shown new) _ ok err (there-each (IsCurrentRow number.session) rows id place row is at current)) current)
 
 -- the rules once a new row stands in the gap of its id
 pub rules-first : (id : ℕ) (rows : List NodeRow) (place : ℕ) (new : NodeRow) → IsSound (parts rows) → IsGapFor (parts rows) id place → length rows < 4096 → IsSoundRow (shown new) → new.id ≡ id
     → IsSound (parts (insert rows place new))
 rules-first id rows place new rules gap few own same =
-    subst IsSound (sym (parts-insert rows place new)) (rules-insert (parts rows) id place (shown new) rules own same gap (let many = length-map rows shown in omega arith))
+    subst IsSound (sym (insert-put rows id place new gap same)) (rules-put (parts rows) (shown new) rules own (λ none. let many = length-map rows shown in omega (arith, many, few)))
 
--- where there is no room
-pub gives-none : (node : List ℕ) (id : ℕ) (number : Number) (call : Call) (rows : List NodeRow) (place : ℕ) (state : NodeState) → volume_of call ≡ Some id → IsGapFor (parts rows) id place → 4096 ≤ length rows → RowsShow rows state
-    → (answer : Kind × Reply) → answer ≡ (kind_of call, plain_reply ResourceExhausted (codes "rows"))
-    → Gives rows (answer_frame node number answer) (fenced_call node state number call (kept_for call state))
-gives-none node id number call rows place state v gap many shows answer is =
-    gives-from_all rows _ _ (gives-full node id number call (parts rows) (parts rows) state v (all-from_shows rows state shows) answer (absent-gap (parts rows) id place gap) (let same = length-map rows shown in omega arith) is)
+-- and its session
+pub current-first : (number : Number) (call : Call) (id : ℕ) (before : RowShown) (rows : List NodeRow) (place : ℕ) (new : NodeRow) → IsGapFor (parts rows) id place → IsCurrent number.session (parts rows)
+    → IsAfter number call before (shown new) → new.id ≡ id → IsCurrent number.session (parts (insert rows place new))
+current-first number call id before rows place new gap current after own =
+    subst (IsCurrent number.session) (sym (insert-put rows id place new gap own))
+    (put-all (IsCurrentRow number.session) (shown new) (parts rows) (own-current number (shown new) (ap (λ (k : Kept). k.number) after.kept)) current)
+
+module _ (node : List ℕ) (number : Number) (call : Call) (id : ℕ) (v : volume_of call ≡ Some id) where
+  -- what rows give that show a state, a record of them gives
+  gives-now : (old new : List NodeRow) (answer : Answer)
+      → ((state : NodeState) → ShowsAll (parts old) state → GivesAll (parts new) (answer_frame node number answer) (fenced_call node state number call (kept_for call state)))
+      → (state : NodeState) → Shows (parts_of node number.session old) state → Gives (parts_of node number.session new) (answer_frame node number answer) (answered_in node state number call)
+  gives-now old new answer gives state shows =
+      let all = gives state (all-from_shows old state shows.shows) in
+      subst (Gives (parts_of node number.session new) (answer_frame node number answer)) (sym (answered-now node state number call (sym shows.session)))
+      (record {
+        reply = all.reply;
+        shows = record { shows = shows-from_all new _ all.shows; session = shows.session ∙ sym (fenced-session node state number call (kept_for call state)) };
+      })
+
+  -- an answer by what it changed
+  now-answered : (old new : List NodeRow) (answer : Answer) (row : Option ℕ)
+      → ((state : NodeState) → ShowsAll (parts old) state → GivesAll (parts new) (answer_frame node number answer) (fenced_call node state number call (kept_for call state)))
+      → answer.row ≡ row → Changes row number (parts_of node number.session old) (parts_of node number.session new)
+      → Answers number call (parts_of node number.session old) (parts_of node number.session new) answer
+  now-answered old new answer row gives is changes = record {
+    gives = gives-now old new answer gives;
+    changes = subst (λ (o : Option ℕ). Changes o number (parts_of node number.session old) (parts_of node number.session new)) (sym is) changes;
+  }
+
+  -- a call of a volume that has a row
+  pub answers-there : (rows : List NodeRow) (place : ℕ) (row new : NodeRow) → row ≡ get_or rows place row → IsSound (parts rows) → IsAt (parts rows) id place → There rows id place row
+      → (answer : Answer) → RowAnswers number call (shown row) (shown new) answer (verdict_of (Some row.last) number)
+      → Answers number call (parts_of node number.session rows) (parts_of node number.session (set rows place new)) answer
+  answers-there rows place row new at_place rules at is answer answers = by (verdict_of (Some row.last) number) refl answers
+    where
+      own : new.id ≡ id
+      own = answers-id number call (shown row) (shown new) answer _ answers ∙ is.own
+
+      put : parts (set rows place new) ≡ put_row (shown new) (parts rows)
+      put = set-put rows id place new rules at own
+
+      after : RowsAfter id (parts rows) (parts (set rows place new)) (shown new)
+      after = subst (λ (l : List RowShown). RowsAfter id (parts rows) l (shown new)) (sym put) (after-put (parts rows) id (shown new) (rows_rise (parts rows) rules.rising) own)
+
+      gives : (state : NodeState) → ShowsAll (parts rows) state → GivesAll (parts (set rows place new)) (answer_frame node number answer) (fenced_call node state number call (kept_for call state))
+      gives state all = gives-again node id number call (parts rows) (parts (set rows place new)) state v all (shown row) (shown new) answer is.found after answers
+
+      stays : shown new ≡ shown row → Changes None number (parts_of node number.session rows) (parts_of node number.session (set rows place new))
+      stays same =
+          same-changes node number.session number rows (set rows place new) (after-now number)
+          (map-set_same shown rows place new row (same ∙ ap shown at_place) ∙ sym (staying-now number (parts rows)))
+
+      by : (verdict : Verdict) → verdict_of (Some row.last) number ≡ verdict → RowAnswers number call (shown row) (shown new) answer verdict
+          → Answers number call (parts_of node number.session rows) (parts_of node number.session (set rows place new)) answer
+      by Stale e h = now-answered rows (set rows place new) answer None gives (ap (λ (a : Answer). a.row) h.0) (stays h.1)
+      by Repeated e h = now-answered rows (set rows place new) answer None gives (ap (λ (a : Answer). a.row) h.0) (stays h.1)
+      by Fresh e h =
+          now-answered rows (set rows place new) answer (Some new.id) gives (ap (λ (a : Answer). a.row) h.0 ∙ ap Some (sym h.1.id))
+          (put-changes node number.session number rows (set rows place new) (after-now number) (shown new) (ap (λ (k : Kept). k.number) h.1.kept)
+          (put ∙ ap (put_row (shown new)) (sym (staying-now number (parts rows))))
+          (λ was found same.
+          let here : shown row ≡ was = same_Some (shown row) was (sym (subst (λ (n : ℕ). row_of n (parts rows) ≡ Some (shown row)) (sym own) is.found) ∙ found) in
+          let last : row.last ≡ number = ap (λ (r : RowShown). r.kept.number) here ∙ same in
+          not_again number (subst (λ (n : Number). verdict_of (Some n) number ≡ Fresh) last e)))
+
+  -- the first call of a volume
+  pub answers-first : (rows : List NodeRow) (place : ℕ) (new : NodeRow) (answer : Answer) → IsSound (parts rows) → IsGapFor (parts rows) id place → length rows < 4096
+      → answer ≡ table_answer (row_anew id number (kind_of call)) call → IsAfter number call (row_anew id number (kind_of call)) (shown new)
+      → Answers number call (parts_of node number.session rows) (parts_of node number.session (insert rows place new)) answer
+  answers-first rows place new answer rules gap few is after_call =
+      now-answered rows (insert rows place new) answer (Some new.id) gives (ap (λ (a : Answer). a.row) is ∙ ap Some (sym after_call.id))
+      (put-changes node number.session number rows (insert rows place new) (after-now number) (shown new) (ap (λ (k : Kept). k.number) after_call.kept)
+      (put ∙ ap (put_row (shown new)) (sym (staying-now number (parts rows))))
+      (λ was found same. clash was (sym (subst (λ (n : ℕ). row_of n (parts rows) ≡ None) (sym after_call.id) absent) ∙ found)))
+    where
+      absent : row_of id (parts rows) ≡ None
+      absent = absent-gap (parts rows) id place gap
+
+      clash : {A : Type 0} (was : RowShown) → None ≡ Some was → A
+      clash was h = cc
+
+      put : parts (insert rows place new) ≡ put_row (shown new) (parts rows)
+      put = insert-put rows id place new gap after_call.id
+
+      after : RowsAfter id (parts rows) (parts (insert rows place new)) (shown new)
+      after = subst (λ (l : List RowShown). RowsAfter id (parts rows) l (shown new)) (sym put) (after-put (parts rows) id (shown new) (rows_rise (parts rows) rules.rising) after_call.id)
+
+      gives : (state : NodeState) → ShowsAll (parts rows) state → GivesAll (parts (insert rows place new)) (answer_frame node number answer) (fenced_call node state number call (kept_for call state))
+      gives state all =
+          gives-anew node id number call (parts rows) (parts (insert rows place new)) state v all (row_anew id number (kind_of call)) (shown new) answer absent
+          (let many = length-map rows shown in omega (arith, many, few)) after refl refl is after_call
+
+  -- where there is no room
+  pub answers-full : (rows : List NodeRow) (place : ℕ) (answer : Answer) → IsGapFor (parts rows) id place → 4096 ≤ length rows
+      → answer ≡ record { kind = kind_of call; reply = plain_reply ResourceExhausted (codes "rows"); row = None }
+      → Answers number call (parts_of node number.session rows) (parts_of node number.session rows) answer
+  answers-full rows place answer gap many is =
+      now-answered rows rows answer None
+      (λ state all. gives-full node id number call (parts rows) (parts rows) state v all answer (absent-gap (parts rows) id place gap) (let same = length-map rows shown in omega (arith, same, many)) is)
+      (ap (λ (a : Answer). a.row) is)
+      (same-changes node number.session number rows rows (after-now number) (sym (staying-now number (parts rows))))

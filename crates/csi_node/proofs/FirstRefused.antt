@@ -1,13 +1,14 @@
 -- The first row that no record has there, and the walk that finds it.
 use Rattle.std.proofs.Common.{◌≡◌, ◌⊎◌, ◌<◌, ◌≤◌, ◌+◌, ◌-◌, ℕ, zero, suc, length, get_or, take, drop, true, false, List, [], ◌∷◌, ◌++◌, refl, sym, ◌∙◌, ap, subst, inl, inr, arith}
-use Rattle.std.specs.Prelude.{All, ◌&&◌, nat_lt}
-use Rattle.std.proofs.lemmas.Bool.{and_from, and_parts, cases_lt, cases_order, false≢true, lt-ltb, ltb-true}
+use Rattle.std.specs.Prelude.{All, ◌&&◌, ◌||◌, ◌==◌, nat_le, nat_lt, Bool, Option, Some, None, is_some}
+use Rattle.std.proofs.lemmas.Bool.{and_from, and_parts, cases_lt, cases_order, eq-eqb, eqb-true, false≢true, le-leb, leb-true, lt-ltb, ltb-true}
 use Rattle.std.proofs.lemmas.List.{get_or_append_left, get_or_push, length-append, length-map, length-take-le, length_push, map_more, take-append-drop, take-map, take-take, take_all}
-use Rattle.std.proofs.lemmas.List.Elements.{All-push}
+use Rattle.std.proofs.lemmas.List.Elements.{All-push, All-take}
 use Rattle.csi_node.specs.declared.row.NodeRow.{NodeRow}
-use Rattle.csi_node.specs.Judging.{IsFirstRefused, may_follow}
+use Rattle.csi_types.specs.declared.capability.Capability.{Capability}
+use Rattle.csi_node.specs.Judging.{KeepRules, IsFirstRefused, is_current, may_follow}
 use Rattle.csi_node.specs.OneRow.{RowShown, shown, IsSoundRow}
-use Rattle.csi_node.specs.Record.{parts, id_at, IsSound}
+use Rattle.csi_node.specs.Record.{parts, id_at, IsCurrentRow, IsSound}
 use Rattle.csi_node.specs.SoundRow.{is_sound_row}
 use Rattle.csi_node.proofs.RecordRules.{IsRising}
 use Rattle.csi_node.proofs.SoundRow.{row-sound, sound-row}
@@ -104,36 +105,45 @@ rules-front rows more rules =
       each = all-front rows more rules.each;
     }
 
--- the first rows of a record's, as they are shown, are a record's
+-- the first rows of a record's, as they are shown, are a record's, whatever its session
 rules-take_shown : (rows : List RowShown) (k : ℕ) → IsSound rows → IsSound (take k rows)
 rules-take_shown rows k rules = rules-front (take k rows) (drop k rows) (subst IsSound (sym (take-append-drop k rows)) rules)
 
+-- and of that session
+keeps-take_shown : (session : Option ℕ) (rows : List RowShown) (k : ℕ) → KeepRules session rows → KeepRules session (take k rows)
+keeps-take_shown None rows k rules = rules-take_shown rows k rules
+keeps-take_shown (Some session) rows k rules = (rules-take_shown rows k rules.0, All-take (IsCurrentRow session) k rows rules.1)
+
 -- the first rows of a record's are a record's
-pub rules-take : (rows : List NodeRow) (k : ℕ) → IsSound (parts rows) → IsSound (parts (take k rows))
-rules-take rows k rules = subst IsSound (take-map shown k rows) (rules-take_shown (parts rows) k rules)
+pub rules-take : (session : Option ℕ) (rows : List NodeRow) (k : ℕ) → KeepRules session (parts rows) → KeepRules session (parts (take k rows))
+rules-take session rows k rules = subst (KeepRules session) (take-map shown k rows) (keeps-take_shown session (parts rows) k rules)
 
 -- rows that are a record's have no first one that no record has there
-pub not-both : (rows : List NodeRow) (place : ℕ) → IsFirstRefused rows place → IsSound (parts rows) → ⊥
-not-both rows place first rules = first.refused (rules-take rows place rules)
+pub not-both : (session : Option ℕ) (rows : List NodeRow) (place : ℕ) → IsFirstRefused session rows place → KeepRules session (parts rows) → ⊥
+not-both session rows place first rules = first.refused (rules-take session rows place rules)
 
 -- the first refused row isn't at an earlier place too
-not-earlier : (rows : List NodeRow) (a b : ℕ) → IsFirstRefused rows a → IsFirstRefused rows b → a < b → ⊥
-not-earlier rows a b one other less =
-    one.refused (subst (λ (l : List NodeRow). IsSound (parts l)) (take-take a (b - 1) rows (omega arith)) (rules-take (take (b - 1) rows) a other.before))
+not-earlier : (session : Option ℕ) (rows : List NodeRow) (a b : ℕ) → IsFirstRefused session rows a → IsFirstRefused session rows b → a < b → ⊥
+not-earlier session rows a b one other less =
+    one.refused (subst (λ (l : List NodeRow). KeepRules session (parts l)) (take-take a (b - 1) rows (omega arith)) (rules-take session (take (b - 1) rows) a other.before))
 
 -- there is one such place
-pub same-place : (rows : List NodeRow) (a b : ℕ) → IsFirstRefused rows a → IsFirstRefused rows b → a ≡ b
-same-place rows a b one other = by (cases_order a b)
+pub same-place : (session : Option ℕ) (rows : List NodeRow) (a b : ℕ) → IsFirstRefused session rows a → IsFirstRefused session rows b → a ≡ b
+same-place session rows a b one other = by (cases_order a b)
   where
     by : (a ≡ b) ⊎ ((a < b) ⊎ (b < a)) → a ≡ b
     by (inl same) = same
-    by (inr (inl less)) = absurd (not-earlier rows a b one other less)
-    by (inr (inr more)) = absurd (not-earlier rows b a other one more)
+    by (inr (inl less)) = absurd (not-earlier session rows a b one other less)
+    by (inr (inr more)) = absurd (not-earlier session rows b a other one more)
 
 -- ---- one more row
 
+-- the row may follow, whatever its session
+abbrev follows_any : ℕ → ℕ → RowShown → Bool
+follows_any count last row = nat_lt count 4096 && nat_lt last row.id && is_sound_row row
+
 -- a row that may follow a record's rows makes a record with them
-rules-more : (rows : List RowShown) (row : RowShown) → IsSound rows → may_follow (length rows) (last_id 0 rows) row ≡ true → IsSound (rows ++ row ∷ [])
+rules-more : (rows : List RowShown) (row : RowShown) → IsSound rows → follows_any (length rows) (last_id 0 rows) row ≡ true → IsSound (rows ++ row ∷ [])
 rules-more rows row rules follows =
     let all = and_parts (nat_lt (length rows) 4096 && nat_lt (last_id 0 rows) row.id) (is_sound_row row) follows in
     let places = and_parts (nat_lt (length rows) 4096) (nat_lt (last_id 0 rows) row.id) all.0 in
@@ -146,7 +156,7 @@ rules-more rows row rules follows =
     }
 
 -- a row with which rows are a record's may follow them
-follows-rules : (rows : List RowShown) (row : RowShown) → 0 < row.id → IsSound (rows ++ row ∷ []) → may_follow (length rows) (last_id 0 rows) row ≡ true
+follows-rules : (rows : List RowShown) (row : RowShown) → 0 < row.id → IsSound (rows ++ row ∷ []) → follows_any (length rows) (last_id 0 rows) row ≡ true
 follows-rules rows row from rules =
     let long : length (rows ++ row ∷ []) ≡ length rows + 1 = length_push rows row in
     let room : length rows < 4096 = let limit = rules.limit in omega (arith, limit, long) in
@@ -155,11 +165,45 @@ follows-rules rows row from rules =
     (and_from (nat_lt (length rows) 4096) (nat_lt (last_id 0 rows) row.id) (lt-ltb (length rows) 4096 room) (lt-ltb (last_id 0 rows) row.id (last_id-below 0 rows row from rules.rising)))
     (row-sound row own)
 
+-- the test of a row's session tells its rules
+current-row : (session : ℕ) (row : RowShown) → is_current (Some session) row ≡ true → IsCurrentRow session row
+current-row session row h =
+    let both = and_parts (nat_le row.kept.number.session session) (is_some row.staged || (row.kept.number.session == session)) h in
+    record { before = leb-true row.kept.number.session session both.0; empty = λ none. eqb-true row.kept.number.session session (by row.staged none both.1) }
+  where
+    by : (o : Option Capability) → o ≡ None → (is_some o || (row.kept.number.session == session)) ≡ true → (row.kept.number.session == session) ≡ true
+    by None none h = h
+    by (Some capability) none h = cc
+
+-- and they tell it
+row-current : (session : ℕ) (row : RowShown) → IsCurrentRow session row → is_current (Some session) row ≡ true
+row-current session row rules =
+    and_from (nat_le row.kept.number.session session) (is_some row.staged || (row.kept.number.session == session)) (le-leb row.kept.number.session session rules.before) (by row.staged rules.empty)
+  where
+    by : (o : Option Capability) → (o ≡ None → row.kept.number.session ≡ session) → (is_some o || (row.kept.number.session == session)) ≡ true
+    by None own = eq-eqb row.kept.number.session session (own refl)
+    by (Some capability) own = refl
+
+-- a row that may follow a record's rows, of its session too, makes a record with them
+keeps-more : (session : Option ℕ) (rows : List RowShown) (row : RowShown) → KeepRules session rows → may_follow session (length rows) (last_id 0 rows) row ≡ true → KeepRules session (rows ++ row ∷ [])
+keeps-more None rows row rules follows = rules-more rows row rules (and_parts (follows_any (length rows) (last_id 0 rows) row) true follows).0
+keeps-more (Some session) rows row rules follows =
+    let all = and_parts (follows_any (length rows) (last_id 0 rows) row) (is_current (Some session) row) follows in
+    (rules-more rows row rules.0 all.0, All-push (IsCurrentRow session) rows row rules.1 (current-row session row all.1))
+
+-- and one with which rows are a record's may follow them
+follows-keep : (session : Option ℕ) (rows : List RowShown) (row : RowShown) → 0 < row.id → KeepRules session (rows ++ row ∷ []) → may_follow session (length rows) (last_id 0 rows) row ≡ true
+follows-keep None rows row from rules = and_from (follows_any (length rows) (last_id 0 rows) row) true (follows-rules rows row from rules) refl
+follows-keep (Some session) rows row from rules =
+    let long : length (rows ++ row ∷ []) ≡ length rows + 1 = length_push rows row in
+    let own : IsCurrentRow session row = subst (IsCurrentRow session) (get_or_push rows row row (length rows) refl) (rules.1 (length rows) row (omega (arith, long))) in
+    and_from (follows_any (length rows) (last_id 0 rows) row) (is_current (Some session) row) (follows-rules rows row from rules.0) (row-current session row own)
+
 -- ---- the walk
 
 -- the rows before a place are a record's, and this is their last id
-pub record SoFar (rows : List NodeRow) (place last : ℕ) : Type 0 where
-  pub rules : IsSound (parts (take place rows))
+pub record SoFar (session : Option ℕ) (rows : List NodeRow) (place last : ℕ) : Type 0 where
+  pub rules : KeepRules session (parts (take place rows))
   pub is_last : last ≡ last_id 0 (parts (take place rows))
 
 -- the rows up to a place and the one there are the rows of one place more
@@ -167,39 +211,47 @@ one-more : (rows : List NodeRow) (place : ℕ) (row : NodeRow) → place < lengt
 one-more rows place row inside is = map_more shown rows place row inside ∙ ap (λ (r : NodeRow). parts (take place rows) ++ shown r ∷ []) (sym is)
 
 -- whether the next row may follow is told by the walk's place and last id
-same-test : (rows : List NodeRow) (place last : ℕ) (row : NodeRow) → SoFar rows place last → place < length rows
-    → may_follow (length (parts (take place rows))) (last_id 0 (parts (take place rows))) (shown row) ≡ may_follow place last (shown row)
-same-test rows place last row so inside =
+same-test : (session : Option ℕ) (rows : List NodeRow) (place last : ℕ) (row : NodeRow) → SoFar session rows place last → place < length rows
+    → may_follow session (length (parts (take place rows))) (last_id 0 (parts (take place rows))) (shown row) ≡ may_follow session place last (shown row)
+same-test session rows place last row so inside =
     let count : length (parts (take place rows)) ≡ place = length-map (take place rows) shown ∙ length-take-le place rows (omega arith) in
-    ap (λ k. may_follow k (last_id 0 (parts (take place rows))) (shown row)) count ∙ ap (λ k. may_follow place k (shown row)) (sym so.is_last)
+    ap (λ k. may_follow session k (last_id 0 (parts (take place rows))) (shown row)) count ∙ ap (λ k. may_follow session place k (shown row)) (sym so.is_last)
 
 -- no row, and 0 as the last id, are what the walk begins with
-pub begins : (rows : List NodeRow) → SoFar rows 0 0
-begins rows = record { rules = record { rising = λ i j less inside. absurd (omega arith); limit = omega arith; each = λ k d inside. absurd (omega arith) }; is_last = refl }
+pub begins : (session : Option ℕ) (rows : List NodeRow) → SoFar session rows 0 0
+begins session rows = record { rules = by session; is_last = refl }
+  where
+    none : IsSound []
+    none = record { rising = λ i j less inside. absurd (omega arith); limit = omega arith; each = λ k d inside. absurd (omega arith) }
+
+    by : (session : Option ℕ) → KeepRules session []
+    by None = none
+    by (Some session) = (none, λ k d inside. absurd (omega arith))
 
 -- where the next row may follow, the rows with it are a record's, and its id is the last
-pub goes_on : (rows : List NodeRow) (place last : ℕ) (row : NodeRow) → SoFar rows place last → place < length rows → row ≡ get_or rows place row → may_follow place last (shown row) ≡ true → SoFar rows (place + 1) row.id
-goes_on rows place last row so inside is follows =
+pub goes_on : (session : Option ℕ) (rows : List NodeRow) (place last : ℕ) (row : NodeRow) → SoFar session rows place last → place < length rows → row ≡ get_or rows place row
+    → may_follow session place last (shown row) ≡ true → SoFar session rows (place + 1) row.id
+goes_on session rows place last row so inside is follows =
     let more : parts (take (place + 1) rows) ≡ parts (take place rows) ++ shown row ∷ [] = one-more rows place row inside is in
     record {
-      rules = subst IsSound (sym more) (rules-more (parts (take place rows)) (shown row) so.rules (same-test rows place last row so inside ∙ follows));
+      rules = subst (KeepRules session) (sym more) (keeps-more session (parts (take place rows)) (shown row) so.rules (same-test session rows place last row so inside ∙ follows));
       is_last = sym (ap (last_id 0) more ∙ last_id-append 0 (parts (take place rows)) (shown row));
     }
 
 -- where the next row may not follow, it is the first that is refused
-pub refused-there : (rows : List NodeRow) (place last : ℕ) (row : NodeRow) → SoFar rows place last → place < length rows → row ≡ get_or rows place row → 0 < row.id → may_follow place last (shown row) ≡ false
-    → IsFirstRefused rows (place + 1)
-refused-there rows place last row so inside is from fails =
+pub refused-there : (session : Option ℕ) (rows : List NodeRow) (place last : ℕ) (row : NodeRow) → SoFar session rows place last → place < length rows → row ≡ get_or rows place row → 0 < row.id
+    → may_follow session place last (shown row) ≡ false → IsFirstRefused session rows (place + 1)
+refused-there session rows place last row so inside is from fails =
     let back : place ≡ place + 1 - 1 = omega arith in
     record {
       from = omega arith;
       to = omega arith;
-      before = subst (λ k. IsSound (parts (take k rows))) back so.rules;
+      before = subst (λ k. KeepRules session (parts (take k rows))) back so.rules;
       refused = λ whole.
-          let more : IsSound (parts (take place rows) ++ shown row ∷ []) = subst IsSound (one-more rows place row inside is) whole in
-          false≢true (sym fails ∙ sym (same-test rows place last row so inside) ∙ follows-rules (parts (take place rows)) (shown row) from more);
+          let more : KeepRules session (parts (take place rows) ++ shown row ∷ []) = subst (KeepRules session) (one-more rows place row inside is) whole in
+          false≢true (sym fails ∙ sym (same-test session rows place last row so inside) ∙ follows-keep session (parts (take place rows)) (shown row) from more);
     }
 
 -- where the walk is through, the rows are a record's
-pub ends : (rows : List NodeRow) (place last : ℕ) → SoFar rows place last → length rows ≤ place → IsSound (parts rows)
-ends rows place last so end = subst (λ (l : List NodeRow). IsSound (parts l)) (take_all place rows end) so.rules
+pub ends : (session : Option ℕ) (rows : List NodeRow) (place last : ℕ) → SoFar session rows place last → length rows ≤ place → KeepRules session (parts rows)
+ends session rows place last so end = subst (λ (l : List NodeRow). KeepRules session (parts l)) (take_all place rows end) so.rules

@@ -1,7 +1,6 @@
--- What a search finds among rows by rising id, and what an edit at that place does.
-use Rattle.std.proofs.Common.{◌≡◌, ◌≢◌, ℕ, zero, suc, ◌<◌, List, [], ◌∷◌, length, get_or, set, cond, refl, arith}
-use Rattle.std.specs.Prelude.{Some, None, ◌==◌}
-use Rattle.std.specs.List.{insert}
+-- What a search finds among rows by rising id.
+use Rattle.std.proofs.Common.{◌≡◌, ◌≢◌, ℕ, zero, suc, ◌<◌, List, [], ◌∷◌, length, get_or, refl, arith}
+use Rattle.std.specs.Prelude.{Some, None}
 use Rattle.std.proofs.lemmas.Bool.Decides.{nat_tests}
 use Rattle.csi_node.specs.OneRow.{RowShown}
 use Rattle.csi_node.specs.Record.{id_at, IsAt}
@@ -29,17 +28,3 @@ pub row_of-present : (rows : List RowShown) (id place : ℕ) (d : RowShown) → 
 row_of-present [] id place d at none = absurd (omega (arith, at.within))
 row_of-present (row ∷ rows) id zero d at none = grind (arith, nat_tests, at.has_id)
 row_of-present (row ∷ rows) id (suc place) d at none = grind (arith, nat_tests, none 0 (omega arith), row_of-present rows id place d (tail_at row rows id place at) (tail_none row rows id place none))
-
--- another row of the same id in its place
-pub row_of-set : (rows : List RowShown) (id place : ℕ) (new : RowShown) → new.id ≡ id → IsAt rows id place → NoneBefore rows id place
-    → (k : ℕ) → row_of k (set rows place new) ≡ cond (k == id) (Some new) (row_of k rows)
-row_of-set [] id place new own at none k = absurd (omega (arith, at.within))
-row_of-set (row ∷ rows) id zero new own at none k = grind (arith, nat_tests, at.has_id)
-row_of-set (row ∷ rows) id (suc place) new own at none k = grind (arith, nat_tests, none 0 (omega arith), row_of-set rows id place new own (tail_at row rows id place at) (tail_none row rows id place none) k)
-
--- a row of a new id
-pub row_of-insert : (rows : List RowShown) (id place : ℕ) (new : RowShown) → new.id ≡ id → NoneBefore rows id place
-    → (k : ℕ) → row_of k (insert rows place new) ≡ cond (k == id) (Some new) (row_of k rows)
-row_of-insert rows id zero new own none k = grind (arith, nat_tests)
-row_of-insert [] id (suc place) new own none k = grind (arith, nat_tests)
-row_of-insert (row ∷ rows) id (suc place) new own none k = grind (arith, nat_tests, none 0 (omega arith), row_of-insert rows id place new own (tail_none row rows id place none) k)

@@ -1,11 +1,12 @@
 -- What is kept of a call changes the row of its volume, and nothing else.
-use Rattle.std.proofs.Common.{◌≡◌, ◌⊎◌, ℕ, List, [], ◌∷◌, ◌++◌, map, Bool, true, false, cond, not, refl, sym, ◌∙◌, ap, inl, inr}
+use Rattle.std.proofs.Common.{◌≡◌, ◌⊎◌, ℕ, List, [], ◌∷◌, ◌++◌, map, Bool, true, false, cond, not, refl, sym, ◌∙◌, ap, subst, inl, inr}
 use Rattle.std.specs.Prelude.{Option, Some, None, option_map, find, filter, ◌==◌}
 use Rattle.std.proofs.lemmas.Bool.{eq-eqb, eqb-true}
-use Rattle.csi_lists.proofs.Searches.{find-filter}
-use Rattle.csi_lists.proofs.Searches.{find-append_one, find-map, find-passes}
+use Rattle.csi_lists.specs.Members.{IsAmong}
+use Rattle.csi_lists.proofs.Members.{among-either, among-map, none_passes}
+use Rattle.csi_lists.proofs.Searches.{find-filter, find-append_one, find-map, find-passes}
 use Rattle.csi_lists.proofs.Filters.{filter-append_one, filter-map}
-use Rattle.csi_types.specs.Fence.{Kept}
+use Rattle.csi_fence.specs.Fence.{Kept}
 use Rattle.csi_lists.proofs.Tests.{not-where}
 use Rattle.csi_node.specs.State.{NodeState, Answered, row_with_id}
 use Rattle.csi_node.specs.Table.{Change, Stays, Stages, Unstages, Publishes, Unpublishes, changed}
@@ -22,6 +23,19 @@ keep-staged (Some id) kept state = refl
 pub keep-published : (volume : Option ℕ) (kept : Kept) (state : NodeState) → (keep volume kept state).published ≡ state.published
 keep-published None kept state = refl
 keep-published (Some id) kept state = refl
+
+-- what is kept changes nothing of the session
+pub keep-session : (volume : Option ℕ) (kept : Kept) (state : NodeState) → (keep volume kept state).session ≡ state.session
+keep-session None kept state = refl
+keep-session (Some id) kept state = refl
+
+-- a change isn't one of the session
+pub changed-session : (state : NodeState) (change : Change) → (changed state change).session ≡ state.session
+changed-session state Stays = refl
+changed-session state (Stages staged) = refl
+changed-session state (Unstages id) = refl
+changed-session state (Publishes published) = refl
+changed-session state (Unpublishes id target) = refl
 
 -- a change isn't one of the rows
 pub changed-rows : (state : NodeState) (change : Change) → (changed state change).rows ≡ state.rows
@@ -120,3 +134,32 @@ keep-either id other kept state = by (other == id) refl
     by : (b : Bool) → (other == id) ≡ b → (kept_in_row other (keep (Some id) kept state) ≡ kept_in_row other state) ⊎ (other ≡ id)
     by true same = inr (eqb-true other id same)
     by false differ = inl (keep-other id other kept state differ)
+
+-- once a call is kept, each row is as it was, of another volume, or keeps the call
+pub keep-each : (volume : Option ℕ) (kept : Kept) (state : NodeState) (row : Answered) → IsAmong row (keep volume kept state).rows
+    → (IsAmong row state.rows × (is_another volume row.id ≡ true)) ⊎ (row.kept ≡ kept)
+keep-each None kept state row among = inl (among, refl)
+keep-each (Some id) kept state row among = by (row_with_id id state) refl among
+  where
+    own : Answered → Bool
+    own other = other.id == id
+
+    changed_row : (was : Answered) → IsAmong was state.rows → row ≡ kept_in id kept was → (b : Bool) → (was.id == id) ≡ b
+        → (IsAmong row state.rows × (not (row.id == id) ≡ true)) ⊎ (row.kept ≡ kept)
+    changed_row was there is true same =
+        let now : (kept_in id kept was).kept ≡ kept = rw same refl in
+        inr (ap (λ (r : Answered). r.kept) is ∙ now)
+    changed_row was there is false differ =
+        let other : kept_in id kept was ≡ was = rw differ refl in
+        let stays : row ≡ was = is ∙ other in
+        inl (subst (λ (r : Answered). IsAmong r state.rows) (sym stays) there, ap (λ (r : Answered). not (r.id == id)) stays ∙ ap not differ)
+
+    new_row : row_with_id id state ≡ None → IsAmong row state.rows ⊎ (row ≡ record { id = id; kept = kept }) → (IsAmong row state.rows × (not (row.id == id) ≡ true)) ⊎ (row.kept ≡ kept)
+    new_row none (inl there) = inl (there, ap not (none_passes own state.rows row none there))
+    new_row none (inr is) = inr (ap (λ (r : Answered). r.kept) is)
+
+    by : (o : Option Answered) → row_with_id id state ≡ o → IsAmong row (kept_rows id kept state.rows o) → (IsAmong row state.rows × (not (row.id == id) ≡ true)) ⊎ (row.kept ≡ kept)
+    by (Some there) is inside =
+        let was = among-map (kept_in id kept) state.rows row inside in
+        changed_row was.0 was.1 was.2 (was.0.id == id) refl
+    by None none inside = new_row none (among-either state.rows (record { id = id; kept = kept }) row inside)

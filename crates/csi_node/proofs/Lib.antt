@@ -1,8 +1,10 @@
 pub mod Moves
 pub mod LastCalls
-pub mod FencedCalls
+pub mod CarriedOut
+pub mod BegunSessions
+pub mod SessionsLaw
+pub mod ForgottenRows
 pub mod ThingMoves
-pub mod SpentNumbers
 pub mod ThingRows
 pub mod DeliveryLaw
 pub mod OutcomeFacts
@@ -23,5 +25,10 @@ pub mod TableLaw
 pub mod SafeStates
 pub mod StagedOnce
 mod SoundRow
-pub mod OneVolume
+pub mod PutRows
+pub mod Forgotten
+pub mod LeftOut
+pub mod FewRows
+pub mod ChangedRows
+pub mod AtBeginning
 pub mod FirstRefused

@@ -9,13 +9,14 @@ use Rattle.csi_types.specs.Replies.{call_frame}
 use Rattle.csi_types.specs.Same.{same_text}
 use Rattle.csi_types.proofs.Equality.{same_text-tells}
 use Rattle.csi_node.specs.State.{NodeState}
-use Rattle.csi_node.specs.Fenced.{fenced, fenced_parts, fenced_call, kept_for}
+use Rattle.csi_fence.specs.Fenced.{fenced_parts}
+use Rattle.csi_node.specs.Fenced.{node_at, fenced, answered_in}
 use Rattle.csi_node.specs.Record.{is_call_for}
 
 -- what a node does with a frame that is a call is told by the frame's party and the call
 by_parts : (node : List ℕ) (state : NodeState) (frame : Frame) (id : List ℕ) (call : Call) → frame.party ≡ Node id → frame.body ≡ bodies.Call call
-    → fenced node state frame ≡ fenced_parts node state frame.number (Node id) (bodies.Call call)
-by_parts node state frame id call party body = λ i. fenced_parts node state frame.number (party i) (body i)
+    → fenced node state frame ≡ fenced_parts (node_at node) state frame.number (Node id) (bodies.Call call)
+by_parts node state frame id call party body = λ i. fenced_parts (node_at node) state frame.number (party i) (body i)
 
 -- a call for another node
 pub not_for : (node : List ℕ) (state : NodeState) (frame : Frame) (id : List ℕ) (call : Call) → frame.party ≡ Node id → frame.body ≡ bodies.Call call → same_text id node ≡ false
@@ -24,11 +25,11 @@ not_for node state frame id call party body other = by_parts node state frame id
 
 -- a call for this one
 pub for_this : (node : List ℕ) (state : NodeState) (frame : Frame) (id : List ℕ) (call : Call) → frame.party ≡ Node id → frame.body ≡ bodies.Call call → same_text id node ≡ true
-    → fenced node state frame ≡ fenced_call node state frame.number call (kept_for call state)
+    → fenced node state frame ≡ answered_in node state frame.number call
 for_this node state frame id call party body same = by_parts node state frame id call party body ∙ rw same refl
 
 -- a call of which the frame is one for this node
-pub for_own : (node : List ℕ) (state : NodeState) (number : Number) (call : Call) → fenced node state (call_frame number (Node node) call) ≡ fenced_call node state number call (kept_for call state)
+pub for_own : (node : List ℕ) (state : NodeState) (number : Number) (call : Call) → fenced node state (call_frame number (Node node) call) ≡ answered_in node state number call
 for_own node state number call = for_this node state (call_frame number (Node node) call) node call refl refl ((same_text-tells node node).1 refl)
 
 -- which isn't one for another

@@ -23,7 +23,7 @@ use Rattle.csi_node.proofs.ShownAfter.{ShowsAll, row_of, alone_in, all-from_show
 use Rattle.csi_node.proofs.RecordRules.{IsRising}
 
 -- the first has the lower id
-abbrev IsRowBefore : RowShown → RowShown → Type 0
+abbrev pub IsRowBefore : RowShown → RowShown → Type 0
 IsRowBefore a b = a.id < b.id
 
 -- where an id is below the id at each place, it is below each row's

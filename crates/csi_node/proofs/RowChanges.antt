@@ -9,7 +9,7 @@ use Rattle.csi_types.specs.declared.call.Call.{Call}
 use Rattle.csi_types.specs.declared.call.Call.TheVariants as calls
 use Rattle.csi_types.specs.declared.number.Number.{Number}
 use Rattle.csi_types.specs.declared.reply.Reply.{Reply}
-use Rattle.csi_types.specs.Fence.{Kept}
+use Rattle.csi_fence.specs.Fence.{Kept}
 use Rattle.csi_types.specs.Call.{kind_of, is_node_kind}
 use Rattle.csi_types.specs.Same.{same_text}
 use Rattle.csi_types.specs.Sharing.{allows_one_target}
@@ -38,9 +38,9 @@ differs a b h = false_from_ne_true (same_text b a) (λ same. both_ways (same_tex
 or_none : {X : Type 0} (o other : Option X) → o ≡ None → other ≡ None → option_or o other ≡ None
 or_none o other a b = option_or-none o other a ∙ b
 
--- a state by its three lists
+-- a state by what is staged and published
 abbrev of_parts : List StagedVolume → List PublishedVolume → NodeState
-of_parts staged published = record { rows = []; staged = staged; published = published }
+of_parts staged published = record { rows = []; session = 0; staged = staged; published = published }
 
 -- a staging that is undone leaves nothing staged
 unstaged_by : (id : ℕ) (o : Option Capability) → filter (λ (s : StagedVolume). not (s.volume == id)) (staged_by id o) ≡ []

@@ -1,26 +1,23 @@
 -- In a node's state what is published is staged, at as many targets as its mode allows, whatever frames came.
-use Rattle.std.proofs.Common.{◌≡◌, ◌⊎◌, ℕ, List, [], ◌∷◌, Bool, true, false, cond, not, refl, sym, ◌∙◌, ap, subst, inl, inr}
+use Rattle.std.proofs.Common.{◌≡◌, ◌⊎◌, ℕ, List, [], false, not, refl, sym, ◌∙◌, ap, subst, inl, inr}
 use Rattle.std.specs.Prelude.{Option, Some, None, option_map, find, ◌==◌}
 use Rattle.std.proofs.lemmas.Bool.{eqb-true, eq-eqb, true≢false, false_from_ne_true}
 use Rattle.csi_lists.proofs.Searches.{find-append}
 use Rattle.csi_types.specs.declared.capability.Capability.{Capability}
 use Rattle.csi_types.specs.declared.number.Number.{Number}
 use Rattle.csi_types.specs.declared.call.Call.{Call}
-use Rattle.csi_types.specs.declared.call.Party.{Party}
-use Rattle.csi_types.specs.declared.call.Party.TheVariants.{Controller, Node}
-use Rattle.csi_types.specs.declared.frame.Body.{Body}
-use Rattle.csi_types.specs.declared.frame.Body.TheVariants as bodies
-use Rattle.csi_types.specs.Fence.{Kept}
 use Rattle.csi_types.specs.Frame.{Frame}
-use Rattle.csi_types.specs.Same.{same_text}
 use Rattle.csi_types.specs.Sharing.{allows_one_target}
+use Rattle.csi_fence.specs.Fence.{Kept}
+use Rattle.csi_fence.specs.Fenced.{Fenced}
+use Rattle.csi_fence.proofs.FramesKeep.{IsKept, frames_keep}
 use Rattle.csi_node.specs.State.{NodeState, StagedVolume, PublishedVolume, empty_node, staged_of, published_of, is_published_at, volume_of}
-use Rattle.csi_node.specs.Table.{Outcome, Change, Stages, Unstages, Publishes, Unpublishes, lifecycle_row, changed}
-use Rattle.csi_node.specs.Fenced.{Fenced, keep, fenced_call, kept_for, fenced_parts, fenced, after_frames}
+use Rattle.csi_node.specs.Table.{Outcome, Change, Stages, Unstages, Publishes, Unpublishes, lifecycle_row, node_row, changed}
+use Rattle.csi_node.specs.Fenced.{keep, begun, carried_out, node_at, after_frames}
 use Rattle.csi_lists.specs.Members.{IsAmong}
 use Rattle.csi_node.specs.Safe.{AllowTwo, IsPublishedRight}
 use Rattle.csi_node.proofs.Moves.{Fits, Move, refuses, was_staged, stages, unstages, was_published, publishes, was_unpublished, unpublishes, lifecycle_moves}
-use Rattle.csi_node.proofs.FencedCalls.{Passage, stale, repeated, no_room, carried, call_passes, kept_of}
+use Rattle.csi_node.proofs.CarriedOut.{Carried, no_room, has_room, was_carried, kept_of}
 use Rattle.csi_lists.proofs.Members.{among-either, among-filter, none_kept}
 use Rattle.csi_lists.proofs.Searches.{find-filter}
 use Rattle.csi_lists.proofs.Pairs.{two-append, two-filter}
@@ -101,35 +98,28 @@ keep_keeps : (volume : Option ℕ) (kept : Kept) (state : NodeState) → IsPubli
 keep_keeps None kept state right = right
 keep_keeps (Some id) kept state right = record { staged = right.staged; targets = right.targets }
 
--- whatever the fence makes of a call keeps what is published right
-passage_keeps : (node : List ℕ) (state : NodeState) (number : Number) (call : Call) (fenced : Fenced) → Passage node state number call fenced → IsPublishedRight state → IsPublishedRight fenced.state
-passage_keeps node state number call _ (stale spent) right = right
-passage_keeps node state number call _ (repeated kept is same spent) right = right
-passage_keeps node state number call _ (no_room fresh full) right = right
-passage_keeps node state number call _ (carried fresh room) right =
+-- and so does a session that begins
+begun_keeps : (session : ℕ) (state : NodeState) → IsPublishedRight state → IsPublishedRight (begun session state)
+begun_keeps session state right = record { staged = right.staged; targets = right.targets }
+
+-- each call that is carried out keeps what is published right
+carried_keeps : (node : List ℕ) (state : NodeState) (number : Number) (call : Call) (after : Fenced NodeState) → Carried node state number call after → IsPublishedRight state → IsPublishedRight after.state
+carried_keeps node state number call _ (no_room full) right = right
+carried_keeps node state number call _ (has_room room) right =
     keep_keeps (volume_of call) (kept_of state number call) (changed state (lifecycle_row state call).change) (move_keeps state call (lifecycle_row state call) (lifecycle_moves state call) right)
 
--- where both of two outcomes keep it, so does the one that a test chooses
-by_place : (b : Bool) (x y : Fenced) → IsPublishedRight x.state → IsPublishedRight y.state → IsPublishedRight (cond b x y).state
-by_place true x y f g = f
-by_place false x y f g = g
-
--- whatever a node does with a frame keeps what is published right: by party and body, as a frame, and for all frames
-parts_keep : (node : List ℕ) (state : NodeState) (number : Number) (party : Party) (body : Body) → IsPublishedRight state → IsPublishedRight (fenced_parts node state number party body).state
-parts_keep node state number Controller body right = right
-parts_keep node state number (Node id) (bodies.Reply kind reply) right = right
-parts_keep node state number (Node id) (bodies.Call call) right =
-    by_place (same_text id node) _ _
-    (passage_keeps node state number call (fenced_call node state number call (kept_for call state)) (call_passes node state number call (kept_for call state) refl) right)
-    right
-
-pub fenced_keeps : (node : List ℕ) (state : NodeState) (frame : Frame) → IsPublishedRight state → IsPublishedRight (fenced node state frame).state
-fenced_keeps node state frame right = parts_keep node state frame.number frame.party frame.body right
-
-pub frames_keep : (node : List ℕ) (state : NodeState) (frames : List Frame) → IsPublishedRight state → IsPublishedRight (after_frames node state frames)
-frames_keep node state [] right = right
-frames_keep node state (frame ∷ frames) right = frames_keep node (fenced node state frame).state frames (fenced_keeps node state frame right)
+-- so each frame does
+is_kept : (node : List ℕ) → IsKept (node_at node) IsPublishedRight
+is_kept node = record {
+  sets_session = λ session state. refl;
+  begins = λ session state later right. begun_keeps session state right;
+  carries = λ state number call now right. carried_keeps node state number call (carried_out node state number call (node_row state call)) (was_carried node state number call) right;
+}
 
 -- in a node that has answered nothing, what is published is right
-pub empty_right : IsPublishedRight empty_node
+empty_right : IsPublishedRight empty_node
 empty_right = record { staged = λ p among. absurd among; targets = tt }
+
+-- after any frames to a new node, what is published is right
+pub all_right : (node : List ℕ) (frames : List Frame) → IsPublishedRight (after_frames node empty_node frames)
+all_right node frames = frames_keep (node_at node) IsPublishedRight (is_kept node) empty_node frames empty_right

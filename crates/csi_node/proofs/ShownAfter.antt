@@ -1,17 +1,16 @@
 -- A step of a node, from rows that show a state to rows that show the state after it.
-use Rattle.std.proofs.Common.{◌≡◌, ℕ, ◌+◌, List, map, length, Bool, true, false, cond, not, ◌&&◌, refl, sym, ◌∙◌, ap, arith, length-append}
+use Rattle.std.proofs.Common.{◌≡◌, ℕ, ◌+◌, List, [], ◌∷◌, ◌++◌, map, length, Bool, true, false, not, ◌&&◌, refl, sym, ◌∙◌, ap, arith, length-append}
 use Rattle.std.specs.Prelude.{Option, Some, None, option_map, find, filter, ◌==◌, is_none, nat_le, option_to_list}
 use Rattle.std.proofs.lemmas.Bool.{eq-eqb, eqb-true}
 use Rattle.std.proofs.lemmas.Bool.Decides.{nat_tests}
 use Rattle.std.proofs.lemmas.List.{length-map}
 use Rattle.csi_types.specs.declared.capability.Capability.{Capability}
 use Rattle.csi_types.specs.declared.call.Call.{Call}
-use Rattle.csi_types.specs.Fence.{Kept}
-use Rattle.csi_lists.proofs.Searches.{find-append_one, find-append, find-map, find-passes}
-use Rattle.csi_lists.proofs.Filters.{filter-filter}
-use Rattle.std.specs.Option.{option_or}
-use Rattle.csi_lists.proofs.Options.{option_or-left}
-use Rattle.csi_lists.proofs.Searches.{find-of_map}
+use Rattle.csi_fence.specs.Fence.{Kept}
+use Rattle.std.proofs.lemmas.List.Elements.{filter_agree}
+use Rattle.csi_lists.proofs.PassingByKey.{find-by_key}
+use Rattle.csi_lists.proofs.Searches.{find-of_map, find-passes}
+use Rattle.csi_lists.proofs.Filters.{filter-append_one, filter-append_passes, filter-filter, filter-map, filter-of_map}
 use Rattle.csi_node.specs.declared.row.NodeRow.{NodeRow}
 use Rattle.csi_node.specs.State.{NodeState, Answered, StagedVolume, PublishedVolume, empty_node, row_with_id, published_of, volume_of, row_of_volume, row_for}
 use Rattle.csi_node.specs.Table.{Change, Outcome, lifecycle_row, has_no_room, changed}
@@ -40,7 +39,7 @@ answered_of row = record { id = row.id; kept = row.kept }
 -- the rows show the state
 pub record ShowsAll (rows : List RowShown) (state : NodeState) : Type 0 where
   pub count : length rows ≡ length state.rows
-  pub kept : (id : ℕ) → option_map answered_of (row_of id rows) ≡ row_with_id id state
+  pub kept : (id : ℕ) → option_to_list (option_map answered_of (row_of id rows)) ≡ filter (λ (row : Answered). row.id == id) state.rows
   pub staged : (id : ℕ) → map (λ (s : StagedVolume). s.capability) (alone_in (row_of id rows)).staged ≡ map (λ (s : StagedVolume). s.capability) (filter (λ (s : StagedVolume). s.volume == id) state.staged)
   pub published : (id : ℕ) → (alone_in (row_of id rows)).published ≡ published_of id state
 
@@ -74,7 +73,7 @@ published-shown (Some row) = by row.staged refl
 pub all-from_shows : (rows : List NodeRow) (state : NodeState) → RowsShow rows state → ShowsAll (map shown rows) state
 all-from_shows rows state shows = record {
   count = length-map rows shown ∙ shows.count;
-  kept = λ id. ap (option_map answered_of) (row_of-shown id rows) ∙ kept-shown (row_in id rows) ∙ shows.kept id;
+  kept = λ id. ap (λ (o : Option RowShown). option_to_list (option_map answered_of o)) (row_of-shown id rows) ∙ ap option_to_list (kept-shown (row_in id rows)) ∙ shows.kept id;
   staged = λ id. ap (λ (o : Option RowShown). map (λ (s : StagedVolume). s.capability) (alone_in o).staged) (row_of-shown id rows) ∙ staged-shown (row_in id rows) ∙ shows.staged id;
   published = λ id. ap (λ (o : Option RowShown). (alone_in o).published) (row_of-shown id rows) ∙ published-shown (row_in id rows) ∙ shows.published id;
 }
@@ -83,10 +82,14 @@ all-from_shows rows state shows = record {
 pub shows-from_all : (rows : List NodeRow) (state : NodeState) → ShowsAll (map shown rows) state → RowsShow rows state
 shows-from_all rows state all = record {
   count = sym (length-map rows shown) ∙ all.count;
-  kept = λ id. sym (kept-shown (row_in id rows)) ∙ ap (option_map answered_of) (sym (row_of-shown id rows)) ∙ all.kept id;
+  kept = λ id. ap option_to_list (sym (kept-shown (row_in id rows))) ∙ ap (λ (o : Option RowShown). option_to_list (option_map answered_of o)) (sym (row_of-shown id rows)) ∙ all.kept id;
   staged = λ id. sym (staged-shown (row_in id rows)) ∙ ap (λ (o : Option RowShown). map (λ (s : StagedVolume). s.capability) (alone_in o).staged) (sym (row_of-shown id rows)) ∙ all.staged id;
   published = λ id. sym (published-shown (row_in id rows)) ∙ ap (λ (o : Option RowShown). (alone_in o).published) (sym (row_of-shown id rows)) ∙ all.published id;
 }
+
+-- the row of an id is the state's
+pub kept-found : (rows : List RowShown) (state : NodeState) → ShowsAll rows state → (id : ℕ) → option_map answered_of (row_of id rows) ≡ row_with_id id state
+kept-found rows state all id = sym (find-by_key answered_of (λ (row : RowShown). row.id) (λ (row : Answered). row.id) rows state.rows all.kept id)
 
 -- how many rows there are after a call, by whether its volume had one
 abbrev pub grown : Option RowShown → ℕ → ℕ
@@ -98,10 +101,6 @@ pub record RowsAfter (id : ℕ) (old new : List RowShown) (row : RowShown) : Typ
   pub count : length new ≡ grown (row_of id old) (length old)
   pub this : row_of id new ≡ Some row
   pub others : (k : ℕ) → (k == id) ≡ false → row_of k new ≡ row_of k old
-
--- what a row that is found keeps is what was found of it
-answered_id : (o : Option RowShown) (row : Answered) → option_map answered_of o ≡ Some row → (r : RowShown) → o ≡ Some r → answered_of r ≡ row
-answered_id o row h r e = let both : Some (answered_of r) ≡ Some row = ap (option_map answered_of) (sym e) ∙ h in cc
 
 -- the parts of the state that are a volume's
 pub part_of : (id : ℕ) (rows : List RowShown) (state : NodeState) → ShowsAll rows state → IsPart id (alone_in (row_of id rows)) state
@@ -124,7 +123,7 @@ pub kept-shown_by : (id : ℕ) (call : Call) (rows : List RowShown) (state : Nod
     → kept_for call state ≡ option_map (λ (r : RowShown). r.kept) o
 kept-shown_by id call rows state o v all found =
     ap (λ (volume : Option ℕ). option_map (λ (row : Answered). row.kept) (row_of_volume volume state)) v
-    ∙ ap (option_map (λ (row : Answered). row.kept)) (sym (all.kept id))
+    ∙ ap (option_map (λ (row : Answered). row.kept)) (sym (kept-found rows state all id))
     ∙ ap (λ (p : Option RowShown). option_map (λ (row : Answered). row.kept) (option_map answered_of p)) found
     ∙ twice o
   where
@@ -137,7 +136,7 @@ pub room-by : (id : ℕ) (call : Call) (rows : List RowShown) (state : NodeState
     → has_no_room state call ≡ (is_none o && nat_le 4096 (length rows))
 room-by id call rows state o v all found =
     let row : row_for call state ≡ option_map answered_of o =
-    ap (λ (volume : Option ℕ). row_of_volume volume state) v ∙ sym (all.kept id) ∙ ap (option_map answered_of) found in
+    ap (λ (volume : Option ℕ). row_of_volume volume state) v ∙ sym (kept-found rows state all id) ∙ ap (option_map answered_of) found in
     let none : is_none (row_for call state) ≡ is_none o = ap is_none row ∙ mapped o in
     λ i. none i && nat_le 4096 ((sym all.count) i)
   where
@@ -152,25 +151,22 @@ length-kept id kept rows None None h = omega (arith, length-append {A = Answered
 length-kept id kept rows None (Some r) h = cc
 length-kept id kept rows (Some row) (Some r) h = length-map rows (kept_in id kept)
 
--- the row in which something is kept is found with it
-kept-here : (id : ℕ) (kept : Kept) (rows : List Answered) (o : Option Answered) → find (λ (row : Answered). row.id == id) rows ≡ o
-    → find (λ (row : Answered). row.id == id) (kept_rows id kept rows o) ≡ Some (record { id = id; kept = kept })
-kept-here id kept rows None h = find-append_one (λ (row : Answered). row.id == id) rows (record { id = id; kept = kept }) (itself id) h
-kept-here id kept rows (Some row) h =
-    let own : (row.id == id) ≡ true = find-passes (λ (r : Answered). r.id == id) rows row h in
-    let same : row.id ≡ id = eqb-true row.id id own in
-    find-map (λ (r : Answered). r.id == id) (kept_in id kept) rows (λ r. ap (λ n. n == id) (kept_in-id id kept r))
-    ∙ ap (option_map (kept_in id kept)) h
-    ∙ rw own (ap (λ (n : ℕ). let a : Option Answered = Some (record { id = n; kept = kept }) in a) same)
+-- of the volume for which something is kept there is its row, which has it
+kept-here : (id : ℕ) (kept : Kept) (rows : List Answered) (o : Option Answered) → option_to_list o ≡ filter (λ (row : Answered). row.id == id) rows → ((row : Answered) → o ≡ Some row → row.id ≡ id)
+    → filter (λ (row : Answered). row.id == id) (kept_rows id kept rows o) ≡ (record { id = id; kept = kept }) ∷ []
+kept-here id kept rows None h own =
+    filter-append_passes (λ (row : Answered). row.id == id) rows (record { id = id; kept = kept }) (itself id)
+    ∙ ap (λ (l : List Answered). l ++ (record { id = id; kept = kept }) ∷ []) (sym h)
+kept-here id kept rows (Some row) h own =
+    let here : (row.id == id) ≡ true = eq-eqb row.id id (own row refl) in
+    filter-of_map (λ (r : Answered). r.id == id) (kept_in id kept) rows
+    ∙ ap (map (kept_in id kept)) (filter_agree (λ (r : Answered). (kept_in id kept r).id == id) (λ (r : Answered). r.id == id) (λ r. ap (λ n. n == id) (kept_in-id id kept r)) rows)
+    ∙ ap (map (kept_in id kept)) (sym h)
+    ∙ rw here (ap (λ (n : ℕ). let a : List Answered = (record { id = n; kept = kept }) ∷ [] in a) (own row refl))
 
 -- a row of another id stays as it was
 kept_in-other : (id : ℕ) (kept : Kept) (row : Answered) → (row.id == id) ≡ false → kept_in id kept row ≡ row
 kept_in-other id kept row h = rw h refl
-
--- a row of another id that was found stays as it was
-mapped-other : (id k : ℕ) (kept : Kept) (o : Option Answered) → ((row : Answered) → o ≡ Some row → (row.id == id) ≡ false) → option_map (kept_in id kept) o ≡ o
-mapped-other id k kept None h = refl
-mapped-other id k kept (Some row) h = ap Some (kept_in-other id kept row (h row refl))
 
 -- ids that differ one way differ the other way
 turned : (k id : ℕ) → (k == id) ≡ false → (id == k) ≡ false
@@ -185,16 +181,12 @@ another : (id k n : ℕ) (call : Call) → volume_of call ≡ Some id → (k == 
 another id k n call v h e =
     ap (λ (o : Option ℕ). is_another o n) v ∙ ap not (apart k id n h e)
 
--- what is kept for a volume leaves each other volume's row as it is found
+-- what is kept for a volume leaves what there is of each other volume as it was
 kept-elsewhere : (id k : ℕ) (kept : Kept) (rows : List Answered) (o : Option Answered) → (k == id) ≡ false
-    → find (λ (row : Answered). row.id == k) (kept_rows id kept rows o) ≡ find (λ (row : Answered). row.id == k) rows
-kept-elsewhere id k kept rows None h =
-    find-append (λ (row : Answered). row.id == k) rows (record { id = id; kept = kept })
-    ∙ ap (λ (b : Bool). option_or (find (λ (row : Answered). row.id == k) rows) (cond b (Some (record { id = id; kept = kept })) None)) (turned k id h)
-    ∙ option_or-left (find (λ (row : Answered). row.id == k) rows)
+    → filter (λ (row : Answered). row.id == k) (kept_rows id kept rows o) ≡ filter (λ (row : Answered). row.id == k) rows
+kept-elsewhere id k kept rows None h = filter-append_one (λ (row : Answered). row.id == k) rows (record { id = id; kept = kept }) (turned k id h)
 kept-elsewhere id k kept rows (Some there) h =
-    find-map (λ (row : Answered). row.id == k) (kept_in id kept) rows (λ row. ap (λ n. n == k) (kept_in-id id kept row))
-    ∙ mapped-other id k kept (find (λ (row : Answered). row.id == k) rows) (λ row found. apart k id row.id h (find-passes (λ (r : Answered). r.id == k) rows row found))
+    filter-map (λ (row : Answered). row.id == k) (kept_in id kept) rows (λ row. ap (λ n. n == k) (kept_in-id id kept row)) (λ row e. kept_in-other id kept row (apart k id row.id h e))
 
 -- the other volumes' stagings and targets
 other_staged : (id k : ℕ) (state : NodeState) (call : Call) → volume_of call ≡ Some id → (k == id) ≡ false
@@ -229,7 +221,7 @@ pub shows_then : (id : ℕ) (call : Call) (old new : List RowShown) (state : Nod
     → alone after ≡ changed (alone before) (lifecycle_row (alone before) call).change
     → ShowsAll new (state_then state id kept call)
 shows_then id call old new state before after kept v all rows is_before is_id is_kept is_after = record {
-  count = rows.count ∙ ap (grown (row_of id old)) all.count ∙ sym (ap length kept_there ∙ length-kept id kept state.rows (row_with_id id state) (row_of id old) (all.kept id));
+  count = rows.count ∙ ap (grown (row_of id old)) all.count ∙ sym (ap length kept_there ∙ length-kept id kept state.rows (row_with_id id state) (row_of id old) (kept-found old state all id));
   kept = λ k. by_kept k (k == id) refl;
   staged = λ k. by_staged k (k == id) refl;
   published = λ k. by_published k (k == id) refl;
@@ -253,16 +245,20 @@ shows_then id call old new state before after kept v all rows is_before is_id is
     kept_there : (state_then state id kept call).rows ≡ kept_rows id kept state.rows (row_with_id id state)
     kept_there = ap (λ (l : List Answered). kept_rows id kept l (find (λ (row : Answered). row.id == id) l)) (changed-rows state change)
 
-    by_kept : (k : ℕ) (b : Bool) → (k == id) ≡ b → option_map answered_of (row_of k new) ≡ row_with_id k (state_then state id kept call)
+    kept_before : option_to_list (row_with_id id state) ≡ filter (λ (row : Answered). row.id == id) state.rows
+    kept_before = ap option_to_list (sym (kept-found old state all id)) ∙ all.kept id
+
+    by_kept : (k : ℕ) (b : Bool) → (k == id) ≡ b → option_to_list (option_map answered_of (row_of k new)) ≡ filter (λ (row : Answered). row.id == k) (state_then state id kept call).rows
     by_kept k true e =
         let same : k ≡ id = eqb-true k id e in
-        rw same (ap (option_map answered_of) rows.this
-        ∙ (λ i. Some (record { id = is_id i; kept = is_kept i }))
-        ∙ sym (ap (find (λ (row : Answered). row.id == id)) kept_there ∙ kept-here id kept state.rows (row_with_id id state) refl))
+        rw same (ap (λ (o : Option RowShown). option_to_list (option_map answered_of o)) rows.this
+        ∙ (λ i. (record { id = is_id i; kept = is_kept i }) ∷ [])
+        ∙ sym (ap (filter (λ (row : Answered). row.id == id)) kept_there
+        ∙ kept-here id kept state.rows (row_with_id id state) kept_before (λ row found. eqb-true row.id id (find-passes (λ (r : Answered). r.id == id) state.rows row found))))
     by_kept k false e =
-        ap (option_map answered_of) (rows.others k e)
+        ap (λ (o : Option RowShown). option_to_list (option_map answered_of o)) (rows.others k e)
         ∙ all.kept k
-        ∙ sym (ap (find (λ (row : Answered). row.id == k)) kept_there ∙ kept-elsewhere id k kept state.rows (row_with_id id state) e)
+        ∙ sym (ap (filter (λ (row : Answered). row.id == k)) kept_there ∙ kept-elsewhere id k kept state.rows (row_with_id id state) e)
 
     by_staged : (k : ℕ) (b : Bool) → (k == id) ≡ b → map (λ (s : StagedVolume). s.capability) (alone_in (row_of k new)).staged ≡ map (λ (s : StagedVolume). s.capability) (filter (λ (s : StagedVolume). s.volume == k) (changed state change).staged)
     by_staged k true e =

@@ -1,5 +1,5 @@
 -- In a node's state each volume is staged at most once: what the list has is what is found, whatever frames came.
-use Rattle.std.proofs.Common.{◌≡◌, ◌⊎◌, ℕ, List, [], ◌∷◌, Bool, true, false, cond, not, refl, sym, ◌∙◌, ap, subst, inl, inr}
+use Rattle.std.proofs.Common.{◌≡◌, ◌⊎◌, ℕ, List, Bool, true, cond, not, refl, sym, ◌∙◌, ap, subst, inl, inr}
 use Rattle.std.specs.Prelude.{Option, Some, None, option_map, find, ◌==◌}
 use Rattle.std.proofs.lemmas.Bool.{eqb-true, eq-eqb}
 use Rattle.csi_lists.proofs.Members.{among-either, among-filter}
@@ -8,21 +8,18 @@ use Rattle.csi_lists.proofs.Searches.{find-append}
 use Rattle.csi_types.specs.declared.capability.Capability.{Capability}
 use Rattle.csi_types.specs.declared.number.Number.{Number}
 use Rattle.csi_types.specs.declared.call.Call.{Call}
-use Rattle.csi_types.specs.declared.call.Party.{Party}
-use Rattle.csi_types.specs.declared.call.Party.TheVariants.{Controller, Node}
-use Rattle.csi_types.specs.declared.frame.Body.{Body}
-use Rattle.csi_types.specs.declared.frame.Body.TheVariants as bodies
-use Rattle.csi_types.specs.Fence.{Kept}
 use Rattle.csi_types.specs.Frame.{Frame}
+use Rattle.csi_fence.specs.Fence.{Kept}
+use Rattle.csi_fence.specs.Fenced.{Fenced}
+use Rattle.csi_fence.proofs.FramesKeep.{IsKept, frames_keep}
 use Rattle.csi_lists.specs.Members.{IsAmong}
-use Rattle.csi_types.specs.Same.{same_text}
 use Rattle.csi_lists.proofs.Options.{option_or-none, option_or-read, none-from_map}
 use Rattle.csi_lists.proofs.Members.{passes-filter}
 use Rattle.csi_node.specs.State.{NodeState, StagedVolume, empty_node, staged_of, volume_of}
-use Rattle.csi_node.specs.Table.{Outcome, Stages, Unstages, lifecycle_row, changed}
-use Rattle.csi_node.specs.Fenced.{Fenced, keep, fenced_call, kept_for, fenced_parts, fenced, after_frames}
+use Rattle.csi_node.specs.Table.{Outcome, Stages, Unstages, lifecycle_row, node_row, changed}
+use Rattle.csi_node.specs.Fenced.{keep, carried_out, node_at, after_frames}
 use Rattle.csi_node.proofs.Moves.{Move, refuses, was_staged, stages, unstages, was_published, publishes, was_unpublished, unpublishes, lifecycle_moves}
-use Rattle.csi_node.proofs.FencedCalls.{Passage, stale, repeated, no_room, carried, call_passes, kept_of}
+use Rattle.csi_node.proofs.CarriedOut.{Carried, no_room, has_room, was_carried, kept_of}
 
 -- each staged volume is found as it is staged
 abbrev pub AreFound : NodeState → Type 0
@@ -78,33 +75,20 @@ keep-found : (volume : Option ℕ) (kept : Kept) (state : NodeState) → AreFoun
 keep-found None kept state found = found
 keep-found (Some id) kept state found = found
 
--- whatever the fence makes of a call leaves each staged volume found as it is staged
-passage-found : (node : List ℕ) (state : NodeState) (number : Number) (call : Call) (fenced : Fenced) → Passage node state number call fenced → AreFound state → AreFound fenced.state
-passage-found node state number call _ (stale spent) found = found
-passage-found node state number call _ (repeated kept is same spent) found = found
-passage-found node state number call _ (no_room fresh full) found = found
-passage-found node state number call _ (carried fresh room) found =
+-- each call that is carried out leaves each staged volume found as it is staged
+carried-found : (node : List ℕ) (state : NodeState) (number : Number) (call : Call) (after : Fenced NodeState) → Carried node state number call after → AreFound state → AreFound after.state
+carried-found node state number call _ (no_room full) found = found
+carried-found node state number call _ (has_room room) found =
     keep-found (volume_of call) (kept_of state number call) (changed state (lifecycle_row state call).change) (move-found state call (lifecycle_row state call) (lifecycle_moves state call) found)
 
--- where both of two outcomes leave it so, the one that a test chooses does
-by_place : (b : Bool) (x y : Fenced) → AreFound x.state → AreFound y.state → AreFound (cond b x y).state
-by_place true x y f g = f
-by_place false x y f g = g
-
--- whatever a node does with a frame leaves each staged volume found as it is staged
-parts-found : (node : List ℕ) (state : NodeState) (number : Number) (party : Party) (body : Body) → AreFound state → AreFound (fenced_parts node state number party body).state
-parts-found node state number Controller body found = found
-parts-found node state number (Node id) (bodies.Reply kind reply) found = found
-parts-found node state number (Node id) (bodies.Call call) found =
-    by_place (same_text id node) _ _
-    (passage-found node state number call (fenced_call node state number call (kept_for call state)) (call_passes node state number call (kept_for call state) refl) found)
-    found
-
--- all frames leave each staged volume found as it is staged
-frames-found : (node : List ℕ) (state : NodeState) (frames : List Frame) → AreFound state → AreFound (after_frames node state frames)
-frames-found node state [] found = found
-frames-found node state (frame ∷ frames) found = frames-found node (fenced node state frame).state frames (parts-found node state frame.number frame.party frame.body found)
+-- so does each frame; a session that begins touches the rows alone
+is_kept : (node : List ℕ) → IsKept (node_at node) AreFound
+is_kept node = record {
+  sets_session = λ session state. refl;
+  begins = λ session state later found. found;
+  carries = λ state number call now found. carried-found node state number call (carried_out node state number call (node_row state call)) (was_carried node state number call) found;
+}
 
 -- after any frames to a new node, each staged volume is found as it is staged
 pub all_found : (node : List ℕ) (frames : List Frame) → AreFound (after_frames node empty_node frames)
-all_found node frames = frames-found node empty_node frames (λ staged among. absurd among)
+all_found node frames = frames_keep (node_at node) AreFound (is_kept node) empty_node frames (λ staged among. absurd among)

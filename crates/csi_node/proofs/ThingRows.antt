@@ -6,7 +6,7 @@ use Rattle.csi_types.specs.declared.call.Call.{Call}
 use Rattle.csi_types.specs.declared.call.Call.TheVariants as calls
 use Rattle.csi_types.specs.declared.call.Party.TheVariants.{Node}
 use Rattle.csi_types.specs.Call.{kind_of, is_party_of}
-use Rattle.csi_types.specs.Fence.{Kept}
+use Rattle.csi_fence.specs.Fence.{Kept}
 use Rattle.csi_types.specs.Key.{Key, Exists, Attached, Staged, Published}
 use Rattle.csi_types.specs.Same.{same_text}
 use Rattle.csi_node.specs.State.{NodeState, empty_node, volume_of}

@@ -1,31 +1,21 @@
 -- What a node does with a frame: the fence, then the table. This profile's own.
-use Rattle.std.specs.Prelude.{ℕ, ◌==◌, List, [], ◌∷◌, ◌++◌, map, Option, Some, None, option_map, if◌then◌else◌}
+use Rattle.std.specs.Prelude.{ℕ, ◌==◌, List, [], ◌∷◌, ◌++◌, map, filter, Option, Some, None, option_map, is_some, if◌then◌else◌}
 use Rattle.csi_types.specs.declared.number.Number.{Number}
-use Rattle.csi_types.specs.declared.call.Kind.{Kind}
 use Rattle.csi_types.specs.declared.call.Call.{Call}
-use Rattle.csi_types.specs.declared.call.Party.{Party}
-use Rattle.csi_types.specs.declared.call.Party.TheVariants.{Controller, Node}
-use Rattle.csi_types.specs.declared.frame.Body.{Body}
-use Rattle.csi_types.specs.declared.frame.Body.TheVariants as bodies
-use Rattle.csi_types.specs.declared.fence.Verdict.{Verdict}
-use Rattle.csi_types.specs.declared.fence.Verdict.TheVariants.{Stale, Repeated, Fresh}
-use Rattle.csi_types.specs.declared.reply.Reply.{Reply}
+use Rattle.csi_types.specs.declared.call.Party.TheVariants.{Node}
 use Rattle.csi_types.specs.Call.{kind_of}
-use Rattle.csi_types.specs.Fence.{Kept, verdict_of}
 use Rattle.csi_types.specs.Frame.{Frame}
-use Rattle.csi_types.specs.Replies.{stale_reply, reply_frame}
-use Rattle.csi_types.specs.Same.{same_text}
-use Rattle.csi_node.specs.State.{NodeState, Answered, volume_of, row_with_id, row_for}
+use Rattle.csi_types.specs.Replies.{reply_frame}
+use Rattle.csi_fence.specs.declared.answer.Answer.{Answer}
+use Rattle.csi_fence.specs.Fence.{Kept}
+use Rattle.csi_fence.specs.Fenced as fence
+use Rattle.csi_fence.specs.Fenced.{Fenced, Machine}
+use Rattle.csi_node.specs.State.{NodeState, Answered, volume_of, row_with_id, row_for, staged_of}
 use Rattle.csi_node.specs.Table.{Outcome, node_row, has_no_room, changed}
 
--- the reply that a frame gets, if it gets one, and the state after it
-pub record Fenced : Type 0 where
-  pub reply : Option Frame
-  pub state : NodeState
-
--- a kind and a reply, as a frame of this node
-abbrev pub answer_frame : List ℕ → Number → Kind × Reply → Frame
-answer_frame node number answer = reply_frame number (Node node) answer.0 answer.1
+-- an answer of this node, as a frame
+abbrev pub answer_frame : List ℕ → Number → Answer → Frame
+answer_frame node number answer = reply_frame number (Node node) answer.kind answer.reply
 
 -- the row, with this kept if it is the one of this id
 abbrev pub kept_in : ℕ → Kept → Answered → Answered
@@ -41,45 +31,49 @@ abbrev pub keep : Option ℕ → Kept → NodeState → NodeState
 keep None kept state = state
 keep (Some id) kept state = record state { rows = kept_rows id kept state.rows (row_with_id id state) }
 
--- an answer that changes nothing
-abbrev pub answered_only : List ℕ → NodeState → Number → Kind → Reply → Fenced
-answered_only node state number kind reply = record { reply = Some (reply_frame number (Node node) kind reply); state = state }
-
 -- the table's answer, and the state with its change and what is kept; where there is no room for a row,
 -- nothing is kept
-abbrev pub carried_out : List ℕ → NodeState → Number → Call → Outcome → Fenced
+abbrev pub carried_out : List ℕ → NodeState → Number → Call → Outcome → Fenced NodeState
 carried_out node state number call outcome =
     let kept : Kept = record { number = number; kind = kind_of call; reply = outcome.reply } in
-    if has_no_room state call then answered_only node state number (kind_of call) outcome.reply
+    if has_no_room state call then record { reply = Some (reply_frame number (Node node) (kind_of call) outcome.reply); state = state }
     else record { reply = Some (reply_frame number (Node node) (kind_of call) outcome.reply); state = keep (volume_of call) kept (changed state outcome.change) }
-
--- by what the fence says of the number
-abbrev pub judged : List ℕ → NodeState → Number → Call → Kept → Verdict → Fenced
-judged node state number call kept Stale = answered_only node state number (kind_of call) stale_reply
-judged node state number call kept Repeated = answered_only node state number kept.kind kept.reply
-judged node state number call kept Fresh = carried_out node state number call (node_row state call)
-
--- by the row of the call's volume, if it has one
-abbrev pub fenced_call : List ℕ → NodeState → Number → Call → Option Kept → Fenced
-fenced_call node state number call None = carried_out node state number call (node_row state call)
-fenced_call node state number call (Some kept) = judged node state number call kept (verdict_of (Some kept.number) number)
 
 -- what is kept in the row of the call's volume
 abbrev pub kept_for : Call → NodeState → Option Kept
 kept_for call state = option_map (λ row. row.kept) (row_for call state)
 
--- the same, by the party and what the frame has
-abbrev pub fenced_parts : List ℕ → NodeState → Number → Party → Body → Fenced
-fenced_parts node state number (Node id) (bodies.Call call) =
-    if same_text id node then fenced_call node state number call (kept_for call state) else record { reply = None; state = state }
-fenced_parts node state number (Node id) (bodies.Reply kind reply) = record { reply = None; state = state }
-fenced_parts node state number Controller body = record { reply = None; state = state }
+-- a later session begins: the rows of volumes that aren't staged are forgotten
+abbrev pub begun : ℕ → NodeState → NodeState
+begun session state = record state { session = session; rows = filter (λ row. is_some (staged_of row.id state)) state.rows }
 
--- a frame for another plugin, or a reply, gets no answer; a call by its number and its volume's row
-abbrev pub fenced : List ℕ → NodeState → Frame → Fenced
-fenced node state frame = fenced_parts node state frame.number frame.party frame.body
+-- the node of this id, behind the fence
+abbrev pub node_at : List ℕ → Machine NodeState
+node_at node =
+    record {
+      party = Node node;
+      session = λ state. state.session;
+      begun = begun;
+      kept_for = kept_for;
+      carried_out = λ state number call. carried_out node state number call (node_row state call);
+    }
+
+-- the state in which a call of this number is judged
+abbrev pub in_session : List ℕ → Number → NodeState → NodeState
+in_session node number state = fence.in_session (node_at node) number state
+
+-- by what is kept for the call's volume, if something is
+abbrev pub fenced_call : List ℕ → NodeState → Number → Call → Option Kept → Fenced NodeState
+fenced_call node state number call kept = fence.fenced_call (node_at node) state number call kept
+
+-- what a call gets, and the state after it
+abbrev pub answered_in : List ℕ → NodeState → Number → Call → Fenced NodeState
+answered_in node state number call = fence.answered_in (node_at node) state number call
+
+-- what a frame gets, and the state after it
+abbrev pub fenced : List ℕ → NodeState → Frame → Fenced NodeState
+fenced node state frame = fence.fenced (node_at node) state frame
 
 -- the state after these frames
 abbrev pub after_frames : List ℕ → NodeState → List Frame → NodeState
-after_frames node state [] = state
-after_frames node state (frame ∷ frames) = after_frames node (fenced node state frame).state frames
+after_frames node state frames = fence.after_frames (node_at node) state frames

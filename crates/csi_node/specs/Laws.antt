@@ -1,19 +1,17 @@
 -- Laws that the node's table keeps, in the words of CSI's spec.md ("idempotent" calls, and what each call
 -- ensures), apart from what is kept of the last calls.
-use Rattle.std.specs.Prelude.{◌≡◌, ◌⊎◌, ℕ, ◌==◌, List, [], ◌∷◌, ◌++◌, map, filter, Bool, true, not, Option, Some, None, option_map}
+use Rattle.std.specs.Prelude.{◌≡◌, ◌⊎◌, ℕ, ◌==◌, List, [], ◌∷◌, ◌++◌, map, filter, Bool, true, not, Option, Some, None}
 use Rattle.csi_types.specs.declared.number.Number.{Number}
 use Rattle.csi_types.specs.declared.call.Call.{Call}
 use Rattle.csi_types.specs.declared.call.Call.TheVariants as calls
 use Rattle.csi_types.specs.declared.call.Party.TheVariants.{Node}
 use Rattle.csi_types.specs.declared.reply.Reply.{Reply}
-use Rattle.csi_types.specs.Fence as fence
-use Rattle.csi_types.specs.Lawful as lawful
-use Rattle.csi_types.specs.Lawful.{Plugin}
-use Rattle.csi_types.specs.Frame.{Frame}
+use Rattle.csi_fence.specs.Lawful as lawful
+use Rattle.csi_fence.specs.Lawful.{Plugin, TableLaw}
 use Rattle.csi_types.specs.Replies.{call_frame}
 use Rattle.csi_node.specs.State.{NodeState, Answered, PublishedVolume, empty_node, staged_of, published_at, volume_of}
 use Rattle.csi_node.specs.Table.{node_row}
-use Rattle.csi_node.specs.Fenced.{fenced, kept_for, after_frames}
+use Rattle.csi_node.specs.Fenced.{node_at, fenced}
 
 -- the table's reply to a call, and the state after it
 abbrev pub reply_at : NodeState → Call → Reply
@@ -24,8 +22,8 @@ abbrev pub state_after : List ℕ → NodeState → Number → Call → NodeStat
 state_after node state number call = (fenced node state (call_frame number (Node node) call)).state
 
 -- the fence lets the call through to the table
-abbrev pub IsLetThrough : NodeState → Number → Call → Type 0
-IsLetThrough state number call = fence.IsLetThrough (option_map (λ kept. kept.number) (kept_for call state)) number
+abbrev pub IsLetThrough : List ℕ → NodeState → Number → Call → Type 0
+IsLetThrough node state number call = lawful.IsLetThrough (node_at node) state number call
 
 -- the volumes that have a row
 abbrev pub ids_in : List Answered → List ℕ
@@ -38,6 +36,7 @@ HasAtMostOneMore old new = (ids_in new ≡ ids_in old) ⊎ ((id : ℕ) × (ids_i
 -- the two differ in nothing but what is kept of the last calls, and a row that may be new for it
 pub record IsSameApart (old new : NodeState) : Type 0 where
   pub rows : HasAtMostOneMore old.rows new.rows
+  pub session : old.session ≡ new.session
   pub staged : old.staged ≡ new.staged
   pub published : old.published ≡ new.published
 
@@ -69,26 +68,13 @@ pub record LeavesOthers (old new : NodeState) (call : Call) : Type 0 where
 abbrev pub plugin_at : List ℕ → Plugin NodeState
 plugin_at node =
     record {
-      party = Node node;
+      machine = node_at node;
       reply_at = reply_at;
-      answer = λ state frame. (fenced node state frame).reply;
-      after = λ state frame. (fenced node state frame).state;
       is_same = IsSameApart;
       is_done = λ state reply call. IsDone state call;
       leaves_others = LeavesOthers;
     }
 
--- the call again gets the same reply and changes nothing
-abbrev pub IsIdempotent : List ℕ → NodeState → Reply → Number → Call → Type 0
-IsIdempotent node state reply number call = lawful.IsIdempotent (plugin_at node) state reply number call
-
--- what is so of one call that the table answers
-abbrev pub IsLawful : List ℕ → NodeState → Number → Call → Type 0
-IsLawful node state number call = lawful.IsLawful (plugin_at node) state number call
-
 -- the laws, for every state that frames reach and every call that the table answers there
 abbrev pub NodeTableLaw : Type 0
-NodeTableLaw =
-    (node : List ℕ) (frames : List Frame) (number : Number) (call : Call)
-    → IsLetThrough (after_frames node empty_node frames) number call
-    → IsLawful node (after_frames node empty_node frames) number call
+NodeTableLaw = (node : List ℕ) → TableLaw (plugin_at node) empty_node

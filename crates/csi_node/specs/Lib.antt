@@ -5,6 +5,7 @@ pub mod Shown
 pub mod OneRow
 pub mod Line
 pub mod Record
+pub mod WithoutSession
 pub mod Views
 pub mod Laws
 pub mod Worked
@@ -12,4 +13,5 @@ pub mod Safe
 pub mod View
 pub mod SoundRow
 pub mod Judging
-pub mod OneVolume
+pub mod Changes
+pub mod Step

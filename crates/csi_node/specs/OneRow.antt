@@ -6,12 +6,12 @@ use Rattle.csi_types.specs.declared.call.Call.TheVariants as calls
 use Rattle.csi_types.specs.declared.number.Number.{Number}
 use Rattle.csi_types.specs.declared.status.Status.TheVariants.{AlreadyExists, FailedPrecondition}
 use Rattle.csi_types.specs.declared.call.Kind.{Kind}
-use Rattle.csi_types.specs.declared.reply.Reply.{Reply}
-use Rattle.csi_types.specs.declared.fence.Verdict.{Verdict}
-use Rattle.csi_types.specs.declared.fence.Verdict.TheVariants.{Stale, Repeated, Fresh}
+use Rattle.csi_fence.specs.declared.fence.Verdict.{Verdict}
+use Rattle.csi_fence.specs.declared.fence.Verdict.TheVariants.{Stale, Repeated, Fresh}
 use Rattle.csi_types.specs.Replies.{ok_reply, stale_reply}
 use Rattle.csi_types.specs.Call.{kind_of, is_node_kind}
-use Rattle.csi_types.specs.Fence.{Kept}
+use Rattle.csi_fence.specs.declared.answer.Answer.{Answer}
+use Rattle.csi_fence.specs.Fence.{Kept}
 use Rattle.csi_types.specs.Same.{same_text, same_capability, same_flag}
 use Rattle.csi_types.specs.Sharing.{allows_one_target}
 use Rattle.csi_node.specs.declared.row.NodeRow.{NodeRow}
@@ -45,7 +45,7 @@ published_by id (Some capability) targets = map (published_so id capability) tar
 
 -- the state of the row's volume alone, without the row
 abbrev pub alone : RowShown → NodeState
-alone row = record { rows = []; staged = staged_by row.id row.staged; published = published_by row.id row.staged row.targets }
+alone row = record { rows = []; session = 0; staged = staged_by row.id row.staged; published = published_by row.id row.staged row.targets }
 
 -- how the row's volume is published at a target, if it is
 abbrev pub target_in : RowShown → List ℕ → Option NodeTarget
@@ -152,13 +152,17 @@ pub record IsAfter (number : Number) (call : Call) (old new : RowShown) : Type 0
 abbrev pub row_anew : ℕ → Number → Kind → RowShown
 row_anew id number kind = record { id = id; staged = None; targets = []; kept = record { number = number; kind = kind; reply = ok_reply } }
 
--- what a row answers to a call by the fence's verdict, and what it is then
-abbrev pub RowAnswers : Number → Call → RowShown → RowShown → Kind × Reply → Verdict → Type 0
-RowAnswers number call old new answer Stale = (answer ≡ (kind_of call, stale_reply)) × (new ≡ old)
-RowAnswers number call old new answer Repeated = (answer ≡ (old.kept.kind, old.kept.reply)) × (new ≡ old)
-RowAnswers number call old new answer Fresh = (answer ≡ (kind_of call, (lifecycle_row (alone old) call).reply)) × IsAfter number call old new
+-- what the table answers to a call of the row's volume, in which row it is kept then
+abbrev pub table_answer : RowShown → Call → Answer
+table_answer row call = record { kind = kind_of call; reply = (lifecycle_row (alone row) call).reply; row = Some row.id }
 
--- a kind and a reply that a node's frame can have
-pub record IsNodeAnswer (answer : Kind × Reply) : Type 0 where
-  pub kind : is_node_kind answer.0 ≡ true
-  pub no_id : answer.1.id ≡ None
+-- what a row answers to a call by the fence's verdict, and what it is then
+abbrev pub RowAnswers : Number → Call → RowShown → RowShown → Answer → Verdict → Type 0
+RowAnswers number call old new answer Stale = (answer ≡ record { kind = kind_of call; reply = stale_reply; row = None }) × (new ≡ old)
+RowAnswers number call old new answer Repeated = (answer ≡ record { kind = old.kept.kind; reply = old.kept.reply; row = None }) × (new ≡ old)
+RowAnswers number call old new answer Fresh = (answer ≡ table_answer old call) × IsAfter number call old new
+
+-- an answer that a node's frame can have
+pub record IsNodeAnswer (answer : Answer) : Type 0 where
+  pub kind : is_node_kind answer.kind ≡ true
+  pub no_id : answer.reply.id ≡ None

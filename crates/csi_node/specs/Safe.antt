@@ -1,10 +1,10 @@
 -- What a node keeps by itself, whatever frames come: CSI's spec.md, "Volume Lifecycle", and "NodePublishVolume" on
 -- several targets.
-use Rattle.std.specs.Prelude.{◌≡◌, ℕ, false, List, Some}
+use Rattle.std.specs.Prelude.{◌≡◌, ◌⊎◌, ◌≤◌, ◌+◌, ◌==◌, ℕ, false, List, length, count_by, Some, is_some, IsSome}
 use Rattle.csi_types.specs.Frame.{Frame}
 use Rattle.csi_lists.specs.Members.{IsAmong, EachTwo}
 use Rattle.csi_types.specs.Sharing.{allows_one_target}
-use Rattle.csi_node.specs.State.{NodeState, PublishedVolume, empty_node, staged_of}
+use Rattle.csi_node.specs.State.{NodeState, Answered, PublishedVolume, empty_node, staged_of}
 use Rattle.csi_node.specs.Fenced.{after_frames}
 
 -- at two targets, if they are of one volume, neither is in a mode that allows one target
@@ -16,6 +16,17 @@ pub record AllowTwo (a b : PublishedVolume) : Type 0 where
 pub record IsPublishedRight (state : NodeState) : Type 0 where
   pub staged : (published : PublishedVolume) → IsAmong published state.published → staged_of published.volume state ≡ Some published.capability
   pub targets : EachTwo AllowTwo state.published
+
+-- what a node remembers: each row of a volume that isn't staged has its last call in the greatest session that came, none has one in a
+-- later session, and so there are at most as many rows as are of staged volumes and as have their last call in that session
+pub record Remembers (state : NodeState) : Type 0 where
+  pub each : (row : Answered) → IsAmong row state.rows → IsSome (staged_of row.id state) ⊎ (row.kept.number.session ≡ state.session)
+  pub before : (row : Answered) → IsAmong row state.rows → row.kept.number.session ≤ state.session
+  pub few : length state.rows ≤ count_by (λ row. is_some (staged_of row.id state)) state.rows + count_by (λ row. row.kept.number.session == state.session) state.rows
+
+-- in every state that frames lead to, at every node
+abbrev pub NodeSessionsLaw : Type 0
+NodeSessionsLaw = (node : List ℕ) (frames : List Frame) → Remembers (after_frames node empty_node frames)
 
 -- in every state that frames lead to, at every node
 abbrev pub NodeSafetyLaw : Type 0

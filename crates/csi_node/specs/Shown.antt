@@ -2,7 +2,7 @@
 use Rattle.std.specs.Prelude.{◌≡◌, ℕ, ◌==◌, List, [], map, find, filter, length, Option, Some, None, option_map, option_to_list}
 use Rattle.csi_types.specs.declared.capability.Capability.{Capability}
 use Rattle.csi_node.specs.declared.row.NodeRow.{NodeRow}
-use Rattle.csi_node.specs.State.{NodeState, Answered, PublishedVolume, row_with_id, published_of}
+use Rattle.csi_node.specs.State.{NodeState, Answered, PublishedVolume, published_of}
 
 -- what a row keeps of the last call
 abbrev pub answered_of_row : NodeRow → Answered
@@ -32,6 +32,6 @@ row_in id rows = find (λ row. row.id == id) rows
 -- different volumes are mixed doesn't show
 pub record RowsShow (rows : List NodeRow) (state : NodeState) : Type 0 where
   pub count : length rows ≡ length state.rows
-  pub kept : (id : ℕ) → option_map answered_of_row (row_in id rows) ≡ row_with_id id state
+  pub kept : (id : ℕ) → option_to_list (option_map answered_of_row (row_in id rows)) ≡ filter (λ row. row.id == id) state.rows
   pub staged : (id : ℕ) → staged_in (row_in id rows) ≡ map (λ staged. staged.capability) (filter (λ staged. staged.volume == id) state.staged)
   pub published : (id : ℕ) → published_in (row_in id rows) ≡ published_of id state

@@ -5,7 +5,7 @@ use Rattle.csi_types.specs.declared.capability.Capability.{Capability}
 use Rattle.csi_types.specs.declared.call.Call.{Call}
 use Rattle.csi_types.specs.declared.call.Call.TheVariants as calls
 use Rattle.csi_types.specs.Same.{same_text}
-use Rattle.csi_types.specs.Fence.{Kept}
+use Rattle.csi_fence.specs.Fence.{Kept}
 
 -- a volume for which a call was answered, and what is kept of the last one
 pub record Answered : Type 0 where
@@ -24,15 +24,17 @@ pub record PublishedVolume : Type 0 where
   pub capability : Capability
   pub readonly : Bool
 
--- the rows, what is staged, and all that is published, of all volumes, the newest last
+-- the rows, the greatest session that came (0 before any did), what is staged, and all that is published, of all volumes, the newest
+-- last. The row of a volume that isn't staged is forgotten where a later session begins
 pub record NodeState : Type 0 where
   pub rows : List Answered
+  pub session : ℕ
   pub staged : List StagedVolume
   pub published : List PublishedVolume
 
 -- a node that has answered nothing
 abbrev pub empty_node : NodeState
-empty_node = record { rows = []; staged = []; published = [] }
+empty_node = record { rows = []; session = 0; staged = []; published = [] }
 
 -- a volume's row, if it has one
 abbrev pub row_with_id : ℕ → NodeState → Option Answered

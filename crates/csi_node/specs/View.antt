@@ -6,8 +6,8 @@ use Rattle.csi_types.specs.declared.call.Call.{Call}
 use Rattle.csi_types.specs.declared.call.Call.TheVariants as calls
 use Rattle.csi_types.specs.declared.call.Party.TheVariants.{Node}
 use Rattle.csi_types.specs.Call.{kind_of, is_party_of}
-use Rattle.csi_types.specs.Delivery.{View, view_by, IsDelivered, IsEmpty, IsClosed}
-use Rattle.csi_types.specs.Fence.{Kept}
+use Rattle.csi_fence.specs.Delivery.{View, view_by, IsDelivered, IsEmpty, IsClosed}
+use Rattle.csi_fence.specs.Fence.{Kept}
 use Rattle.csi_types.specs.Frame.{Frame}
 use Rattle.csi_types.specs.Key.{Key, Exists, Attached, Staged, Published, Form, StagedAs, PublishedAs}
 use Rattle.csi_lists.specs.Members.{IsAmong}
@@ -37,7 +37,7 @@ kept_on node state (Published id there target) = if same_text there node then ke
 
 -- the node by its things
 abbrev pub view_of : List ℕ → NodeState → View
-view_of node state = view_by (held_on node state) (kept_on node state)
+view_of node state = view_by state.session (held_on node state) (kept_on node state)
 
 -- the thing that a call to this node does or undoes
 abbrev pub key_of : List ℕ → Call → Option Key

@@ -1,5 +1,5 @@
 -- Worked examples of the node's table and fence, which the checker computes, and the law of a full node.
-use Rattle.std.specs.Prelude.{◌≡◌, ℕ, List, [], ◌∷◌, ◌++◌, map, length, Bool, true, false, Option, Some, None, codes, replicate}
+use Rattle.std.specs.Prelude.{◌≡◌, ◌≤◌, ℕ, List, [], ◌∷◌, ◌++◌, map, length, Bool, true, false, Option, Some, None, codes, replicate}
 use Rattle.std.specs.List.{range_with_len}
 use Rattle.csi_types.specs.declared.number.Number.{Number}
 use Rattle.csi_types.specs.declared.mode.Mode.{Mode}
@@ -17,7 +17,7 @@ use Rattle.csi_types.specs.declared.frame.Body.TheVariants as bodies
 use Rattle.csi_types.specs.Call.{kind_of}
 use Rattle.csi_types.specs.Frame.{Frame}
 use Rattle.csi_types.specs.Replies.{plain_reply, ok_reply, call_frame, reply_frame}
-use Rattle.csi_node.specs.State.{NodeState, empty_node, staged_of, published_at, row_for}
+use Rattle.csi_node.specs.State.{NodeState, Answered, empty_node, staged_of, published_at, row_for}
 use Rattle.csi_node.specs.Fenced.{fenced, after_frames}
 use Rattle.csi_node.specs.Shown.{RowsShow}
 use Rattle.csi_node.specs.Laws.{NodeTableLaw, state_after}
@@ -33,6 +33,10 @@ number call = record { session = 1; call = call }
 -- the call of this number of session 1, for node n1
 abbrev pub call_at : ℕ → Call → Frame
 call_at call_number call = call_frame (number call_number) (Node (codes "n1")) call
+
+-- the first call of session 2, for node n1
+abbrev pub second_session : Call → Frame
+second_session call = call_frame (record { session = 2; call = 1 }) (Node (codes "n1")) call
 
 -- the kind and the reply in a frame
 abbrev pub reply_in_body : Body → List Reply
@@ -108,13 +112,43 @@ pub record KeptRefusalRow : Type 0 where
 abbrev pub OtherNodeRow : Type 0
 OtherNodeRow = fenced (codes "n1") empty_node (call_frame (number 1) (Node (codes "n2")) (NodeUnstageVolume 1)) ≡ record { reply = None; state = empty_node }
 
--- a node with 4,096 rows refuses each call of a volume without one, and changes nothing: the same call gets
--- the same answer again
+-- volume 1 was staged and unstaged in session 1, and a call of session 2 came, whichever it was
+abbrev pub forgotten : Call → List Frame
+forgotten call = call_at 1 (NodeStageVolume 1 (block SingleNodeWriter)) ∷ call_at 2 (NodeUnstageVolume 1) ∷ second_session call ∷ []
+
+-- the row of volume 1 is forgotten then, and still its old staging does nothing when it comes late: it is stale, and there are no more
+-- rows than that call has left
+pub record ForgottenRow (call : Call) : Type 0 where
+  pub late : (fenced (codes "n1") (after_frames (codes "n1") empty_node (forgotten call)) (call_at 1 (NodeStageVolume 1 (block SingleNodeWriter)))).reply
+      ≡ Some (reply_frame (number 1) (Node (codes "n1")) kinds.NodeStageVolume (plain_reply Aborted (codes "stale")))
+  pub few : length (after_frames (codes "n1") empty_node (forgotten call ++ call_at 1 (NodeStageVolume 1 (block SingleNodeWriter)) ∷ [])).rows ≤ 1
+
+abbrev pub ForgottenRows : Type 0
+ForgottenRows = (call : Call) → ForgottenRow call
+
+-- a node with 4,096 rows refuses each call of its session of a volume without one, and changes nothing: the same call gets the same
+-- answer again
 abbrev pub FullNodeRefuses : Type 0
 FullNodeRefuses =
-    (node : List ℕ) (state : NodeState) (call_number : Number) (call : Call) → length state.rows ≡ 4096 → row_for call state ≡ None
+    (node : List ℕ) (state : NodeState) (call_number : Number) (call : Call) → call_number.session ≡ state.session → length state.rows ≡ 4096 → row_for call state ≡ None
     → fenced node state (call_frame call_number (Node node) call)
     ≡ record { reply = Some (reply_frame call_number (Node node) (kind_of call) (plain_reply ResourceExhausted (codes "rows"))); state = state }
+
+-- a node with 4,096 rows, none of them of a volume that is staged, answers the call of a later session, and has the row of its
+-- volume alone then
+abbrev pub FullNodeForgets : Type 0
+FullNodeForgets =
+    (rows : List Answered) (id : ℕ) → length rows ≡ 4096
+    → fenced (codes "n1") (record { rows = rows; session = 1; staged = []; published = [] }) (second_session (NodeUnstageVolume id))
+    ≡ record {
+      reply = Some (reply_frame (record { session = 2; call = 1 }) (Node (codes "n1")) kinds.NodeUnstageVolume ok_reply);
+      state = record {
+        rows = (record { id = id; kept = record { number = record { session = 2; call = 1 }; kind = kinds.NodeUnstageVolume; reply = ok_reply } }) ∷ [];
+        session = 2;
+        staged = [];
+        published = [];
+      };
+    }
 
 -- a node that has answered nothing is shown by a record without rows
 abbrev pub EmptyIsShown : Type 0

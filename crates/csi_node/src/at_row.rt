@@ -1,19 +1,18 @@
-//! What a row of a node answers to the calls of its volume: the kind and the reply that the answer's frame has.
+//! What a row of a node answers to the calls of its volume.
 ghost use Rattle.std.specs.Prelude.{◌≡◌, true, Some, None, IfOk, OnOk, OnErr};
 ghost use Rattle.csi_types.specs.Call.{kind_of, is_node_kind};
-ghost use Rattle.csi_types.specs.Fence.{verdict_of};
+ghost use Rattle.csi_fence.specs.Fence.{verdict_of};
 ghost use Rattle.csi_types.specs.Lent.{lent_call};
 ghost use Rattle.csi_types.specs.Replies.{plain_reply};
 ghost use Rattle.csi_node.specs.State.{volume_of};
-ghost use Rattle.csi_node.specs.Table.{lifecycle_row};
-ghost use Rattle.csi_node.specs.OneRow.{shown, alone, row_anew, IsSoundRow, IsAfter, IsNodeAnswer, RowAnswers};
+ghost use Rattle.csi_node.specs.OneRow.{shown, row_anew, table_answer, IsSoundRow, IsAfter, IsNodeAnswer, RowAnswers};
 
 use crate::changes::change_where;
-use crate::fault::CoreFault;
 use crate::line::Line;
 use crate::row::NodeRow;
 use crate::row_table::line;
-use csi_types::{CallRef, Kind, Number, Reply, Status, Verdict, VolumeId, verdict_of};
+use csi_fence::{Answer, CoreFault, Verdict, verdict_of};
+use csi_types::{CallRef, Kind, Number, Status, VolumeId};
 use std::alloc::Global;
 
 /// Answers a call by the table, and keeps its number and the reply in the row. An `Err` changes nothing.
@@ -22,11 +21,11 @@ pub(crate) fn carry_out(
     alloc: Global,
     number: Number,
     call: &CallRef<'_>,
-) -> Result<(Kind, Reply), CoreFault>
+) -> Result<Answer, CoreFault>
     requires volume { volume_of (lent_call call.now) ≡ Some row.old.id }
     requires kind { is_node_kind (kind_of (lent_call call.now)) ≡ true }
     requires rules { IsSoundRow (shown row.old) }
-    ensures answer { IfOk result (λ answer. answer ≡ (kind_of (lent_call call.now), (lifecycle_row (alone (shown row.old)) (lent_call call.now)).reply)) }
+    ensures answer { IfOk result (λ answer. answer ≡ table_answer (shown row.old) (lent_call call.now)) }
     ensures fits { IfOk result IsNodeAnswer }
     ensures row { OnOk result (IsAfter number (lent_call call.now) (shown row.old) (shown row.new)) }
     ensures rules { OnOk result (IsSoundRow (shown row.new)) }
@@ -34,13 +33,17 @@ pub(crate) fn carry_out(
 {
     let line = line(row, call);
     let is_done = line.is_done();
-    let reply = line.reply(alloc)?;
-    let answer = reply.clone()?;
+    let kept = line.reply(alloc)?;
+    let reply = kept.clone()?;
     change_where(is_done, row, alloc, call)?;
     row.last = number;
     row.kind = call.kind();
-    row.reply = reply;
-    Ok((row.kind, answer))
+    row.reply = kept;
+    Ok(Answer {
+        kind: row.kind,
+        reply,
+        row: Some(row.id),
+    })
 }
 
 // The row of a volume for which no call was answered yet. What it keeps is a placeholder, which is overwritten, or the row is dropped.
@@ -64,10 +67,10 @@ pub(crate) fn answer_with_new_row(
     id: VolumeId,
     number: Number,
     call: &CallRef<'_>,
-) -> Result<(NodeRow, (Kind, Reply)), CoreFault>
+) -> Result<(NodeRow, Answer), CoreFault>
     requires volume { volume_of (lent_call call.now) ≡ Some id }
     requires kind { is_node_kind (kind_of (lent_call call.now)) ≡ true }
-    ensures answer { IfOk result (λ made. made.1 ≡ (kind_of (lent_call call.now), (lifecycle_row (alone (row_anew id number (kind_of (lent_call call.now)))) (lent_call call.now)).reply)) }
+    ensures answer { IfOk result (λ made. made.1 ≡ table_answer (row_anew id number (kind_of (lent_call call.now))) (lent_call call.now)) }
     ensures fits { IfOk result (λ made. IsNodeAnswer made.1) }
     ensures row { IfOk result (λ made. IsAfter number (lent_call call.now) (row_anew id number (kind_of (lent_call call.now))) (shown made.0)) }
     ensures rules { IfOk result (λ made. IsSoundRow (shown made.0)) }
@@ -83,21 +86,29 @@ pub(crate) fn refusal(
     kind: Kind,
     status: Status,
     detail: &str,
-) -> Result<(Kind, Reply), CoreFault>
+) -> Result<Answer, CoreFault>
     requires { is_node_kind kind ≡ true }
-    ensures answer { IfOk result (λ answer. answer ≡ (kind, plain_reply status detail.now)) }
+    ensures answer { IfOk result (λ answer. answer ≡ record { kind = kind; reply = plain_reply status detail.now; row = None }) }
     ensures fits { IfOk result IsNodeAnswer }
 {
     let reply = Line::Refused(status, detail).reply(alloc)?;
-    Ok((kind, reply))
+    Ok(Answer {
+        kind,
+        reply,
+        row: None,
+    })
 }
 
 // The answer that the row keeps.
-fn kept_answer(row: &NodeRow) -> Result<(Kind, Reply), CoreFault>
-    ensures { IfOk result (λ answer. answer ≡ (row.now.kind, row.now.reply)) }
+fn kept_answer(row: &NodeRow) -> Result<Answer, CoreFault>
+    ensures { IfOk result (λ answer. answer ≡ record { kind = row.now.kind; reply = row.now.reply; row = None }) }
 {
     let reply = row.reply.clone()?;
-    Ok((row.kind, reply))
+    Ok(Answer {
+        kind: row.kind,
+        reply,
+        row: None,
+    })
 }
 
 /// Answers a call of the row's volume, behind the fence. An `Err` changes nothing.
@@ -106,7 +117,7 @@ pub(crate) fn answer_at_row(
     alloc: Global,
     number: Number,
     call: &CallRef<'_>,
-) -> Result<(Kind, Reply), CoreFault>
+) -> Result<Answer, CoreFault>
     requires volume { volume_of (lent_call call.now) ≡ Some row.old.id }
     requires kind { is_node_kind (kind_of (lent_call call.now)) ≡ true }
     requires rules { IsSoundRow (shown row.old) }

@@ -4,8 +4,8 @@ ghost use Rattle.csi_types.specs.Lent.{lent_capability, lent_call};
 ghost use Rattle.csi_types.specs.Same.{same_text};
 ghost use Rattle.csi_node.specs.OneRow.{shown, row_changed};
 
-use crate::fault::CoreFault;
 use crate::row::{NodeRow, NodeTarget};
+use csi_fence::CoreFault;
 use csi_types::{CallRef, CapabilityRef, Target};
 use std::alloc::Global;
 

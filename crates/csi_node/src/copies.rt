@@ -4,9 +4,9 @@ ghost use Rattle.csi_node.specs.OneRow.{shown};
 ghost use Rattle.csi_node.specs.Record.{parts, IsSound};
 ghost use Rattle.csi_node.specs.Shown.{row_in};
 
-use crate::fault::CoreFault;
 use crate::row::NodeRow;
 use crate::step::place_of;
+use csi_fence::CoreFault;
 use csi_types::VolumeId;
 use std::alloc::Global;
 

@@ -2,7 +2,7 @@
 ghost use Rattle.std.specs.Prelude.{◌≡◌, IfSome, option_map};
 ghost use Rattle.std.specs.Option.{option_copied};
 ghost use Rattle.csi_node.specs.OneRow.{shown, IsSoundRow};
-ghost use Rattle.csi_node.specs.OneVolume.{row_by_id};
+ghost use Rattle.csi_node.specs.Changes.{row_by_id};
 ghost use Rattle.csi_node.specs.Record.{parts, IsSound};
 
 use crate::row::NodeRow;

@@ -1,8 +1,7 @@
 //! The laws of the node's table, and of every node.
 ghost use Rattle.csi_node.specs.Laws.{NodeTableLaw};
-ghost use Rattle.csi_node.specs.Record.{parts, IsSound};
-ghost use Rattle.csi_node.specs.Safe.{NodeSafetyLaw, IsPublishedRight};
-ghost use Rattle.csi_node.specs.Shown.{RowsShow};
+ghost use Rattle.csi_node.specs.Record.{parts, IsSound, IsCurrent, Shows};
+ghost use Rattle.csi_node.specs.Safe.{NodeSafetyLaw, NodeSessionsLaw, IsPublishedRight};
 ghost use Rattle.csi_node.specs.State.{NodeState};
 ghost use Rattle.csi_node.specs.View.{NodeDeliveryLaw};
 
@@ -10,7 +9,9 @@ use crate::node::Node;
 
 /// A law, and nothing that runs: in every state that frames lead to, and for every call that the table
 /// answers there, a refusal changes nothing, a success brings about what the call asks, the same call again
-/// is met, and other volumes stay as they are (CSI's spec.md, "NodeStageVolume" to "NodeUnpublishVolume").
+/// in its session is met, and other volumes stay as they are (CSI's spec.md, "NodeStageVolume" to "NodeUnpublishVolume"). A
+/// call of a later session than the greatest that came is judged where that session has begun: the rows of volumes that
+/// aren't staged are forgotten.
 pub fn table_law()
     ensures { NodeTableLaw }
 {}
@@ -25,9 +26,17 @@ pub fn safety_law()
 /// A law, and nothing that runs: in every state that frames lead to, each call that comes is carried out or
 /// isn't. One that is carried out leaves its thing as it asks and its number spent, or is refused; other
 /// things stay as they were. One that isn't changes nothing, and gets the reply that was kept for its number,
-/// or that it is stale (CSI's spec.md, "Concurrency" and "Volume Lifecycle").
+/// or that it is stale. What was spent stays so, also where a row is forgotten (CSI's spec.md, "Concurrency" and "Volume
+/// Lifecycle"; numbers and sessions are this profile's own).
 pub fn delivery_law()
     ensures { NodeDeliveryLaw }
+{}
+
+/// A law, and nothing that runs: in every state that frames lead to, whichever they are, each row of a volume that isn't
+/// staged has its last call in the greatest session that came, and none has one in a later session; so there are no more rows
+/// than staged volumes and volumes whose last call is of that session, however many calls came (this profile's own).
+pub fn sessions_law()
+    ensures { NodeSessionsLaw }
 {}
 
 /// A law, and nothing that runs: in every state that a node shows, whatever it was asked and whichever record it
@@ -35,15 +44,17 @@ pub fn delivery_law()
 /// target is published at one at most (CSI's spec.md, "Volume Lifecycle", and "NodePublishVolume" on several
 /// targets).
 pub fn publishing_law(node: &Node)
-    ensures { (state : NodeState) → RowsShow node.now.rows state → IsPublishedRight state }
+    ensures { (state : NodeState) → Shows node.now state → IsPublishedRight state }
 {
     node.assert_rules();
 }
 
 /// A law, and nothing that runs: the rows of every node, whatever it was asked and whichever record it was made of, keep the rules
-/// of a record: they stand by rising id, at most 4,096, and each keeps the rules of a row. This profile's own.
+/// of a record: they stand by rising id, at most 4,096, and each keeps the rules of a row; none has its last call in a later
+/// session than the greatest that came, and that of a volume that isn't staged is of that session. This profile's own.
 pub fn record_law(node: &Node)
-    ensures { IsSound (parts node.now.rows) }
+    ensures rules { IsSound (parts node.now.rows) }
+    ensures current { IsCurrent node.now.session (parts node.now.rows) }
 {
     node.assert_rules();
 }
@@ -51,7 +62,7 @@ pub fn record_law(node: &Node)
 /// A law, and nothing that runs: every node, whatever it was asked and whichever record it was made of, shows a state, so that
 /// what the other contracts say of each state that a node shows is said of every node. This profile's own.
 pub fn showing_law(node: &Node)
-    ensures { (state : NodeState) × RowsShow node.now.rows state }
+    ensures { (state : NodeState) × Shows node.now state }
 {
     node.assert_rules();
 }

@@ -3,11 +3,13 @@
 #![tactic(auto)]
 
 mod at_row;
+mod beginning;
 mod changes;
 mod copies;
+mod empty;
 mod entries;
-mod fault;
 mod finding;
+mod forgetting;
 mod judging;
 mod laws;
 mod line;
@@ -20,9 +22,11 @@ mod step;
 mod views;
 mod worked;
 
+pub use csi_fence::{Answer, CoreFault, RecordFault};
 pub use entries::{Published, Staged};
-pub use fault::{CoreFault, RecordFault};
-pub use laws::{delivery_law, publishing_law, record_law, safety_law, showing_law, table_law};
+pub use laws::{
+    delivery_law, publishing_law, record_law, safety_law, sessions_law, showing_law, table_law,
+};
 pub use node::Node;
 pub use record::NodeRecord;
 pub use row::{NodeRow, NodeTarget};

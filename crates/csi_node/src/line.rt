@@ -2,7 +2,7 @@
 ghost use Rattle.std.specs.Prelude.{◌≡◌, IfOk};
 ghost use Rattle.csi_node.specs.Line.{reply_shown, is_done};
 
-use crate::fault::CoreFault;
+use csi_fence::CoreFault;
 use csi_types::{Detail, Reply, Status};
 use std::alloc::Global;
 

@@ -1,24 +1,25 @@
 //! The node plugin.
-ghost use Rattle.std.specs.Prelude.{◌≡◌, false, Some, None, [], IfOk, OnOk, OnErr, Ok, IsOk, IfSome, option_map, map};
+ghost use Rattle.std.specs.Prelude.{◌≡◌, ◌≤◌, ◌+◌, ◌==◌, false, Some, None, is_some, is_none, [], length, filter, count_by, IfOk, OnOk, OnErr, Ok, IsOk, IfSome, option_map, map};
 ghost use Rattle.std.specs.Option.{option_copied};
 ghost use Rattle.csi_types.specs.Lent.{lent_call};
 ghost use Rattle.csi_types.specs.Same.{same_text};
 ghost use Rattle.csi_node.specs.Fenced.{answer_frame};
 ghost use Rattle.csi_node.specs.OneRow.{IsNodeAnswer};
-ghost use Rattle.csi_node.specs.State.{volume_of};
 
+use crate::empty::empty_in;
 use crate::entries::{Published, Staged};
-use crate::fault::CoreFault;
 use crate::record::NodeRecord;
 use crate::row::NodeRow;
 use crate::views::{published_in, staged_in};
-use csi_types::{Body, CallRef, Frame, Kind, NodeId, Number, Party, Reply, VolumeId};
+use csi_fence::{Answer, CoreFault};
+use csi_types::{Body, CallRef, Frame, NodeId, Number, Party, VolumeId};
 use std::alloc::Global;
 use std::marker::Model;
 
 /// The node plugin of one node: which volumes are staged there and at which targets they are published, behind a
 /// fence that keeps a call from being carried out twice (CSI's spec.md, "NodeStageVolume" to
-/// "NodeUnpublishVolume"; the fence is this profile's own). A contract sees its record.
+/// "NodeUnpublishVolume"; the fence is this profile's own). Once a call of a later session than the greatest that came begins it,
+/// the rows of volumes that aren't staged are forgotten, and calls of earlier sessions are stale. A contract sees its record.
 #[derive(Drop)]
 pub struct Node {
     alloc: Global,
@@ -41,11 +42,15 @@ fn is_same_node(a: &NodeId, b: &NodeId) -> bool
 }
 
 // An answer of this node, as a frame.
-fn frame_of(node: NodeId, number: Number, answer: (Kind, Reply)) -> Frame
+fn frame_of(node: NodeId, number: Number, answer: Answer) -> Frame
     requires { IsNodeAnswer answer }
     ensures { result ≡ answer_frame node number answer }
 {
-    let (kind, reply) = answer;
+    let Answer {
+        kind,
+        reply,
+        row: _,
+    } = answer;
     Frame::reply(number, Party::Node(node), kind, reply).unwrap()
 }
 
@@ -57,19 +62,20 @@ impl Node {
     ghost use Rattle.csi_types.specs.Lent.{HasFitTexts};
     ghost use Rattle.csi_types.specs.Replies.{call_frame};
     ghost use Rattle.csi_node.specs.Fenced.{fenced};
-    ghost use Rattle.csi_node.specs.Record.{parts, is_call_for, IsSound};
+    ghost use Rattle.csi_node.specs.Record.{parts, is_call_for, IsSound, IsCurrent, Shows};
     ghost use Rattle.csi_node.specs.OneRow.{shown, alone, IsSoundRow};
-    ghost use Rattle.csi_node.specs.OneVolume.{row_by_id, called_volume, AreRowsAfter};
+    ghost use Rattle.csi_node.specs.Changes.{row_by_id, Changes};
     ghost use Rattle.std.specs.List.{flat_map};
     ghost use Rattle.csi_node.specs.Views.{staged_shown, published_shown, ListsStaged, ListsPublished};
-    ghost use Rattle.csi_node.specs.Shown.{RowsShow, row_in, answered_of_row};
+    ghost use Rattle.csi_node.specs.Shown.{row_in, answered_of_row};
     ghost use Rattle.csi_node.specs.State.{NodeState, empty_node, row_with_id};
 
     /// A node of this id that has answered nothing. It takes no memory.
     pub fn new(alloc: Global, id: NodeId) -> Node
         ensures id { result.id ≡ id }
+        ensures session { result.session ≡ 0 }
         ensures rows { result.rows ≡ [] }
-        ensures empty { RowsShow result.rows empty_node }
+        ensures empty { Shows result empty_node }
     {
         Node {
             alloc,
@@ -85,23 +91,26 @@ impl Node {
     }
 
     /// Answers a frame by the fence and the table (CSI's spec.md, "NodeStageVolume" to "NodeUnpublishVolume"), or
-    /// gives nothing for a reply and for another plugin's frame, which change nothing and take no memory. An `Err`,
-    /// an allocation that was refused, leaves the node as it was.
+    /// gives nothing for a reply and for another plugin's frame, which change nothing and take no memory. A call of an earlier
+    /// session than the greatest that came is refused as stale. One of a later session begins it: the rows of volumes that aren't
+    /// staged are forgotten, and then it is answered. An `Err`, an allocation that was refused, leaves the node as it was, its
+    /// session too.
     pub fn step(&mut self, frame: &Frame) -> Result<Option<Frame>, CoreFault>
         // What is answered, and the new state, are the definition's.
-        ensures reply { (state : NodeState) → RowsShow self.old.rows state →
+        ensures reply { (state : NodeState) → Shows self.old state →
             IfOk result (λ reply. reply ≡ (fenced self.old.id state frame.now).reply) }
-        ensures state { (state : NodeState) → RowsShow self.old.rows state →
-            OnOk result (RowsShow self.new.rows (fenced self.old.id state frame.now).state) }
+        ensures state { (state : NodeState) → Shows self.old state →
+            OnOk result (Shows self.new (fenced self.old.id state frame.now).state) }
         ensures id { self.new.id ≡ self.old.id }
-        ensures err { (state : NodeState) → RowsShow self.old.rows state → OnErr result (RowsShow self.new.rows state) }
-        // What becomes of the rows.
-        ensures rows { OnOk result (AreRowsAfter (called_volume frame.now.body) (parts self.old.rows) (parts self.new.rows)) }
+        ensures err { (state : NodeState) → Shows self.old state → OnErr result (Shows self.new state) }
         ensures err_rows { OnErr result (parts self.new.rows ≡ parts self.old.rows) }
+        ensures err_session { OnErr result (self.new.session ≡ self.old.session) }
+        ensures current { IsCurrent self.new.session (parts self.new.rows) }
         // What is not for the node.
         ensures silent { is_call_for self.old.id frame.now.party frame.now.body ≡ false → result ≡ Ok None }
         ensures untouched { is_call_for self.old.id frame.now.party frame.now.body ≡ false → self.new ≡ self.old }
     {
+        self.assert_rules();
         let Body::Call(call) = frame.body() else {
             return Ok(None);
         };
@@ -127,29 +136,33 @@ impl Node {
     }
 
     /// Answers a call as `step` answers a frame of it to this node, by the kind and the reply that the frame of the answer
-    /// has: those that were kept, where the call comes again. The controller's call, and a call with a text outside its
-    /// limits, which no frame has, get no answer, change nothing and take no memory. An `Err`, an allocation that was
-    /// refused, leaves the node as it was.
+    /// has: those that were kept, where the call comes again; and tells which row the call changed or made. The controller's call,
+    /// and a call with a text outside its limits, which no frame has, get no answer, change nothing, so that they begin no session,
+    /// and take no memory. An `Err`, an allocation that was refused, leaves the node as it was.
     pub fn answer(
         &mut self,
         number: Number,
         call: &CallRef<'_>,
-    ) -> Result<Option<(Kind, Reply)>, CoreFault>
+    ) -> Result<Option<Answer>, CoreFault>
         // What a frame of the call gets.
-        ensures reply { (state : NodeState) → RowsShow self.old.rows state → IsAllowed (OfNode self.old.id) (CallBody (lent_call call.now)) → HasFitTexts (lent_call call.now) →
+        ensures reply { (state : NodeState) → Shows self.old state → IsAllowed (OfNode self.old.id) (CallBody (lent_call call.now)) → HasFitTexts (lent_call call.now) →
             IfOk result (λ answer. option_map (answer_frame self.old.id number) answer ≡ (fenced self.old.id state (call_frame number (OfNode self.old.id) (lent_call call.now))).reply) }
-        ensures state { (state : NodeState) → RowsShow self.old.rows state → IsAllowed (OfNode self.old.id) (CallBody (lent_call call.now)) → HasFitTexts (lent_call call.now) →
-            OnOk result (RowsShow self.new.rows (fenced self.old.id state (call_frame number (OfNode self.old.id) (lent_call call.now))).state) }
-        ensures allowed { IfOk result (λ answer. IfSome answer (λ own. IsAllowed (OfNode self.old.id) (ReplyBody own.0 own.1))) }
+        ensures state { (state : NodeState) → Shows self.old state → IsAllowed (OfNode self.old.id) (CallBody (lent_call call.now)) → HasFitTexts (lent_call call.now) →
+            OnOk result (Shows self.new (fenced self.old.id state (call_frame number (OfNode self.old.id) (lent_call call.now))).state) }
+        ensures allowed { IfOk result (λ answer. IfSome answer (λ own. IsAllowed (OfNode self.old.id) (ReplyBody own.kind own.reply))) }
         ensures id { self.new.id ≡ self.old.id }
-        ensures err { (state : NodeState) → RowsShow self.old.rows state → OnErr result (RowsShow self.new.rows state) }
+        ensures err { (state : NodeState) → Shows self.old state → OnErr result (Shows self.new state) }
         // What becomes of the rows.
-        ensures rows { OnOk result (AreRowsAfter (volume_of (lent_call call.now)) (parts self.old.rows) (parts self.new.rows)) }
+        ensures changes { IfOk result (λ answer. IfSome answer (λ own. Changes own.row number self.old self.new)) }
+        ensures silent { result ≡ Ok None → self.new ≡ self.old }
         ensures err_rows { OnErr result (parts self.new.rows ≡ parts self.old.rows) }
+        ensures err_session { OnErr result (self.new.session ≡ self.old.session) }
+        ensures current { IsCurrent self.new.session (parts self.new.rows) }
         // What no frame has, and what is not for a node.
         ensures unfit { (HasFitTexts (lent_call call.now) → ⊥) → (result ≡ Ok None) × (self.new ≡ self.old) }
         ensures others { is_party_of (kind_of (lent_call call.now)) (OfNode self.old.id) ≡ false → (result ≡ Ok None) × (self.new ≡ self.old) }
     {
+        self.assert_rules();
         let id = match call {
             CallRef::NodeStageVolume { id, .. }
             | CallRef::NodeUnstageVolume { id }
@@ -167,15 +180,17 @@ impl Node {
     /// The node's record as a value. The node stays as it is. An `Err` is an allocation that was refused.
     pub fn record(&self) -> Result<NodeRecord, CoreFault>
         ensures id { IfOk result (λ copy. copy.id ≡ self.now.id) }
+        ensures session { IfOk result (λ copy. copy.session ≡ self.now.session) }
         ensures rows { IfOk result (λ copy. parts copy.rows ≡ parts self.now.rows) }
-        ensures shows { (state : NodeState) → RowsShow self.now.rows state → IfOk result (λ copy. RowsShow copy.rows state) }
+        ensures shows { (state : NodeState) → Shows self.now state → IfOk result (λ copy. Shows copy state) }
     {
         self.record.copy(self.alloc)
     }
 
     /// The node that has this record: it shows what the record shows. It takes no memory.
     pub fn from_record(alloc: Global, record: NodeRecord) -> Result<Node, CoreFault>
-        ensures { result ≡ Ok «record» }
+        ensures value { result ≡ Ok «record» }
+        ensures current { IfOk result (λ made. IsCurrent made.session (parts made.rows)) }
     {
         Ok(Node { alloc, record })
     }
@@ -185,7 +200,7 @@ impl Node {
     pub fn row(&self, id: VolumeId) -> Result<Option<NodeRow>, CoreFault>
         ensures row { IfOk result (λ row. option_map shown row ≡ option_map shown (row_in id self.now.rows)) }
         ensures succeeds { row_in id self.now.rows ≡ None → IsOk result }
-        ensures shows { (state : NodeState) → RowsShow self.now.rows state →
+        ensures shows { (state : NodeState) → Shows self.now state →
             IfOk result (λ row. option_map answered_of_row row ≡ row_with_id id state) }
     {
         self.record.row(id)
@@ -199,11 +214,37 @@ impl Node {
         self.record.row_with_id(id)
     }
 
+    /// The greatest session of which a call came, 0 before any did. It takes no memory.
+    pub fn session(&self) -> u64
+        ensures { result ≡ self.now.session }
+    {
+        self.record.session()
+    }
+
+    /// How many rows there are: at most as many as are of staged volumes and as have their last call in the greatest session that
+    /// came. It takes no memory.
+    pub fn rows(&self) -> usize
+        ensures count { result ≡ length self.now.rows }
+        ensures few { result ≤ count_by (λ row. is_some row.staged) (parts self.now.rows) + count_by (λ row. row.kept.number.session == self.now.session) (parts self.now.rows) }
+    {
+        self.record.rows().len()
+    }
+
+    /// The ids of the rows of volumes that aren't staged, by rising id: these are forgotten where a call begins a session, the
+    /// call's own too, which is then made anew. The node stays as it is. Where there is none it takes no memory. An `Err` is an
+    /// allocation that was refused.
+    pub fn empty(&self) -> Result<Vec<VolumeId>, CoreFault>
+        ensures ids { IfOk result (λ list. list.items ≡ map (λ row. row.id) (filter (λ row. is_none row.staged) (parts self.now.rows))) }
+        ensures none { filter (λ row. is_none row.staged) (parts self.now.rows) ≡ [] → IsOk result }
+    {
+        empty_in(self.alloc, self.record.rows())
+    }
+
     /// What is staged, each volume once, by rising id. The node stays as it is. An `Err` is an allocation that was
     /// refused.
     pub fn staged(&self) -> Result<Vec<Staged>, CoreFault>
         ensures list { IfOk result (λ list. map staged_shown list.items ≡ flat_map (λ row. (alone (shown row)).staged) self.now.rows) }
-        ensures shows { (state : NodeState) → RowsShow self.now.rows state →
+        ensures shows { (state : NodeState) → Shows self.now state →
             IfOk result (λ list. ListsStaged (map staged_shown list.items) state) }
     {
         staged_in(self.alloc, self.record.rows())
@@ -213,7 +254,7 @@ impl Node {
     /// stays as it is. An `Err` is an allocation that was refused.
     pub fn published(&self) -> Result<Vec<Published>, CoreFault>
         ensures list { IfOk result (λ list. map published_shown list.items ≡ flat_map (λ row. (alone (shown row)).published) self.now.rows) }
-        ensures shows { (state : NodeState) → RowsShow self.now.rows state →
+        ensures shows { (state : NodeState) → Shows self.now state →
             IfOk result (λ list. ListsPublished (map published_shown list.items) state) }
     {
         published_in(self.alloc, self.record.rows())
@@ -221,7 +262,8 @@ impl Node {
 
     // Nothing that runs: the rules of the rows hold.
     pub(crate) fn assert_rules(&self)
-        ensures { IsSound (parts self.now.rows) }
+        ensures rules { IsSound (parts self.now.rows) }
+        ensures current { IsCurrent self.now.session (parts self.now.rows) }
     {
         let _rows = self.record.rows();
     }

@@ -1,21 +1,19 @@
-//! How the rows of a node answer a call.
-ghost use Rattle.std.specs.Prelude.{◌≡◌, ℕ, List, true, Some, IfOk, IfErr, OnErr, OnOk};
+//! How the rows of a node answer a call of the present session.
+ghost use Rattle.std.specs.Prelude.{◌≡◌, ℕ, List, true, Some, IfOk, IfErr, OnErr};
 ghost use Rattle.csi_types.specs.Call.{kind_of, is_node_kind};
 ghost use Rattle.csi_types.specs.Lent.{lent_call};
-ghost use Rattle.csi_node.specs.Fenced.{answer_frame, fenced_call, kept_for};
 ghost use Rattle.csi_node.specs.OneRow.{IsNodeAnswer};
-ghost use Rattle.csi_node.specs.OneVolume.{IsOneRowPut};
-ghost use Rattle.csi_node.specs.Record.{parts, IsSound, IsAt, IsGapFor, Gives};
-ghost use Rattle.csi_node.specs.Shown.{RowsShow};
-ghost use Rattle.csi_node.specs.State.{NodeState, volume_of};
+ghost use Rattle.csi_node.specs.Record.{parts, parts_of, IsSound, IsCurrent, IsAt, IsGapFor};
+ghost use Rattle.csi_node.specs.State.{volume_of};
+ghost use Rattle.csi_node.specs.Step.{Answers};
 
 use crate::at_row::{answer_at_row, answer_with_new_row, refusal};
-use crate::fault::CoreFault;
 use crate::row::NodeRow;
-use csi_types::{CallRef, Kind, Number, Reply, Status, VolumeId};
+use csi_fence::{Answer, CoreFault};
+use csi_types::{CallRef, Number, Status, VolumeId};
 use std::alloc::Global;
 
-/// The most rows that a node has. A row is never taken out.
+/// The most rows that a node has.
 pub(crate) const MAX_ROWS: usize = 4096;
 
 /// Where the row of this id is, or where it would go.
@@ -35,16 +33,16 @@ fn answer_with_row(
     number: Number,
     id: VolumeId,
     call: &CallRef<'_>,
-) -> Result<(Kind, Reply), CoreFault>
+) -> Result<Answer, CoreFault>
     requires volume { volume_of (lent_call call.now) ≡ Some id }
     requires kind { is_node_kind (kind_of (lent_call call.now)) ≡ true }
     requires rules { IsSound (parts rows.old.items) }
+    requires current { IsCurrent number.session (parts rows.old.items) }
     requires place { IsAt (parts rows.old.items) id place }
-    ensures ok { (node : List ℕ) (state : NodeState) → RowsShow rows.old.items state → IfOk result (λ answer.
-        Gives rows.new.items (answer_frame node number answer) (fenced_call node state number (lent_call call.now) (kept_for (lent_call call.now) state))) }
+    ensures ok { (node : List ℕ) → IfOk result (Answers number (lent_call call.now) (parts_of node number.session rows.old.items) (parts_of node number.session rows.new.items)) }
     ensures fits { IfOk result IsNodeAnswer }
     ensures rules { IsSound (parts rows.new.items) }
-    ensures one { OnOk result (IsOneRowPut id (parts rows.old.items) (parts rows.new.items)) }
+    ensures current { IsCurrent number.session (parts rows.new.items) }
     ensures err { OnErr result (parts rows.new.items ≡ parts rows.old.items) }
 {
     answer_at_row(&mut rows[place], alloc, number, call)
@@ -58,16 +56,16 @@ fn answer_without_row(
     number: Number,
     id: VolumeId,
     call: &CallRef<'_>,
-) -> Result<(Kind, Reply), CoreFault>
+) -> Result<Answer, CoreFault>
     requires volume { volume_of (lent_call call.now) ≡ Some id }
     requires kind { is_node_kind (kind_of (lent_call call.now)) ≡ true }
     requires rules { IsSound (parts rows.old.items) }
+    requires current { IsCurrent number.session (parts rows.old.items) }
     requires place { IsGapFor (parts rows.old.items) id place }
-    ensures ok { (node : List ℕ) (state : NodeState) → RowsShow rows.old.items state → IfOk result (λ answer.
-        Gives rows.new.items (answer_frame node number answer) (fenced_call node state number (lent_call call.now) (kept_for (lent_call call.now) state))) }
+    ensures ok { (node : List ℕ) → IfOk result (Answers number (lent_call call.now) (parts_of node number.session rows.old.items) (parts_of node number.session rows.new.items)) }
     ensures fits { IfOk result IsNodeAnswer }
     ensures rules { IsSound (parts rows.new.items) }
-    ensures one { OnOk result (IsOneRowPut id (parts rows.old.items) (parts rows.new.items)) }
+    ensures current { IsCurrent number.session (parts rows.new.items) }
     ensures err { OnErr result (parts rows.new.items ≡ parts rows.old.items) }
 {
     if rows.len() >= MAX_ROWS {
@@ -78,22 +76,22 @@ fn answer_without_row(
     Ok(answer)
 }
 
-/// Answers a call of this volume, behind the fence. An `Err` changes nothing.
+/// Answers a call of this volume, in the greatest session that came, behind the fence. An `Err` changes nothing.
 pub(crate) fn answer(
     rows: &mut Vec<NodeRow>,
     alloc: Global,
     number: Number,
     id: VolumeId,
     call: &CallRef<'_>,
-) -> Result<(Kind, Reply), CoreFault>
+) -> Result<Answer, CoreFault>
     requires volume { volume_of (lent_call call.now) ≡ Some id }
     requires kind { is_node_kind (kind_of (lent_call call.now)) ≡ true }
     requires rules { IsSound (parts rows.old.items) }
-    ensures ok { (node : List ℕ) (state : NodeState) → RowsShow rows.old.items state → IfOk result (λ answer.
-        Gives rows.new.items (answer_frame node number answer) (fenced_call node state number (lent_call call.now) (kept_for (lent_call call.now) state))) }
+    requires current { IsCurrent number.session (parts rows.old.items) }
+    ensures ok { (node : List ℕ) → IfOk result (Answers number (lent_call call.now) (parts_of node number.session rows.old.items) (parts_of node number.session rows.new.items)) }
     ensures fits { IfOk result IsNodeAnswer }
     ensures rules { IsSound (parts rows.new.items) }
-    ensures one { OnOk result (IsOneRowPut id (parts rows.old.items) (parts rows.new.items)) }
+    ensures current { IsCurrent number.session (parts rows.new.items) }
     ensures err { OnErr result (parts rows.new.items ≡ parts rows.old.items) }
 {
     match place_of(rows, id) {

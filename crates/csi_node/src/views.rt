@@ -5,8 +5,8 @@ ghost use Rattle.csi_node.specs.OneRow.{shown, alone, published_so};
 ghost use Rattle.csi_node.specs.Views.{staged_shown, published_shown};
 
 use crate::entries::{Published, Staged};
-use crate::fault::CoreFault;
 use crate::row::{NodeRow, NodeTarget};
+use csi_fence::CoreFault;
 use csi_types::{Capability, VolumeId};
 use std::alloc::Global;
 

@@ -1,6 +1,6 @@
 //! Worked examples of the node's table and fence, and the law of a full node. Each function proves a statement,
 //! and does nothing.
-ghost use Rattle.csi_node.specs.Worked.{OneTargetRow, TwoTargetsRow, ManyTargetsRow, LateStageRow, KeptRefusalRow, OtherNodeRow, FullNodeRefuses, EmptyIsShown, LawsTellPublish};
+ghost use Rattle.csi_node.specs.Worked.{OneTargetRow, TwoTargetsRow, ManyTargetsRow, LateStageRow, KeptRefusalRow, OtherNodeRow, ForgottenRows, FullNodeRefuses, FullNodeForgets, EmptyIsShown, LawsTellPublish};
 
 fn one_target()
     ensures { OneTargetRow }
@@ -26,8 +26,16 @@ fn other_node()
     ensures { OtherNodeRow }
 {}
 
+fn forgotten()
+    ensures { ForgottenRows }
+{}
+
 fn full_node()
     ensures { FullNodeRefuses }
+{}
+
+fn full_node_forgets()
+    ensures { FullNodeForgets }
 {}
 
 fn empty()

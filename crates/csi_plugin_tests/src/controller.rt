@@ -6,12 +6,13 @@ mod growths;
 mod lent;
 mod plain;
 mod records;
+mod sessions;
 mod worked;
 
 use crate::replies::{Told, is_reply};
-use crate::values::{block, blocks, call_frame, config, name, node_id, volume_id};
+use crate::values::{block, blocks, call_frame, config, name, node_id, number, volume_id};
 use csi_controller::Controller;
-use csi_types::{Call, Frame, Kind, Mode, Party, Status};
+use csi_types::{Call, Frame, Kind, Mode, Number, Party, Status};
 use std::alloc::Global;
 use std::process::Abort;
 
@@ -97,8 +98,8 @@ fn call_of(rt: &(impl Abort + AllocGlobal), ask: Ask) -> Call {
 }
 
 // A call under this number, as a frame.
-fn frame_of(rt: &(impl Abort + AllocGlobal), call: u64, what: Call) -> Frame {
-    call_frame(rt, Party::Controller, call, what)
+fn frame_of(rt: &impl Abort, number: Number, what: Call) -> Frame {
+    call_frame(rt, Party::Controller, number, what)
 }
 
 // A controller that made no volume, with greatest 1,000 and these nodes, each with its slots.
@@ -106,27 +107,27 @@ fn new_controller(rt: &(impl Abort + AllocGlobal), nodes: &[(&str, u64)]) -> Con
     Controller::new(rt.alloc(), config(rt, nodes))
 }
 
-// The controller answers the frame with a reply of this kind, under this number, that says this; with memory to
+// The controller answers the frame with a reply of this kind, under the frame's number, that says this; with memory to
 // spare.
 fn answers_frame(
     rt: &impl Abort,
     controller: &mut Controller,
     frame: Frame,
-    call: u64,
     kind: Kind,
     told: Told,
 ) {
+    let number = frame.number();
     let answer = controller.step(&frame).expect(rt, "memory");
     drop(frame);
     let reply = answer.expect(rt, "a reply");
-    assert!(rt; is_reply(reply, None, call, kind, told), "call {call}");
+    assert!(rt; is_reply(reply, None, number, kind, told), "{number:?}");
 }
 
 // The controller answers these calls so, one after another, with memory to spare.
 fn answers(rt: &(impl Abort + AllocGlobal), controller: &mut Controller, steps: &[Step]) {
     for (call, ask, told) in steps {
-        let frame = frame_of(rt, *call, call_of(rt, *ask));
-        answers_frame(rt, controller, frame, *call, kind_of(*ask), *told);
+        let frame = frame_of(rt, number(*call), call_of(rt, *ask));
+        answers_frame(rt, controller, frame, kind_of(*ask), *told);
     }
 }
 

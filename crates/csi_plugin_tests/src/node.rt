@@ -1,14 +1,16 @@
 //! The node plugin. What it is to answer comes from the table of the lifecycle, written out.
+mod full;
 mod growths;
 mod lent;
 mod readers;
 mod rows;
+mod sessions;
 mod table;
 
 use crate::replies::is_reply;
-use crate::values::{block, call_frame, mount, node_id, target, volume_id};
+use crate::values::{block, call_frame, mount, node_id, number, target, volume_id};
 use csi_node::Node;
-use csi_types::{Call, Capability, Frame, Kind, Mode, Party, Status};
+use csi_types::{Call, Capability, Frame, Kind, Mode, Number, Party, Status};
 use std::alloc::Global;
 use std::process::Abort;
 
@@ -81,14 +83,14 @@ fn call_of(rt: &(impl Abort + AllocGlobal), ask: Ask) -> Call {
 }
 
 // The call to the node of this id, as a frame.
-fn frame_for(rt: &(impl Abort + AllocGlobal), id: &str, call: u64, ask: Ask) -> Frame {
+fn frame_for(rt: &(impl Abort + AllocGlobal), id: &str, number: Number, ask: Ask) -> Frame {
     let party = Party::Node(node_id(rt, id));
-    call_frame(rt, party, call, call_of(rt, ask))
+    call_frame(rt, party, number, call_of(rt, ask))
 }
 
 // What the node answers to a call, with memory to spare.
-fn reply_to(rt: &(impl Abort + AllocGlobal), node: &mut Node, call: u64, ask: Ask) -> Frame {
-    let frame = frame_for(rt, "n1", call, ask);
+fn reply_to(rt: &(impl Abort + AllocGlobal), node: &mut Node, number: Number, ask: Ask) -> Frame {
+    let frame = frame_for(rt, "n1", number, ask);
     let answer = node.step(&frame).expect(rt, "memory");
     drop(frame);
     answer.expect(rt, "a reply")
@@ -97,10 +99,10 @@ fn reply_to(rt: &(impl Abort + AllocGlobal), node: &mut Node, call: u64, ask: As
 // The node answers the call so, with memory to spare.
 fn answers(rt: &(impl Abort + AllocGlobal), node: &mut Node, step: Step) {
     let (call, ask, status, detail) = step;
-    let reply = reply_to(rt, node, call, ask);
+    let reply = reply_to(rt, node, number(call), ask);
     let told = (status, None, detail);
     assert!(rt;
-        is_reply(reply, Some("n1"), call, kind_of(ask), told),
+        is_reply(reply, Some("n1"), number(call), kind_of(ask), told),
         "call {call}"
     );
 }

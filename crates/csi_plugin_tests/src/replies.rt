@@ -1,16 +1,26 @@
 //! What a plugin's answer is to be.
-use crate::values::number;
 use csi_types::{Body, Frame, Kind, Number, Party, Reply, Status, VolumeId};
 
 /// What a reply says: its status, the number of its id, and its detail.
 pub(crate) type Told = (Status, Option<u64>, &'static str);
 
-fn is_id(found: Option<VolumeId>, id: Option<u64>) -> bool {
+/// Whether it is the id of this number, or none.
+pub(crate) fn is_id(found: Option<VolumeId>, id: Option<u64>) -> bool {
     match (found, id) {
         (Some(found), Some(id)) => found.number() == id,
         (None, None) => true,
         _ => false,
     }
+}
+
+/// Whether these are the ids of these numbers.
+pub(crate) fn are_ids(found: &[VolumeId], ids: &[u64]) -> bool {
+    for (found, id) in found.iter().zip(ids) {
+        if found.number() != *id {
+            return false;
+        }
+    }
+    found.len() == ids.len()
 }
 
 /// Whether the reply says this.
@@ -44,15 +54,15 @@ pub(crate) fn is_reply_to(
     }
 }
 
-/// Whether it is the reply to the call of session 1 with this number, of this kind, and says this.
+/// Whether it is the reply to the call of this number, of this kind, and says this.
 pub(crate) fn is_reply(
     frame: Frame,
     node: Option<&str>,
-    call: u64,
+    number: Number,
     kind: Kind,
     told: Told,
 ) -> bool {
-    let is_reply = is_reply_to(&frame, node, number(call), kind, told);
+    let is_reply = is_reply_to(&frame, node, number, kind, told);
     drop(frame);
     is_reply
 }

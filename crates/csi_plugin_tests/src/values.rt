@@ -99,7 +99,7 @@ pub(crate) fn config(rt: &(impl Abort + AllocGlobal), nodes: &[(&str, u64)]) -> 
     Config::try_new(rt.alloc(), 1000, list).expect(rt, "a configuration")
 }
 
-/// A call of session 1 under this number, to the party that such a call is for.
-pub(crate) fn call_frame(rt: &impl Abort, party: Party, call_number: u64, call: Call) -> Frame {
-    Frame::call(number(call_number), party, call).expect(rt, "a call for that plugin")
+/// A call under this number, to the party that such a call is for.
+pub(crate) fn call_frame(rt: &impl Abort, party: Party, number: Number, call: Call) -> Frame {
+    Frame::call(number, party, call).expect(rt, "a call for that plugin")
 }

@@ -9,12 +9,12 @@ use Rattle.std.proofs.lemmas.List.Concat.{flat_map-append}
 use Rattle.csi_types.specs.Frame.{Frame}
 use Rattle.csi_types.specs.Limits.{IsFrame}
 use Rattle.csi_frames.specs.Spelling.{spelling}
-use Rattle.csi_frames.specs.declared.version.Version.{Version}
 use Rattle.csi_frames.specs.Stream.{FramesOf}
 use Rattle.csi_stores.specs.declared.keep.KeepFault.{KeepFault}
 use Rattle.csi_stores.specs.declared.keep.KeepFault.TheVariants as faults
 use Rattle.csi_stores.specs.Part.{StoredPart}
 use Rattle.csi_stores.specs.Stores.{Store, IsOnly, IsSettled}
+use Rattle.csi_records.specs.declared.version.RecordVersion.{RecordVersion}
 use Rattle.csi_records.specs.Spelling.{present}
 use Rattle.csi_serving.specs.declared.serving.fault.Served.{Served}
 use Rattle.csi_serving.specs.declared.serving.fault.ServeFault.{ServeFault}
@@ -98,11 +98,11 @@ module _ {C : Type 0} (IsAsked : C → Type 0) (answers : C → Frame → Option
 
 -- a core's parts are a record in the present version, and opening leaves them
 module _ {X C : Type 0} (records : Records X) (head : StoredPart) (parts_of : C → List StoredPart) where
-  pub opened-again : ((core : C) (version : Version) (kept : X) → parts_of core ≡ records.parts_of version kept → version ≡ present) → ((core : C) → parts_of core ≡ [] → ⊥)
+  pub opened-again : ((core : C) (version : RecordVersion) → records.are version (parts_of core) → version ≡ present) → ((core : C) → parts_of core ≡ [] → ⊥)
       → (core other : C) → OpensTo records head (parts_of core) (parts_of other) → parts_of other ≡ parts_of core
   opened-again told some core other (inl same) = same.1
   opened-again told some core other (inr (inl none)) = absurd (some core none.0)
-  opened-again told some core other (inr (inr renewed)) = absurd (renewed.earlier (told core renewed.version renewed.kept renewed.was))
+  opened-again told some core other (inr (inr renewed)) = absurd (renewed.earlier (told core renewed.version renewed.stored))
 
 -- ---- one run that ended well
 

@@ -1,13 +1,11 @@
 -- Parts that are the record of neither plugin: a controller's head is no node's.
-use Rattle.std.proofs.Common.{◌≡◌, ◌∙◌, refl, sym, ap, subst, inl, inr, ◌⊎◌, ℕ, ◌<◌, List, [], ◌∷◌, ◌++◌, length, map, take, None, Err, arith}
+use Rattle.std.proofs.Common.{◌≡◌, ◌∙◌, refl, sym, ap, subst, inl, inr, ◌⊎◌, ℕ, ◌<◌, List, [], ◌∷◌, ◌++◌, length, take, None, Err, arith}
 use Rattle.std.proofs.lemmas.List.{length-append}
-use Rattle.csi_controller.specs.Views.{RecordParts}
 use Rattle.csi_stores.specs.Part.{StoredPart}
 use Rattle.csi_records.specs.declared.fault.RecordStop.{RecordStop}
 use Rattle.csi_records.specs.declared.fault.RecordStop.TheVariants.{BadRecord}
 use Rattle.csi_records.specs.Places.{ReadsStored}
-use Rattle.csi_records.specs.Spelling.{controller_parts, volume_row}
-use Rattle.csi_records.specs.Records.{controller_layout, IsRecordOf, IsControllerRecord, IsNodeRecord, IsRefusedAt, Begins}
+use Rattle.csi_records.specs.Records.{controller_layout, IsRecordOf, IsControllerOf, IsControllerRecord, IsNodeRecord, IsRefusedAt, Begins}
 use Rattle.csi_endings.specs.declared.ending.Ending.{Ending}
 use Rattle.csi_endings.specs.declared.ending.Ending.TheVariants as endings
 use Rattle.csi_plugins.specs.Recording.{IsRecordOfEither, IsNoRecordAt, HasNoLine, HasNoNodeLine}
@@ -47,10 +45,10 @@ not_node parts more of_controller of_node = omega (arith, owner-of-controller pa
 
 -- what a controller's record refuses, where it is told with a place
 pub refused_at : (parts : List StoredPart) (stop : RecordStop) (place : ℕ) → stop ≡ BadRecord place
-    → ReadsStored (λ version. IsRecordOf (controller_layout version)) (λ version (kept : RecordParts). controller_parts version kept.next_id (map volume_row kept.rows)) parts (Err stop)
+    → ReadsStored (λ version. IsRecordOf (controller_layout version)) IsControllerOf parts (Err stop)
     → ((parts ≡ []) × (place ≡ 0)) ⊎ IsRefusedAt IsControllerRecord parts place
 refused_at parts stop place is reads =
-    subst (λ (s : RecordStop). ReadsStored (λ version. IsRecordOf (controller_layout version)) (λ version (kept : RecordParts). controller_parts version kept.next_id (map volume_row kept.rows)) parts (Err s)) is reads
+    subst (λ (s : RecordStop). ReadsStored (λ version. IsRecordOf (controller_layout version)) IsControllerOf parts (Err s)) is reads
 
 -- what refuses parts behind the first refuses them for both
 pub refused_controller : (parts : List StoredPart) (place : ℕ) → 0 < place → ((parts ≡ []) × (place ≡ 0)) ⊎ IsRefusedAt IsControllerRecord parts place → IsNoRecordAt parts place

@@ -1,5 +1,5 @@
 -- Two runs of a plugin over one store, one after another, as one run of all their frames. This profile's own.
-use Rattle.std.specs.Prelude.{◌≡◌, ⊤, ℕ, List, [], ◌∷◌, ◌++◌, Option}
+use Rattle.std.specs.Prelude.{◌≡◌, ⊤, ℕ, List, [], ◌∷◌, ◌++◌, Option, Some}
 use Rattle.std.specs.Io.KnownBytes.{Consumes, Appends, IsAtEnd}
 use Rattle.csi_types.specs.Frame.{Frame}
 use Rattle.csi_frames.specs.Stream.{FramesOf}
@@ -54,8 +54,8 @@ pub record AreOneRun {X C : Type 0} (records : Records X) (IsAsked : C → Type 
 
 -- the same of either plugin
 abbrev pub PluginJoins : Plugin → List StoredPart → Store → Streams → Streams → Type 0
-PluginJoins (Controller config) = AreOneRun controller_records (λ (service : ControllerService). service.controller.config ≡ config) ControllerAnswers controller_service_parts (controller_head present 1)
-PluginJoins (Node id) = AreOneRun (node_records id) (λ (service : NodeService). ⊤) NodeServiceAnswers node_service_parts (node_head present id)
+PluginJoins (Controller config) = AreOneRun controller_records (λ (service : ControllerService). service.controller.config ≡ config) ControllerAnswers controller_service_parts (controller_head present 1 (Some 0))
+PluginJoins (Node id) = AreOneRun (node_records id) (λ (service : NodeService). ⊤) NodeServiceAnswers node_service_parts (node_head present id (Some 0))
 
 -- Two runs of a plugin that both ended well, the second over the store as the first left it, are one run of all frames: where the
 -- store had a content, which was all that opening it again might find, and is honest after both.

@@ -1,27 +1,25 @@
 -- What a store has, as a line of JSON: the record of a plugin. This profile's own.
-use Rattle.std.specs.Prelude.{◌≡◌, ◌⊎◌, ℕ, List, [], ◌++◌, map, codes, None, Option, Result, Ok, Err}
+use Rattle.std.specs.Prelude.{◌≡◌, ◌⊎◌, ℕ, List, [], ◌++◌, codes, None, Option, Result, Ok, Err}
 use Rattle.std.specs.Io.KnownBytes.{Appends}
 use Rattle.serde_json.specs.Written.{compact_text}
 use Rattle.csi_counted.specs.Counting.{HasRisen}
 use Rattle.csi_counted.specs.Writing.{WritesFront}
 use Rattle.csi_counted.specs.declared.counted.Counted.{Counted}
-use Rattle.csi_frames.specs.declared.version.Version.{Version}
 use Rattle.csi_controller.specs.Views.{RecordParts}
-use Rattle.csi_node.specs.OneRow.{shown}
 use Rattle.csi_node.specs.Record.{NodeParts}
 use Rattle.csi_stores.specs.Part.{StoredPart}
 use Rattle.csi_stores.specs.Stores.{Store}
-use Rattle.csi_records.specs.Spelling.{controller_parts, node_parts, volume_row}
-use Rattle.csi_records.specs.Records.{controller_layout, node_layout, IsRecordOf, IsControllerRecord, IsNodeRecord, IsRefusedAt}
+use Rattle.csi_records.specs.declared.version.RecordVersion.{RecordVersion}
+use Rattle.csi_records.specs.Records.{IsControllerOf, IsNodeOf, IsControllerRecord, IsNodeRecord, IsRefusedAt}
 use Rattle.csi_listings.specs.Records.{controller_entry, node_entry}
 use Rattle.csi_endings.specs.declared.ending.Ending.{Ending}
 use Rattle.csi_endings.specs.declared.ending.Ending.TheVariants as endings
 use Rattle.csi_plugins.specs.Ending.{EndsAt}
 
--- these parts are the record of a controller or of a node, in some version, and this is its line
+-- these parts are read as the record of a controller or of a node, in some version, and this is its line
 pub data IsLineOf (parts : List StoredPart) : List ℕ → Type 0 where
-  of_controller : (version : Version) (kept : RecordParts) → IsRecordOf (controller_layout version) parts → parts ≡ controller_parts version kept.next_id (map volume_row kept.rows) → IsLineOf parts (compact_text (controller_entry kept) ++ codes "\n")
-  of_node : (version : Version) (kept : NodeParts) → IsRecordOf (node_layout version None) parts → parts ≡ node_parts version kept.id (map shown kept.rows) → IsLineOf parts (compact_text (node_entry kept) ++ codes "\n")
+  of_controller : (version : RecordVersion) (kept : RecordParts) → IsControllerOf version parts kept → IsLineOf parts (compact_text (controller_entry kept) ++ codes "\n")
+  of_node : (version : RecordVersion) (kept : NodeParts) → IsNodeOf version None parts kept → IsLineOf parts (compact_text (node_entry kept) ++ codes "\n")
 
 -- they are the record of either, in some version
 abbrev pub IsRecordOfEither : List StoredPart → Type 0

@@ -1,5 +1,5 @@
 -- What a plugin's process does: the plugin is opened from its store, and served. This profile's own.
-use Rattle.std.specs.Prelude.{◌≡◌, ◌⊎◌, ⊤, ℕ, List, Option}
+use Rattle.std.specs.Prelude.{◌≡◌, ◌⊎◌, ⊤, ℕ, List, Option, Some}
 use Rattle.csi_types.specs.Frame.{Frame}
 use Rattle.csi_types.specs.Config.{Config}
 use Rattle.csi_stores.specs.Part.{StoredPart}
@@ -42,11 +42,11 @@ Runs seen records IsAsked answers parts_of head before after io ending =
 
 -- the process of the controller plugin under a configuration, over a store that is seen so
 abbrev pub ControllerRuns : {K : Type 0} → (K → Store) → Config → K → K → Streams → Ending → Type 0
-ControllerRuns seen config = Runs seen controller_records (λ (service : ControllerService). service.controller.config ≡ config) ControllerAnswers controller_service_parts (controller_head present 1)
+ControllerRuns seen config = Runs seen controller_records (λ (service : ControllerService). service.controller.config ≡ config) ControllerAnswers controller_service_parts (controller_head present 1 (Some 0))
 
 -- the process of a node's plugin
 abbrev pub NodeRuns : {K : Type 0} → (K → Store) → List ℕ → K → K → Streams → Ending → Type 0
-NodeRuns seen id = Runs seen (node_records id) (λ (service : NodeService). ⊤) NodeServiceAnswers node_service_parts (node_head present id)
+NodeRuns seen id = Runs seen (node_records id) (λ (service : NodeService). ⊤) NodeServiceAnswers node_service_parts (node_head present id (Some 0))
 
 -- of either
 abbrev pub PluginRuns : {K : Type 0} → (K → Store) → Plugin → K → K → Streams → Ending → Type 0

@@ -11,9 +11,9 @@ use Rattle.csi_types.specs.Status.{status_code}
 use Rattle.csi_types.specs.Same.{kind_number}
 use Rattle.csi_types.specs.Text.{IsText}
 use Rattle.csi_types.specs.Limits.{IsWord, IsNumber}
-use Rattle.csi_frames.specs.declared.version.Version.{Version}
-use Rattle.csi_frames.specs.declared.version.Version.TheVariants.{One, Two}
-use Rattle.csi_frames.specs.Version.{version_number, version_from_number}
+use Rattle.csi_records.specs.declared.version.RecordVersion.{RecordVersion}
+use Rattle.csi_records.specs.declared.version.RecordVersion.TheVariants.{One, Two, Three}
+use Rattle.csi_records.specs.Version.{version_number, version_from_number, modes_of}
 use Rattle.csi_frames.specs.declared.fault.FaultKind.TheVariants.{LengthDiffers, BadCount}
 use Rattle.csi_frames.specs.declared.fields.Stop.{Stop}
 use Rattle.csi_frames.specs.Grammar.{Grammar, End, any, at_most}
@@ -92,13 +92,13 @@ pub status_reads : Reads status_in (Spelled Always (λ status. status_code statu
 unfolding status_in
 status_reads = reads_of (status_agrees (λ _. End))
 
-pub capability_reads : (version : Version) → Reads (capability_in version) (Spelled (IsCapabilityIn version) spelling.capability)
+pub capability_reads : (version : RecordVersion) → Reads (capability_in version) (Spelled (IsCapabilityIn version) spelling.capability)
 unfolding capability_in
 capability_reads version =
     in_words (Spelled (IsCapabilityIn version) spelling.capability)
     (λ c bytes s. record { fits = record { fits = s.fits.fits; in_mode = s.fits.in_mode }; are = s.are })
     (λ c bytes s. record { fits = record { fits = s.fits.fits; in_mode = s.fits.in_mode }; are = s.are })
-    (reads_of (capability_agrees version End))
+    (reads_of (capability_agrees (modes_of version) End))
 
 abbrev pub number_bytes : Number → List ℕ
 number_bytes number = spelling.word number.session ++ spelling.word number.call
@@ -181,17 +181,23 @@ pub kind_reads : Reads (code_in reply_kind_from) (Spelled Always (λ kind. (128 
 kind_reads = code_reads reply_kind_from (λ kind. 128 + kind_number kind) (record { back = λ b a e. kind-back-by b (ltb b 128) a refl e; again = kind-again })
 
 -- a byte that stands for a version is its number, and each version is found at its number
-version-back : (b : ℕ) (version : Version) → version_from_number b ≡ Some version → version_number version ≡ b
+version-back : (b : ℕ) (version : RecordVersion) → version_from_number b ≡ Some version → version_number version ≡ b
 version-back zero version e = absurd cc
 version-back (suc zero) One e = refl
 version-back (suc zero) Two e = absurd cc
+version-back (suc zero) Three e = absurd cc
 version-back (suc (suc zero)) One e = absurd cc
 version-back (suc (suc zero)) Two e = refl
-version-back (suc (suc (suc n))) version e = absurd cc
+version-back (suc (suc zero)) Three e = absurd cc
+version-back (suc (suc (suc zero))) One e = absurd cc
+version-back (suc (suc (suc zero))) Two e = absurd cc
+version-back (suc (suc (suc zero))) Three e = refl
+version-back (suc (suc (suc (suc n)))) version e = absurd cc
 
-pub version-found : (version : Version) → version_from_number (version_number version) ≡ Some version
+pub version-found : (version : RecordVersion) → version_from_number (version_number version) ≡ Some version
 version-found One = refl
 version-found Two = refl
+version-found Three = refl
 
 -- the reader of a version reads the byte that spells one
 pub version_reads : Reads (code_in version_from_number) (Spelled Always (λ version. version_number version ∷ []))

@@ -5,7 +5,7 @@ use Rattle.std.specs.List.{flat_map, AllByRecursion}
 use Rattle.std.proofs.lemmas.Bool.{cases_order}
 use Rattle.std.proofs.lemmas.List.{append-nil, append_cancel_left, length-append, length-map, take-map, take_at}
 use Rattle.csi_lists.proofs.Each.{each-map}
-use Rattle.csi_frames.specs.declared.version.Version.{Version}
+use Rattle.csi_records.specs.declared.version.RecordVersion.{RecordVersion}
 use Rattle.csi_stores.specs.Part.{StoredPart, IsPart}
 use Rattle.csi_records.specs.Spelling.{part_bytes, record_head, record_bytes}
 use Rattle.csi_records.specs.Records.{Layout, IsRecordOf, IsInSome, Begins, IsRefusedAt}
@@ -114,14 +114,14 @@ not-further {H} {R} layout one plain before many left right begins refuses begun
         refuses p (flat ps ++ right) (part-inside before p ps fits) (here ∙ append_assoc (part_bytes p) (flat ps) right) (begun-front layout one before p ps many are begun)
 
 -- one version and number of parts stand in front of bytes
-heads-same : (v w : Version) (a b : ℕ) (first second : List ℕ) → a < 2 ^ 32 → b < 2 ^ 32 → record_head v a ++ first ≡ record_head w b ++ second → (v ≡ w) × (a ≡ b) × (first ≡ second)
+heads-same : (v w : RecordVersion) (a b : ℕ) (first second : List ℕ) → a < 2 ^ 32 → b < 2 ^ 32 → record_head v a ++ first ≡ record_head w b ++ second → (v ≡ w) × (a ≡ b) × (first ≡ second)
 heads-same v w a b first second fits fit e =
     let same = spelled-same record_head_reads (make_head v a) (make_head w b) first second (record { fits = fits }) (record { fits = fit }) e in
     (ap (λ head. head.0) same.0, ap (λ head. head.1) same.0, same.1)
 
 -- how bytes that have a refused part are seen: no number of parts; or a front, and what is refused behind it, or no more parts
-record Bad {H R : Type 0} (layouts : Version → Layout H R) (bytes : List ℕ) (place : ℕ) : Type 0 where
-  version : Version
+record Bad {H R : Type 0} (layouts : RecordVersion → Layout H R) (bytes : List ℕ) (place : ℕ) : Type 0 where
+  version : RecordVersion
   count : ℕ
   before : List StoredPart
   rest : List ℕ
@@ -133,11 +133,11 @@ record Bad {H R : Type 0} (layouts : Version → Layout H R) (bytes : List ℕ) 
   why : ((length before < count) × Refuses (IsRecordOf (layouts version)) before rest) ⊎ ((length before ≡ count) × (rest ≢ []) × IsRecordOf (layouts version) before)
 
 -- the records of each version
-abbrev Records : {H R : Type 0} → (Version → Layout H R) → Version → List StoredPart → Type 0
+abbrev Records : {H R : Type 0} → (RecordVersion → Layout H R) → RecordVersion → List StoredPart → Type 0
 Records layouts version = IsRecordOf (layouts version)
 
 -- bytes with a refused part have no number of parts and are refused at 0, or are as `Bad` says
-seen : {H R : Type 0} (layouts : Version → Layout H R) → ((version : Version) → ArePlain (layouts version)) → (bytes : List ℕ) (place : ℕ) → IsBadAt (Records layouts) bytes place → ((place ≡ 0) × HasNoHead bytes) ⊎ Bad layouts bytes place
+seen : {H R : Type 0} (layouts : RecordVersion → Layout H R) → ((version : RecordVersion) → ArePlain (layouts version)) → (bytes : List ℕ) (place : ℕ) → IsBadAt (Records layouts) bytes place → ((place ≡ 0) × HasNoHead bytes) ⊎ Bad layouts bytes place
 seen layouts plain bytes _ (no_head none) = inl (refl, none)
 seen layouts plain bytes _ (bad_part version count before rest to below are begins refuses) =
     inr (record {
@@ -172,13 +172,13 @@ no-rest : (parts : List StoredPart) (rest : List ℕ) → flat parts ++ [] ≡ f
 no-rest parts rest e = sym (append_cancel_left (flat parts) [] rest e)
 
 -- a record's bytes have no refused part
-spelled-clash : {H R : Type 0} (layouts : Version → Layout H R) → ((version : Version) → IsOneToOne (layouts version)) → ((version : Version) → ArePlain (layouts version)) → (version : Version) (bytes : List ℕ) (parts : List StoredPart) (place : ℕ)
+spelled-clash : {H R : Type 0} (layouts : RecordVersion → Layout H R) → ((version : RecordVersion) → IsOneToOne (layouts version)) → ((version : RecordVersion) → ArePlain (layouts version)) → (version : RecordVersion) (bytes : List ℕ) (parts : List StoredPart) (place : ℕ)
     → IsRecordOf (layouts version) parts → bytes ≡ record_bytes version parts → Bad layouts bytes place → ⊥
 spelled-clash {H} {R} layouts one plain version bytes parts place is are bad =
     let fits = fit-parts (layouts version) (plain version) parts is in
     let whole : record_head bad.version bad.count ++ (flat bad.before ++ bad.rest) ≡ record_head version (length parts) ++ flat parts = sym bad.are ∙ are in
     let same = heads-same bad.version version bad.count (length parts) (flat bad.before ++ bad.rest) (flat parts) bad.to fits.few whole in
-    by (subst (λ (v : Version). IsRecordOf (layouts v) parts) (sym same.0) is) fits.fit same.1 (same.2 ∙ sym (append-nil (flat parts))) bad.why
+    by (subst (λ (v : RecordVersion). IsRecordOf (layouts v) parts) (sym same.0) is) fits.fit same.1 (same.2 ∙ sym (append-nil (flat parts))) bad.why
   where
     by : IsRecordOf (layouts bad.version) parts → AllByRecursion IsPart parts → bad.count ≡ length parts → flat bad.before ++ bad.rest ≡ flat parts ++ [] → ((length bad.before < bad.count) × Refuses (IsRecordOf (layouts bad.version)) bad.before bad.rest) ⊎ ((length bad.before ≡ bad.count) × (bad.rest ≢ []) × IsRecordOf (layouts bad.version) bad.before) → ⊥
     by same fit count e (inl w) = not-further (layouts bad.version) (one bad.version) (plain bad.version) bad.before parts bad.rest [] bad.begins w.1 (inr same) e (omega (arith, w.0, count))
@@ -192,11 +192,11 @@ spelled-clash {H} {R} layouts one plain version bytes parts place is are bad =
             none (p ∷ ps) long here = absurd (omega (arith, w.0, count, ap length long ∙ length-append bad.before (p ∷ ps)))
 
 -- bytes that are refused at one place aren't refused at a later one
-same-place : {H R : Type 0} (layouts : Version → Layout H R) → ((version : Version) → IsOneToOne (layouts version)) → ((version : Version) → ArePlain (layouts version)) → (bytes : List ℕ) (a b : ℕ) → Bad layouts bytes a → Bad layouts bytes b → a < b → ⊥
+same-place : {H R : Type 0} (layouts : RecordVersion → Layout H R) → ((version : RecordVersion) → IsOneToOne (layouts version)) → ((version : RecordVersion) → ArePlain (layouts version)) → (bytes : List ℕ) (a b : ℕ) → Bad layouts bytes a → Bad layouts bytes b → a < b → ⊥
 same-place {H} {R} layouts one plain bytes a b p q less =
     let whole : record_head p.version p.count ++ (flat p.before ++ p.rest) ≡ record_head q.version q.count ++ (flat q.before ++ q.rest) = sym p.are ∙ q.are in
     let same = heads-same p.version q.version p.count q.count (flat p.before ++ p.rest) (flat q.before ++ q.rest) p.to q.to whole in
-    by (subst (λ (v : Version). Begins (IsRecordOf (layouts v)) q.before) (sym same.0) q.begins) same.1 same.2 p.why q.why
+    by (subst (λ (v : RecordVersion). Begins (IsRecordOf (layouts v)) q.before) (sym same.0) q.begins) same.1 same.2 p.why q.why
   where
     by : Begins (IsRecordOf (layouts p.version)) q.before → p.count ≡ q.count → flat p.before ++ p.rest ≡ flat q.before ++ q.rest → ((length p.before < p.count) × Refuses (IsRecordOf (layouts p.version)) p.before p.rest) ⊎ ((length p.before ≡ p.count) × (p.rest ≢ []) × IsRecordOf (layouts p.version) p.before)
         → ((length q.before < q.count) × Refuses (IsRecordOf (layouts q.version)) q.before q.rest) ⊎ ((length q.before ≡ q.count) × (q.rest ≢ []) × IsRecordOf (layouts q.version) q.before) → ⊥
@@ -205,18 +205,18 @@ same-place {H} {R} layouts one plain bytes a b p q less =
     by begun count e (inr w) (inr v) = omega (arith, p.here, q.here, less, w.0, count, v.0)
 
 -- bytes are a record's in one way, or are refused at one place at most, and not both
-pub one-reading : {H R : Type 0} (layouts : Version → Layout H R) → ((version : Version) → IsOneToOne (layouts version)) → ((version : Version) → ArePlain (layouts version)) → (bytes : List ℕ) → HasOneReading (λ version. IsRecordOf (layouts version)) bytes
+pub one-reading : {H R : Type 0} (layouts : RecordVersion → Layout H R) → ((version : RecordVersion) → IsOneToOne (layouts version)) → ((version : RecordVersion) → ArePlain (layouts version)) → (bytes : List ℕ) → HasOneReading (λ version. IsRecordOf (layouts version)) bytes
 one-reading {H} {R} layouts one plain bytes = record {
   spelled = λ version parts place is are bad. clash version parts place is are (seen layouts plain bytes place bad);
   one_record = λ version another parts others is other are too. same-records version another parts others is other (sym are ∙ too);
   one_place = λ a b first second. places a b (seen layouts plain bytes a first) (seen layouts plain bytes b second);
 }
   where
-    clash : (version : Version) (parts : List StoredPart) (place : ℕ) → IsRecordOf (layouts version) parts → bytes ≡ record_bytes version parts → ((place ≡ 0) × HasNoHead bytes) ⊎ Bad layouts bytes place → ⊥
+    clash : (version : RecordVersion) (parts : List StoredPart) (place : ℕ) → IsRecordOf (layouts version) parts → bytes ≡ record_bytes version parts → ((place ≡ 0) × HasNoHead bytes) ⊎ Bad layouts bytes place → ⊥
     clash version parts place is are (inl none) = let fits = fit-parts (layouts version) (plain version) parts is in none.1 version (length parts) (flat parts) fits.some fits.few are
     clash version parts place is are (inr bad) = spelled-clash layouts one plain version bytes parts place is are bad
 
-    same-records : (version another : Version) (parts others : List StoredPart) → IsRecordOf (layouts version) parts → IsRecordOf (layouts another) others → record_bytes version parts ≡ record_bytes another others → (version ≡ another) × (parts ≡ others)
+    same-records : (version another : RecordVersion) (parts others : List StoredPart) → IsRecordOf (layouts version) parts → IsRecordOf (layouts another) others → record_bytes version parts ≡ record_bytes another others → (version ≡ another) × (parts ≡ others)
     same-records version another parts others is other e =
         let fits = fit-parts (layouts version) (plain version) parts is in
         let fit = fit-parts (layouts another) (plain another) others other in
@@ -259,23 +259,23 @@ goes-on (a ∷ front) (b ∷ bs) p q x y e less =
     record { more = on.more; are = ap (λ (r : StoredPart). r ∷ bs) same ∙ ap (λ (rs : List StoredPart). a ∷ rs) on.are }
 
 -- these parts are a record of some version
-abbrev AreSome : {H R : Type 0} → (Version → Layout H R) → List StoredPart → Type 0
+abbrev AreSome : {H R : Type 0} → (RecordVersion → Layout H R) → List StoredPart → Type 0
 AreSome layouts = IsInSome (λ version. IsRecordOf (layouts version))
 
 -- a front with one part more is a record of some version where the whole begins one
-some-front : {H R : Type 0} (layouts : Version → Layout H R) → ((version : Version) → IsOneToOne (layouts version)) → (front : List StoredPart) (p : StoredPart) (more whole : List StoredPart) → whole ≡ front ++ p ∷ more → Begins (AreSome layouts) whole
+some-front : {H R : Type 0} (layouts : RecordVersion → Layout H R) → ((version : RecordVersion) → IsOneToOne (layouts version)) → (front : List StoredPart) (p : StoredPart) (more whole : List StoredPart) → whole ≡ front ++ p ∷ more → Begins (AreSome layouts) whole
     → AreSome layouts (front ++ p ∷ [])
 some-front layouts one front p more whole are (inl none) = absurd (omega (arith, ap length (sym none ∙ are), length-append front (p ∷ more)))
 some-front layouts one front p more whole are (inr is) = record { version = is.version; there = begun-front (layouts is.version) (one is.version) front p more whole are (inr is.there) }
 
 -- parts that are refused at one place aren't refused at a later one
-refused-clash : {H R : Type 0} (layouts : Version → Layout H R) → ((version : Version) → IsOneToOne (layouts version)) → (parts : List StoredPart) (a b : ℕ) → IsRefusedAt (AreSome layouts) parts a → IsRefusedAt (AreSome layouts) parts b → a < b → ⊥
+refused-clash : {H R : Type 0} (layouts : RecordVersion → Layout H R) → ((version : RecordVersion) → IsOneToOne (layouts version)) → (parts : List StoredPart) (a b : ℕ) → IsRefusedAt (AreSome layouts) parts a → IsRefusedAt (AreSome layouts) parts b → a < b → ⊥
 refused-clash layouts one parts a b first second less =
     let on = goes-on first.before second.before first.part second.part first.after second.after (sym first.are ∙ second.are) (omega (arith, first.here, second.here, less)) in
     first.refused (some-front layouts one first.before first.part on.more second.before on.are second.begins)
 
 -- parts are a record's, or have one first part that is refused at most, and not both
-pub one-refusal : {H R : Type 0} (layouts : Version → Layout H R) → ((version : Version) → IsOneToOne (layouts version)) → (parts : List StoredPart) → HasOneRefusal (IsInSome (λ version. IsRecordOf (layouts version))) parts
+pub one-refusal : {H R : Type 0} (layouts : RecordVersion → Layout H R) → ((version : RecordVersion) → IsOneToOne (layouts version)) → (parts : List StoredPart) → HasOneRefusal (IsInSome (λ version. IsRecordOf (layouts version))) parts
 one-refusal {H} {R} layouts one parts = record {
   none = λ place is at. at.refused (some-front layouts one at.before at.part at.after parts at.are (inr is));
   one_place = λ a b first second. by a b first second (cases_order a b);

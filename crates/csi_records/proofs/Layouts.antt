@@ -61,6 +61,11 @@ pub is-record : {H R : Type 0} (layout : Layout H R) (first : H) (rs : List R) (
 is-record layout first rs parts fits each rules are =
     record { first = first; rows = rs; spelled = record { head_fits = fits; rows_fit = each; rules = rules; are = ap (λ (ps : List StoredPart). layout.head first ∷ ps) are } }
 
+-- all parts behind the head are rows, which keep the rules
+pub all-read : {X H R : Type 0} (layout : Layout H R) (shown : X → R) (first : H) (rows : List X) (parts : List StoredPart) → layout.is_head first → AreRead layout.row layout.is_row parts (map shown rows) true
+    → layout.are_rows first (map shown rows) → AreParts layout first (map shown rows) (layout.head first ∷ parts)
+all-read layout shown first rows parts fits read rules = record { head_fits = fits; rows_fit = read.fit; rules = rules; are = ap (λ (ps : List StoredPart). layout.head first ∷ ps) read.stops }
+
 -- the rows so far keep the rules, and the next part is no row
 pub row-unread : {H R : Type 0} (layout : Layout H R) (first : H) (rs : List R) (part : StoredPart) (rest parts : List StoredPart) → layout.is_head first → AllByRecursion layout.is_row rs → layout.are_rows first rs
     → parts ≡ map layout.row rs ++ part ∷ rest → ((row : R) → layout.is_row row → layout.row row ≡ part → ⊥) → IsRefusedAt (IsRecordOf layout) (layout.head first ∷ parts) (length rs + 1)

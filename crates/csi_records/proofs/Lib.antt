@@ -2,6 +2,7 @@ pub mod ReadingLists
 pub mod Readers
 pub mod FieldReaders
 pub mod ValueReaders
+pub mod HeadReaders
 pub mod PartReaders
 pub mod Layouts
 pub mod SplittingBytes

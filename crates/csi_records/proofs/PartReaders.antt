@@ -5,12 +5,12 @@ use Rattle.std.proofs.lemmas.List.{append-nil}
 use Rattle.std.proofs.lemmas.Option.{same_Some}
 use Rattle.csi_lists.proofs.Options.{some_is_not_none}
 use Rattle.csi_types.specs.declared.capability.Capability.{Capability}
-use Rattle.csi_types.specs.Fence.{Kept}
+use Rattle.csi_fence.specs.Fence.{Kept}
 use Rattle.csi_types.specs.Text.{IsName, IsNodeId}
 use Rattle.csi_types.specs.VolumeId.{IsVolumeId}
 use Rattle.csi_types.specs.Limits.{IsWord}
-use Rattle.csi_frames.specs.declared.version.Version.{Version}
-use Rattle.csi_frames.specs.Version.{version_number}
+use Rattle.csi_records.specs.declared.version.RecordVersion.{RecordVersion}
+use Rattle.csi_records.specs.Version.{version_number}
 use Rattle.csi_frames.specs.Bytes.{AreBytes}
 use Rattle.csi_frames.specs.Spelling as spelling
 use Rattle.csi_controller.specs.declared.row.NodeHolding.{NodeHolding}
@@ -22,9 +22,10 @@ use Rattle.csi_stores.specs.Part.{StoredPart, stored_in, value_in}
 use Rattle.csi_records.specs.Reading.{Reader, go_on, ended, whole, IsReadWhole, byte_in, tag_in, volume_in, answered_in, controller_head_in, node_head_in}
 use Rattle.csi_frames.specs.Reading.{byte_at}
 use Rattle.csi_records.specs.Spelling.{VolumeRow, state_byte, counted, holding_bytes, target_bytes, kept_bytes, staged_bytes, volume_part, answered_part, controller_head, node_head}
-use Rattle.csi_records.specs.Records.{IsCapabilityIn, IsKept, IsHolding, IsVolumeRow, IsTargetRow, IsStagedSo, IsAnsweredRow}
-use Rattle.csi_records.proofs.Readers.{Reads, then, in_words, Spelled, After, Made, after, makes, Always}
-use Rattle.csi_records.proofs.FieldReaders.{live_reads, word_reads, text_reads, tag_reads, capability_reads}
+use Rattle.csi_records.specs.Records.{IsCapabilityIn, IsKept, IsHolding, IsVolumeRow, IsTargetRow, IsStagedSo, IsAnsweredRow, IsHead}
+use Rattle.csi_records.proofs.Readers.{Reads, in_words, Spelled, After, Made, after, makes, Always}
+use Rattle.csi_records.proofs.FieldReaders.{live_reads, word_reads, text_reads, capability_reads}
+use Rattle.csi_records.proofs.HeadReaders.{tagged, head_fields, controller_head_reads, node_head_reads}
 use Rattle.csi_records.proofs.ValueReaders.{AreFew, counted_reads, holding_reads, target_reads, kept_reads, staged_reads}
 
 -- ---- a volume's row, behind the version
@@ -43,11 +44,11 @@ pub record IsRowOf {R : Type 0} (IsRow : R → Type 0) (id_of : R → ℕ) (id :
   pub has_id : id_of row ≡ id
   pub fits : IsRow row
 
-abbrev IsVolumeOf : Version → ℕ → VolumeRow → Type 0
+abbrev IsVolumeOf : RecordVersion → ℕ → VolumeRow → Type 0
 IsVolumeOf version = IsRowOf (IsVolumeRow version) (λ row. row.volume.id)
 
 -- the fields of a volume's row behind the version, one after another
-abbrev SaysVolume : Version → ℕ → VolumeRow → List ℕ → Type 0
+abbrev SaysVolume : RecordVersion → ℕ → VolumeRow → List ℕ → Type 0
 SaysVolume version id =
     After Always (λ a. state_byte a ∷ []) (λ is_live.
     After IsName spelling.text (λ name.
@@ -57,7 +58,7 @@ SaysVolume version id =
     Made IsKept kept_bytes (λ kept. make_volume id is_live name capacity capabilities holdings kept))))))
 
 -- the fields of a volume's row, one after another, are the row's spelling behind the version
-volume-there : (version : Version) (id : ℕ) → IsVolumeId id → (value : VolumeRow) (bytes : List ℕ) → SaysVolume version id value bytes → Spelled (IsVolumeOf version id) volume_body value bytes
+volume-there : (version : RecordVersion) (id : ℕ) → IsVolumeId id → (value : VolumeRow) (bytes : List ℕ) → SaysVolume version id value bytes → Spelled (IsVolumeOf version id) volume_body value bytes
 volume-there version id is_id value bytes s =
     let s1 = s.second in
     let s2 = s1.second in
@@ -85,7 +86,7 @@ volume-there version id is_id value bytes s =
         ∙ simp append_assoc
 
 -- a volume's row behind the version is spelled by its fields, one after another
-volume-back : (version : Version) (id : ℕ) (value : VolumeRow) (bytes : List ℕ) → Spelled (IsVolumeOf version id) volume_body value bytes → SaysVolume version id value bytes
+volume-back : (version : RecordVersion) (id : ℕ) (value : VolumeRow) (bytes : List ℕ) → Spelled (IsVolumeOf version id) volume_body value bytes → SaysVolume version id value bytes
 volume-back version id value bytes s =
     let v = value.volume in
     let fits = s.fits.fits in
@@ -131,7 +132,7 @@ volume-back version id value bytes s =
     apart6 a b c d e f = simp append_assoc
 
 -- the reader of a volume's row reads what spells a row of this id behind the version
-volume_reads : (version : Version) (id : ℕ) → IsVolumeId id → Reads (volume_in version id) (Spelled (IsVolumeOf version id) volume_body)
+volume_reads : (version : RecordVersion) (id : ℕ) → IsVolumeId id → Reads (volume_in version id) (Spelled (IsVolumeOf version id) volume_body)
 unfolding volume_in
 volume_reads version id is_id =
     in_words (Spelled (IsVolumeOf version id) volume_body) (volume-there version id is_id) (volume-back version id)
@@ -150,16 +151,16 @@ answered_body row = staged_bytes row.staged ++ counted target_bytes row.targets 
 abbrev make_answered : ℕ → Option Capability → List NodeTarget → Kept → RowShown
 make_answered id staged targets kept = record { id = id; staged = staged; targets = targets; kept = kept }
 
-abbrev IsAnsweredOf : Version → ℕ → RowShown → Type 0
+abbrev IsAnsweredOf : RecordVersion → ℕ → RowShown → Type 0
 IsAnsweredOf version = IsRowOf (IsAnsweredRow version) (λ row. row.id)
 
 -- the fields of a node's row behind the version, one after another
-abbrev SaysAnswered : Version → ℕ → RowShown → List ℕ → Type 0
+abbrev SaysAnswered : RecordVersion → ℕ → RowShown → List ℕ → Type 0
 SaysAnswered version id =
     After (IsStagedSo version) staged_bytes (λ staged. After (AreFew IsTargetRow 16) (counted target_bytes) (λ targets. Made IsKept kept_bytes (λ kept. make_answered id staged targets kept)))
 
 -- the fields of a node's row, one after another, are the row's spelling behind the version
-answered-there : (version : Version) (id : ℕ) → IsVolumeId id → (value : RowShown) (bytes : List ℕ) → SaysAnswered version id value bytes → Spelled (IsAnsweredOf version id) answered_body value bytes
+answered-there : (version : RecordVersion) (id : ℕ) → IsVolumeId id → (value : RowShown) (bytes : List ℕ) → SaysAnswered version id value bytes → Spelled (IsAnsweredOf version id) answered_body value bytes
 answered-there version id is_id value bytes s =
     let s1 = s.second in
     let s2 = s1.second in
@@ -171,7 +172,7 @@ answered-there version id is_id value bytes s =
     })
 
 -- a node's row behind the version is spelled by its fields, one after another
-answered-back : (version : Version) (id : ℕ) (value : RowShown) (bytes : List ℕ) → Spelled (IsAnsweredOf version id) answered_body value bytes → SaysAnswered version id value bytes
+answered-back : (version : RecordVersion) (id : ℕ) (value : RowShown) (bytes : List ℕ) → Spelled (IsAnsweredOf version id) answered_body value bytes → SaysAnswered version id value bytes
 answered-back version id value bytes s =
     let fits = s.fits.fits in
     record {
@@ -189,31 +190,11 @@ answered-back version id value bytes s =
     }
 
 -- the reader of a node's row reads what spells a row of this id behind the version
-answered_reads : (version : Version) (id : ℕ) → IsVolumeId id → Reads (answered_in version id) (Spelled (IsAnsweredOf version id) answered_body)
+answered_reads : (version : RecordVersion) (id : ℕ) → IsVolumeId id → Reads (answered_in version id) (Spelled (IsAnsweredOf version id) answered_body)
 unfolding answered_in
 answered_reads version id is_id =
     in_words (Spelled (IsAnsweredOf version id) answered_body) (answered-there version id is_id) (answered-back version id)
     (after (staged_reads version) (λ staged. after (counted_reads IsTargetRow target_bytes 16 target_reads) (λ targets. makes (λ kept. make_answered id staged targets kept) kept_reads)))
-
--- ---- heads, behind the version
-
--- a reader behind a given byte reads that byte and what it reads itself
-tagged : {A : Type 0} {read : Reader A} (n : ℕ) (Fits : A → Type 0) (spell : A → List ℕ) → Reads read (Spelled Fits spell) → Reads (λ bytes. go_on (tag_in n bytes) (λ _. read)) (Spelled Fits (λ value. n ∷ spell value))
-tagged {A} {read} n Fits spell one =
-    in_words (Spelled Fits (λ (value : A). n ∷ spell value))
-    (λ value bytes s. record { fits = s.second.fits; are = s.parts ∙ ap (λ (t : List ℕ). t ++ s.back) s.first.one ∙ ap (λ (t : List ℕ). n ∷ t) s.second.are })
-    (λ value bytes s. record { before = tt; front = n ∷ []; back = spell value; parts = s.are; first = record { one = refl }; second = record { fits = s.fits; are = refl } })
-    (then (tag_reads n) (λ _. one))
-
--- the reader of a controller's head reads what spells one behind the version
-pub controller_head_reads : Reads controller_head_in (Spelled IsWord (λ next_id. 0 ∷ spelling.word next_id))
-unfolding controller_head_in
-controller_head_reads = tagged 0 IsWord spelling.word word_reads
-
--- the reader of a node's head reads what spells one behind the version
-pub node_head_reads : Reads node_head_in (Spelled IsNodeId (λ node. 1 ∷ spelling.text node))
-unfolding node_head_in
-node_head_reads = tagged 1 IsNodeId spelling.text (text_reads 1 255)
 
 -- ---- whole values
 
@@ -229,7 +210,7 @@ ended-more value [] some = absurd (some refl)
 ended-more value (b ∷ bytes) some = refl
 
 -- a whole value that is read is within its limits, and the bytes are the version and its spelling
-whole-takes : {A : Type 0} {read : Reader A} (version : Version) (Fits : A → Type 0) (spell : A → List ℕ) → Reads read (Spelled Fits spell) → (bytes : List ℕ) → AreBytes bytes → (value : A) → whole version read bytes ≡ Some value
+whole-takes : {A : Type 0} {read : Reader A} (version : RecordVersion) (Fits : A → Type 0) (spell : A → List ℕ) → Reads read (Spelled Fits spell) → (bytes : List ℕ) → AreBytes bytes → (value : A) → whole version read bytes ≡ Some value
     → Fits value × (bytes ≡ version_number version ∷ spell value)
 unfolding whole
 whole-takes {A} {read} version Fits spell one bytes fits value e =
@@ -237,7 +218,7 @@ whole-takes {A} {read} version Fits spell one bytes fits value e =
     (took.says.fits, took.parts ∙ append-nil took.front ∙ took.says.are)
 
 -- a value within its limits is read from the version and its spelling
-whole-again : {A : Type 0} {read : Reader A} (version : Version) (Fits : A → Type 0) (spell : A → List ℕ) → Reads read (Spelled Fits spell) → (value : A) → Fits value → whole version read (version_number version ∷ spell value) ≡ Some value
+whole-again : {A : Type 0} {read : Reader A} (version : RecordVersion) (Fits : A → Type 0) (spell : A → List ℕ) → Reads read (Spelled Fits spell) → (value : A) → Fits value → whole version read (version_number version ∷ spell value) ≡ Some value
 unfolding whole
 whole-again {A} {read} version Fits spell one value fits =
     let b : ℕ = version_number version in
@@ -245,7 +226,7 @@ whole-again {A} {read} version Fits spell one value fits =
     ap (λ (t : List ℕ). ended (go_on (tag_in b (b ∷ t)) (λ _. read))) (sym (append-nil (spell value))) ∙ ap ended again
 
 -- no byte is no value
-pub nothing_read : {A : Type 0} (version : Version) (read : Reader A) → whole version read [] ≡ None
+pub nothing_read : {A : Type 0} (version : RecordVersion) (read : Reader A) → whole version read [] ≡ None
 unfolding whole tag_in byte_in byte_at
 nothing_read version read = refl
 
@@ -256,7 +237,7 @@ abbrev pub make_part : ℕ → List ℕ → StoredPart
 make_part key value = record { key = key; value = value }
 
 -- rows that are read behind the version, under their ids, are read as what spells them
-row_read : {R : Type 0} {row_in : ℕ → Reader R} (version : Version) (IsRow : R → Type 0) (id_of : R → ℕ) (body : R → List ℕ) → ((id : ℕ) → IsVolumeId id → Reads (row_in id) (Spelled (IsRowOf IsRow id_of id) body))
+row_read : {R : Type 0} {row_in : ℕ → Reader R} (version : RecordVersion) (IsRow : R → Type 0) (id_of : R → ℕ) (body : R → List ℕ) → ((id : ℕ) → IsVolumeId id → Reads (row_in id) (Spelled (IsRowOf IsRow id_of id) body))
     → ((row : R) → IsRow row → IsVolumeId (id_of row)) → IsReadWhole version row_in IsVolumeId IsRow (λ row. make_part (id_of row) (version_number version ∷ body row))
 row_read version IsRow id_of body reads ids = record {
   takes = λ id value row is_id fits e.
@@ -266,10 +247,10 @@ row_read version IsRow id_of body reads ids = record {
   again = λ row fits. whole-again version (IsRowOf IsRow id_of (id_of row)) body (reads (id_of row) (ids row fits)) row (record { has_id = refl; fits = fits });
 }
 
-pub volume_read : (version : Version) → IsReadWhole version (volume_in version) IsVolumeId (IsVolumeRow version) (volume_part version)
+pub volume_read : (version : RecordVersion) → IsReadWhole version (volume_in version) IsVolumeId (IsVolumeRow version) (volume_part version)
 volume_read version = row_read version (IsVolumeRow version) (λ row. row.volume.id) volume_body (volume_reads version) (λ row fits. fits.id)
 
-pub answered_read : (version : Version) → IsReadWhole version (answered_in version) IsVolumeId (IsAnsweredRow version) (answered_part version)
+pub answered_read : (version : RecordVersion) → IsReadWhole version (answered_in version) IsVolumeId (IsAnsweredRow version) (answered_part version)
 answered_read version = row_read version (IsAnsweredRow version) (λ row. row.id) answered_body (answered_reads version) (λ row fits. fits.id)
 
 -- the key of a head
@@ -277,23 +258,23 @@ abbrev pub IsHeadKey : ℕ → Type 0
 IsHeadKey key = 0 ≡ key
 
 -- heads that are read behind the version are read as what spells them
-head_read : {H : Type 0} {read : Reader H} (version : Version) (IsHead : H → Type 0) (body : H → List ℕ) → Reads read (Spelled IsHead body)
-    → IsReadWhole version (λ key. read) IsHeadKey IsHead (λ first. make_part 0 (version_number version ∷ body first))
-head_read version IsHead body reads = record {
+head_read : {H : Type 0} {read : Reader H} (version : RecordVersion) (Fits : H → Type 0) (body : H → List ℕ) → Reads read (Spelled Fits body)
+    → IsReadWhole version (λ key. read) IsHeadKey Fits (λ first. make_part 0 (version_number version ∷ body first))
+head_read version Fits body reads = record {
   takes = λ key value first is fits e.
-      let read = whole-takes version IsHead body reads value fits first e in
+      let read = whole-takes version Fits body reads value fits first e in
       (read.0, ap (make_part 0) (sym read.1) ∙ ap (λ k. make_part k value) is);
   has_key = λ first fits. refl;
-  again = λ first fits. whole-again version IsHead body reads first fits;
+  again = λ first fits. whole-again version Fits body reads first fits;
 }
 
-pub controller_head_read : (version : Version) → IsReadWhole version (λ key. controller_head_in) IsHeadKey IsWord (controller_head version)
-controller_head_read version = head_read version IsWord (λ n. 0 ∷ spelling.word n) controller_head_reads
+pub controller_head_read : (version : RecordVersion) → IsReadWhole version (λ key. controller_head_in version) IsHeadKey (IsHead IsWord version) (λ head. controller_head version head.own head.session)
+controller_head_read version = head_read version (IsHead IsWord version) (λ head. 0 ∷ head_fields spelling.word head) (controller_head_reads version)
 
-pub node_head_read : (version : Version) → IsReadWhole version (λ key. node_head_in) IsHeadKey IsNodeId (node_head version)
-node_head_read version = head_read version IsNodeId (λ n. 1 ∷ spelling.text n) node_head_reads
+pub node_head_read : (version : RecordVersion) → IsReadWhole version (λ key. node_head_in version) IsHeadKey (IsHead IsNodeId version) (λ head. node_head version head.own head.session)
+node_head_read version = head_read version (IsHead IsNodeId version) (λ head. 1 ∷ head_fields spelling.text head) (node_head_reads version)
 
-module _ {R : Type 0} {version : Version} {row_in : ℕ → Reader R} {IsKey : ℕ → Type 0} {IsRow : R → Type 0} {row_part : R → StoredPart} (is_read : IsReadWhole version row_in IsKey IsRow row_part) where
+module _ {R : Type 0} {version : RecordVersion} {row_in : ℕ → Reader R} {IsKey : ℕ → Type 0} {IsRow : R → Type 0} {row_part : R → StoredPart} (is_read : IsReadWhole version row_in IsKey IsRow row_part) where
   -- what is read of a part's value, as a part tells it
   abbrev value_of : StoredPart → Option R
   value_of part = whole version (row_in part.key) part.value

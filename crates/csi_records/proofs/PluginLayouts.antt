@@ -1,30 +1,33 @@
 -- The records of both plugins by their layouts.
-use Rattle.std.proofs.Common.{◌≡◌, ℕ, ◌-◌, ◌≤◌, ◌<◌, List, [], ◌∷◌, length, take, drop, map, get_or, sym, ap, subst, ◌∙◌, arith}
+use Rattle.std.proofs.Common.{◌≡◌, ℕ, ◌-◌, ◌≤◌, ◌<◌, List, [], ◌∷◌, length, take, drop, map, get_or, Some, None, sym, ap, subst, ◌∙◌, arith}
 use Rattle.std.specs.Prelude.{Option, IfSome}
 use Rattle.std.specs.List.{AllByRecursion}
-use Rattle.std.proofs.lemmas.List.{take_rest, take-map, length-take, length-map, get_or-take}
+use Rattle.std.proofs.lemmas.List.{take_rest, take-map, length-append, length-take, length-map, get_or-take}
 use Rattle.std.proofs.lemmas.List.Elements.{All-take, recursion_from_All}
 use Rattle.csi_controller.specs.declared.row.ControllerRow.{ControllerRow}
-use Rattle.csi_controller.specs.Core.{IsSound}
+use Rattle.csi_controller.specs.State.{Volume}
+use Rattle.csi_controller.specs.Core.{IsSound, IsCurrentRow, IsCurrent}
 use Rattle.csi_controller.specs.Views.{AreSameRows}
 use Rattle.csi_controller.proofs.Copies.{sound-copies}
 use Rattle.csi_controller.proofs.FirstRefused.{sound-take}
 use Rattle.csi_types.specs.Text.{IsNodeId}
-use Rattle.csi_frames.specs.declared.version.Version.{Version}
+use Rattle.csi_frames.specs.Spelling as spelling
+use Rattle.csi_records.specs.declared.version.RecordVersion.{RecordVersion}
 use Rattle.csi_node.specs.declared.row.NodeRow.{NodeRow}
 use Rattle.csi_node.specs.OneRow.{RowShown, shown, IsSoundRow}
-use Rattle.csi_node.specs.Record.{IsSound as IsNodeSound, ids, id_at}
+use Rattle.csi_node.specs.Judging.{KeepRules as KeepNodeRules}
+use Rattle.csi_node.specs.Record.{IsSound as IsNodeSound, IsCurrentRow as IsCurrentNodeRow, ids, id_at}
 use Rattle.csi_stores.specs.declared.part.Part.{Part}
 use Rattle.csi_stores.specs.Part.{StoredPart, stored_in, all_stored_in}
 use Rattle.csi_records.specs.Writing.{ArePublishedFew, CanBeWritten}
-use Rattle.csi_records.specs.Spelling.{VolumeRow, volume_row, node_head}
-use Rattle.csi_records.specs.Records.{Layout, AreParts, controller_layout, node_layout, AreVolumeRows, IsRecordOf, IsRefusedAt}
+use Rattle.csi_records.specs.Spelling.{VolumeRow, session_bytes, volume_row, node_head}
+use Rattle.csi_records.specs.Records.{Layout, AreParts, Head, IsHead, IsAskedNode, controller_layout, node_layout, AreControllerRows, AreVolumeRows, IsRecordOf, IsRefusedAt}
 use Rattle.csi_records.proofs.PartReaders.{volume_read, answered_read, controller_head_read, node_head_read, same_part}
 use Rattle.csi_records.proofs.ValueSizes.{volume_size, answered_size}
 use Rattle.csi_records.proofs.FieldReaders.{version-found}
 use Rattle.csi_records.proofs.LayoutLaws.{ArePlain, fit-parts}
 use Rattle.csi_records.proofs.Versions.{AreVersioned}
-use Rattle.csi_records.proofs.Layouts.{IsOneToOne, head-refused}
+use Rattle.csi_records.proofs.Layouts.{IsOneToOne, each-take, head-refused}
 
 -- ---- the controller's
 
@@ -38,16 +41,40 @@ same-rows (a ∷ rows) (b ∷ bs) e =
     let rest : map volume_row rows ≡ map volume_row bs = cc in
     (record { volume = sym (ap (λ (r : VolumeRow). r.volume) one); items = sym (ap (λ (r : VolumeRow). r.holdings) one) }, same-rows rows bs rest)
 
--- rows that say the same keep the same rules
-pub sound-shown : (next_id : ℕ) (rows : List ControllerRow) → AreVolumeRows next_id (map volume_row rows) → IsSound next_id rows
-sound-shown next_id rows are = sound-copies next_id are.0 rows (same-rows are.0 rows are.1) are.2
+-- rows that say the same are of the same sessions
+current-copies : (session : ℕ) (rows copies : List ControllerRow) → AreSameRows rows copies → IsCurrent session rows → IsCurrent session copies
+current-copies session [] [] same are = tt
+current-copies session [] (b ∷ bs) same are = absurd same
+current-copies session (a ∷ rows) [] same are = absurd same
+current-copies session (a ∷ rows) (b ∷ bs) same are =
+    let last : b.last.session ≡ a.last.session = ap (λ (v : Volume). v.kept.number.session) same.0.volume in
+    let live : b.live ≡ a.live = ap (λ (v : Volume). v.is_live) same.0.volume in
+    (record { before = subst (λ (n : ℕ). n ≤ session) (sym last) are.0.before; gone = λ gone. last ∙ are.0.gone (sym live ∙ gone) }, current-copies session rows bs same.1 are.1)
+
+-- rows that say the same keep the same rules, by a session or without one
+rules-copies : (next_id : ℕ) (session : Option ℕ) (rows copies : List ControllerRow) → AreSameRows rows copies → AreControllerRows next_id session rows → AreControllerRows next_id session copies
+rules-copies next_id None rows copies same are = sound-copies next_id rows copies same are
+rules-copies next_id (Some session) rows copies same are = (sound-copies next_id rows copies same are.0, current-copies session rows copies same are.1)
+
+pub rules-shown : (head : Head ℕ) (rows : List ControllerRow) → AreVolumeRows head (map volume_row rows) → AreControllerRows head.own head.session rows
+rules-shown head rows are = rules-copies head.own head.session are.0 rows (same-rows are.0 rows are.1) are.2
+
+-- a front of a controller's rows keeps the rules
+controller-take : (next_id : ℕ) (session : Option ℕ) (rows : List ControllerRow) (k : ℕ) → AreControllerRows next_id session rows → AreControllerRows next_id session (take k rows)
+controller-take next_id None rows k are = sound-take next_id rows k are
+controller-take next_id (Some session) rows k are = (sound-take next_id rows k are.0, each-take (IsCurrentRow session) rows k are.1)
+
+-- a controller's rows are sound, by a session or without one
+controller-sound : (next_id : ℕ) (session : Option ℕ) (rows : List ControllerRow) → AreControllerRows next_id session rows → IsSound next_id rows
+controller-sound next_id None rows are = are
+controller-sound next_id (Some session) rows are = are.0
 
 -- the parts of a controller's record are spelled by one value each, and a front of its rows keeps the rules
-pub controller_one : (version : Version) → IsOneToOne (controller_layout version)
+pub controller_one : (version : RecordVersion) → IsOneToOne (controller_layout version)
 controller_one version = record {
   heads = same_part (controller_head_read version);
   rows = same_part (volume_read version);
-  fronts = λ next_id shown k are. (take k are.0, sym (take-map volume_row k are.0) ∙ ap (take k) are.1, sound-take next_id are.0 k are.2);
+  fronts = λ head shown k are. (take k are.0, sym (take-map volume_row k are.0) ∙ ap (take k) are.1, controller-take head.own head.session are.0 k are.2);
 }
 
 -- parts, the first apart
@@ -73,20 +100,36 @@ record-take rows k is = record {
     at : (i : ℕ) → i < k → id_at (take k rows) i ≡ id_at rows i
     at i below = ap (λ (ns : List ℕ). get_or ns i 0) (sym (take-map (λ (row : RowShown). row.id) k rows)) ∙ get_or-take k (ids rows) i 0 below
 
+-- the same with the rules of its session
+node-take : (session : Option ℕ) (rows : List RowShown) (k : ℕ) → KeepNodeRules session rows → KeepNodeRules session (take k rows)
+node-take None rows k are = record-take rows k are
+node-take (Some greatest) rows k are = (record-take rows k are.0, All-take (IsCurrentNodeRow greatest) k rows are.1)
+
+-- a node's rows are sound, by a session or without one
+node-sound : (session : Option ℕ) (rows : List RowShown) → KeepNodeRules session rows → IsNodeSound rows
+node-sound None rows are = are
+node-sound (Some greatest) rows are = are.0
+
+-- the head of the node that is asked for is a node's
+named : (version : RecordVersion) (wanted : Option (List ℕ)) (head : Head (List ℕ)) → IsHead (IsAskedNode wanted) version head → IsHead IsNodeId version head
+named version wanted head fits = record { own = fits.own.0; session = fits.session }
+
 -- the parts of a node's record are spelled by one value each, and a front of its rows keeps the rules
-pub node_one : (version : Version) (wanted : Option (List ℕ)) → IsOneToOne (node_layout version wanted)
+pub node_one : (version : RecordVersion) (wanted : Option (List ℕ)) → IsOneToOne (node_layout version wanted)
 node_one version wanted = record {
-  heads = λ a b fits fit e. same_part (node_head_read version) a b fits.0 fit.0 e;
+  heads = λ a b fits fit e. same_part (node_head_read version) a b (named version wanted a fits) (named version wanted b fit) e;
   rows = same_part (answered_read version);
-  fronts = λ node rows k are. record-take rows k are;
+  fronts = λ head rows k are. node-take head.session rows k are;
 }
 
 -- another node's head
-pub node-unasked : (version : Version) (wanted : Option (List ℕ)) (node : List ℕ) (parts : List StoredPart) → IsNodeId node → (IfSome wanted (λ id. node ≡ id) → ⊥)
-    → IsRefusedAt (IsRecordOf (node_layout version wanted)) (node_head version node ∷ parts) 0
-node-unasked version wanted node parts fits other =
-    head-refused (node_layout version wanted) (node_head version node) parts
-    (λ first head same. let is : first ≡ node = same_part (node_head_read version) first node head.0 fits same in other (subst (λ (n : List ℕ). IfSome wanted (λ id. n ≡ id)) is head.1))
+pub node-unasked : (version : RecordVersion) (wanted : Option (List ℕ)) (head : Head (List ℕ)) (parts : List StoredPart) → IsHead IsNodeId version head → (IfSome wanted (λ id. head.own ≡ id) → ⊥)
+    → IsRefusedAt (IsRecordOf (node_layout version wanted)) (node_head version head.own head.session ∷ parts) 0
+node-unasked version wanted head parts fits other =
+    head-refused (node_layout version wanted) (node_head version head.own head.session) parts
+    (λ first fit same.
+    let is : first ≡ head = same_part (node_head_read version) first head (named version wanted first fit) fits same in
+    other (subst (λ (h : Head (List ℕ)). IfSome wanted (λ id. h.own ≡ id)) is fit.own.1))
 
 -- what keeps the rules can be written
 few-each : (rows : List NodeRow) → AllByRecursion IsSoundRow (map shown rows) → AllByRecursion ArePublishedFew rows
@@ -99,20 +142,25 @@ few-targets rows is = few-each rows (recursion_from_All IsSoundRow (map shown ro
 
 -- ---- what their parts are
 
+-- the session of a head takes eight bytes, or none
+session-size : (session : Option ℕ) → length (session_bytes session) ≤ 8
+session-size None = omega arith
+session-size (Some session) = omega arith
+
 -- a controller's parts are within their limits, and there are at most 4,096 rows
-pub controller_plain : (version : Version) → ArePlain (controller_layout version)
+pub controller_plain : (version : RecordVersion) → ArePlain (controller_layout version)
 controller_plain version = record {
-  heads = λ next_id fits. record { key = omega arith; value = omega arith };
+  heads = λ head fits. record { key = omega arith; value = omega (arith, session-size head.session, length-append (spelling.word head.own) (session_bytes head.session)) };
   rows = λ row fits. record { key = fits.id.in_range; value = volume_size version row fits };
-  few = λ next_id rows are. omega (arith, are.2.limit, length-map are.0 volume_row, ap length are.1);
+  few = λ head rows are. omega (arith, (controller-sound head.own head.session are.0 are.2).limit, length-map are.0 volume_row, ap length are.1);
 }
 
 -- a node's parts are within their limits, and there are at most 4,096 rows
-pub node_plain : (version : Version) (wanted : Option (List ℕ)) → ArePlain (node_layout version wanted)
+pub node_plain : (version : RecordVersion) (wanted : Option (List ℕ)) → ArePlain (node_layout version wanted)
 node_plain version wanted = record {
-  heads = λ node fits. record { key = omega arith; value = omega (arith, (fits.0).no_longer) };
+  heads = λ head fits. record { key = omega arith; value = omega (arith, fits.own.0.no_longer, session-size head.session, length-append (spelling.text head.own) (session_bytes head.session)) };
   rows = λ row fits. record { key = fits.id.in_range; value = answered_size version row fits };
-  few = λ node rows are. are.limit;
+  few = λ head rows are. (node-sound head.session rows are).limit;
 }
 
 -- the parts of a record can be written
@@ -121,7 +169,7 @@ writable layout plain first rows parts are = let fits = fit-parts layout plain p
 
 -- the heads of either plugin begin with the byte of their version
 pub controller_versioned : AreVersioned controller_layout
-controller_versioned = record { heads = λ version next_id. version-found version }
+controller_versioned = record { heads = λ version head. version-found version }
 
 pub node_versioned : (wanted : Option (List ℕ)) → AreVersioned (λ version. node_layout version wanted)
-node_versioned wanted = record { heads = λ version node. version-found version }
+node_versioned wanted = record { heads = λ version head. version-found version }

@@ -8,8 +8,8 @@ use Rattle.std.proofs.lemmas.List.Concat.{flat_map-append}
 use Rattle.byteorder.specs.Endian.{big_bytes, big_number}
 use Rattle.byteorder.specs.Numbers.{big_from-lt}
 use Rattle.csi_types.specs.Limits.{IsWord}
-use Rattle.csi_frames.specs.declared.version.Version.{Version}
-use Rattle.csi_frames.specs.Version.{version_number}
+use Rattle.csi_records.specs.declared.version.RecordVersion.{RecordVersion}
+use Rattle.csi_records.specs.Version.{version_number}
 use Rattle.csi_frames.specs.Bytes.{AreBytes}
 use Rattle.csi_frames.specs.Spelling as spelling
 use Rattle.csi_frames.proofs.Bytes.{AreBytes-take, AreBytes-back, four-back, four-again, four-front}
@@ -148,7 +148,7 @@ part_reads =
 
 -- what stands in front of a record's parts: a version and their number
 abbrev pub Head : Type 0
-Head = Version × ℕ
+Head = RecordVersion × ℕ
 
 abbrev pub IsHead : Head → Type 0
 IsHead head = IsLong head.1
@@ -156,7 +156,7 @@ IsHead head = IsLong head.1
 abbrev pub head_bytes : Head → List ℕ
 head_bytes head = record_head head.0 head.1
 
-abbrev pub make_head : Version → ℕ → Head
+abbrev pub make_head : RecordVersion → ℕ → Head
 make_head version count = (version, count)
 
 abbrev SaysHead : Head → List ℕ → Type 0
@@ -214,7 +214,7 @@ part-inside [] p after each = each.0
 part-inside (b ∷ bs) p after each = part-inside bs p after each.1
 
 -- a part that is refused among the parts is refused in the bytes
-pub bad-among : (Is : Version → List StoredPart → Type 0) (version : Version) (bytes : List ℕ) (parts : List StoredPart) (all : Bool) (place : ℕ) → AreSplit version bytes parts all → IsRefusedAt (Is version) parts place → IsBadAt Is bytes place
+pub bad-among : (Is : RecordVersion → List StoredPart → Type 0) (version : RecordVersion) (bytes : List ℕ) (parts : List StoredPart) (all : Bool) (place : ℕ) → AreSplit version bytes parts all → IsRefusedAt (Is version) parts place → IsBadAt Is bytes place
 bad-among Is version bytes parts all place split at =
     subst (λ (n : ℕ). IsBadAt Is bytes n) at.here
     (bad_part version split.count at.before (part_bytes at.part ++ (flat_map part_bytes at.after ++ split.rest)) split.to below are at.begins
@@ -240,7 +240,7 @@ bad-among Is version bytes parts all place split at =
         ∙ simp append_assoc
 
 -- all parts that are there are a record's, and more is to come, or to go
-pub bad-end : (Is : Version → List StoredPart → Type 0) (version : Version) (bytes : List ℕ) (parts : List StoredPart) → AreSplit version bytes parts false → Begins (Is version) parts → IsBadAt Is bytes (length parts)
+pub bad-end : (Is : RecordVersion → List StoredPart → Type 0) (version : RecordVersion) (bytes : List ℕ) (parts : List StoredPart) → AreSplit version bytes parts false → Begins (Is version) parts → IsBadAt Is bytes (length parts)
 bad-end Is version bytes parts split begins = by split.stops begins
   where
     whole : bytes ≡ record_head version split.count ++ flat_map part_bytes parts ++ split.rest
@@ -252,7 +252,7 @@ bad-end Is version bytes parts split begins = by split.stops begins
     by (inr h) here = bad_part version split.count parts split.rest split.to h.0 whole here (λ part more fits same is. h.1 part more fits same)
 
 -- the bytes are those of the parts
-pub whole-split : (version : Version) (bytes : List ℕ) (parts : List StoredPart) → AreSplit version bytes parts true → bytes ≡ record_bytes version parts
+pub whole-split : (version : RecordVersion) (bytes : List ℕ) (parts : List StoredPart) → AreSplit version bytes parts true → bytes ≡ record_bytes version parts
 whole-split version bytes parts split =
     split.are ∙ ap (λ (t : List ℕ). record_head version split.count ++ (flat_map part_bytes parts ++ t)) split.stops.1 ∙ ap (λ (t : List ℕ). record_head version split.count ++ t) (append-nil (flat_map part_bytes parts))
     ∙ ap (λ (n : ℕ). record_head version n ++ flat_map part_bytes parts) (sym split.stops.0)
@@ -292,7 +292,7 @@ bytes-after bytes rest head fits read = AreBytes-back (head_bytes head) rest (su
 -- ---- what reading bytes answers
 
 -- the parts that are there are none of a record
-err-by : (Is : Version → List StoredPart → Type 0) (version : Version) (bytes : List ℕ) (parts : List StoredPart) (all : Bool) (place : ℕ) → AreSplit version bytes parts all
+err-by : (Is : RecordVersion → List StoredPart → Type 0) (version : RecordVersion) (bytes : List ℕ) (parts : List StoredPart) (all : Bool) (place : ℕ) → AreSplit version bytes parts all
     → ((parts ≡ []) × (place ≡ 0)) ⊎ IsRefusedAt (Is version) parts place → IsBadAt Is bytes place
 err-by Is version bytes parts true place split (inl none) = absurd (omega (arith, split.stops.0, ap length none.0, split.from))
 err-by Is version bytes parts false place split (inl none) =
@@ -300,7 +300,7 @@ err-by Is version bytes parts false place split (inl none) =
 err-by Is version bytes parts all place split (inr at) = bad-among Is version bytes parts all place split at
 
 -- a part that is refused among the parts of bytes is refused in the bytes
-pub err-bytes : {X : Type 0} (Is : Version → List StoredPart → Type 0) (parts_of : Version → X → List StoredPart) (version : Version) (bytes : List ℕ) (parts : List StoredPart) (all : Bool) (stop : RecordStop)
-    → AreSplit version bytes parts all → ReadsParts (Is version) (parts_of version) parts (Err stop) → ReadsBytes Is parts_of bytes (Err stop)
-err-bytes Is parts_of version bytes parts all (BadRecord place) split read = err-by Is version bytes parts all place split read
-err-bytes Is parts_of version bytes parts all NoMemory split read = tt
+pub err-bytes : {X : Type 0} (Is : RecordVersion → List StoredPart → Type 0) (AreOf : RecordVersion → List StoredPart → X → Type 0) (version : RecordVersion) (bytes : List ℕ) (parts : List StoredPart) (all : Bool) (stop : RecordStop)
+    → AreSplit version bytes parts all → ReadsParts (Is version) (AreOf version) parts (Err stop) → ReadsBytes Is AreOf bytes (Err stop)
+err-bytes Is AreOf version bytes parts all (BadRecord place) split read = err-by Is version bytes parts all place split read
+err-bytes Is AreOf version bytes parts all NoMemory split read = tt

@@ -5,13 +5,13 @@ use Rattle.std.specs.List.{flat_map, AllByRecursion}
 use Rattle.std.proofs.lemmas.List.Concat.{flat_map-cons}
 use Rattle.csi_types.specs.declared.capability.Capability.{Capability}
 use Rattle.csi_types.specs.declared.reply.Reply.{Reply}
-use Rattle.csi_types.specs.Fence.{Kept}
+use Rattle.csi_fence.specs.Fence.{Kept}
 use Rattle.csi_types.specs.Status.{status_code}
 use Rattle.csi_types.specs.Same.{kind_number}
 use Rattle.csi_types.specs.Text.{IsText, IsNodeId, IsTarget}
 use Rattle.csi_types.specs.VolumeId.{IsVolumeId}
 use Rattle.csi_types.specs.Limits.{IsWord, IsNumber, IsReply}
-use Rattle.csi_frames.specs.declared.version.Version.{Version}
+use Rattle.csi_records.specs.declared.version.RecordVersion.{RecordVersion}
 use Rattle.csi_frames.specs.Spelling as spelling
 use Rattle.csi_controller.specs.declared.row.NodeHolding.{NodeHolding}
 use Rattle.csi_node.specs.declared.row.NodeTarget.{NodeTarget}
@@ -117,11 +117,11 @@ counted_reads Fits spell most one =
 
 -- ---- holdings and targets
 
-abbrev SaysHolding : Version → NodeHolding → List ℕ → Type 0
+abbrev SaysHolding : RecordVersion → NodeHolding → List ℕ → Type 0
 SaysHolding version = After IsNodeId spelling.text (λ node. After (IsCapabilityIn version) spelling.capability (λ capability. Made Always spelling.flag (λ readonly. record { node = node; capability = capability; readonly = readonly })))
 
 -- a node id, a capability and a flag are the spelling of a holding
-holding-there : (version : Version) (value : NodeHolding) (bytes : List ℕ) → SaysHolding version value bytes → Spelled (IsHolding version) holding_bytes value bytes
+holding-there : (version : RecordVersion) (value : NodeHolding) (bytes : List ℕ) → SaysHolding version value bytes → Spelled (IsHolding version) holding_bytes value bytes
 holding-there version value bytes s =
     let s1 = s.second in
     let s2 = s1.second in
@@ -132,7 +132,7 @@ holding-there version value bytes s =
     })
 
 -- the spelling of a holding is a node id, a capability and a flag
-holding-back : (version : Version) (value : NodeHolding) (bytes : List ℕ) → Spelled (IsHolding version) holding_bytes value bytes → SaysHolding version value bytes
+holding-back : (version : RecordVersion) (value : NodeHolding) (bytes : List ℕ) → Spelled (IsHolding version) holding_bytes value bytes → SaysHolding version value bytes
 holding-back version value bytes s =
     record {
       before = value.node;
@@ -149,7 +149,7 @@ holding-back version value bytes s =
     }
 
 -- the reader of a holding reads what spells one
-pub holding_reads : (version : Version) → Reads (holding_in version) (Spelled (IsHolding version) holding_bytes)
+pub holding_reads : (version : RecordVersion) → Reads (holding_in version) (Spelled (IsHolding version) holding_bytes)
 unfolding holding_in
 holding_reads version =
     in_words (Spelled (IsHolding version) holding_bytes) (holding-there version) (holding-back version)
@@ -284,23 +284,23 @@ kept_reads =
 -- ---- how a volume is staged
 
 -- what stands behind the flag that says whether a volume is staged, by the flag
-abbrev WasStaged : Version → Bool → Option Capability → List ℕ → Type 0
+abbrev WasStaged : RecordVersion → Bool → Option Capability → List ℕ → Type 0
 WasStaged version b = Either b (Made (IsCapabilityIn version) spelling.capability (λ c. Some c)) (Given None)
 
 -- a flag and what it asks for behind it are the spelling of how a volume is staged
-staged-by : (version : Version) (b : Bool) (value : Option Capability) (bytes back : List ℕ) → bytes ≡ spelling.flag b ++ back → WasStaged version b value back → Spelled (IsStagedSo version) staged_bytes value bytes
+staged-by : (version : RecordVersion) (b : Bool) (value : Option Capability) (bytes back : List ℕ) → bytes ≡ spelling.flag b ++ back → WasStaged version b value back → Spelled (IsStagedSo version) staged_bytes value bytes
 staged-by version true value bytes back parts s =
     subst (λ (v : Option Capability). Spelled (IsStagedSo version) staged_bytes v bytes) (sym s.same) (record { fits = s.fits; are = parts ∙ ap (λ (t : List ℕ). 1 ∷ t) s.are })
 staged-by version false value bytes back parts s =
     subst (λ (v : Option Capability). Spelled (IsStagedSo version) staged_bytes v bytes) (sym s.same) (record { fits = tt; are = parts ∙ ap (λ (t : List ℕ). 0 ∷ t) s.none })
 
 -- the spelling of how a volume is staged is a flag and what the flag asks for
-staged-back : (version : Version) (value : Option Capability) (bytes : List ℕ) → Spelled (IsStagedSo version) staged_bytes value bytes → After Always spelling.flag (WasStaged version) value bytes
+staged-back : (version : RecordVersion) (value : Option Capability) (bytes : List ℕ) → Spelled (IsStagedSo version) staged_bytes value bytes → After Always spelling.flag (WasStaged version) value bytes
 staged-back version None bytes s = record { before = false; fits = tt; back = []; parts = s.are; second = record { same = refl; none = refl } }
 staged-back version (Some c) bytes s = record { before = true; fits = tt; back = spelling.capability c; parts = s.are; second = record { before = c; fits = s.fits; same = refl; are = refl } }
 
 -- the reader of how a volume is staged reads what spells it
-pub staged_reads : (version : Version) → Reads (staged_in version) (Spelled (IsStagedSo version) staged_bytes)
+pub staged_reads : (version : RecordVersion) → Reads (staged_in version) (Spelled (IsStagedSo version) staged_bytes)
 unfolding staged_in
 staged_reads version =
     in_words (Spelled (IsStagedSo version) staged_bytes) (λ value bytes s. staged-by version s.before value bytes s.back s.parts s.second) (staged-back version)

@@ -7,13 +7,13 @@ use Rattle.csi_types.specs.declared.capability.Access.{Access}
 use Rattle.csi_types.specs.declared.capability.Access.TheVariants.{Block, Mount}
 use Rattle.csi_types.specs.declared.capability.Capability.{Capability}
 use Rattle.csi_types.specs.declared.reply.Reply.{Reply}
-use Rattle.csi_types.specs.Fence.{Kept}
+use Rattle.csi_fence.specs.Fence.{Kept}
 use Rattle.csi_types.specs.Mode.{mode_number}
 use Rattle.csi_types.specs.Same.{kind_number}
 use Rattle.csi_types.specs.Limits.{IsAccess, IsReply}
 use Rattle.csi_frames.specs.Spelling as spelling
-use Rattle.csi_frames.specs.declared.version.Version.{Version}
-use Rattle.csi_frames.specs.Version.{version_number}
+use Rattle.csi_records.specs.declared.version.RecordVersion.{RecordVersion}
+use Rattle.csi_records.specs.Version.{version_number}
 use Rattle.csi_controller.specs.declared.row.NodeHolding.{NodeHolding}
 use Rattle.csi_node.specs.declared.row.NodeTarget.{NodeTarget}
 use Rattle.csi_node.specs.OneRow.{RowShown}
@@ -25,18 +25,18 @@ access-size : (a : Access) → IsAccess a → length (spelling.access a) ≤ 130
 access-size Block fits = omega arith
 access-size (Mount fs_type) fits = omega (arith, fits.no_longer)
 
-capability-size : (version : Version) (c : Capability) → IsCapabilityIn version c → length (spelling.capability c) ≤ 131
+capability-size : (version : RecordVersion) (c : Capability) → IsCapabilityIn version c → length (spelling.capability c) ≤ 131
 capability-size version c fits = omega (arith, access-size c.access fits.fits, length-append (spelling.access c.access) (mode_number c.mode ∷ []))
 
-capabilities-size : (version : Version) (cs : List Capability) → AllByRecursion (IsCapabilityIn version) cs → length (flat_map spelling.capability cs) ≤ 131 * length cs
+capabilities-size : (version : RecordVersion) (cs : List Capability) → AllByRecursion (IsCapabilityIn version) cs → length (flat_map spelling.capability cs) ≤ 131 * length cs
 capabilities-size version [] fits = omega arith
 capabilities-size version (c ∷ cs) fits = omega (arith, capability-size version c (fits.0), capabilities-size version cs (fits.1), length-append (spelling.capability c) (flat_map spelling.capability cs))
 
-holding-size : (version : Version) (h : NodeHolding) → IsHolding version h → length (holding_bytes h) ≤ 388
+holding-size : (version : RecordVersion) (h : NodeHolding) → IsHolding version h → length (holding_bytes h) ≤ 388
 holding-size version h fits =
     omega (arith, fits.node.no_longer, capability-size version h.capability fits.capability, length-append (spelling.text h.node) (spelling.capability h.capability), length-append (spelling.text h.node ++ spelling.capability h.capability) (spelling.flag h.readonly))
 
-holdings-size : (version : Version) (hs : List NodeHolding) → AllByRecursion (IsHolding version) hs → length (flat_map holding_bytes hs) ≤ 388 * length hs
+holdings-size : (version : RecordVersion) (hs : List NodeHolding) → AllByRecursion (IsHolding version) hs → length (flat_map holding_bytes hs) ≤ 388 * length hs
 holdings-size version [] fits = omega arith
 holdings-size version (h ∷ hs) fits = omega (arith, holding-size version h (fits.0), holdings-size version hs (fits.1), length-append (holding_bytes h) (flat_map holding_bytes hs))
 
@@ -59,7 +59,7 @@ kept-size k fits =
     let words : List ℕ = spelling.word k.number.session ++ spelling.word k.number.call in
     omega (arith, reply-size k.reply fits.reply, length-append words ((128 + kind_number k.kind) ∷ spelling.reply_fields k.reply), length-append (spelling.word k.number.session) (spelling.word k.number.call))
 
-staged-size : (version : Version) (s : Option Capability) → IsStagedSo version s → length (staged_bytes s) ≤ 132
+staged-size : (version : RecordVersion) (s : Option Capability) → IsStagedSo version s → length (staged_bytes s) ≤ 132
 staged-size version None fits = omega arith
 staged-size version (Some c) fits = omega (arith, capability-size version c fits)
 
@@ -75,7 +75,7 @@ small : (n a b c d e f : ℕ) → n ≡ a + b + c + d + e + f → a ≤ 200 → 
 small n a b c d e f is ha hb hc hd he hf = omega arith
 
 -- the value of a volume's part, and below of a node's row, is shorter than 2^32 bytes
-pub volume_size : (version : Version) (row : VolumeRow) → IsVolumeRow version row → length (volume_bytes version row) < 2 ^ 32
+pub volume_size : (version : RecordVersion) (row : VolumeRow) → IsVolumeRow version row → length (volume_bytes version row) < 2 ^ 32
 volume_size version row fits =
     let a : List ℕ = version_number version ∷ state_byte row.volume.is_live ∷ [] in
     let b : List ℕ = spelling.text row.volume.name in
@@ -89,7 +89,7 @@ volume_size version row fits =
     fewer : (n : ℕ) → n ≤ 282 → n ≤ 300
     fewer n h = omega arith
 
-pub answered_size : (version : Version) (row : RowShown) → IsAnsweredRow version row → length (answered_bytes version row) < 2 ^ 32
+pub answered_size : (version : RecordVersion) (row : RowShown) → IsAnsweredRow version row → length (answered_bytes version row) < 2 ^ 32
 answered_size version row fits =
     let a : List ℕ = version_number version ∷ staged_bytes row.staged in
     let b : List ℕ = counted target_bytes row.targets in

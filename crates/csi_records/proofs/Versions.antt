@@ -2,7 +2,7 @@
 use Rattle.std.proofs.Common.{◌≡◌, ℕ, List, [], ◌∷◌, ◌++◌, Some, None, Err, refl, sym, ap, subst, ◌∙◌, inl, inr}
 use Rattle.std.proofs.lemmas.Option.{same_Some}
 use Rattle.csi_lists.proofs.Options.{some_is_not_none}
-use Rattle.csi_frames.specs.declared.version.Version.{Version}
+use Rattle.csi_records.specs.declared.version.RecordVersion.{RecordVersion}
 use Rattle.csi_stores.specs.Part.{StoredPart}
 use Rattle.csi_records.specs.declared.fault.RecordStop.{RecordStop}
 use Rattle.csi_records.specs.declared.fault.RecordStop.TheVariants.{BadRecord, NoMemory}
@@ -14,22 +14,22 @@ use Rattle.csi_records.proofs.Layouts.{IsOneToOne, parts-same}
 use Rattle.csi_records.proofs.LayoutLaws.{ArePlain, one-reading, one-refusal}
 
 -- a head begins with the byte of its version
-pub record AreVersioned {H R : Type 0} (layouts : Version → Layout H R) : Type 0 where
-  pub heads : (version : Version) (first : H) → version_in_value ((layouts version).head first).value ≡ Some version
+pub record AreVersioned {H R : Type 0} (layouts : RecordVersion → Layout H R) : Type 0 where
+  pub heads : (version : RecordVersion) (first : H) → version_in_value ((layouts version).head first).value ≡ Some version
 
 -- the parts of a record tell its version
-parts-version : {H R : Type 0} (layouts : Version → Layout H R) → AreVersioned layouts → (version : Version) (first : H) (rows : List R) (parts : List StoredPart) → AreParts (layouts version) first rows parts → version_in_parts parts ≡ Some version
+parts-version : {H R : Type 0} (layouts : RecordVersion → Layout H R) → AreVersioned layouts → (version : RecordVersion) (first : H) (rows : List R) (parts : List StoredPart) → AreParts (layouts version) first rows parts → version_in_parts parts ≡ Some version
 parts-version layouts versioned version first rows parts s = ap version_in_parts s.are ∙ versioned.heads version first
 
 -- equal parts are of one version and one record
-pub parts-tell : {H R : Type 0} (layouts : Version → Layout H R) → ((version : Version) → IsOneToOne (layouts version)) → AreVersioned layouts → PartsTell layouts
+pub parts-tell : {H R : Type 0} (layouts : RecordVersion → Layout H R) → ((version : RecordVersion) → IsOneToOne (layouts version)) → AreVersioned layouts → PartsTell layouts
 parts-tell {H} {R} layouts one versioned version another first other rows others parts p q =
     let same : version ≡ another = same_Some version another (sym (parts-version layouts versioned version first rows parts p) ∙ parts-version layouts versioned another other others parts q) in
-    let both = parts-same (layouts version) (one version) first other rows others parts p (subst (λ (v : Version). AreParts (layouts v) other others parts) (sym same) q) in
+    let both = parts-same (layouts version) (one version) first other rows others parts p (subst (λ (v : RecordVersion). AreParts (layouts v) other others parts) (sym same) q) in
     (same, both.0, both.1)
 
 -- the laws of the records of a plugin
-pub laws-of : {H R : Type 0} (layouts : Version → Layout H R) → ((version : Version) → IsOneToOne (layouts version)) → ((version : Version) → ArePlain (layouts version)) → AreVersioned layouts → LawsOf layouts
+pub laws-of : {H R : Type 0} (layouts : RecordVersion → Layout H R) → ((version : RecordVersion) → IsOneToOne (layouts version)) → ((version : RecordVersion) → ArePlain (layouts version)) → AreVersioned layouts → LawsOf layouts
 laws-of layouts one plain versioned = record { parts = parts-tell layouts one versioned; refusals = one-refusal layouts one; bytes = one-reading layouts one plain }
 
 -- ---- what is refused in the version that the head tells
@@ -40,15 +40,15 @@ same-head [] part more after = refl
 same-head (b ∷ bs) part more after = refl
 
 -- a record of one version is one of some version, and so is what begins one
-begins-some : (Is : Version → List StoredPart → Type 0) (version : Version) (parts : List StoredPart) → Begins (Is version) parts → Begins (IsInSome Is) parts
+begins-some : (Is : RecordVersion → List StoredPart → Type 0) (version : RecordVersion) (parts : List StoredPart) → Begins (Is version) parts → Begins (IsInSome Is) parts
 begins-some Is version parts (inl none) = inl none
 begins-some Is version parts (inr is) = inr (record { version = version; there = is })
 
 -- where no version is told, the first part is refused, if there is one
-pub no-version : {X H R : Type 0} (layouts : Version → Layout H R) → AreVersioned layouts → (parts_of : Version → X → List StoredPart) (parts : List StoredPart) → version_in_parts parts ≡ None
-    → ReadsStored (λ v. IsRecordOf (layouts v)) parts_of parts (Err (BadRecord 0))
-no-version layouts versioned parts_of [] none = inl (refl, refl)
-no-version {X} {H} {R} layouts versioned parts_of (part ∷ parts) none =
+pub no-version : {X H R : Type 0} (layouts : RecordVersion → Layout H R) → AreVersioned layouts → (AreOf : RecordVersion → List StoredPart → X → Type 0) (parts : List StoredPart) → version_in_parts parts ≡ None
+    → ReadsStored (λ v. IsRecordOf (layouts v)) AreOf parts (Err (BadRecord 0))
+no-version layouts versioned AreOf [] none = inl (refl, refl)
+no-version {X} {H} {R} layouts versioned AreOf (part ∷ parts) none =
     inr (record {
       before = [];
       part = part;
@@ -60,7 +60,7 @@ no-version {X} {H} {R} layouts versioned parts_of (part ∷ parts) none =
     })
 
 -- what is refused in the version that the parts tell is refused in a record of any version
-refused-some : {H R : Type 0} (layouts : Version → Layout H R) → AreVersioned layouts → (version : Version) (parts : List StoredPart) (place : ℕ) → version_in_parts parts ≡ Some version → IsRefusedAt (IsRecordOf (layouts version)) parts place
+refused-some : {H R : Type 0} (layouts : RecordVersion → Layout H R) → AreVersioned layouts → (version : RecordVersion) (parts : List StoredPart) (place : ℕ) → version_in_parts parts ≡ Some version → IsRefusedAt (IsRecordOf (layouts version)) parts place
     → IsRefusedAt (IsInSome (λ version. IsRecordOf (layouts version))) parts place
 refused-some {H} {R} layouts versioned version parts place told at =
     record {
@@ -70,7 +70,7 @@ refused-some {H} {R} layouts versioned version parts place told at =
       are = at.are;
       here = at.here;
       begins = begins-some (λ v. IsRecordOf (layouts v)) version at.before at.begins;
-      refused = λ is. at.refused (subst (λ (v : Version). IsRecordOf (layouts v) (at.before ++ at.part ∷ [])) (same is) is.there);
+      refused = λ is. at.refused (subst (λ (v : RecordVersion). IsRecordOf (layouts v) (at.before ++ at.part ∷ [])) (same is) is.there);
     }
   where
     same : (is : IsInSome (λ v. IsRecordOf (layouts v)) (at.before ++ at.part ∷ [])) → is.version ≡ version
@@ -80,8 +80,8 @@ refused-some {H} {R} layouts versioned version parts place told at =
         (sym (parts-version layouts versioned is.version is.there.first is.there.rows (at.before ++ at.part ∷ []) s) ∙ same-head at.before at.part [] at.after ∙ ap version_in_parts (sym at.are) ∙ told)
 
 -- where reading parts in the version that they tell stopped, no version has them as a record
-pub stopped-in : {X H R : Type 0} (layouts : Version → Layout H R) → AreVersioned layouts → (parts_of : Version → X → List StoredPart) (version : Version) (parts : List StoredPart) (stop : RecordStop) → version_in_parts parts ≡ Some version
-    → ReadsParts (IsRecordOf (layouts version)) (parts_of version) parts (Err stop) → ReadsStored (λ v. IsRecordOf (layouts v)) parts_of parts (Err stop)
-stopped-in layouts versioned parts_of version parts (BadRecord place) told (inl none) = inl none
-stopped-in layouts versioned parts_of version parts (BadRecord place) told (inr at) = inr (refused-some layouts versioned version parts place told at)
-stopped-in layouts versioned parts_of version parts NoMemory told read = tt
+pub stopped-in : {X H R : Type 0} (layouts : RecordVersion → Layout H R) → AreVersioned layouts → (AreOf : RecordVersion → List StoredPart → X → Type 0) (version : RecordVersion) (parts : List StoredPart) (stop : RecordStop) → version_in_parts parts ≡ Some version
+    → ReadsParts (IsRecordOf (layouts version)) (AreOf version) parts (Err stop) → ReadsStored (λ v. IsRecordOf (layouts v)) AreOf parts (Err stop)
+stopped-in layouts versioned AreOf version parts (BadRecord place) told (inl none) = inl none
+stopped-in layouts versioned AreOf version parts (BadRecord place) told (inr at) = inr (refused-some layouts versioned version parts place told at)
+stopped-in layouts versioned AreOf version parts NoMemory told read = tt

@@ -9,7 +9,7 @@ use Rattle.std.proofs.lemmas.List.{append-nil, map-append, take_more}
 use Rattle.std.proofs.lemmas.List.Concat.{flat_map-append}
 use Rattle.csi_lists.proofs.Each.{each-append_one}
 use Rattle.csi_stores.specs.declared.part.Part.{Part}
-use Rattle.csi_stores.specs.Part.{StoredPart, IsPart, Change, put_all, change_of, stored_in, all_stored_in}
+use Rattle.csi_stores.specs.Part.{StoredPart, IsPart, Change, put_all, take_all, change_of, stored_in, all_stored_in}
 use Rattle.csi_records.specs.Spelling.{part_bytes}
 
 abbrev make_part : ℕ → List ℕ → StoredPart
@@ -83,6 +83,17 @@ one_more_put shown part rows i row old before after inside is so_far one =
   where
     put_one : StoredPart → Change
     put_one p = record { key = p.key; value = Some p.value }
+
+-- where the first keys are taken out and the next one is, one key more is
+pub one_more_taken : (keys : List ℕ) (i key : ℕ) (old before after : List Change) → i < length keys → key ≡ get_or keys i key → before ≡ old ++ take_all (take i keys) → after ≡ before ++ take_all (key ∷ [])
+    → after ≡ old ++ take_all (take (i + 1) keys)
+one_more_taken keys i key old before after inside is so_far one =
+    let keys_so_far = take i keys in
+    one ∙ ap (λ (cs : List Change). cs ++ take_all (key ∷ [])) so_far ∙ append_assoc old (take_all keys_so_far) (take_all (key ∷ []))
+    ∙ ap (λ (cs : List Change). old ++ cs) (sym (map-append take_one keys_so_far (key ∷ []))) ∙ ap (λ (ks : List ℕ). old ++ take_all ks) (sym (one_more keys i key inside is))
+  where
+    take_one : ℕ → Change
+    take_one n = record { key = n; value = None }
 
 -- where the first rows are as they should be and the next is, one row more is so
 pub one_more_fit : {X R : Type 0} (shown : X → R) (P : R → Type 0) (rows : List X) (i : ℕ) (row : X) → i < length rows → row ≡ get_or rows i row → AllByRecursion P (map shown (take i rows)) → P (shown row)

@@ -1,21 +1,21 @@
 -- Laws of records: parts tell the record, and bytes are read in one way. This profile's own.
 use Rattle.std.specs.Prelude.{◌≡◌, ℕ, List, Option}
-use Rattle.csi_frames.specs.declared.version.Version.{Version}
+use Rattle.csi_records.specs.declared.version.RecordVersion.{RecordVersion}
 use Rattle.csi_stores.specs.Part.{StoredPart}
 use Rattle.csi_records.specs.Spelling.{record_bytes}
 use Rattle.csi_records.specs.Records.{Layout, AreParts, IsRecordOf, IsInSome, IsRefusedAt, controller_layout, node_layout}
 use Rattle.csi_records.specs.Places.{IsBadAt}
 
 -- equal parts mean equal records of one version
-abbrev pub PartsTell : {H R : Type 0} → (Version → Layout H R) → Type 0
+abbrev pub PartsTell : {H R : Type 0} → (RecordVersion → Layout H R) → Type 0
 PartsTell {H} {R} layouts =
-    (version another : Version) (first other : H) (rows others : List R) (parts : List StoredPart) → AreParts (layouts version) first rows parts → AreParts (layouts another) other others parts
+    (version another : RecordVersion) (first other : H) (rows others : List R) (parts : List StoredPart) → AreParts (layouts version) first rows parts → AreParts (layouts another) other others parts
     → (version ≡ another) × (first ≡ other) × (rows ≡ others)
 
 -- the bytes of a record have no part that is refused; other bytes have one such place at most
-pub record HasOneReading (Is : Version → List StoredPart → Type 0) (bytes : List ℕ) : Type 0 where
-  pub spelled : (version : Version) (parts : List StoredPart) (place : ℕ) → Is version parts → bytes ≡ record_bytes version parts → IsBadAt Is bytes place → ⊥
-  pub one_record : (version another : Version) (parts others : List StoredPart) → Is version parts → Is another others → bytes ≡ record_bytes version parts → bytes ≡ record_bytes another others
+pub record HasOneReading (Is : RecordVersion → List StoredPart → Type 0) (bytes : List ℕ) : Type 0 where
+  pub spelled : (version : RecordVersion) (parts : List StoredPart) (place : ℕ) → Is version parts → bytes ≡ record_bytes version parts → IsBadAt Is bytes place → ⊥
+  pub one_record : (version another : RecordVersion) (parts others : List StoredPart) → Is version parts → Is another others → bytes ≡ record_bytes version parts → bytes ≡ record_bytes another others
       → (version ≡ another) × (parts ≡ others)
   pub one_place : (a b : ℕ) → IsBadAt Is bytes a → IsBadAt Is bytes b → a ≡ b
 
@@ -25,7 +25,7 @@ pub record HasOneRefusal (Is : List StoredPart → Type 0) (parts : List StoredP
   pub one_place : (a b : ℕ) → IsRefusedAt Is parts a → IsRefusedAt Is parts b → a ≡ b
 
 -- the laws of the records of one plugin
-pub record LawsOf {H R : Type 0} (layouts : Version → Layout H R) : Type 0 where
+pub record LawsOf {H R : Type 0} (layouts : RecordVersion → Layout H R) : Type 0 where
   pub parts : PartsTell layouts
   pub refusals : (parts : List StoredPart) → HasOneRefusal (IsInSome (λ version. IsRecordOf (layouts version))) parts
   pub bytes : (bytes : List ℕ) → HasOneReading (λ version. IsRecordOf (layouts version)) bytes

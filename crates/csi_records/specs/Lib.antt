@@ -1,3 +1,4 @@
+pub mod Version
 pub mod Spelling
 pub mod Records
 pub mod Reading

@@ -6,20 +6,21 @@ use Rattle.csi_types.specs.declared.number.Number.{Number}
 use Rattle.csi_types.specs.declared.capability.Capability.{Capability}
 use Rattle.csi_types.specs.declared.status.Status.{Status}
 use Rattle.csi_types.specs.declared.reply.Reply.{Reply}
-use Rattle.csi_types.specs.Fence.{Kept}
+use Rattle.csi_fence.specs.Fence.{Kept}
 use Rattle.csi_frames.specs.Bytes.{AreBytes}
 use Rattle.csi_frames.specs.declared.fault.FaultKind.TheVariants.{LengthDiffers, BadCount}
 use Rattle.csi_frames.specs.declared.fields.Stop.{Stop}
 use Rattle.csi_frames.specs.Grammar.{any, at_most}
 use Rattle.csi_frames.specs.Kinds.{reply_kind_from}
 use Rattle.csi_frames.specs.Reading as frames
-use Rattle.csi_frames.specs.declared.version.Version.{Version}
-use Rattle.csi_frames.specs.Version.{version_number, version_from_number}
+use Rattle.csi_records.specs.declared.version.RecordVersion.{RecordVersion}
+use Rattle.csi_records.specs.Version.{version_number, version_from_number, modes_of, has_session}
 use Rattle.csi_controller.specs.declared.row.NodeHolding.{NodeHolding}
 use Rattle.csi_node.specs.declared.row.NodeTarget.{NodeTarget}
 use Rattle.csi_node.specs.OneRow.{RowShown}
 use Rattle.csi_stores.specs.Part.{StoredPart}
 use Rattle.csi_records.specs.Spelling.{VolumeRow}
+use Rattle.csi_records.specs.Records.{Head}
 
 -- a value and the bytes after it, if one stands there
 abbrev pub Reader : Type 0 → Type 0
@@ -70,8 +71,8 @@ text_in least most = as_in_frames (frames.text_at least most)
 unfoldable pub flag_in : Reader Bool
 flag_in = as_in_frames frames.flag_at
 
-unfoldable pub capability_in : Version → Reader Capability
-capability_in version = as_in_frames (frames.capability_at version)
+unfoldable pub capability_in : RecordVersion → Reader Capability
+capability_in version = as_in_frames (frames.capability_at (modes_of version))
 
 unfoldable pub status_in : Reader Status
 status_in = as_in_frames frames.status_at
@@ -113,7 +114,7 @@ counted_in most read = do
   count ← count_in most
   items_in read count
 
-unfoldable pub holding_in : Version → Reader NodeHolding
+unfoldable pub holding_in : RecordVersion → Reader NodeHolding
 holding_in version = do
   node ← text_in 1 255
   capability ← capability_in version
@@ -145,7 +146,7 @@ kept_in = do
   reply ← reply_in
   give (record { number = number; kind = kind; reply = reply })
 
-unfoldable pub staged_in : Version → Reader (Option Capability)
+unfoldable pub staged_in : RecordVersion → Reader (Option Capability)
 staged_in version = do
   is_staged ← flag_in
   if is_staged then (do
@@ -154,7 +155,7 @@ staged_in version = do
 
 -- ---- the values of parts, behind the version
 
-unfoldable pub volume_in : Version → ℕ → Reader VolumeRow
+unfoldable pub volume_in : RecordVersion → ℕ → Reader VolumeRow
 volume_in version id = do
   is_live ← code_in live_from
   name ← text_in 1 128
@@ -164,7 +165,7 @@ volume_in version id = do
   kept ← kept_in
   give (record { volume = record { id = id; name = name; capacity = capacity; capabilities = capabilities; is_live = is_live; kept = kept }; holdings = holdings })
 
-unfoldable pub answered_in : Version → ℕ → Reader RowShown
+unfoldable pub answered_in : RecordVersion → ℕ → Reader RowShown
 answered_in version id = do
   staged ← staged_in version
   targets ← counted_in 16 target_in
@@ -177,15 +178,26 @@ tag_in n = do
   b ← byte_in
   if b == n then give tt else nothing
 
-unfoldable pub controller_head_in : Reader ℕ
-controller_head_in = do
-  plugin ← tag_in 0
-  word_in
+-- the greatest session that came, where the version has it
+unfoldable pub session_in : RecordVersion → Reader (Option ℕ)
+session_in version =
+    if has_session version then (do
+      session ← word_in
+      give (Some session)) else give None
 
-unfoldable pub node_head_in : Reader (List ℕ)
-node_head_in = do
+unfoldable pub controller_head_in : RecordVersion → Reader (Head ℕ)
+controller_head_in version = do
+  plugin ← tag_in 0
+  next_id ← word_in
+  session ← session_in version
+  give (record { own = next_id; session = session })
+
+unfoldable pub node_head_in : RecordVersion → Reader (Head (List ℕ))
+node_head_in version = do
   plugin ← tag_in 1
-  text_in 1 255
+  node ← text_in 1 255
+  session ← session_in version
+  give (record { own = node; session = session })
 
 -- ---- a part of a whole record
 
@@ -204,7 +216,7 @@ part_in = do
   give (record { key = key; value = value })
 
 -- the version and the number of parts
-unfoldable pub record_head_in : Reader (Version × ℕ)
+unfoldable pub record_head_in : Reader (RecordVersion × ℕ)
 record_head_in = do
   version ← code_in version_from_number
   count ← long_in
@@ -217,22 +229,22 @@ ended (Some (value, [])) = Some value
 ended (Some (value, b ∷ bytes)) = None
 ended None = None
 
-unfoldable pub whole : {A : Type 0} → Version → Reader A → List ℕ → Option A
+unfoldable pub whole : {A : Type 0} → RecordVersion → Reader A → List ℕ → Option A
 whole version read bytes = ended (go_on (tag_in (version_number version) bytes) (λ _. read))
 
 -- The values of parts of this version, under such keys, are read as what spells them: what is read of bytes is within its limits and
 -- has that part, and what is within its limits has such a key and is read of its part.
-pub record IsReadWhole {R : Type 0} (version : Version) (row_in : ℕ → Reader R) (IsKey : ℕ → Type 0) (IsRow : R → Type 0) (row_part : R → StoredPart) : Type 0 where
+pub record IsReadWhole {R : Type 0} (version : RecordVersion) (row_in : ℕ → Reader R) (IsKey : ℕ → Type 0) (IsRow : R → Type 0) (row_part : R → StoredPart) : Type 0 where
   pub takes : (key : ℕ) (value : List ℕ) (row : R) → IsKey key → AreBytes value → whole version (row_in key) value ≡ Some row → IsRow row × (row_part row ≡ record { key = key; value = value })
   pub has_key : (row : R) → IsRow row → IsKey (row_part row).key
   pub again : (row : R) → IsRow row → whole version (row_in (row_part row).key) (row_part row).value ≡ Some row
 
 -- ---- the version of parts: that of the byte with which the first value begins
 
-abbrev pub version_in_value : List ℕ → Option Version
+abbrev pub version_in_value : List ℕ → Option RecordVersion
 version_in_value [] = None
 version_in_value (b ∷ bytes) = version_from_number b
 
-abbrev pub version_in_parts : List StoredPart → Option Version
+abbrev pub version_in_parts : List StoredPart → Option RecordVersion
 version_in_parts [] = None
 version_in_parts (part ∷ parts) = version_in_value part.value

@@ -1,38 +1,45 @@
 -- Which parts are a record, and the first part that is refused. This profile's own.
-use Rattle.std.specs.Prelude.{◌≡◌, ◌⊎◌, ℕ, ◌≤◌, true, List, [], ◌∷◌, ◌++◌, length, map, Option, IfSome}
+use Rattle.std.specs.Prelude.{◌≡◌, ◌⊎◌, ℕ, ◌≤◌, Bool, true, false, List, [], ◌∷◌, ◌++◌, length, map, Option, Some, None, IfSome}
 use Rattle.std.specs.List.{AllByRecursion}
 use Rattle.csi_types.specs.declared.capability.Capability.{Capability}
 use Rattle.csi_types.specs.Limits.{IsWord, IsNumber, IsCapability, IsReply}
 use Rattle.csi_types.specs.Text.{IsName, IsNodeId, IsTarget}
 use Rattle.csi_types.specs.VolumeId.{IsVolumeId}
-use Rattle.csi_types.specs.Fence.{Kept}
-use Rattle.csi_frames.specs.declared.version.Version.{Version}
+use Rattle.csi_fence.specs.Fence.{Kept}
+use Rattle.csi_records.specs.declared.version.RecordVersion.{RecordVersion}
+use Rattle.csi_records.specs.Version.{modes_of, has_session}
 use Rattle.csi_frames.specs.Version.{has_mode}
 use Rattle.csi_controller.specs.declared.row.ControllerRow.{ControllerRow}
 use Rattle.csi_controller.specs.declared.row.NodeHolding.{NodeHolding}
 use Rattle.csi_controller.specs.Core.{IsSound}
+use Rattle.csi_controller.specs.Judging.{AreRecorded}
+use Rattle.csi_controller.specs.Views.{RecordParts}
+use Rattle.csi_controller.specs.WithoutSession.{without_session}
 use Rattle.csi_node.specs.declared.row.NodeTarget.{NodeTarget}
-use Rattle.csi_node.specs.OneRow.{RowShown}
-use Rattle.csi_node.specs.Record.{IsSound as IsNodeSound}
+use Rattle.csi_node.specs.declared.row.NodeRow.{NodeRow}
+use Rattle.csi_node.specs.OneRow.{RowShown, shown}
+use Rattle.csi_node.specs.Judging.{KeepRules as KeepNodeRules}
+use Rattle.csi_node.specs.Record.{NodeParts}
+use Rattle.csi_node.specs.WithoutSession.{without_session as node_without_session}
 use Rattle.csi_stores.specs.Part.{StoredPart}
 use Rattle.csi_records.specs.Spelling.{VolumeRow, volume_row, controller_head, volume_part, node_head, answered_part}
 
 -- ---- the limits of what stands in a part, each by itself
 
 -- a capability, in a mode that the version has
-pub record IsCapabilityIn (version : Version) (capability : Capability) : Type 0 where
+pub record IsCapabilityIn (version : RecordVersion) (capability : Capability) : Type 0 where
   pub fits : IsCapability capability
-  pub in_mode : has_mode version capability.mode ≡ true
+  pub in_mode : has_mode (modes_of version) capability.mode ≡ true
 
 pub record IsKept (kept : Kept) : Type 0 where
   pub number : IsNumber kept.number
   pub reply : IsReply kept.reply
 
-pub record IsHolding (version : Version) (holding : NodeHolding) : Type 0 where
+pub record IsHolding (version : RecordVersion) (holding : NodeHolding) : Type 0 where
   pub node : IsNodeId holding.node
   pub capability : IsCapabilityIn version holding.capability
 
-pub record IsVolumeRow (version : Version) (row : VolumeRow) : Type 0 where
+pub record IsVolumeRow (version : RecordVersion) (row : VolumeRow) : Type 0 where
   pub id : IsVolumeId row.volume.id
   pub name : IsName row.volume.name
   pub capacity : IsWord row.volume.capacity
@@ -42,18 +49,37 @@ pub record IsVolumeRow (version : Version) (row : VolumeRow) : Type 0 where
   pub holdings : AllByRecursion (IsHolding version) row.holdings
   pub kept : IsKept row.volume.kept
 
-abbrev pub IsStagedSo : Version → Option Capability → Type 0
+abbrev pub IsStagedSo : RecordVersion → Option Capability → Type 0
 IsStagedSo version staged = IfSome staged (IsCapabilityIn version)
 
 abbrev pub IsTargetRow : NodeTarget → Type 0
 IsTargetRow target = IsTarget target.target
 
-pub record IsAnsweredRow (version : Version) (row : RowShown) : Type 0 where
+pub record IsAnsweredRow (version : RecordVersion) (row : RowShown) : Type 0 where
   pub id : IsVolumeId row.id
   pub staged : IsStagedSo version row.staged
   pub count : length row.targets ≤ 16
   pub targets : AllByRecursion IsTargetRow row.targets
   pub kept : IsKept row.kept
+
+-- ---- heads
+
+-- what a head tells: what is the plugin's own, and the greatest session that came, where the version has it
+pub record Head (X : Type 0) : Type 0 where
+  pub own : X
+  pub session : Option ℕ
+
+-- the session that a head has, if its version has one
+abbrev pub IsSessionIf : Bool → Option ℕ → Type 0
+IsSessionIf true (Some session) = IsWord session
+IsSessionIf true None = ⊥
+IsSessionIf false (Some session) = ⊥
+IsSessionIf false None = Unit {0}
+
+-- a head of the version, whose own field fits
+pub record IsHead {X : Type 0} (Fits : X → Type 0) (version : RecordVersion) (head : Head X) : Type 0 where
+  pub own : Fits head.own
+  pub session : IsSessionIf (has_session version) head.session
 
 -- ---- records: a head, and rows by rising key
 
@@ -79,26 +105,66 @@ pub record IsRecordOf {H R : Type 0} (layout : Layout H R) (parts : List StoredP
   pub rows : List R
   pub spelled : AreParts layout first rows parts
 
--- the controller's: the next id, and the rows of its volumes, which keep a controller's rules
-abbrev pub AreVolumeRows : ℕ → List VolumeRow → Type 0
-AreVolumeRows next_id shown = (rows : List ControllerRow) × (map volume_row rows ≡ shown) × IsSound next_id rows
+-- the controller's: the next id, and the rows of its volumes, which keep a controller's rules, by the session too where the head has one
+abbrev pub AreControllerRows : ℕ → Option ℕ → List ControllerRow → Type 0
+AreControllerRows next_id None rows = IsSound next_id rows
+AreControllerRows next_id (Some session) rows = AreRecorded next_id session rows
 
-abbrev pub controller_layout : Version → Layout ℕ VolumeRow
-controller_layout version = record { head = controller_head version; row = volume_part version; is_head = IsWord; is_row = IsVolumeRow version; are_rows = AreVolumeRows }
+abbrev pub AreVolumeRows : Head ℕ → List VolumeRow → Type 0
+AreVolumeRows head shown = (rows : List ControllerRow) × (map volume_row rows ≡ shown) × AreControllerRows head.own head.session rows
 
--- a node's: its id, which may be asked for, and the rows of the volumes for which it answered a call, which keep a node's rules
-abbrev pub IsNodeHead : Option (List ℕ) → List ℕ → Type 0
-IsNodeHead wanted node = IsNodeId node × IfSome wanted (λ id. node ≡ id)
+abbrev pub controller_layout : RecordVersion → Layout (Head ℕ) VolumeRow
+controller_layout version = record {
+  head = λ head. controller_head version head.own head.session;
+  row = volume_part version;
+  is_head = IsHead IsWord version;
+  is_row = IsVolumeRow version;
+  are_rows = AreVolumeRows;
+}
 
-abbrev pub node_layout : Version → Option (List ℕ) → Layout (List ℕ) RowShown
-node_layout version wanted =
-    record { head = node_head version; row = answered_part version; is_head = IsNodeHead wanted; is_row = IsAnsweredRow version; are_rows = λ node rows. IsNodeSound rows }
+-- a node's: its id, which may be asked for, and the rows of the volumes for which it answered a call, which keep a node's rules, by the
+-- session too where the head has one
+abbrev pub IsAskedNode : Option (List ℕ) → List ℕ → Type 0
+IsAskedNode wanted node = IsNodeId node × IfSome wanted (λ id. node ≡ id)
+
+abbrev pub node_layout : RecordVersion → Option (List ℕ) → Layout (Head (List ℕ)) RowShown
+node_layout version wanted = record {
+  head = λ head. node_head version head.own head.session;
+  row = answered_part version;
+  is_head = IsHead (IsAskedNode wanted) version;
+  is_row = IsAnsweredRow version;
+  are_rows = λ head rows. KeepNodeRules head.session rows;
+}
+
+-- ---- the record of a head and rows: with the head's session, or without one
+
+abbrev pub controller_of : ℕ → Option ℕ → List ControllerRow → RecordParts
+controller_of next_id (Some session) rows = record { next_id = next_id; session = session; rows = rows }
+controller_of next_id None rows = without_session next_id rows
+
+abbrev pub node_of : List ℕ → Option ℕ → List NodeRow → NodeParts
+node_of id (Some session) rows = record { id = id; session = session; rows = rows }
+node_of id None rows = node_without_session id rows
+
+-- the controller's record that these parts, of this version, are read as
+pub record IsControllerOf (version : RecordVersion) (parts : List StoredPart) (kept : RecordParts) : Type 0 where
+  pub head : Head ℕ
+  pub rows : List ControllerRow
+  pub spelled : AreParts (controller_layout version) head (map volume_row rows) parts
+  pub is : kept ≡ controller_of head.own head.session rows
+
+-- the node's record that these parts, of this version, are read as
+pub record IsNodeOf (version : RecordVersion) (wanted : Option (List ℕ)) (parts : List StoredPart) (kept : NodeParts) : Type 0 where
+  pub head : Head (List ℕ)
+  pub rows : List NodeRow
+  pub spelled : AreParts (node_layout version wanted) head (map shown rows) parts
+  pub is : kept ≡ node_of head.own head.session rows
 
 -- ---- records of any version: all version bytes of one are alike, since all its parts are of one version
 
 -- these are the parts of a record, in some version
-pub record IsInSome (Is : Version → List StoredPart → Type 0) (parts : List StoredPart) : Type 0 where
-  pub version : Version
+pub record IsInSome (Is : RecordVersion → List StoredPart → Type 0) (parts : List StoredPart) : Type 0 where
+  pub version : RecordVersion
   pub there : Is version parts
 
 -- these are the parts of a controller's record

@@ -1,15 +1,15 @@
 -- The spelling of records: their parts, and the bytes of a whole record. Texts, capabilities, flags, ids and replies are spelled
--- as in frames, and in each version alike; the version byte tells one from another. This profile's own.
+-- as in frames, and in each version alike; the version byte tells one from another, and a head has one field more in some. This profile's own.
 use Rattle.std.specs.Prelude.{ℕ, ◌+◌, Bool, if◌then◌else◌, List, [], ◌∷◌, ◌++◌, length, map, Option, Some, None}
 use Rattle.std.specs.List.{flat_map}
 use Rattle.byteorder.specs.Endian.{big_bytes}
 use Rattle.csi_types.specs.declared.capability.Capability.{Capability}
 use Rattle.csi_types.specs.declared.holding.Holding.{Holding}
-use Rattle.csi_types.specs.Fence.{Kept}
+use Rattle.csi_fence.specs.Fence.{Kept}
 use Rattle.csi_types.specs.Same.{kind_number}
-use Rattle.csi_frames.specs.declared.version.Version.{Version}
-use Rattle.csi_frames.specs.declared.version.Version.TheVariants.{Two}
-use Rattle.csi_frames.specs.Version.{version_number}
+use Rattle.csi_records.specs.declared.version.RecordVersion.{RecordVersion}
+use Rattle.csi_records.specs.declared.version.RecordVersion.TheVariants.{Three}
+use Rattle.csi_records.specs.Version.{version_number}
 use Rattle.csi_frames.specs.Spelling.{word, text, flag, capability, reply_fields}
 use Rattle.csi_controller.specs.declared.row.ControllerRow.{ControllerRow}
 use Rattle.csi_controller.specs.declared.row.NodeHolding.{NodeHolding}
@@ -20,8 +20,8 @@ use Rattle.csi_node.specs.OneRow.{RowShown}
 use Rattle.csi_stores.specs.Part.{StoredPart}
 
 -- the version in which records are written; every value begins with the byte of its record's version
-abbrev pub present : Version
-present = Two
+abbrev pub present : RecordVersion
+present = Three
 
 -- so many, and each in its spelling
 abbrev pub counted : {A : Type 0} → (A → List ℕ) → List A → List ℕ
@@ -35,15 +35,20 @@ reply_kind kept = 128 + kind_number kept.kind
 abbrev pub kept_bytes : Kept → List ℕ
 kept_bytes kept = word kept.number.session ++ word kept.number.call ++ reply_kind kept ∷ reply_fields kept.reply
 
--- ---- the controller's parts: a head with the next id (0 once all were given), and a row for each volume, under its id
+-- the greatest session that came, where a head has it
+abbrev pub session_bytes : Option ℕ → List ℕ
+session_bytes None = []
+session_bytes (Some session) = word session
+
+-- ---- the controller's parts: a head with the next id (0 once all were given) and the session, and a row for each volume, under its id
 
 -- a volume that was made, and where it is held, in order
 pub record VolumeRow : Type 0 where
   pub volume : Volume
   pub holdings : List NodeHolding
 
-abbrev pub controller_head : Version → ℕ → StoredPart
-controller_head version next_id = record { key = 0; value = version_number version ∷ 0 ∷ word next_id }
+abbrev pub controller_head : RecordVersion → ℕ → Option ℕ → StoredPart
+controller_head version next_id session = record { key = 0; value = version_number version ∷ 0 ∷ word next_id ++ session_bytes session }
 
 -- 1 where it is live, 2 where it was deleted
 abbrev pub state_byte : Bool → ℕ
@@ -52,16 +57,16 @@ state_byte is_live = if is_live then 1 else 2
 abbrev pub holding_bytes : NodeHolding → List ℕ
 holding_bytes holding = text holding.node ++ capability holding.capability ++ flag holding.readonly
 
-abbrev pub volume_bytes : Version → VolumeRow → List ℕ
+abbrev pub volume_bytes : RecordVersion → VolumeRow → List ℕ
 volume_bytes version row =
     version_number version ∷ state_byte row.volume.is_live ∷ text row.volume.name ++ word row.volume.capacity ++ counted capability row.volume.capabilities
     ++ counted holding_bytes row.holdings ++ kept_bytes row.volume.kept
 
-abbrev pub volume_part : Version → VolumeRow → StoredPart
+abbrev pub volume_part : RecordVersion → VolumeRow → StoredPart
 volume_part version row = record { key = row.volume.id; value = volume_bytes version row }
 
-abbrev pub controller_parts : Version → ℕ → List VolumeRow → List StoredPart
-controller_parts version next_id rows = controller_head version next_id ∷ map (volume_part version) rows
+abbrev pub controller_parts : RecordVersion → ℕ → Option ℕ → List VolumeRow → List StoredPart
+controller_parts version next_id session rows = controller_head version next_id session ∷ map (volume_part version) rows
 
 -- a row as the controller has it
 abbrev pub volume_row : ControllerRow → VolumeRow
@@ -74,10 +79,10 @@ node_holding holding = record { node = holding.node; capability = holding.capabi
 abbrev pub rows_of : ControllerState → List VolumeRow
 rows_of state = map (λ volume. record { volume = volume; holdings = map node_holding (holdings_of volume.id state) }) state.volumes
 
--- ---- the node's parts: a head with its id, and a row for each volume, under the volume's id
+-- ---- the node's parts: a head with its id and the session, and a row for each volume, under the volume's id
 
-abbrev pub node_head : Version → List ℕ → StoredPart
-node_head version node = record { key = 0; value = version_number version ∷ 1 ∷ text node }
+abbrev pub node_head : RecordVersion → List ℕ → Option ℕ → StoredPart
+node_head version node session = record { key = 0; value = version_number version ∷ 1 ∷ text node ++ session_bytes session }
 
 -- 0, or 1 and how it is staged
 abbrev pub staged_bytes : Option Capability → List ℕ
@@ -87,14 +92,14 @@ staged_bytes (Some staged) = 1 ∷ capability staged
 abbrev pub target_bytes : NodeTarget → List ℕ
 target_bytes target = text target.target ++ flag target.readonly
 
-abbrev pub answered_bytes : Version → RowShown → List ℕ
+abbrev pub answered_bytes : RecordVersion → RowShown → List ℕ
 answered_bytes version row = version_number version ∷ staged_bytes row.staged ++ counted target_bytes row.targets ++ kept_bytes row.kept
 
-abbrev pub answered_part : Version → RowShown → StoredPart
+abbrev pub answered_part : RecordVersion → RowShown → StoredPart
 answered_part version row = record { key = row.id; value = answered_bytes version row }
 
-abbrev pub node_parts : Version → List ℕ → List RowShown → List StoredPart
-node_parts version node rows = node_head version node ∷ map (answered_part version) rows
+abbrev pub node_parts : RecordVersion → List ℕ → Option ℕ → List RowShown → List StoredPart
+node_parts version node session rows = node_head version node session ∷ map (answered_part version) rows
 
 -- ---- a whole record: the version, the number of parts, and of each part the key, the length of its value and the value
 
@@ -102,8 +107,8 @@ abbrev pub part_bytes : StoredPart → List ℕ
 part_bytes part = word part.key ++ big_bytes 4 (length part.value) ++ part.value
 
 -- what stands before so many parts
-abbrev pub record_head : Version → ℕ → List ℕ
+abbrev pub record_head : RecordVersion → ℕ → List ℕ
 record_head version count = version_number version ∷ big_bytes 4 count
 
-abbrev pub record_bytes : Version → List StoredPart → List ℕ
+abbrev pub record_bytes : RecordVersion → List StoredPart → List ℕ
 record_bytes version parts = record_head version (length parts) ++ flat_map part_bytes parts

@@ -1,7 +1,7 @@
 -- How far the rows of a record were read, one part after another: what the private functions that read answer.
 use Rattle.std.specs.Prelude.{◌≡◌, ◌≢◌, ◌⊎◌, ◌<◌, ◌≤◌, ◌^◌, ℕ, Bool, true, false, List, [], ◌∷◌, ◌++◌, length, map}
 use Rattle.std.specs.List.{flat_map, AllByRecursion}
-use Rattle.csi_frames.specs.declared.version.Version.{Version}
+use Rattle.csi_records.specs.declared.version.RecordVersion.{RecordVersion}
 use Rattle.csi_stores.specs.Part.{StoredPart, IsPart}
 use Rattle.csi_records.specs.Spelling.{part_bytes, record_head}
 
@@ -23,7 +23,7 @@ SplitStops count parts rest false =
     ((length parts ≡ count) × (rest ≢ [])) ⊎ ((length parts < count) × ((part : StoredPart) (more : List ℕ) → IsPart part → rest ≡ part_bytes part ++ more → ⊥))
 
 -- how far bytes were read as parts, behind this version
-pub record AreSplit (version : Version) (bytes : List ℕ) (parts : List StoredPart) (all : Bool) : Type 0 where
+pub record AreSplit (version : RecordVersion) (bytes : List ℕ) (parts : List StoredPart) (all : Bool) : Type 0 where
   pub count : ℕ
   pub rest : List ℕ
   pub from : 1 ≤ count
@@ -34,4 +34,4 @@ pub record AreSplit (version : Version) (bytes : List ℕ) (parts : List StoredP
 
 -- no version and number of parts, from 1 on, stand in front of the bytes
 abbrev pub HasNoHead : List ℕ → Type 0
-HasNoHead bytes = (version : Version) (count : ℕ) (rest : List ℕ) → 1 ≤ count → count < 2 ^ 32 → bytes ≡ record_head version count ++ rest → ⊥
+HasNoHead bytes = (version : RecordVersion) (count : ℕ) (rest : List ℕ) → 1 ≤ count → count < 2 ^ 32 → bytes ≡ record_head version count ++ rest → ⊥

@@ -1,5 +1,5 @@
 -- Worked examples of the spelling of records, which the checker computes.
-use Rattle.std.specs.Prelude.{◌≡◌, [], ◌∷◌, List, length, codes}
+use Rattle.std.specs.Prelude.{◌≡◌, [], ◌∷◌, List, length, codes, Some, None}
 use Rattle.csi_types.specs.declared.mode.Mode.TheVariants.{SingleNodeWriter}
 use Rattle.csi_types.specs.declared.capability.Access.TheVariants.{Block}
 use Rattle.csi_types.specs.declared.call.Call.TheVariants.{CreateVolume}
@@ -7,7 +7,8 @@ use Rattle.csi_types.specs.declared.call.Party.TheVariants.{Controller}
 use Rattle.csi_types.specs.Config.{Config}
 use Rattle.csi_types.specs.Frame.{Frame}
 use Rattle.csi_types.specs.Replies.{call_frame}
-use Rattle.csi_frames.specs.declared.version.Version.TheVariants.{One}
+use Rattle.csi_records.specs.declared.version.RecordVersion.{RecordVersion}
+use Rattle.csi_records.specs.declared.version.RecordVersion.TheVariants.{One, Two}
 use Rattle.csi_controller.specs.State.{ControllerState, empty_controller}
 use Rattle.csi_controller.specs.Fenced.{after_frames}
 use Rattle.csi_stores.specs.Part.{StoredPart}
@@ -23,21 +24,30 @@ create = call_frame (record { session = 1; call = 1 }) Controller (CreateVolume 
 
 -- the parts of the record of a controller that knows this
 abbrev pub parts_of_state : ControllerState → List StoredPart
-parts_of_state state = controller_parts present state.next_id (rows_of state)
+parts_of_state state = controller_parts present state.next_id (Some state.session) (rows_of state)
+
+-- the same in a version that has no session
+abbrev pub earlier_parts : RecordVersion → ControllerState → List StoredPart
+earlier_parts version state = controller_parts version state.next_id None (rows_of state)
 
 -- what such a controller knows
 abbrev pub created : ControllerState
 created = after_frames no_nodes empty_controller (create ∷ [])
 
--- the record of a controller that made its first volume: 82 bytes; and in version 1, in which it is read still
+-- the record of a controller that made its first volume: 90 bytes; and in versions 1 and 2, in which it is read still
 pub record CreatedRow : Type 0 where
   pub bytes : record_bytes present (parts_of_state created)
+      ≡ 3 ∷ 0 ∷ 0 ∷ 0 ∷ 2
+      ∷ 0 ∷ 0 ∷ 0 ∷ 0 ∷ 0 ∷ 0 ∷ 0 ∷ 0 ∷ 0 ∷ 0 ∷ 0 ∷ 18 ∷ 3 ∷ 0 ∷ 0 ∷ 0 ∷ 0 ∷ 0 ∷ 0 ∷ 0 ∷ 0 ∷ 2 ∷ 0 ∷ 0 ∷ 0 ∷ 0 ∷ 0 ∷ 0 ∷ 0 ∷ 1
+      ∷ 0 ∷ 0 ∷ 0 ∷ 0 ∷ 0 ∷ 0 ∷ 0 ∷ 1 ∷ 0 ∷ 0 ∷ 0 ∷ 43 ∷ 3 ∷ 1 ∷ 1 ∷ 118 ∷ 0 ∷ 0 ∷ 0 ∷ 0 ∷ 0 ∷ 0 ∷ 0 ∷ 10 ∷ 1 ∷ 0 ∷ 1 ∷ 0
+      ∷ 0 ∷ 0 ∷ 0 ∷ 0 ∷ 0 ∷ 0 ∷ 0 ∷ 1 ∷ 0 ∷ 0 ∷ 0 ∷ 0 ∷ 0 ∷ 0 ∷ 0 ∷ 1 ∷ 129 ∷ 0 ∷ 0 ∷ 0 ∷ 0 ∷ 0 ∷ 0 ∷ 0 ∷ 0 ∷ 1 ∷ 0 ∷ []
+  pub count : length (record_bytes present (parts_of_state created)) ≡ 90
+  pub second : record_bytes Two (earlier_parts Two created)
       ≡ 2 ∷ 0 ∷ 0 ∷ 0 ∷ 2
       ∷ 0 ∷ 0 ∷ 0 ∷ 0 ∷ 0 ∷ 0 ∷ 0 ∷ 0 ∷ 0 ∷ 0 ∷ 0 ∷ 10 ∷ 2 ∷ 0 ∷ 0 ∷ 0 ∷ 0 ∷ 0 ∷ 0 ∷ 0 ∷ 0 ∷ 2
       ∷ 0 ∷ 0 ∷ 0 ∷ 0 ∷ 0 ∷ 0 ∷ 0 ∷ 1 ∷ 0 ∷ 0 ∷ 0 ∷ 43 ∷ 2 ∷ 1 ∷ 1 ∷ 118 ∷ 0 ∷ 0 ∷ 0 ∷ 0 ∷ 0 ∷ 0 ∷ 0 ∷ 10 ∷ 1 ∷ 0 ∷ 1 ∷ 0
       ∷ 0 ∷ 0 ∷ 0 ∷ 0 ∷ 0 ∷ 0 ∷ 0 ∷ 1 ∷ 0 ∷ 0 ∷ 0 ∷ 0 ∷ 0 ∷ 0 ∷ 0 ∷ 1 ∷ 129 ∷ 0 ∷ 0 ∷ 0 ∷ 0 ∷ 0 ∷ 0 ∷ 0 ∷ 0 ∷ 1 ∷ 0 ∷ []
-  pub count : length (record_bytes present (parts_of_state created)) ≡ 82
-  pub older : record_bytes One (controller_parts One created.next_id (rows_of created))
+  pub first : record_bytes One (earlier_parts One created)
       ≡ 1 ∷ 0 ∷ 0 ∷ 0 ∷ 2
       ∷ 0 ∷ 0 ∷ 0 ∷ 0 ∷ 0 ∷ 0 ∷ 0 ∷ 0 ∷ 0 ∷ 0 ∷ 0 ∷ 10 ∷ 1 ∷ 0 ∷ 0 ∷ 0 ∷ 0 ∷ 0 ∷ 0 ∷ 0 ∷ 0 ∷ 2
       ∷ 0 ∷ 0 ∷ 0 ∷ 0 ∷ 0 ∷ 0 ∷ 0 ∷ 1 ∷ 0 ∷ 0 ∷ 0 ∷ 43 ∷ 1 ∷ 1 ∷ 1 ∷ 118 ∷ 0 ∷ 0 ∷ 0 ∷ 0 ∷ 0 ∷ 0 ∷ 0 ∷ 10 ∷ 1 ∷ 0 ∷ 1 ∷ 0
@@ -45,5 +55,5 @@ pub record CreatedRow : Type 0 where
 
 -- a controller that answered nothing has its head alone, and so does a node
 pub record EmptyRow : Type 0 where
-  pub controller : parts_of_state empty_controller ≡ record { key = 0; value = 2 ∷ 0 ∷ 0 ∷ 0 ∷ 0 ∷ 0 ∷ 0 ∷ 0 ∷ 0 ∷ 1 ∷ [] } ∷ []
-  pub node : node_parts present (codes "n1") [] ≡ record { key = 0; value = 2 ∷ 1 ∷ 2 ∷ 110 ∷ 49 ∷ [] } ∷ []
+  pub controller : parts_of_state empty_controller ≡ record { key = 0; value = 3 ∷ 0 ∷ 0 ∷ 0 ∷ 0 ∷ 0 ∷ 0 ∷ 0 ∷ 0 ∷ 1 ∷ 0 ∷ 0 ∷ 0 ∷ 0 ∷ 0 ∷ 0 ∷ 0 ∷ 0 ∷ [] } ∷ []
+  pub node : node_parts present (codes "n1") (Some 0) [] ≡ record { key = 0; value = 3 ∷ 1 ∷ 2 ∷ 110 ∷ 49 ∷ 0 ∷ 0 ∷ 0 ∷ 0 ∷ 0 ∷ 0 ∷ 0 ∷ 0 ∷ [] } ∷ []

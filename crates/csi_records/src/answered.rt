@@ -4,16 +4,18 @@ ghost use Rattle.csi_types.specs.Text.{IsNodeId};
 ghost use Rattle.csi_frames.specs.Bytes.{AreBytes};
 ghost use Rattle.csi_stores.specs.Part.{stored_in};
 ghost use Rattle.csi_records.specs.Spelling.{node_head};
+ghost use Rattle.csi_records.specs.Records.{Head, IsHead};
 ghost use Rattle.csi_records.specs.Reading.{node_head_in, whole};
 
 use crate::fault::Stop;
-use crate::fields::{kind, number, tag};
+use crate::fields::{kind, number, session, tag};
 use crate::items::list;
 use crate::plugin_rows::Row;
 use crate::row_values::answered_value;
 use crate::texts::node_id;
 use crate::values::{reply, staged};
-use csi_frames::{Fields, Version};
+use crate::version::RecordVersion;
+use csi_frames::Fields;
 use csi_node::NodeRow;
 use csi_stores::{Part, push_value};
 use csi_types::{NoMemory, NodeId, VolumeId};
@@ -42,7 +44,7 @@ impl Row for NodeRow {
     fn read(
         fields: &mut Fields<'_>,
         alloc: Global,
-        version: Version,
+        version: RecordVersion,
         id: VolumeId,
     ) -> Result<NodeRow, Stop> {
         let staged = staged(fields, alloc, version)?;
@@ -69,28 +71,37 @@ impl Row for NodeRow {
     fn reading_law() {}
 }
 
-// The node of which this is the whole value of a head of this version.
+/// What the head of a node's record tells: the node's id, and the greatest session that came, where its version has it.
+#[derive(Drop)]
+pub(crate) struct NodeHead {
+    pub id: NodeId,
+    pub session: Option<u64>,
+}
+
+// What the head tells of which this is the whole value, in this version.
 #[tactic(auto, unfolding(crate::specs::Reading::whole, crate::specs::Reading::node_head_in))]
-fn node_in(alloc: Global, version: Version, value: &[u8]) -> Result<NodeId, Stop>
-    ensures read { IfOk result (λ node. whole version node_head_in value.now ≡ Some node) }
-    ensures bad { IsErrOf result Stop.Bad → whole version node_head_in value.now ≡ None }
+fn head_in(alloc: Global, version: RecordVersion, value: &[u8]) -> Result<NodeHead, Stop>
+    ensures read { IfOk result (λ head. whole version (node_head_in version) value.now ≡ Some (record { own = head.id; session = head.session })) }
+    ensures bad { IsErrOf result Stop.Bad → whole version (node_head_in version) value.now ≡ None }
     ensures bytes { AreBytes value.now }
 {
     let mut fields = Fields { bytes: value };
     tag(&mut fields, version.number())?;
     tag(&mut fields, 1)?;
-    let node = node_id(&mut fields, alloc)?;
+    let id = node_id(&mut fields, alloc)?;
+    let session = session(&mut fields, version)?;
     if fields.bytes.is_empty() {
-        Ok(node)
+        Ok(NodeHead { id, session })
     } else {
         Err(Stop::Bad)
     }
 }
 
-/// The node that this part, a head of this version, spells.
-pub(crate) fn node_of(alloc: Global, version: Version, part: &Part) -> Result<NodeId, Stop>
-    ensures head { IfOk result (λ node. IsNodeId node × (node_head version node ≡ stored_in part.now)) }
-    ensures bad { IsErrOf result Stop.Bad → (node : List ℕ) → IsNodeId node → node_head version node ≡ stored_in part.now → ⊥ }
+/// What this part, a head of this version, tells.
+pub(crate) fn head_of(alloc: Global, version: RecordVersion, part: &Part) -> Result<NodeHead, Stop>
+    ensures head { IfOk result (λ head. node_head version head.id head.session ≡ stored_in part.now) }
+    ensures fits { IfOk result (λ head. IsHead IsNodeId version (record { own = head.id; session = head.session })) }
+    ensures bad { IsErrOf result Stop.Bad → (head : Head (List ℕ)) → IsHead IsNodeId version head → node_head version head.own head.session ≡ stored_in part.now → ⊥ }
 {
     if part.key != 0 {
         return Err(Stop::Bad);
@@ -98,5 +109,5 @@ pub(crate) fn node_of(alloc: Global, version: Version, part: &Part) -> Result<No
     let Some(value) = &part.value else {
         return Err(Stop::Bad);
     };
-    node_in(alloc, version, value)
+    head_in(alloc, version, value)
 }

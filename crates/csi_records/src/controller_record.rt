@@ -1,37 +1,55 @@
 //! A controller's record and its parts.
-ghost use Rattle.std.specs.Prelude.{◌≡◌, map, IfOk};
+ghost use Rattle.std.specs.Prelude.{◌≡◌, Some, map, IfOk, IfErr, OnOk};
+ghost use Rattle.csi_controller.specs.Judging.{IsRefusal};
 ghost use Rattle.csi_stores.specs.Part.{StoredPart, all_stored_in, change_of, put_all};
 ghost use Rattle.csi_records.specs.Spelling.{present, controller_parts, volume_row};
-ghost use Rattle.csi_records.specs.Records.{controller_layout, AreParts, IsRecordOf};
+ghost use Rattle.csi_records.specs.Records.{controller_layout, controller_of, AreControllerRows, AreParts, IsControllerOf, IsRecordOf};
 ghost use Rattle.csi_records.specs.Places.{ReadsParts};
 
 use crate::fault::RecordStop;
 use crate::plugin_rows::{ReadRows, parts_with, rows_of};
 use crate::row_values::controller_head_value;
-use crate::volumes::next_id_of;
-use csi_controller::{ControllerRecord, RecordFault};
-use csi_frames::Version;
+use crate::version::RecordVersion;
+use crate::volumes::{ControllerHead, head_of};
+use csi_controller::{ControllerRecord, ControllerRow};
+use csi_fence::RecordFault;
 use csi_stores::Part;
 use csi_types::NoMemory;
 use std::alloc::Global;
 
+// The record of these rows under this head: with the head's session, or without one.
+fn record_of(
+    alloc: Global,
+    head: ControllerHead,
+    rows: Vec<ControllerRow>,
+) -> Result<ControllerRecord, RecordFault>
+    ensures made { IfOk result (λ made. made ≡ controller_of head.next_id head.session rows.items) }
+    ensures rules { OnOk result (AreControllerRows head.next_id head.session rows.items) }
+    ensures refused { IfErr result (IsRefusal (AreControllerRows head.next_id head.session) rows.items) }
+{
+    match head.session {
+        Some(session) => ControllerRecord::try_new(alloc, head.next_id, rows, session),
+        None => ControllerRecord::without_session(alloc, head.next_id, rows),
+    }
+}
+
 /// The controller's record of these parts, in this version, or the first of them that is refused.
 pub(crate) fn controller_record(
     alloc: Global,
-    version: Version,
+    version: RecordVersion,
     parts: &[Part],
 ) -> Result<ControllerRecord, RecordStop>
-    ensures { ReadsParts (IsRecordOf (controller_layout version)) (λ made. controller_parts version made.next_id (map volume_row made.rows)) (all_stored_in parts.now) result }
+    ensures { ReadsParts (IsRecordOf (controller_layout version)) (IsControllerOf version) (all_stored_in parts.now) result }
 {
-    let [head, others @ ..] = parts else {
+    let [first, others @ ..] = parts else {
         return Err(RecordStop::BadRecord(0));
     };
-    let Some(next_id) = next_id_of(version, head) else {
+    let Some(head) = head_of(version, first) else {
         return Err(RecordStop::BadRecord(0));
     };
     let ReadRows { rows, all } = rows_of(alloc, version, others)?;
     let place = rows.len() as u64 + 1;
-    match ControllerRecord::try_new(alloc, next_id, rows) {
+    match record_of(alloc, head, rows) {
         Ok(record) if all => Ok(record),
         Ok(_) => Err(RecordStop::BadRecord(place)),
         Err(RecordFault::BadRow(bad)) => Err(RecordStop::BadRecord(bad)),
@@ -44,9 +62,9 @@ pub(crate) fn controller_parts(
     alloc: Global,
     kept: &ControllerRecord,
 ) -> Result<Vec<Part>, NoMemory>
-    ensures changes { IfOk result (λ parts. map change_of parts.items ≡ put_all (controller_parts present kept.now.next_id (map volume_row kept.now.rows))) }
-    ensures parts { IfOk result (λ parts. AreParts (controller_layout present) kept.now.next_id (map volume_row kept.now.rows) (controller_parts present kept.now.next_id (map volume_row kept.now.rows))) }
+    ensures changes { IfOk result (λ parts. map change_of parts.items ≡ put_all (controller_parts present kept.now.next_id (Some kept.now.session) (map volume_row kept.now.rows))) }
+    ensures parts { IfOk result (λ parts. AreParts (controller_layout present) (record { own = kept.now.next_id; session = Some kept.now.session }) (map volume_row kept.now.rows) (controller_parts present kept.now.next_id (Some kept.now.session) (map volume_row kept.now.rows))) }
 {
-    let head = controller_head_value(alloc, kept.next_id())?;
+    let head = controller_head_value(alloc, kept.next_id(), kept.session())?;
     parts_with(alloc, head, kept.rows())
 }

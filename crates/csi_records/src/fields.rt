@@ -2,15 +2,13 @@
 ghost use Rattle.std.specs.Prelude.{◌≡◌, ◌≤◌, Some, None, IfOk, OnErr};
 ghost use Rattle.csi_types.specs.Lent.{lent_capability};
 ghost use Rattle.csi_frames.specs.Kinds.{reply_kind_from};
-ghost use Rattle.csi_frames.specs.Version.{version_from_number};
-ghost use Rattle.csi_records.specs.Reading.{byte_in, code_in, count_in, word_in, text_in, flag_in, capability_in, status_in, number_in, tag_in, live_from};
+ghost use Rattle.csi_records.specs.Version.{version_from_number};
+ghost use Rattle.csi_records.specs.Reading.{byte_in, code_in, count_in, word_in, text_in, flag_in, capability_in, session_in, status_in, number_in, tag_in, live_from};
 
 use crate::fault::Stop;
-use csi_frames::{FaultKind, Fields, Version, capability_at, number_at, reply_kind, status_at};
+use crate::version::RecordVersion;
+use csi_frames::{FaultKind, Fields, capability_at, number_at, reply_kind, status_at};
 use csi_types::{CapabilityRef, Kind, Number, Status};
-
-/// The version in which records are written.
-pub(crate) const PRESENT: Version = Version::Two;
 
 // Any byte.
 #[tactic(auto, unfolding(crate::specs::Reading::byte_in))]
@@ -36,12 +34,12 @@ pub(crate) fn tag(fields: &mut Fields<'_>, n: u8) -> Result<(), Stop>
 
 /// A version.
 #[tactic(auto, unfolding(crate::specs::Reading::code_in))]
-pub(crate) fn version(fields: &mut Fields<'_>) -> Result<Version, Stop>
+pub(crate) fn version(fields: &mut Fields<'_>) -> Result<RecordVersion, Stop>
     ensures read { IfOk result (λ version. code_in version_from_number fields.old.bytes.now ≡ Some (version, fields.new.bytes.now)) }
     ensures bad { OnErr result (code_in version_from_number fields.old.bytes.now ≡ None) }
 {
     let byte = byte(fields)?;
-    Version::from_number(byte).ok_or(Stop::Bad)
+    RecordVersion::from_number(byte).ok_or(Stop::Bad)
 }
 
 /// A byte of at most `most`.
@@ -97,15 +95,28 @@ pub(crate) fn flag(fields: &mut Fields<'_>) -> Result<bool, Stop>
 #[tactic(auto, unfolding(crate::specs::Reading::capability_in))]
 pub(crate) fn capability<'a>(
     fields: &mut Fields<'a>,
-    version: Version,
+    version: RecordVersion,
 ) -> Result<CapabilityRef<'a>, Stop>
     ensures read { IfOk result (λ lent. capability_in version fields.old.bytes.now ≡ Some (lent_capability lent, fields.new.bytes.now)) }
     ensures bad { OnErr result (capability_in version fields.old.bytes.now ≡ None) }
 {
-    match capability_at(fields, version) {
+    match capability_at(fields, version.modes()) {
         Ok(capability) => Ok(capability),
         Err(_) => Err(Stop::Bad),
     }
+}
+
+/// The greatest session that came, where the version has it.
+#[tactic(auto, unfolding(crate::specs::Reading::session_in))]
+pub(crate) fn session(fields: &mut Fields<'_>, version: RecordVersion) -> Result<Option<u64>, Stop>
+    ensures read { IfOk result (λ session. session_in version fields.old.bytes.now ≡ Some (session, fields.new.bytes.now)) }
+    ensures bad { OnErr result (session_in version fields.old.bytes.now ≡ None) }
+{
+    if !version.has_session() {
+        return Ok(None);
+    }
+    let session = word(fields)?;
+    Ok(Some(session))
 }
 
 /// A status.

@@ -1,16 +1,17 @@
 //! The items of lists: capabilities, holdings and targets. Each is read from bytes and written as bytes, and so is a list of them.
 ghost use Rattle.std.specs.Prelude.{◌≡◌, ◌≤◌, ◌++◌, List, ℕ, Some, None, IfOk, IsErrOf, OnOk, length};
 ghost use Rattle.std.specs.List.{AllByRecursion};
-ghost use Rattle.csi_frames.specs.declared.version.Version.{Version};
+ghost use Rattle.csi_records.specs.declared.version.RecordVersion.{RecordVersion};
 ghost use Rattle.csi_records.specs.Reading.{Reader, capability_in, items_in, counted_in};
 ghost use Rattle.csi_records.specs.Spelling.{counted, present};
 
 use crate::fault::Stop;
 use crate::fields::{capability, count, flag};
 use crate::texts::{node_id, target};
+use crate::version::RecordVersion;
 use csi_controller::NodeHolding;
 use csi_frames::{
-    Fields, Version, append_byte, append_capability, append_flag, append_node_id, append_target,
+    Fields, append_byte, append_capability, append_flag, append_node_id, append_target,
 };
 use csi_node::NodeTarget;
 use csi_types::{Capability, CapabilityList, NoMemory};
@@ -19,15 +20,15 @@ use std::alloc::Global;
 /// What a row has a list of. It is read in any version, and written in the present one.
 pub(crate) trait Item: Drop {
     /// How one is read.
-    ghost item_in: { Version → Reader Self };
+    ghost item_in: { RecordVersion → Reader Self };
 
     /// What spells one.
     ghost item_bytes: { Self → List ℕ };
 
     /// One is within its limits.
-    ghost is_item: { Version → Self → Type 0 };
+    ghost is_item: { RecordVersion → Self → Type 0 };
 
-    fn read(fields: &mut Fields<'_>, alloc: Global, version: Version) -> Result<Self, Stop>
+    fn read(fields: &mut Fields<'_>, alloc: Global, version: RecordVersion) -> Result<Self, Stop>
         ensures read { IfOk result (λ item. item_in version fields.old.bytes.now ≡ Some (item, fields.new.bytes.now)) }
         ensures bad { IsErrOf result Stop.Bad → item_in version fields.old.bytes.now ≡ None };
 
@@ -47,7 +48,11 @@ impl Item for Capability {
 
     ghost is_item = { IsCapabilityIn };
 
-    fn read(fields: &mut Fields<'_>, alloc: Global, version: Version) -> Result<Capability, Stop> {
+    fn read(
+        fields: &mut Fields<'_>,
+        alloc: Global,
+        version: RecordVersion,
+    ) -> Result<Capability, Stop> {
         let lent = capability(fields, version)?;
         match lent.to_capability(alloc) {
             Ok(capability) => Ok(capability),
@@ -72,7 +77,11 @@ impl Item for NodeHolding {
     ghost is_item = { IsHolding };
 
     #[tactic(auto, unfolding(crate::specs::Reading::holding_in))]
-    fn read(fields: &mut Fields<'_>, alloc: Global, version: Version) -> Result<NodeHolding, Stop> {
+    fn read(
+        fields: &mut Fields<'_>,
+        alloc: Global,
+        version: RecordVersion,
+    ) -> Result<NodeHolding, Stop> {
         let node = node_id(fields, alloc)?;
         let capability = Capability::read(fields, alloc, version)?;
         let readonly = flag(fields)?;
@@ -102,7 +111,11 @@ impl Item for NodeTarget {
     ghost is_item = { λ version. IsTargetRow };
 
     #[tactic(auto, unfolding(crate::specs::Reading::target_in))]
-    fn read(fields: &mut Fields<'_>, alloc: Global, _version: Version) -> Result<NodeTarget, Stop> {
+    fn read(
+        fields: &mut Fields<'_>,
+        alloc: Global,
+        _version: RecordVersion,
+    ) -> Result<NodeTarget, Stop> {
         let target = target(fields, alloc)?;
         let readonly = flag(fields)?;
         Ok(NodeTarget { target, readonly })
@@ -118,7 +131,7 @@ impl Item for NodeTarget {
 fn items<T: Item>(
     fields: &mut Fields<'_>,
     alloc: Global,
-    version: Version,
+    version: RecordVersion,
     count: u8,
 ) -> Result<Vec<T>, Stop>
     ensures read { IfOk result (λ list. items_in (T.item_in version) count fields.old.bytes.now ≡ Some (list.items, fields.new.bytes.now)) }
@@ -138,7 +151,7 @@ fn items<T: Item>(
 pub(crate) fn list<T: Item>(
     fields: &mut Fields<'_>,
     alloc: Global,
-    version: Version,
+    version: RecordVersion,
     most: u8,
 ) -> Result<Vec<T>, Stop>
     ensures read { IfOk result (λ list. counted_in most (T.item_in version) fields.old.bytes.now ≡ Some (list.items, fields.new.bytes.now)) }
@@ -153,7 +166,7 @@ pub(crate) fn list<T: Item>(
 pub(crate) fn capabilities(
     fields: &mut Fields<'_>,
     alloc: Global,
-    version: Version,
+    version: RecordVersion,
 ) -> Result<CapabilityList, Stop>
     ensures read { IfOk result (λ list. counted_in 8 (capability_in version) fields.old.bytes.now ≡ Some (list, fields.new.bytes.now)) }
     ensures bad { IsErrOf result Stop.Bad → counted_in 8 (capability_in version) fields.old.bytes.now ≡ None }

@@ -1,18 +1,21 @@
 //! A node's record and its parts.
-ghost use Rattle.std.specs.Prelude.{◌≡◌, ◌↔◌, None, map, IfOk, IfSome, IsTrue};
+ghost use Rattle.std.specs.Prelude.{◌≡◌, ◌↔◌, Some, None, map, IfOk, IfErr, IfSome, IsTrue, OnOk};
 ghost use Rattle.std.specs.Option.{option_copied};
+ghost use Rattle.csi_node.specs.Judging.{IsRefusal, KeepRules};
 ghost use Rattle.csi_node.specs.OneRow.{shown};
+ghost use Rattle.csi_node.specs.Record.{parts as rows_shown};
 ghost use Rattle.csi_stores.specs.Part.{all_stored_in, change_of, put_all};
 ghost use Rattle.csi_records.specs.Spelling.{present, node_parts};
-ghost use Rattle.csi_records.specs.Records.{node_layout, AreParts, IsRecordOf};
+ghost use Rattle.csi_records.specs.Records.{node_layout, node_of, AreParts, IsNodeOf, IsRecordOf};
 ghost use Rattle.csi_records.specs.Places.{ReadsParts};
 
-use crate::answered::node_of;
+use crate::answered::{NodeHead, head_of};
 use crate::fault::{RecordStop, Stop};
 use crate::plugin_rows::{ReadRows, parts_with, rows_of};
 use crate::row_values::node_head_value;
-use csi_frames::Version;
-use csi_node::{NodeRecord, RecordFault};
+use crate::version::RecordVersion;
+use csi_fence::RecordFault;
+use csi_node::{NodeRecord, NodeRow};
 use csi_stores::Part;
 use csi_types::{NoMemory, NodeId};
 use std::alloc::Global;
@@ -27,29 +30,41 @@ fn is_wanted(wanted: Option<&NodeId>, node: &NodeId) -> bool
     }
 }
 
+// The record of these rows under this head: with the head's session, or without one.
+fn record_of(head: NodeHead, rows: Vec<NodeRow>) -> Result<NodeRecord, RecordFault>
+    ensures made { IfOk result (λ made. made ≡ node_of head.id head.session rows.items) }
+    ensures rules { OnOk result (KeepRules head.session (rows_shown rows.items)) }
+    ensures refused { IfErr result (IsRefusal head.session rows.items) }
+{
+    match head.session {
+        Some(session) => NodeRecord::try_new(head.id, rows, session),
+        None => NodeRecord::without_session(head.id, rows),
+    }
+}
+
 /// The node's record of these parts, in this version, of the node that is asked for, if one is; or the first of them that is refused.
 pub(crate) fn node_record(
     alloc: Global,
-    version: Version,
+    version: RecordVersion,
     wanted: Option<&NodeId>,
     parts: &[Part],
 ) -> Result<NodeRecord, RecordStop>
-    ensures { ReadsParts (IsRecordOf (node_layout version (option_copied wanted.entry))) (λ made. node_parts version made.id (map shown made.rows)) (all_stored_in parts.now) result }
+    ensures { ReadsParts (IsRecordOf (node_layout version (option_copied wanted.entry))) (IsNodeOf version (option_copied wanted.entry)) (all_stored_in parts.now) result }
 {
-    let [head, others @ ..] = parts else {
+    let [first, others @ ..] = parts else {
         return Err(RecordStop::BadRecord(0));
     };
-    let node = match node_of(alloc, version, head) {
-        Ok(node) => node,
+    let head = match head_of(alloc, version, first) {
+        Ok(head) => head,
         Err(Stop::Bad) => return Err(RecordStop::BadRecord(0)),
         Err(Stop::NoMemory) => return Err(RecordStop::NoMemory),
     };
-    if !is_wanted(wanted, &node) {
+    if !is_wanted(wanted, &head.id) {
         return Err(RecordStop::BadRecord(0));
     }
     let ReadRows { rows, all } = rows_of(alloc, version, others)?;
     let place = rows.len() as u64 + 1;
-    match NodeRecord::try_new(node, rows) {
+    match record_of(head, rows) {
         Ok(record) if all => Ok(record),
         Ok(_) => Err(RecordStop::BadRecord(place)),
         Err(RecordFault::BadRow(bad)) => Err(RecordStop::BadRecord(bad)),
@@ -59,9 +74,9 @@ pub(crate) fn node_record(
 
 /// The parts of a node's record.
 pub(crate) fn node_parts(alloc: Global, kept: &NodeRecord) -> Result<Vec<Part>, NoMemory>
-    ensures changes { IfOk result (λ parts. map change_of parts.items ≡ put_all (node_parts present kept.now.id (map shown kept.now.rows))) }
-    ensures parts { IfOk result (λ parts. AreParts (node_layout present None) kept.now.id (map shown kept.now.rows) (node_parts present kept.now.id (map shown kept.now.rows))) }
+    ensures changes { IfOk result (λ parts. map change_of parts.items ≡ put_all (node_parts present kept.now.id (Some kept.now.session) (map shown kept.now.rows))) }
+    ensures parts { IfOk result (λ parts. AreParts (node_layout present None) (record { own = kept.now.id; session = Some kept.now.session }) (map shown kept.now.rows) (node_parts present kept.now.id (Some kept.now.session) (map shown kept.now.rows))) }
 {
-    let head = node_head_value(alloc, kept.id())?;
+    let head = node_head_value(alloc, kept.id(), kept.session())?;
     parts_with(alloc, head, kept.rows())
 }

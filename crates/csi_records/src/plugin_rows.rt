@@ -2,7 +2,7 @@
 ghost use Rattle.std.specs.Prelude.{◌≡◌, ◌++◌, [], ◌∷◌, ℕ, List, Some, None, map, IfOk, IsErrOf, OnOk};
 ghost use Rattle.std.specs.List.{AllByRecursion};
 ghost use Rattle.csi_types.specs.VolumeId.{IsVolumeId};
-ghost use Rattle.csi_frames.specs.declared.version.Version.{Version};
+ghost use Rattle.csi_records.specs.declared.version.RecordVersion.{RecordVersion};
 ghost use Rattle.csi_frames.specs.Bytes.{AreBytes};
 ghost use Rattle.csi_stores.specs.Part.{StoredPart, stored_in, all_stored_in, change_of, put_all};
 ghost use Rattle.csi_records.specs.Reading.{Reader, IsReadWhole, whole};
@@ -11,7 +11,8 @@ ghost use Rattle.csi_records.specs.Stopping.{AreRead};
 
 use crate::fault::Stop;
 use crate::fields::tag;
-use csi_frames::{Fields, Version};
+use crate::version::RecordVersion;
+use csi_frames::Fields;
 use csi_stores::{Part, push_value};
 use csi_types::{NoMemory, VolumeId};
 use std::alloc::Global;
@@ -24,13 +25,13 @@ pub(crate) trait Row: Drop {
     ghost shown: { Self → Shown };
 
     /// How the row of this id is read, behind the version.
-    ghost row_in: { Version → ℕ → Reader Shown };
+    ghost row_in: { RecordVersion → ℕ → Reader Shown };
 
     /// What spells a row.
-    ghost row_part: { Version → Shown → StoredPart };
+    ghost row_part: { RecordVersion → Shown → StoredPart };
 
     /// A row is within its limits.
-    ghost is_row: { Version → Shown → Type 0 };
+    ghost is_row: { RecordVersion → Shown → Type 0 };
 
     /// The counts of the row's lists are bytes.
     ghost is_small: { Self → Type 0 };
@@ -39,7 +40,7 @@ pub(crate) trait Row: Drop {
     fn read(
         fields: &mut Fields<'_>,
         alloc: Global,
-        version: Version,
+        version: RecordVersion,
         id: VolumeId,
     ) -> Result<Self, Stop>
         ensures read { IfOk result (λ row. row_in version id fields.old.bytes.now ≡ Some (shown row, fields.new.bytes.now)) }
@@ -53,12 +54,17 @@ pub(crate) trait Row: Drop {
 
     /// A law, and nothing that runs: a row is read from its part, and from no other.
     fn reading_law()
-        ensures { (version : Version) → IsReadWhole version (row_in version) IsVolumeId (is_row version) (row_part version) };
+        ensures { (version : RecordVersion) → IsReadWhole version (row_in version) IsVolumeId (is_row version) (row_part version) };
 }
 
 // The row of which this is the whole value, in this version.
 #[tactic(auto, unfolding(crate::specs::Reading::whole))]
-fn row_in<T: Row>(alloc: Global, version: Version, id: VolumeId, value: &[u8]) -> Result<T, Stop>
+fn row_in<T: Row>(
+    alloc: Global,
+    version: RecordVersion,
+    id: VolumeId,
+    value: &[u8],
+) -> Result<T, Stop>
     ensures read { IfOk result (λ row. whole version (T.row_in version id) value.now ≡ Some (T.shown row)) }
     ensures bad { IsErrOf result Stop.Bad → whole version (T.row_in version id) value.now ≡ None }
     ensures bytes { AreBytes value.now }
@@ -76,7 +82,7 @@ fn row_in<T: Row>(alloc: Global, version: Version, id: VolumeId, value: &[u8]) -
 }
 
 // The row that this part spells, in this version.
-fn row_of<T: Row>(alloc: Global, version: Version, part: &Part) -> Result<T, Stop>
+fn row_of<T: Row>(alloc: Global, version: RecordVersion, part: &Part) -> Result<T, Stop>
     ensures row { IfOk result (λ row. T.is_row version (T.shown row) × (T.row_part version (T.shown row) ≡ stored_in part.now)) }
     ensures bad { IsErrOf result Stop.Bad → (row : T.Shown) → T.is_row version row → T.row_part version row ≡ stored_in part.now → ⊥ }
 {
@@ -100,7 +106,7 @@ pub(crate) struct ReadRows<T> {
 /// The rows of these parts, until one is none of this version.
 pub(crate) fn rows_of<T: Row>(
     alloc: Global,
-    version: Version,
+    version: RecordVersion,
     parts: &[Part],
 ) -> Result<ReadRows<T>, NoMemory>
     ensures { IfOk result (λ read. AreRead (T.row_part version) (T.is_row version) (all_stored_in parts.now) (map T.shown read.rows.items) read.all) }

@@ -1,11 +1,10 @@
 //! Records of either plugin: as parts, as bytes, and back.
-ghost use Rattle.std.specs.Prelude.{◌≡◌, List, Some, None, map, IfOk};
-ghost use Rattle.csi_frames.specs.declared.version.Version.{Version};
+ghost use Rattle.std.specs.Prelude.{◌≡◌, List, Some, map, IfOk};
+ghost use Rattle.csi_records.specs.declared.version.RecordVersion.{RecordVersion};
 ghost use Rattle.std.specs.Option.{option_copied};
-ghost use Rattle.csi_node.specs.OneRow.{shown};
 ghost use Rattle.csi_stores.specs.Part.{StoredPart, all_stored_in, change_of, put_all};
-ghost use Rattle.csi_records.specs.Spelling.{present, node_parts, record_bytes};
-ghost use Rattle.csi_records.specs.Records.{node_layout, IsRecordOf};
+ghost use Rattle.csi_records.specs.Spelling.{present, record_bytes};
+ghost use Rattle.csi_records.specs.Records.{node_layout, IsNodeOf, IsRecordOf};
 ghost use Rattle.csi_records.specs.Reading.{version_in_parts};
 ghost use Rattle.csi_records.specs.Places.{ReadsParts, ReadsStored, ReadsBytes};
 ghost use Rattle.csi_records.specs.Writing.{CanBeWritten};
@@ -15,9 +14,9 @@ use crate::fault::{RecordStop, Stop};
 use crate::node_record::{node_parts, node_record};
 use crate::splitting::{SplitParts, split};
 use crate::stored::Stored;
+use crate::version::RecordVersion;
 use crate::writing::bytes_of;
 use csi_controller::ControllerRecord;
-use csi_frames::Version;
 use csi_node::NodeRecord;
 use csi_stores::Part;
 use csi_types::{NoMemory, NodeId};
@@ -26,29 +25,33 @@ use std::alloc::Global;
 /// A plugin's record, which is known by its parts. It is read in any version, and written in the present one. This profile's own.
 pub trait Record: Drop {
     /// These are the parts of such a record, in this version.
-    ghost is_record: { Version → List StoredPart → Type 0 };
+    ghost is_record: { RecordVersion → List StoredPart → Type 0 };
 
-    /// The record's parts in this version, by rising key.
-    ghost parts_of: { Version → Self → List StoredPart };
+    /// The record's parts in the present version, by rising key.
+    ghost parts_of: { Self → List StoredPart };
+
+    /// The parts of such a record, in this version, are read as this one: in the present version its own; in an earlier one, which has no
+    /// session, those of rows of which not all need be its.
+    ghost is_of: { RecordVersion → List StoredPart → Self → Type 0 };
 
     /// The record's parts in the present version, by rising key: what puts each of them into a store.
     fn to_parts(&self, alloc: Global) -> Result<Vec<Part>, NoMemory>
-        ensures changes { IfOk result (λ parts. map change_of parts.items ≡ put_all (parts_of present self.now)) }
-        ensures stored { IfOk result (λ parts. all_stored_in parts.items ≡ parts_of present self.now) }
-        ensures parts { IfOk result (λ parts. is_record present (parts_of present self.now)) }
-        ensures writable { IfOk result (λ parts. CanBeWritten (parts_of present self.now)) };
+        ensures changes { IfOk result (λ parts. map change_of parts.items ≡ put_all (parts_of self.now)) }
+        ensures stored { IfOk result (λ parts. all_stored_in parts.items ≡ parts_of self.now) }
+        ensures parts { IfOk result (λ parts. is_record present (parts_of self.now)) }
+        ensures writable { IfOk result (λ parts. CanBeWritten (parts_of self.now)) };
 
     /// The record of these parts in this version, or the first of them that is refused.
-    fn in_version(alloc: Global, version: Version, parts: &[Part]) -> Result<Self, RecordStop>
-        ensures { ReadsParts (is_record version) (parts_of version) (all_stored_in parts.now) result };
+    fn in_version(alloc: Global, version: RecordVersion, parts: &[Part]) -> Result<Self, RecordStop>
+        ensures { ReadsParts (is_record version) (is_of version) (all_stored_in parts.now) result };
 
     /// The record of these parts, and their version, which the head tells; or the first of them that is refused.
     fn of_parts(alloc: Global, parts: &[Part]) -> Result<Stored<Self>, RecordStop>
-        ensures { ReadsStored is_record parts_of (all_stored_in parts.now) result };
+        ensures { ReadsStored is_record is_of (all_stored_in parts.now) result };
 }
 
 // The version of the head.
-fn version_of(parts: &[Part]) -> Option<Version>
+fn version_of(parts: &[Part]) -> Option<RecordVersion>
     ensures { result ≡ version_in_parts (all_stored_in parts.now) }
 {
     let [head, ..] = parts else {
@@ -60,17 +63,19 @@ fn version_of(parts: &[Part]) -> Option<Version>
     let [byte, ..] = value.as_slice() else {
         return None;
     };
-    Version::from_number(*byte)
+    RecordVersion::from_number(*byte)
 }
 
 impl Record for ControllerRecord {
-    ghost use Rattle.std.specs.Prelude.{map};
-    ghost use Rattle.csi_records.specs.Spelling.{controller_parts, volume_row};
-    ghost use Rattle.csi_records.specs.Records.{controller_layout, IsRecordOf};
+    ghost use Rattle.std.specs.Prelude.{map, Some};
+    ghost use Rattle.csi_records.specs.Spelling.{present, controller_parts, volume_row};
+    ghost use Rattle.csi_records.specs.Records.{controller_layout, IsControllerOf, IsRecordOf};
 
     ghost is_record = { λ version. IsRecordOf (controller_layout version) };
 
-    ghost parts_of = { λ version kept. controller_parts version kept.next_id (map volume_row kept.rows) };
+    ghost parts_of = { λ kept. controller_parts present kept.next_id (Some kept.session) (map volume_row kept.rows) };
+
+    ghost is_of = { IsControllerOf };
 
     fn to_parts(&self, alloc: Global) -> Result<Vec<Part>, NoMemory> {
         controller_parts(alloc, self)
@@ -78,7 +83,7 @@ impl Record for ControllerRecord {
 
     fn in_version(
         alloc: Global,
-        version: Version,
+        version: RecordVersion,
         parts: &[Part],
     ) -> Result<ControllerRecord, RecordStop> {
         controller_record(alloc, version, parts)
@@ -96,14 +101,16 @@ impl Record for ControllerRecord {
 }
 
 impl Record for NodeRecord {
-    ghost use Rattle.std.specs.Prelude.{map, None};
+    ghost use Rattle.std.specs.Prelude.{map, Some, None};
     ghost use Rattle.csi_node.specs.OneRow.{shown};
-    ghost use Rattle.csi_records.specs.Spelling.{node_parts};
-    ghost use Rattle.csi_records.specs.Records.{node_layout, IsRecordOf};
+    ghost use Rattle.csi_records.specs.Spelling.{present, node_parts};
+    ghost use Rattle.csi_records.specs.Records.{node_layout, IsNodeOf, IsRecordOf};
 
     ghost is_record = { λ version. IsRecordOf (node_layout version None) };
 
-    ghost parts_of = { λ version kept. node_parts version kept.id (map shown kept.rows) };
+    ghost parts_of = { λ kept. node_parts present kept.id (Some kept.session) (map shown kept.rows) };
+
+    ghost is_of = { λ version. IsNodeOf version None };
 
     fn to_parts(&self, alloc: Global) -> Result<Vec<Part>, NoMemory> {
         node_parts(alloc, self)
@@ -111,7 +118,7 @@ impl Record for NodeRecord {
 
     fn in_version(
         alloc: Global,
-        version: Version,
+        version: RecordVersion,
         parts: &[Part],
     ) -> Result<NodeRecord, RecordStop> {
         node_record(alloc, version, None, parts)
@@ -128,7 +135,7 @@ fn node_of_parts(
     wanted: Option<&NodeId>,
     parts: &[Part],
 ) -> Result<Stored<NodeRecord>, RecordStop>
-    ensures { ReadsStored (λ version. IsRecordOf (node_layout version (option_copied wanted.entry))) (λ version kept. node_parts version kept.id (map shown kept.rows)) (all_stored_in parts.now) result }
+    ensures { ReadsStored (λ version. IsRecordOf (node_layout version (option_copied wanted.entry))) (λ version. IsNodeOf version (option_copied wanted.entry)) (all_stored_in parts.now) result }
 {
     let Some(version) = version_of(parts) else {
         return Err(RecordStop::BadRecord(0));
@@ -142,8 +149,8 @@ fn node_of_parts(
 /// The bytes of a whole record, in the present version: its byte, the number of parts, and of each part the key, the length of its
 /// value and the value (this profile's own). A refusal is one of memory.
 pub fn write_record<T: Record>(alloc: Global, kept: &T) -> Result<Vec<u8>, NoMemory>
-    ensures bytes { IfOk result (λ bytes. bytes.items ≡ record_bytes present (T.parts_of present kept.now)) }
-    ensures parts { IfOk result (λ bytes. T.is_record present (T.parts_of present kept.now)) }
+    ensures bytes { IfOk result (λ bytes. bytes.items ≡ record_bytes present (T.parts_of kept.now)) }
+    ensures parts { IfOk result (λ bytes. T.is_record present (T.parts_of kept.now)) }
 {
     let parts = kept.to_parts(alloc)?;
     bytes_of(alloc, &parts)
@@ -151,7 +158,7 @@ pub fn write_record<T: Record>(alloc: Global, kept: &T) -> Result<Vec<u8>, NoMem
 
 /// The record whose bytes these are, all of them, and their version; or the place of the first part that is refused (this profile's own).
 pub fn read_record<T: Record>(alloc: Global, bytes: &[u8]) -> Result<Stored<T>, RecordStop>
-    ensures { ReadsBytes T.is_record T.parts_of bytes.now result }
+    ensures { ReadsBytes T.is_record T.is_of bytes.now result }
 {
     let SplitParts {
         version,
@@ -177,7 +184,7 @@ pub fn record_of_node(
     id: &NodeId,
     parts: &[Part],
 ) -> Result<Stored<NodeRecord>, RecordStop>
-    ensures { ReadsStored (λ version. IsRecordOf (node_layout version (Some id.now))) (λ version kept. node_parts version kept.id (map shown kept.rows)) (all_stored_in parts.now) result }
+    ensures { ReadsStored (λ version. IsRecordOf (node_layout version (Some id.now))) (λ version. IsNodeOf version (Some id.now)) (all_stored_in parts.now) result }
 {
     node_of_parts(alloc, Some(id), parts)
 }

@@ -1,13 +1,13 @@
 //! The values of parts, written in the present version: of heads and of rows.
-ghost use Rattle.std.specs.Prelude.{◌≡◌, ◌<◌, ◌++◌, IfOk, OnOk};
+ghost use Rattle.std.specs.Prelude.{◌≡◌, ◌<◌, ◌++◌, Some, IfOk, OnOk};
 ghost use Rattle.csi_types.specs.Text.{IsNodeId};
 ghost use Rattle.csi_node.specs.OneRow.{shown};
 ghost use Rattle.csi_records.specs.Spelling.{present, volume_row, staged_bytes, volume_bytes, answered_bytes, controller_head, node_head};
 ghost use Rattle.csi_records.specs.Writing.{AreHeldFew, ArePublishedFew};
 ghost use Rattle.csi_records.specs.Records.{IsVolumeRow, IsStagedSo, IsAnsweredRow};
 
-use crate::fields::PRESENT;
 use crate::items::{Item, put_list};
+use crate::version::PRESENT;
 use crate::writing::put_kept;
 use csi_controller::ControllerRow;
 use csi_frames::{append_byte, append_name, append_node_id, append_word};
@@ -63,25 +63,29 @@ pub fn answered_value(alloc: Global, row: &NodeRow) -> Result<Vec<u8>, NoMemory>
     Ok(out)
 }
 
-/// The value of the head of a controller's record: a version, the plugin and the next id (this profile's own).
-pub fn controller_head_value(alloc: Global, next_id: u64) -> Result<Vec<u8>, NoMemory>
-    ensures { IfOk result (λ value. value.items ≡ (controller_head present next_id).value) }
+/// The value of the head of a controller's record: a version, the plugin, the next id and the greatest session that came (this
+/// profile's own).
+pub fn controller_head_value(alloc: Global, next_id: u64, session: u64) -> Result<Vec<u8>, NoMemory>
+    ensures { IfOk result (λ value. value.items ≡ (controller_head present next_id (Some session)).value) }
 {
     let mut out = Vec::new(alloc);
     append_byte(&mut out, PRESENT.number())?;
     append_byte(&mut out, 0)?;
     append_word(&mut out, next_id)?;
+    append_word(&mut out, session)?;
     Ok(out)
 }
 
-/// The value of the head of a node's record: a version, the plugin and the node's id (this profile's own).
-pub fn node_head_value(alloc: Global, node: &NodeId) -> Result<Vec<u8>, NoMemory>
-    ensures value { IfOk result (λ value. value.items ≡ (node_head present node.now).value) }
+/// The value of the head of a node's record: a version, the plugin, the node's id and the greatest session that came (this profile's
+/// own).
+pub fn node_head_value(alloc: Global, node: &NodeId, session: u64) -> Result<Vec<u8>, NoMemory>
+    ensures value { IfOk result (λ value. value.items ≡ (node_head present node.now (Some session)).value) }
     ensures fits { IfOk result (λ value. IsNodeId node.now) }
 {
     let mut out = Vec::new(alloc);
     append_byte(&mut out, PRESENT.number())?;
     append_byte(&mut out, 1)?;
     append_node_id(&mut out, node)?;
+    append_word(&mut out, session)?;
     Ok(out)
 }

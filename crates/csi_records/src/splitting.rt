@@ -6,8 +6,9 @@ ghost use Rattle.csi_records.specs.Stopping.{AreSplit, HasNoHead};
 
 use crate::fault::Stop;
 use crate::fields::{version, word};
+use crate::version::RecordVersion;
 use byteorder::{BigEndian, ByteOrder};
-use csi_frames::{Fields, Version};
+use csi_frames::Fields;
 use csi_stores::Part;
 use csi_types::NoMemory;
 use std::alloc::Global;
@@ -15,7 +16,7 @@ use std::alloc::Global;
 /// The version and the parts that bytes have, and whether the bytes are all of them.
 #[derive(Drop)]
 pub(crate) struct SplitParts {
-    pub version: Version,
+    pub version: RecordVersion,
     pub parts: Vec<Part>,
     pub all: bool,
 }
@@ -66,7 +67,7 @@ fn part(fields: &mut Fields<'_>, alloc: Global) -> Result<Part, Stop>
 
 // The version, and the number of parts.
 #[tactic(auto, unfolding(crate::specs::Reading::record_head_in))]
-fn head_of(fields: &mut Fields<'_>) -> Result<(Version, u32), Stop>
+fn head_of(fields: &mut Fields<'_>) -> Result<(RecordVersion, u32), Stop>
     ensures read { IfOk result (λ head. record_head_in fields.old.bytes.now ≡ Some (head, fields.new.bytes.now)) }
     ensures bad { OnErr result (record_head_in fields.old.bytes.now ≡ None) }
 {

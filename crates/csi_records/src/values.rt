@@ -6,7 +6,8 @@ use crate::fault::Stop;
 use crate::fields::{flag, status, word};
 use crate::items::Item;
 use crate::texts::detail;
-use csi_frames::{Fields, Version};
+use crate::version::RecordVersion;
+use csi_frames::Fields;
 use csi_types::{Capability, Reply, VolumeId};
 use std::alloc::Global;
 
@@ -15,7 +16,7 @@ use std::alloc::Global;
 pub(crate) fn staged(
     fields: &mut Fields<'_>,
     alloc: Global,
-    version: Version,
+    version: RecordVersion,
 ) -> Result<Option<Capability>, Stop>
     ensures read { IfOk result (λ staged. staged_in version fields.old.bytes.now ≡ Some (staged, fields.new.bytes.now)) }
     ensures bad { IsErrOf result Stop.Bad → staged_in version fields.old.bytes.now ≡ None }

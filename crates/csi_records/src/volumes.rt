@@ -1,20 +1,22 @@
 //! The parts of a controller's record: its head, read, and its rows.
-ghost use Rattle.std.specs.Prelude.{◌≡◌, ℕ, Some, None, IfOk, IfSome, OnErr};
+ghost use Rattle.std.specs.Prelude.{◌≡◌, ℕ, Some, None, IfOk, IfSome, OnErr, Option};
 ghost use Rattle.csi_types.specs.Limits.{IsWord};
 ghost use Rattle.csi_frames.specs.Bytes.{AreBytes};
 ghost use Rattle.csi_stores.specs.Part.{stored_in};
 ghost use Rattle.csi_records.specs.Spelling.{controller_head};
+ghost use Rattle.csi_records.specs.Records.{Head, IsHead};
 ghost use Rattle.csi_records.specs.Reading.{controller_head_in, whole};
 
 use crate::fault::Stop;
-use crate::fields::{kind, live, number, tag, word};
+use crate::fields::{kind, live, number, session, tag, word};
 use crate::items::{capabilities, list};
 use crate::plugin_rows::Row;
 use crate::row_values::volume_value;
 use crate::texts::name;
 use crate::values::reply;
+use crate::version::RecordVersion;
 use csi_controller::ControllerRow;
-use csi_frames::{Fields, Version};
+use csi_frames::Fields;
 use csi_stores::{Part, push_value};
 use csi_types::{NoMemory, VolumeId};
 use std::alloc::Global;
@@ -41,7 +43,7 @@ impl Row for ControllerRow {
     fn read(
         fields: &mut Fields<'_>,
         alloc: Global,
-        version: Version,
+        version: RecordVersion,
         id: VolumeId,
     ) -> Result<ControllerRow, Stop> {
         let live = live(fields)?;
@@ -74,29 +76,37 @@ impl Row for ControllerRow {
     fn reading_law() {}
 }
 
-// The next id of which this is the whole value of a head of this version.
+/// What the head of a controller's record tells: the next id, and the greatest session that came, where its version has it.
+#[derive(Clone, Copy)]
+pub(crate) struct ControllerHead {
+    pub next_id: u64,
+    pub session: Option<u64>,
+}
+
+// What the head tells of which this is the whole value, in this version.
 #[tactic(auto, unfolding(crate::specs::Reading::whole, crate::specs::Reading::controller_head_in))]
-fn next_id_in(version: Version, value: &[u8]) -> Result<u64, Stop>
-    ensures read { IfOk result (λ next_id. whole version controller_head_in value.now ≡ Some next_id) }
-    ensures bad { OnErr result (whole version controller_head_in value.now ≡ None) }
+fn head_in(version: RecordVersion, value: &[u8]) -> Result<ControllerHead, Stop>
+    ensures read { IfOk result (λ head. whole version (controller_head_in version) value.now ≡ Some (record { own = head.next_id; session = head.session })) }
+    ensures bad { OnErr result (whole version (controller_head_in version) value.now ≡ None) }
     ensures bytes { AreBytes value.now }
 {
     let mut fields = Fields { bytes: value };
     tag(&mut fields, version.number())?;
     tag(&mut fields, 0)?;
     let next_id = word(&mut fields)?;
+    let session = session(&mut fields, version)?;
     if fields.bytes.is_empty() {
-        Ok(next_id)
+        Ok(ControllerHead { next_id, session })
     } else {
         Err(Stop::Bad)
     }
 }
 
-/// The next id that this part, a head of this version, spells.
-pub(crate) fn next_id_of(version: Version, part: &Part) -> Option<u64>
-    ensures head { IfSome result (λ next_id. controller_head version next_id ≡ stored_in part.now) }
-    ensures fits { IfSome result IsWord }
-    ensures none { result ≡ None → (next_id : ℕ) → IsWord next_id → controller_head version next_id ≡ stored_in part.now → ⊥ }
+/// What this part, a head of this version, tells.
+pub(crate) fn head_of(version: RecordVersion, part: &Part) -> Option<ControllerHead>
+    ensures head { IfSome result (λ head. controller_head version head.next_id head.session ≡ stored_in part.now) }
+    ensures fits { IfSome result (λ head. IsHead IsWord version (record { own = head.next_id; session = head.session })) }
+    ensures none { result ≡ None → (head : Head ℕ) → IsHead IsWord version head → controller_head version head.own head.session ≡ stored_in part.now → ⊥ }
 {
     if part.key != 0 {
         return None;
@@ -104,8 +114,8 @@ pub(crate) fn next_id_of(version: Version, part: &Part) -> Option<u64>
     let Some(value) = &part.value else {
         return None;
     };
-    match next_id_in(version, value) {
-        Ok(next_id) => Some(next_id),
+    match head_in(version, value) {
+        Ok(head) => Some(head),
         Err(_) => None,
     }
 }

@@ -6,7 +6,7 @@ ghost use Rattle.csi_records.specs.Spelling.{present, kept_bytes, part_bytes, re
 ghost use Rattle.csi_records.specs.Records.{IsKept};
 ghost use Rattle.csi_records.specs.Writing.{CanBeWritten};
 
-use crate::fields::PRESENT;
+use crate::version::PRESENT;
 use byteorder::{BigEndian, ByteOrder};
 use csi_frames::{append_byte, append_reply, append_word, reply_kind_number};
 use csi_stores::Part;

@@ -1,5 +1,5 @@
 -- The report of a world: one object of JSON, in compact form, with its keys in order. This profile's own.
-use Rattle.std.specs.Prelude.{◌≡◌, ℕ, List, map, length, codes, not, is_some}
+use Rattle.std.specs.Prelude.{◌≡◌, ℕ, List, length, codes, not, is_some}
 use Rattle.serde_json.specs.Data.{Data, boolean, object, no_members, member}
 use Rattle.serde_json.specs.Written.{compact_text}
 use Rattle.csi_world.specs.Simulated.{WorldParts}

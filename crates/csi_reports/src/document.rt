@@ -28,7 +28,7 @@ fn document(alloc: Global, world: &World, findings: &Findings) -> Result<Value, 
     let session = world.orchestrator().session();
     put(&mut map, alloc, "session", Value::from(session))?;
     put_array(&mut map, alloc, "staged", &findings.staged)?;
-    let volumes = volumes(alloc, world.controller().rows())?;
+    let volumes = volumes(alloc, world.controller().all_rows())?;
     put(&mut map, alloc, "volumes", volumes)?;
     Ok(Value::Object(map))
 }

@@ -1,44 +1,54 @@
--- What a step of a controller changes of the parts of its record.
-use Rattle.std.proofs.Common.{◌≡◌, ◌∙◌, sym, ap, refl, subst, inl, inr, ◌⊎◌, ℕ, ◌<◌, Bool, true, false, List, [], ◌∷◌, ◌++◌, map, arith, IfSome, not}
-use Rattle.std.specs.Prelude.{Option, Some, None, find, option_map, ◌==◌}
+-- What a call changes of the parts of a controller's record.
+use Rattle.std.proofs.Common.{◌≡◌, ◌∙◌, sym, ap, refl, subst, inl, inr, ◌⊎◌, ℕ, ◌<◌, Bool, true, false, cond, List, [], ◌∷◌, ◌++◌, map, arith, IfSome}
+use Rattle.std.specs.Prelude.{◌≢◌, ◌↔◌, Option, Some, None, filter, not, option_map, ◌==◌, IsTrue}
 use Rattle.std.specs.List.{AllByRecursion}
 use Rattle.std.proofs.lemmas.Bool.{eqb-true}
 use Rattle.std.proofs.lemmas.Bool.Decides.{nat_tests}
 use Rattle.std.proofs.lemmas.Option.{same_Some}
+use Rattle.csi_lists.specs.Members.{IsAmong}
+use Rattle.csi_lists.proofs.Maps.{map-twice}
 use Rattle.csi_lists.proofs.Options.{some_is_not_none, some-from_map}
 use Rattle.csi_lists.proofs.Searches.{find-of_map, find-passes}
 use Rattle.csi_types.specs.VolumeId.{IsVolumeId}
 use Rattle.csi_types.specs.declared.number.Number.{Number}
-use Rattle.csi_types.specs.declared.call.Call.{Call}
-use Rattle.csi_types.specs.declared.frame.Body.{Body}
-use Rattle.csi_types.specs.declared.frame.Body.TheVariants as bodies
-use Rattle.csi_types.specs.Frame.{Frame}
+use Rattle.csi_fence.specs.Fence.{begins}
 use Rattle.csi_controller.specs.declared.row.ControllerRow.{ControllerRow}
-use Rattle.csi_controller.specs.State.{Volume, ControllerState, row_for}
 use Rattle.csi_controller.specs.Core.{Parts, IsSameRow, IsRising as AreRising}
-use Rattle.csi_controller.specs.Views.{AreSameRows, IsCopyOf}
-use Rattle.csi_controller.specs.RowsLaw.{AreOf, ChangesOnly, ControllerRowsLaw, last_call, after_frame}
-use Rattle.csi_stores.specs.Part.{StoredPart, Change}
-use Rattle.csi_records.specs.Spelling.{present, VolumeRow, volume_row, volume_part, controller_head, controller_parts}
-use Rattle.csi_stores.specs.Content.{put_in, all_changed, IsRising}
-use Rattle.csi_service.specs.Services.{head_change, row_change, touched_change, last_in}
+use Rattle.csi_controller.specs.Views.{IsCopyOf}
+use Rattle.csi_controller.specs.RowsLaw.{row_by_id, staying, IsSameAt, Changes}
+use Rattle.csi_stores.specs.Part.{StoredPart, Change, take_all}
+use Rattle.csi_stores.specs.Content.{all_changed, IsRising}
 use Rattle.csi_stores.proofs.RisingChanges.{AreAbove}
-use Rattle.csi_service.proofs.RisingParts.{rows-put, put-head, put-row}
+use Rattle.csi_records.specs.declared.version.RecordVersion.{RecordVersion}
+use Rattle.csi_records.specs.Spelling.{present, VolumeRow, volume_row, volume_part}
+use Rattle.csi_service.specs.declared.changed.Changed.{Changed}
+use Rattle.csi_service.specs.Changed.{head_change}
+use Rattle.csi_service.specs.Services.{head_of_controller, parts_of_controller, forgotten_by, row_change, named_change, last_in, ControllerDiffers}
+use Rattle.csi_service.proofs.RisingParts.{part_at, same-parts, put-there}
+use Rattle.csi_service.proofs.StayingRows.{rising-staying, gone-taken, gone-there, gone-nowhere, headed-changed, above-zero}
 
--- ---- rows that say the same are spelled the same
+-- ---- rows, as their parts
 
--- rows that say the same are spelled the same: one row, all rows, and a row that may be there
-pub same-shown : (old new : ControllerRow) → IsSameRow old new → volume_row new ≡ volume_row old
+-- the part of a row, and those of rows
+abbrev pub shown_part : ControllerRow → StoredPart
+shown_part row = volume_part present (volume_row row)
+
+abbrev pub shown_parts : List ControllerRow → List StoredPart
+shown_parts rows = map (volume_part present) (map volume_row rows)
+
+-- they are the parts of the rows, one by one
+each-shown : (rows : List ControllerRow) → shown_parts rows ≡ map shown_part rows
+each-shown rows = map-twice (volume_part present) volume_row shown_part rows (λ row. refl)
+
+-- the part of an id is that of its row
+pub at-shown : (id : ℕ) (rows : List ControllerRow) → part_at id (shown_parts rows) ≡ option_map (volume_part present) (option_map volume_row (row_by_id id rows))
+at-shown id rows =
+    find-of_map (λ (part : StoredPart). part.key == id) (volume_part present) (map volume_row rows)
+    ∙ ap (option_map (volume_part present)) (find-of_map (λ (row : VolumeRow). row.volume.id == id) volume_row rows)
+
+-- rows that say the same are spelled the same
+same-shown : (old new : ControllerRow) → IsSameRow old new → volume_row new ≡ volume_row old
 same-shown old new same = λ i. record { volume = same.volume i; holdings = same.items i }
-
-pub all-shown : (olds news : List ControllerRow) → AreSameRows olds news → map volume_row news ≡ map volume_row olds
-all-shown [] [] same = refl
-all-shown [] (n ∷ ns) same = absurd same
-all-shown (o ∷ os) [] same = absurd same
-all-shown (o ∷ os) (n ∷ ns) same =
-    let first = same-shown o n same.0 in
-    let rest = all-shown os ns same.1 in
-    λ i. first i ∷ rest i
 
 copy-shown : (old new : Option ControllerRow) → IsCopyOf old new → option_map volume_row new ≡ option_map volume_row old
 copy-shown None None same = refl
@@ -46,164 +56,164 @@ copy-shown None (Some new) same = absurd same
 copy-shown (Some old) None same = absurd same
 copy-shown (Some old) (Some new) same = ap Some (same-shown old new same)
 
--- ---- rows by rising id are parts by rising key
+same-at : (id : ℕ) (olds news : List ControllerRow) → IsSameAt id olds news → part_at id (shown_parts news) ≡ part_at id (shown_parts olds)
+same-at id olds news same = at-shown id news ∙ ap (option_map (volume_part present)) (copy-shown _ _ same) ∙ sym (at-shown id olds)
 
--- ids above an id are keys above it
-above-shown : (id : ℕ) (rows : List ControllerRow) → AllByRecursion (λ (later : ControllerRow). id < later.id) rows → AreAbove id (map (volume_part present) (map volume_row rows))
-above-shown id [] above = tt
-above-shown id (row ∷ rows) above = (above.0, above-shown id rows above.1)
+-- ids above an id are keys above it, and rows by rising id are parts by rising key, in every version
+above-shown : (version : RecordVersion) (id : ℕ) (rows : List ControllerRow) → AllByRecursion (λ (later : ControllerRow). id < later.id) rows → AreAbove id (map (volume_part version) (map volume_row rows))
+above-shown version id [] above = tt
+above-shown version id (row ∷ rows) above = (above.0, above-shown version id rows above.1)
 
--- rows by rising id are parts by rising key
-pub rising-shown : (rows : List ControllerRow) → AreRising rows → IsRising (map (volume_part present) (map volume_row rows))
-rising-shown [] rising = tt
-rising-shown (row ∷ rows) rising = (above-shown row.id rows rising.0, rising-shown rows rising.1)
+pub rising-in : (version : RecordVersion) (rows : List ControllerRow) → AreRising rows → IsRising (map (volume_part version) (map volume_row rows))
+rising-in version [] rising = tt
+rising-in version (row ∷ rows) rising = (above-shown version row.id rows rising.0, rising-in version rows rising.1)
 
--- ---- one change after another
+pub rising-shown : (rows : List ControllerRow) → AreRising rows → IsRising (shown_parts rows)
+rising-shown rows rising = rising-in present rows rising
 
--- some changes and then others are the others after the first
-all-append : (first second : List Change) (parts : List StoredPart) → all_changed (first ++ second) parts ≡ all_changed second (all_changed first parts)
-all-append [] second parts = refl
-all-append (change ∷ changes) second parts = all-append changes second _
+-- ---- rows that are forgotten
 
--- a head that changes where the next id does is the new head in front of the same parts
-head-changed : (has_new_id : Bool) (old new : ℕ) (parts : List StoredPart) → (has_new_id ≡ false → new ≡ old) → all_changed (head_change has_new_id new) (controller_head present old ∷ parts) ≡ controller_head present new ∷ parts
-head-changed true old new parts same = put-head (controller_head present new) (controller_head present old) parts refl
-head-changed false old new parts same = ap (λ (n : ℕ). controller_head present n ∷ parts) (sym (same refl))
+-- whether the row stays where a session begins
+abbrev stays : ControllerRow → Bool
+stays row = row.live
 
--- the rows of one controller and those of another, of which one is put in
-row-there : (old new : Parts) (volume : Volume) → AreRising old.rows → AreRising new.rows → ChangesOnly old new volume → 0 < volume.id → (head : StoredPart) → head.key ≡ 0
-    → all_changed (row_change (find (λ (row : ControllerRow). row.id == volume.id) new.rows)) (head ∷ map (volume_part present) (map volume_row old.rows)) ≡ head ∷ map (volume_part present) (map volume_row new.rows)
-row-there old new volume rising rising_too only positive head zero =
-    ap (λ (o : Option ControllerRow). all_changed (row_change o) (head ∷ map (volume_part present) (map volume_row old.rows))) only.there
-    ∙ put-row head (volume_part present row) (map (volume_part present) (map volume_row old.rows)) (omega (arith, zero, own, positive))
-    ∙ ap (λ (parts : List StoredPart). head ∷ parts) (sym rows)
+each-rising : (rows : List ControllerRow) → AreRising rows → IsRising (map shown_part rows)
+each-rising rows rising = subst IsRising (each-shown rows) (rising-shown rows rising)
+
+-- the parts of those that stay rise
+stay-rising : (b : Bool) (rows : List ControllerRow) → AreRising rows → IsRising (shown_parts (cond b (filter stays rows) rows))
+stay-rising true rows rising = subst IsRising (sym (each-shown (filter stays rows))) (rising-staying shown_part stays rows (each-rising rows rising))
+stay-rising false rows rising = rising-shown rows rising
+
+-- the others, taken out, leave them
+stay-taken : (b : Bool) (rows : List ControllerRow) → AreRising rows
+    → all_changed (take_all (cond b (map (λ (row : ControllerRow). row.id) (filter (λ (row : ControllerRow). not row.live) rows)) [])) (shown_parts rows) ≡ shown_parts (cond b (filter stays rows) rows)
+stay-taken true rows rising =
+    ap (all_changed (take_all (map (λ (row : ControllerRow). row.id) (filter (λ (row : ControllerRow). not row.live) rows)))) (each-shown rows)
+    ∙ gone-taken shown_part stays rows (each-rising rows rising)
+    ∙ sym (each-shown (filter stays rows))
+stay-taken false rows rising = refl
+
+-- none of the others is there then, and each was
+stay-nowhere : (b : Bool) (id : ℕ) (rows : List ControllerRow) → AreRising rows → IsAmong id (cond b (map (λ (row : ControllerRow). row.id) (filter (λ (row : ControllerRow). not row.live) rows)) [])
+    → (row_by_id id (cond b (filter stays rows) rows) ≡ None) × ((row : ControllerRow) × (row_by_id id rows ≡ Some row))
+stay-nowhere true id rows rising among = (gone-nowhere shown_part stays id rows (each-rising rows rising) among, gone-there shown_part stays id rows among)
+stay-nowhere false id rows rising among = absurd among
+
+-- ---- the row of the call
+
+-- the row of an id has it
+own-id : (id : ℕ) (rows : List ControllerRow) (row : ControllerRow) → row_by_id id rows ≡ Some row → row.id ≡ id
+own-id id rows row found = eqb-true row.id id (find-passes (λ (r : ControllerRow). r.id == id) rows row found)
+
+-- the row of one volume, or none, is put in among those that stay
+row-put : (row : Option ℕ) (number : Number) (olds news : List ControllerRow) → IsRising (shown_parts olds) → AreRising news
+    → ((id : ℕ) → (row ≡ Some id → ⊥) → IsSameAt id olds news)
+    → ((id : ℕ) → row ≡ Some id → (there : ControllerRow) × (row_by_id id news ≡ Some there) × (there.last ≡ number))
+    → all_changed (named_change row news) (shown_parts olds) ≡ shown_parts news
+row-put None number olds news rising rising_too others put =
+    sym (same-parts (shown_parts news) (shown_parts olds) (rising-shown news rising_too) rising (λ id. same-at id olds news (others id (λ e. some_is_not_none id (sym e)))))
+row-put (Some id) number olds news rising rising_too others put =
+    ap (λ (o : Option ControllerRow). all_changed (row_change o) (shown_parts olds)) found
+    ∙ sym (put-there (shown_part there) (shown_parts olds) (shown_parts news) rising (rising-shown news rising_too) own_part
+    (λ key differs. same-at key olds news (others key (λ e. other key differs (same_Some id key e)))))
   where
-    row : VolumeRow
-    row = volume_row only.row
+    there : ControllerRow
+    there = (put id refl).0
 
-    own : only.row.id ≡ volume.id
-    own = eqb-true only.row.id volume.id (find-passes (λ (r : ControllerRow). r.id == volume.id) new.rows only.row only.there)
+    found : row_by_id id news ≡ Some there
+    found = (put id refl).1
 
-    found : (id : ℕ) (rows : List ControllerRow) → find (λ (r : VolumeRow). r.volume.id == id) (map volume_row rows) ≡ option_map volume_row (find (λ (r : ControllerRow). r.id == id) rows)
-    found id rows = find-of_map (λ (r : VolumeRow). r.volume.id == id) volume_row rows
+    own : there.id ≡ id
+    own = own-id id news there found
 
-    rows : map (volume_part present) (map volume_row new.rows) ≡ put_in (volume_part present row) (map (volume_part present) (map volume_row old.rows))
-    rows = rows-put (volume_part present) row (map volume_row old.rows) (map volume_row new.rows) (rising-shown old.rows rising) (rising-shown new.rows rising_too)
-        (found only.row.id new.rows ∙ ap (λ (id : ℕ). option_map volume_row (find (λ (r : ControllerRow). r.id == id) new.rows)) own ∙ ap (option_map volume_row) only.there)
-        (λ id differs. found id new.rows ∙ copy-shown _ _ (only.others id (ap (λ (n : ℕ). n == id) (sym own) ∙ differs)) ∙ sym (found id old.rows))
+    own_part : part_at there.id (shown_parts news) ≡ Some (shown_part there)
+    own_part = at-shown there.id news ∙ ap (λ (o : Option ControllerRow). option_map (volume_part present) (option_map volume_row o)) (ap (λ (n : ℕ). row_by_id n news) own ∙ found)
 
--- ---- a step
+    other : (key : ℕ) → (there.id == key) ≡ false → id ≡ key → ⊥
+    other key differs same = let e : there.id ≡ key = own ∙ same in grind (arith, nat_tests)
 
--- what a step touched: nothing, and then the rows say what they said; or the row of a volume
-pub data Touches (old new : Parts) : Option ℕ → Type 0 where
-  no_row : map volume_row new.rows ≡ map volume_row old.rows → Touches old new None
-  one_row : (volume : Volume) → 0 < volume.id → ChangesOnly old new volume → Touches old new (Some volume.id)
-
--- the touched row's change makes the old rows' parts the new ones'
-rows-changed : (old new : Parts) (touched : Option ℕ) → AreRising old.rows → AreRising new.rows → Touches old new touched → (head : StoredPart) → head.key ≡ 0
-    → all_changed (touched_change touched new.rows) (head ∷ map (volume_part present) (map volume_row old.rows)) ≡ head ∷ map (volume_part present) (map volume_row new.rows)
-rows-changed old new touched rising rising_too (no_row same) head zero = ap (λ (rows : List VolumeRow). head ∷ map (volume_part present) rows) (sym same)
-rows-changed old new touched rising rising_too (one_row volume positive only) head zero = row-there old new volume rising rising_too only positive head zero
-
--- what a step changed makes the parts of the old controller those of the new one
-pub parts-changed : (old new : Parts) (has_new_id : Bool) (touched : Option ℕ) → AreRising old.rows → AreRising new.rows → (has_new_id ≡ false → new.next_id ≡ old.next_id) → Touches old new touched
-    → controller_parts present new.next_id (map volume_row new.rows) ≡ all_changed (head_change has_new_id new.next_id ++ touched_change touched new.rows) (controller_parts present old.next_id (map volume_row old.rows))
-parts-changed old new has_new_id touched rising rising_too same touches =
-    let parts = map (volume_part present) (map volume_row old.rows) in
-    sym (all-append (head_change has_new_id new.next_id) (touched_change touched new.rows) (controller_head present old.next_id ∷ parts)
-    ∙ ap (all_changed (touched_change touched new.rows)) (head-changed has_new_id old.next_id new.next_id parts same)
-    ∙ rows-changed old new touched rising rising_too touches (controller_head present new.next_id) refl)
-
--- a step that leaves the state leaves the rows
-pub same-state : ControllerRowsLaw → (old new : Parts) (before after : ControllerState) → AreOf old before → AreOf new after → after ≡ before → map volume_row new.rows ≡ map volume_row old.rows
-same-state law old new before after of_it of_it_too same = all-shown old.rows new.rows (law.rows before old new of_it (subst (AreOf new) same of_it_too))
-
--- a step that leaves the state leaves the next id
-pub same-next_id : ControllerRowsLaw → (old new : Parts) (before after : ControllerState) → AreOf old before → AreOf new after → after ≡ before → new.next_id ≡ old.next_id
-same-next_id law old new before after of_it of_it_too same = sym (law.next_id before old new of_it (subst (AreOf new) same of_it_too))
-
--- what the last numbers before and after tell of the touched row
-pub record IsTouched (touched : Option ℕ) (before after : Option (ℕ × Number)) : Type 0 where
-  pub none : touched ≡ None → (before ≡ after) ⊎ (after ≡ None)
-  pub some : (id : ℕ) → touched ≡ Some id → (0 < id) × ((number : Number) × (after ≡ Some (id, number)))
-
--- where what was read are the last numbers before and after, they tell of the touched row
-pub told-from : (touched : Option ℕ) (b a before after : Option (ℕ × Number)) → b ≡ before → a ≡ after → (touched ≡ None → (b ≡ a) ⊎ (a ≡ None))
-    → IfSome touched (λ id. (number : Number) × (a ≡ Some (id, number))) → IfSome touched IsVolumeId → IsTouched touched before after
-told-from None b a before after is is_too none some fits =
-    record {
-      none = λ e. elim (none refl) [ inl same ↦ inl (sym is ∙ same ∙ is_too) | inr gone ↦ inr (sym is_too ∙ gone) ];
-      some = λ id e. absurd (some_is_not_none id (sym e));
-    }
-told-from (Some own) b a before after is is_too none some fits =
-    record {
-      none = λ e. absurd (some_is_not_none own e);
-      some = λ id e. let same : own ≡ id = same_Some own id e in (subst (λ (n : ℕ). 0 < n) same fits.from_one, (some.0, sym is_too ∙ some.1 ∙ ap (λ (n : ℕ). Some (n, some.0)) same));
-    }
-
--- next ids that the test finds equal are equal
-pub same-next : (x y new old : ℕ) → x ≡ new → y ≡ old → not (x == y) ≡ false → new ≡ old
-same-next x y new old is is_too same = let one : x ≡ y = grind (arith, nat_tests) in sym is ∙ one ∙ is_too
-
--- a call touched nothing, or the row of its volume, as the last numbers tell
-call-touches : ControllerRowsLaw → (old new : Parts) (state : ControllerState) (frame : Frame) (call : Call) (touched : Option ℕ) → AreOf old state → AreOf new (after_frame old.config state frame) → frame.body ≡ bodies.Call call
-    → IsTouched touched (option_map last_call (row_for call state)) (option_map last_call (row_for call (after_frame old.config state frame))) → Touches old new touched
-call-touches law old new state frame call None of_it of_it_too is told = elim (told.none refl) [
-  | inl same ↦ no_row (same-state law old new state _ of_it of_it_too (law.spent old state frame call of_it is (sym same)))
-  | inr gone ↦ no_row (same-state law old new state _ of_it of_it_too (law.nowhere old state frame call of_it is (nowhere _ gone)))
-]
+-- its key is above the head's
+named-above : (row : Option ℕ) (rows : List ControllerRow) → IfSome row IsVolumeId → AllByRecursion (λ (change : Change). 0 < change.key) (named_change row rows)
+named-above None rows fits = tt
+named-above (Some id) rows fits = by (row_by_id id rows) refl
   where
-    nowhere : (o : Option Volume) → option_map last_call o ≡ None → o ≡ None
-    nowhere None e = refl
-    nowhere (Some v) e = absurd (some_is_not_none (last_call v) e)
-call-touches law old new state frame call (Some id) of_it of_it_too is told =
-    let some = told.some id refl in
-    let found = some-from_map last_call (row_for call (after_frame old.config state frame)) (id, some.1.0) some.1.1 in
-    let volume : Volume = found.0 in
-    let own : volume.id ≡ id = ap (λ (p : ℕ × Number). p.0) found.2 in
-    subst (λ (n : ℕ). Touches old new (Some n)) own
-    (one_row volume (omega (arith, own, some.0)) (law.others old new state frame call volume of_it of_it_too is found.1))
+    by : (o : Option ControllerRow) → row_by_id id rows ≡ o → AllByRecursion (λ (change : Change). 0 < change.key) (row_change o)
+    by None e = tt
+    by (Some row) e = let own : row.id ≡ id = own-id id rows row e in (omega (arith, own, fits.from_one), tt)
 
--- a frame touched nothing, or the row of its call's volume, as the last numbers tell
-pub frame-touches : ControllerRowsLaw → (old new : Parts) (state : ControllerState) (frame : Frame) (body : Body) (touched : Option ℕ) → AreOf old state → AreOf new (after_frame old.config state frame) → frame.body ≡ body
-    → IsTouched touched (last_in body state) (last_in body (after_frame old.config state frame)) → Touches old new touched
-frame-touches law old new state frame (bodies.Call call) touched of_it of_it_too is told = call-touches law old new state frame call touched of_it of_it_too is told
-frame-touches law old new state frame (bodies.Reply kind reply) None of_it of_it_too is told =
-    no_row (same-state law old new state _ of_it of_it_too (law.reply old.config state frame kind reply is))
-frame-touches law old new state frame (bodies.Reply kind reply) (Some id) of_it of_it_too is told =
-    let some = told.some id refl in
-    absurd (some_is_not_none (id, some.1.0) (sym some.1.1))
+-- ---- a call
 
--- ---- a refusal
+-- what a call changed makes the parts of the old controller those of the new one
+pub parts-changed : (old new : Parts) (is_new : Bool) (forgotten : List ℕ) (row : Option ℕ) (number : Number) → AreRising old.rows → AreRising new.rows
+    → (is_new ≡ false → ◌≡◌ {A = ℕ × ℕ} (new.next_id, new.session) (old.next_id, old.session)) → forgotten ≡ forgotten_by number old → AllByRecursion IsVolumeId forgotten → IfSome row IsVolumeId → Changes row number old new
+    → parts_of_controller new ≡ all_changed (head_change is_new (head_of_controller new) ++ take_all forgotten ++ named_change row new.rows) (parts_of_controller old)
+parts-changed old new is_new forgotten row number rising rising_too same are fit fits changes =
+    sym (headed-changed is_new (head_of_controller old) (head_of_controller new) (take_all forgotten) (named_change row new.rows) (shown_parts old.rows) (shown_parts new.rows) refl
+    (λ e. let heads = same e in λ i. head_of_controller (record new { next_id = (heads i).0; session = (heads i).1 }))
+    (above-zero forgotten fit) (named-above row new.rows fits)
+    (ap (λ (ids : List ℕ). all_changed (named_change row new.rows) (all_changed (take_all ids) (shown_parts old.rows))) are
+    ∙ ap (all_changed (named_change row new.rows)) (stay-taken (begins old.session number) old.rows rising)
+    ∙ row-put row number (staying old.session number old.rows) new.rows (stay-rising (begins old.session number) old.rows rising) rising_too changes.others changes.put))
 
--- what was touched, told by the rows as they are shown
-abbrev shown_change : Option VolumeRow → List Change
-shown_change None = []
-shown_change (Some shown) = record { key = (volume_part present shown).key; value = Some (volume_part present shown).value } ∷ []
+-- the row that was changed or made has another last number than before
+named-differs : (old new : Parts) (row : Option ℕ) (number : Number) → Changes row number old new → (id : ℕ) → row ≡ Some id → last_in new id ≡ last_in old id → ⊥
+named-differs old new row number changes id named same =
+    let put = changes.put id named in
+    let now : last_in new id ≡ Some put.0.last = ap (option_map (λ (r : ControllerRow). r.last)) put.1 in
+    let was = some-from_map (λ (r : ControllerRow). r.last) (row_by_id id old.rows) put.0.last (sym same ∙ now) in
+    changes.fresh id was.0 named was.1 (was.2 ∙ put.2)
 
-abbrev touched_in : Option ℕ → List VolumeRow → List Change
-touched_in None rows = []
-touched_in (Some id) rows = shown_change (find (λ (r : VolumeRow). r.volume.id == id) rows)
-
--- what was touched is told by the rows as they are spelled
-touched-shown : (touched : Option ℕ) (rows : List ControllerRow) → touched_change touched rows ≡ touched_in touched (map volume_row rows)
-touched-shown None rows = refl
-touched-shown (Some id) rows = by (find (λ (r : ControllerRow). r.id == id) rows) ∙ ap shown_change (sym (find-of_map (λ (r : VolumeRow). r.volume.id == id) volume_row rows))
+-- a row that was forgotten was there, and no row of its id is, unless it was made anew
+forgotten-differs : (old new : Parts) (row : Option ℕ) (number : Number) → AreRising old.rows → Changes row number old new → (id : ℕ) → IsAmong id (forgotten_by number old) → last_in new id ≡ last_in old id → ⊥
+forgotten-differs old new row number rising changes id among same = by row refl
   where
-    by : (o : Option ControllerRow) → row_change o ≡ shown_change (option_map volume_row o)
-    by None = refl
-    by (Some row) = refl
+    told : (row_by_id id (staying old.session number old.rows) ≡ None) × ((r : ControllerRow) × (row_by_id id old.rows ≡ Some r))
+    told = stay-nowhere (begins old.session number) id old.rows rising among
 
--- two controllers that show one state have the same parts
-pub same-parts : ControllerRowsLaw → (old new : Parts) (state : ControllerState) → AreOf old state → AreOf new state → controller_parts present new.next_id (map volume_row new.rows) ≡ controller_parts present old.next_id (map volume_row old.rows)
-same-parts law old new state of_it of_it_too =
-    ap (λ (n : ℕ). controller_parts present n (map volume_row new.rows)) (sym (law.next_id state old new of_it of_it_too))
-    ∙ ap (λ (rows : List VolumeRow). controller_parts present old.next_id rows) (all-shown old.rows new.rows (law.rows state old new of_it of_it_too))
+    gone : (o : Option ControllerRow) → IsCopyOf None o → o ≡ None
+    gone None copy = refl
+    gone (Some r) copy = absurd copy
 
--- two controllers that show one state have the same changes
-pub same-changes : ControllerRowsLaw → (old new : Parts) (state : ControllerState) (has_new_id : Bool) (touched : Option ℕ) → AreOf old state → AreOf new state
-    → head_change has_new_id new.next_id ++ touched_change touched new.rows ≡ head_change has_new_id old.next_id ++ touched_change touched old.rows
-same-changes law old new state has_new_id touched of_it of_it_too =
-    ap (λ (n : ℕ). head_change has_new_id n ++ touched_change touched new.rows) (sym (law.next_id state old new of_it of_it_too))
-    ∙ ap (λ (changes : List Change). head_change has_new_id old.next_id ++ changes)
-    (touched-shown touched new.rows ∙ ap (touched_in touched) (all-shown old.rows new.rows (law.rows state old new of_it of_it_too)) ∙ sym (touched-shown touched old.rows))
+    other : (row ≡ Some id → ⊥) → ⊥
+    other differs =
+        let nowhere : row_by_id id new.rows ≡ None = gone (row_by_id id new.rows) (subst (λ (o : Option ControllerRow). IsCopyOf o (row_by_id id new.rows)) told.0 (changes.others id differs)) in
+        some_is_not_none told.1.0.last (sym (ap (option_map (λ (r : ControllerRow). r.last)) told.1.1) ∙ sym same ∙ ap (option_map (λ (r : ControllerRow). r.last)) nowhere)
+
+    either : (key : ℕ) (b : Bool) → (key == id) ≡ b → row ≡ Some key → ⊥
+    either key true t e = named-differs old new row number changes id (e ∙ ap Some (eqb-true key id t)) same
+    either key false t e = other (λ own. let k : key ≡ id = same_Some key id (sym e ∙ own) in grind (arith, nat_tests))
+
+    by : (o : Option ℕ) → row ≡ o → ⊥
+    by None e = other (λ own. some_is_not_none id (sym own ∙ e))
+    by (Some key) e = either key (key == id) refl e
+
+-- each row that is told has another last number than before, or none
+pub rows-differ : (old new : Parts) (forgotten : List ℕ) (row : Option ℕ) (number : Number) → AreRising old.rows → forgotten ≡ forgotten_by number old → Changes row number old new
+    → (id : ℕ) → IsAmong id forgotten ⊎ (row ≡ Some id) → last_in new id ≢ last_in old id
+rows-differ old new forgotten row number rising are changes id (inl among) = forgotten-differs old new row number rising changes id (subst (IsAmong id) are among)
+rows-differ old new forgotten row number rising are changes id (inr named) = named-differs old new row number changes id named
+
+-- ---- what is told
+
+-- whether what was read of two heads is the same tells whether the heads are
+pub heads-tell : (same : Bool) (n s m t : ℕ) (old new : Parts) → n ≡ old.next_id → s ≡ old.session → m ≡ new.next_id → t ≡ new.session → IsTrue same ↔ (◌≡◌ {A = ℕ × ℕ} (m, t) (n, s))
+    → IsTrue same ↔ (◌≡◌ {A = ℕ × ℕ} (new.next_id, new.session) (old.next_id, old.session))
+heads-tell same n s m t old new is_n is_s is_m is_t tells =
+    let before : ◌≡◌ {A = ℕ × ℕ} (n, s) (old.next_id, old.session) = λ i. (is_n i, is_s i) in
+    let after : ◌≡◌ {A = ℕ × ℕ} (m, t) (new.next_id, new.session) = λ i. (is_m i, is_t i) in
+    (λ yes. sym after ∙ tells.0 yes ∙ before, λ e. tells.1 (after ∙ e ∙ sym before))
+
+-- a head that isn't told as new is the same
+pub head-stays : (same : Bool) (old new : Parts) → IsTrue same ↔ (◌≡◌ {A = ℕ × ℕ} (new.next_id, new.session) (old.next_id, old.session)) → not same ≡ false
+    → ◌≡◌ {A = ℕ × ℕ} (new.next_id, new.session) (old.next_id, old.session)
+head-stays true old new tells e = tells.0 refl
+head-stays false old new tells e = absurd cc
+
+-- all that is told is other than it was
+pub all-differ : (old new : Parts) (changed : Changed) (number : Number) (same : Bool) → AreRising old.rows → changed.new_head ≡ not same → IsTrue same ↔ (◌≡◌ {A = ℕ × ℕ} (new.next_id, new.session) (old.next_id, old.session))
+    → changed.forgotten.items ≡ forgotten_by number old → Changes changed.row number old new → ControllerDiffers changed old new
+all-differ old new changed number same rising is tells are changes = record {
+  head = λ e equal. let yes : same ≡ true = tells.1 equal in let no : not same ≡ true = sym is ∙ e in cc;
+  rows = rows-differ old new changed.forgotten.items changed.row number rising are changes;
+}

@@ -1,7 +1,13 @@
+pub mod SoFar
 pub mod LoadedParts
 pub mod OpeningAnswers
-pub mod NodeSteps
 pub mod RisingParts
+pub mod StayingRows
 pub mod ControllerChanges
+pub mod SameShown
+pub mod NodeChanges
+pub mod SameNode
+pub mod RecordParts
 pub mod RenewedParts
 pub mod MadeCores
+pub mod AnsweredFrames

@@ -1,18 +1,22 @@
 -- What is made of the parts of a store: a core with their record, and what has to be committed.
-use Rattle.std.proofs.Common.{◌≡◌, ◌∙◌, ◌⊎◌, ℕ, List, [], ◌∷◌, map, None, Some, sym, ap, subst, refl, inl, inr, arith}
-use Rattle.csi_frames.specs.declared.version.Version.{Version}
+use Rattle.std.proofs.Common.{◌≡◌, ◌∙◌, ◌⊎◌, ℕ, true, List, [], ◌∷◌, map, None, Some, sym, ap, subst, refl, inl, inr, arith}
+use Rattle.std.specs.Prelude.{Option}
+use Rattle.csi_controller.specs.declared.row.ControllerRow.{ControllerRow}
 use Rattle.csi_controller.specs.Views.{RecordParts}
+use Rattle.csi_node.specs.declared.row.NodeRow.{NodeRow}
 use Rattle.csi_node.specs.OneRow.{shown}
 use Rattle.csi_node.specs.Record.{NodeParts}
 use Rattle.csi_stores.specs.Part.{StoredPart, Change, put_all}
-use Rattle.csi_stores.specs.Content.{all_changed}
+use Rattle.csi_stores.specs.Content.{all_changed, IsRising}
 use Rattle.csi_types.specs.Text.{IsNodeId}
 use Rattle.csi_records.specs.declared.fault.RecordStop.{RecordStop}
 use Rattle.csi_records.specs.declared.fault.RecordStop.TheVariants as stops
+use Rattle.csi_records.specs.declared.version.RecordVersion.{RecordVersion}
 use Rattle.csi_records.specs.Spelling.{present, controller_head, controller_parts, node_head, node_parts, volume_row}
-use Rattle.csi_records.specs.Records.{controller_layout, node_layout, IsRecordOf, IsInSome, IsRefusedAt}
+use Rattle.csi_records.specs.Records.{controller_layout, node_layout, controller_of, node_of, IsSessionIf, IsRecordOf, IsControllerOf, IsNodeOf, IsInSome, IsRefusedAt}
 use Rattle.csi_service.specs.Opening.{Records, controller_records, node_records, IsMade, IsUnmade, IsRenewal}
-use Rattle.csi_service.proofs.RenewedParts.{controller-renewed, node-renewed, of-node, node-wanted}
+use Rattle.csi_service.proofs.RecordParts.{controller-rising, node-rising, node-wanted}
+use Rattle.csi_service.proofs.RenewedParts.{all-renewed}
 
 module _ {X : Type 0} (records : Records X) (head : StoredPart) where
   -- a new one, of no parts
@@ -22,75 +26,98 @@ module _ {X : Type 0} (records : Records X) (head : StoredPart) where
     leads = inr (inl (none, are), ap (λ (cs : List Change). all_changed cs found) put ∙ ap (all_changed (put_all (head ∷ []))) none ∙ sym are);
   }
 
-  -- one with the record that was read, whose parts in the present one are put in over those that were there
-  pub made-read : (found now : List StoredPart) (changes : List Change) (version : Version) (kept : X)
-      → (records.are present (records.parts_of present kept) → all_changed (put_all (records.parts_of present kept)) (records.parts_of version kept) ≡ records.parts_of present kept)
-      → records.are version found → found ≡ records.parts_of version kept → now ≡ records.parts_of present kept → IsRenewal records.are records.parts_of version kept changes → IsMade records head found now changes
-  made-read found now changes version kept over there are same (inl already) =
-      let found_present : found ≡ records.parts_of present kept = are ∙ ap (λ (v : Version). records.parts_of v kept) already.0 in
-      let is : records.are present found = subst (λ (v : Version). records.are v found) already.0 there in
-      let as_it_was : now ≡ found = same ∙ sym found_present in
+  -- one with the record that was read, whose parts are put in over those that were there, and what they lack is taken out
+  pub made-read : (found now : List StoredPart) (changes : List Change) (version : RecordVersion) (kept : X) → IsRising found → (records.are present (records.parts_of kept) → IsRising (records.parts_of kept))
+      → (records.are_of present found kept → found ≡ records.parts_of kept) → records.are version found → records.are_of version found kept → now ≡ records.parts_of kept
+      → IsRenewal records.are records.parts_of version found kept changes → IsMade records head found now changes
+  made-read found now changes version kept rising rising_too own there tell same (inl already) =
+      let as_it_was : now ≡ found = same ∙ sym (own (subst (λ (v : RecordVersion). records.are_of v found kept) already.0 tell)) in
+      let is : records.are present found = subst (λ (v : RecordVersion). records.are v found) already.0 there in
       record { is = subst (records.are present) (sym as_it_was) is; leads = inl (already.1, is, as_it_was) }
-  made-read found now changes version kept over there are same (inr earlier) =
+  made-read found now changes version kept rising rising_too own there tell same (inr earlier) =
       record {
         is = subst (records.are present) (sym same) earlier.2;
         leads = inr (
-          inr (record { version = version; earlier = earlier.0; stored = there; kept = kept; was = are; is = same }),
-          ap (λ (cs : List Change). all_changed cs found) earlier.1 ∙ ap (all_changed (put_all (records.parts_of present kept))) are ∙ over earlier.2 ∙ sym same,
+          inr (record { version = version; earlier = earlier.0; stored = there; kept = kept; was = tell; is = same }),
+          ap (λ (cs : List Change). all_changed cs found) earlier.1 ∙ all-renewed found (records.parts_of kept) rising (rising_too earlier.2) ∙ sym same,
         );
       }
 
 -- ---- of each plugin
 
+-- parts in the present version are those of the record that they are read as
+controller-own : (next_id : ℕ) (session : Option ℕ) (rows : List ControllerRow) (kept : RecordParts) (found : List StoredPart) → IsSessionIf true session → kept ≡ controller_of next_id session rows
+    → found ≡ controller_parts present next_id session (map volume_row rows) → found ≡ controller_parts present kept.next_id (Some kept.session) (map volume_row kept.rows)
+controller-own next_id None rows kept found fits is are = absurd fits
+controller-own next_id (Some session) rows kept found fits is are = are ∙ sym (ap (λ (k : RecordParts). controller_parts present k.next_id (Some k.session) (map volume_row k.rows)) is)
+
 -- a controller's record that was read
-pub controller-made : (found now : List StoredPart) (changes : List Change) (version : Version) (kept : RecordParts)
-    → IsRecordOf (controller_layout version) found × (found ≡ controller_parts version kept.next_id (map volume_row kept.rows)) → now ≡ controller_parts present kept.next_id (map volume_row kept.rows)
-    → IsRenewal (λ v. IsRecordOf (controller_layout v)) (λ v (k : RecordParts). controller_parts v k.next_id (map volume_row k.rows)) version kept changes
-    → IsMade controller_records (controller_head present 1) found now changes
+pub controller-made : (found now : List StoredPart) (changes : List Change) (version : RecordVersion) (kept : RecordParts)
+    → IsRecordOf (controller_layout version) found × IsControllerOf version found kept → now ≡ controller_parts present kept.next_id (Some kept.session) (map volume_row kept.rows)
+    → IsRenewal (λ v. IsRecordOf (controller_layout v)) (λ (k : RecordParts). controller_parts present k.next_id (Some k.session) (map volume_row k.rows)) version found kept changes
+    → IsMade controller_records (controller_head present 1 (Some 0)) found now changes
 controller-made found now changes version kept read same renewal =
-    made-read controller_records (controller_head present 1) found now changes version kept (controller-renewed version kept.next_id (map volume_row kept.rows)) read.0 read.1 same renewal
+    made-read controller_records (controller_head present 1 (Some 0)) found now changes version kept (controller-rising version found read.0)
+    (controller-rising present (controller_parts present kept.next_id (Some kept.session) (map volume_row kept.rows)))
+    (λ tell. controller-own tell.head.own tell.head.session tell.rows kept found tell.spelled.head_fits.session tell.is tell.spelled.are)
+    read.0 read.1 same renewal
+
+node-own : (id : List ℕ) (session : Option ℕ) (rows : List NodeRow) (kept : NodeParts) (found : List StoredPart) → IsSessionIf true session → kept ≡ node_of id session rows
+    → found ≡ node_parts present id session (map shown rows) → found ≡ node_parts present kept.id (Some kept.session) (map shown kept.rows)
+node-own id None rows kept found fits is are = absurd fits
+node-own id (Some session) rows kept found fits is are = are ∙ sym (ap (λ (k : NodeParts). node_parts present k.id (Some k.session) (map shown k.rows)) is)
+
+-- a record that was read is of the node that was asked for
+pub of-node : (version : RecordVersion) (id : List ℕ) (found : List StoredPart) (kept : NodeParts) → IsNodeOf version (Some id) found kept → kept.id ≡ id
+of-node version id found kept tell = ap (λ (k : NodeParts). k.id) tell.is ∙ by tell.head.session ∙ tell.spelled.head_fits.own.1
+  where
+    by : (session : Option ℕ) → (node_of tell.head.own session tell.rows).id ≡ tell.head.own
+    by None = refl
+    by (Some session) = refl
 
 -- what is committed of a node's record, as that of the node that was asked for
-asked : (id : List ℕ) (version : Version) (kept : NodeParts) (changes : List Change) → kept.id ≡ id
-    → IsRenewal (λ v. IsRecordOf (node_layout v None)) (λ v (k : NodeParts). node_parts v k.id (map shown k.rows)) version kept changes
-    → IsRenewal (λ v. IsRecordOf (node_layout v (Some id))) (λ v (k : NodeParts). node_parts v k.id (map shown k.rows)) version kept changes
-asked id version kept changes own (inl already) = inl already
-asked id version kept changes own (inr earlier) =
-    inr (earlier.0, earlier.1, subst (λ (n : List ℕ). IsRecordOf (node_layout present (Some n)) (node_parts present kept.id (map shown kept.rows))) own (node-wanted kept.id (map shown kept.rows) earlier.2))
+asked : (id : List ℕ) (version : RecordVersion) (found : List StoredPart) (kept : NodeParts) (changes : List Change) → kept.id ≡ id
+    → IsRenewal (λ v. IsRecordOf (node_layout v None)) (λ (k : NodeParts). node_parts present k.id (Some k.session) (map shown k.rows)) version found kept changes
+    → IsRenewal (λ v. IsRecordOf (node_layout v (Some id))) (λ (k : NodeParts). node_parts present k.id (Some k.session) (map shown k.rows)) version found kept changes
+asked id version found kept changes own (inl already) = inl already
+asked id version found kept changes own (inr earlier) =
+    inr (earlier.0, earlier.1, subst (λ (n : List ℕ). IsRecordOf (node_layout present (Some n)) (node_parts present kept.id (Some kept.session) (map shown kept.rows))) own (node-wanted kept.id (Some kept.session) (map shown kept.rows) earlier.2))
 
 -- a node's record that was read
-pub node-made : (id : List ℕ) (found now : List StoredPart) (changes : List Change) (version : Version) (kept : NodeParts)
-    → IsRecordOf (node_layout version (Some id)) found × (found ≡ node_parts version kept.id (map shown kept.rows)) → now ≡ node_parts present kept.id (map shown kept.rows)
-    → IsRenewal (λ v. IsRecordOf (node_layout v None)) (λ v (k : NodeParts). node_parts v k.id (map shown k.rows)) version kept changes
-    → IsMade (node_records id) (node_head present id) found now changes
+pub node-made : (id : List ℕ) (found now : List StoredPart) (changes : List Change) (version : RecordVersion) (kept : NodeParts)
+    → IsRecordOf (node_layout version (Some id)) found × IsNodeOf version (Some id) found kept → now ≡ node_parts present kept.id (Some kept.session) (map shown kept.rows)
+    → IsRenewal (λ v. IsRecordOf (node_layout v None)) (λ (k : NodeParts). node_parts present k.id (Some k.session) (map shown k.rows)) version found kept changes
+    → IsMade (node_records id) (node_head present id (Some 0)) found now changes
 node-made id found now changes version kept read same renewal =
-    let own : kept.id ≡ id = of-node version id kept.id (map shown kept.rows) (subst (IsRecordOf (node_layout version (Some id))) read.1 read.0) in
-    made-read (node_records id) (node_head present id) found now changes version kept (node-renewed (Some id) version kept.id (map shown kept.rows)) read.0 read.1 same (asked id version kept changes own renewal)
+    made-read (node_records id) (node_head present id (Some 0)) found now changes version kept (node-rising version (Some id) found read.0)
+    (node-rising present (Some id) (node_parts present kept.id (Some kept.session) (map shown kept.rows)))
+    (λ tell. node-own tell.head.own tell.head.session tell.rows kept found tell.spelled.head_fits.session tell.is tell.spelled.are)
+    read.0 read.1 same (asked id version found kept changes (of-node version id found kept read.1) renewal)
 
 -- ---- records without rows
 
--- a head with the next id 1 alone is a controller's record
-pub new-controller : IsRecordOf (controller_layout present) (controller_head present 1 ∷ [])
+-- a head with the next id 1 and no session alone is a controller's record
+pub new-controller : IsRecordOf (controller_layout present) (controller_head present 1 (Some 0) ∷ [])
 new-controller = record {
-  first = 1;
+  first = record { own = 1; session = Some 0 };
   rows = [];
   spelled = record {
-    head_fits = omega arith;
+    head_fits = record { own = omega arith; session = omega arith };
     rows_fit = tt;
-    rules = ([], refl, record { limit = omega arith; each = tt; rising = tt; names = λ name. tt });
+    rules = ([], refl, (record { limit = omega arith; each = tt; rising = tt; names = λ name. tt }, tt));
     are = refl;
   };
 }
 
 -- a node's head alone is its record
-pub new-node : (id : List ℕ) → IsNodeId id → IsRecordOf (node_layout present (Some id)) (node_head present id ∷ [])
+pub new-node : (id : List ℕ) → IsNodeId id → IsRecordOf (node_layout present (Some id)) (node_head present id (Some 0) ∷ [])
 new-node id fits = record {
-  first = id;
+  first = record { own = id; session = Some 0 };
   rows = [];
   spelled = record {
-    head_fits = (fits, refl);
+    head_fits = record { own = (fits, refl); session = omega arith };
     rows_fit = tt;
-    rules = record { rising = λ i j less inside. absurd (omega arith); limit = omega arith; each = λ k d inside. absurd (omega arith) };
+    rules = (record { rising = λ i j less inside. absurd (omega arith); limit = omega arith; each = λ k d inside. absurd (omega arith) }, λ k d inside. absurd (omega arith));
     are = refl;
   };
 }

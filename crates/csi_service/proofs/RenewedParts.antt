@@ -1,123 +1,122 @@
--- Parts that are put in, each under the key of one that is there, are all that is there then; the parts of a record are put in so over those
--- of the same record in another version.
-use Rattle.std.proofs.Common.{◌≡◌, ◌∙◌, sym, ap, subst, refl, ℕ, zero, suc, ◌<◌, List, [], ◌∷◌, map, length, None, Some, arith}
-use Rattle.std.specs.Prelude.{Option}
-use Rattle.std.specs.List.{AllByRecursion}
-use Rattle.csi_frames.specs.declared.version.Version.{Version}
-use Rattle.csi_frames.specs.Spelling.{text}
-use Rattle.csi_node.specs.OneRow.{RowShown}
-use Rattle.csi_node.specs.Record.{id_at}
-use Rattle.csi_node.proofs.RecordRules.{IsRising as IsRisingById}
-use Rattle.csi_stores.specs.Part.{StoredPart, put_all}
-use Rattle.csi_stores.specs.Content.{put_in, all_changed, IsRising}
-use Rattle.csi_stores.proofs.RisingChanges.{AreAbove}
-use Rattle.csi_records.specs.Spelling.{present, VolumeRow, volume_part, controller_parts, answered_part, node_parts}
-use Rattle.csi_records.specs.Records.{controller_layout, node_layout, IsRecordOf, IsVolumeRow, IsAnsweredRow}
-use Rattle.csi_service.proofs.ControllerChanges.{rising-shown}
-use Rattle.csi_service.proofs.RisingParts.{put-head, put-row}
+-- Parts that are put in, and then those that they lack taken out, are all that is there.
+use Rattle.std.proofs.Common.{◌≡◌, ◌∙◌, sym, ap, refl, inl, inr, ℕ, Bool, true, false, List, [], ◌∷◌, ◌++◌}
+use Rattle.std.specs.Prelude.{Option, Some, None, not, ◌==◌, ◌||◌}
+use Rattle.std.proofs.lemmas.Bool.{eqb-true, eq-eqb, true≢false}
+use Rattle.std.proofs.lemmas.Option.{same_Some}
+use Rattle.csi_lists.specs.Members.{IsAmong}
+use Rattle.csi_lists.proofs.Members.{among-map, among-kept, among-find, in-map, in_filter}
+use Rattle.csi_lists.proofs.Options.{some_is_not_none}
+use Rattle.csi_lists.proofs.Searches.{find-filter, find-filtered, find-none_in_filter, find-missed, find-passes}
+use Rattle.csi_stores.specs.Part.{StoredPart, put_all, take_all}
+use Rattle.csi_stores.specs.Content.{put_in, take_out, all_changed, IsRising}
+use Rattle.csi_stores.proofs.RisingChanges.{rising-all}
+use Rattle.csi_service.specs.Opening.{has_key, left_out}
+use Rattle.csi_service.proofs.RisingParts.{part_at, at-own, at-other, none-below, same-parts, at-put_own, at-put_other}
+use Rattle.csi_service.proofs.StayingRows.{all-append}
 
--- ---- one part after another
+-- ---- what is found under a key, once parts are put in
 
--- parts above the first leave it in front
-behind : (first : StoredPart) (parts others : List StoredPart) → AreAbove first.key parts → all_changed (put_all parts) (first ∷ others) ≡ first ∷ all_changed (put_all parts) others
-behind first [] others above = refl
-behind first (part ∷ parts) others above = ap (all_changed (put_all parts)) (put-row first part others above.0) ∙ behind first parts (put_in part others) above.1
+-- under a key of none of them, what was there
+put-missed : (key : ℕ) (news olds : List StoredPart) → part_at key news ≡ None → part_at key (all_changed (put_all news) olds) ≡ part_at key olds
+put-missed key [] olds missed = refl
+put-missed key (new ∷ news) olds missed =
+    let first = find-missed (new.key == key) new (part_at key news) missed in
+    put-missed key news (put_in new olds) first.1 ∙ at-put_other new olds key first.0
 
--- two lists of parts have the same keys, one by one
-abbrev pub HaveSameKeys : List StoredPart → List StoredPart → Type 0
-HaveSameKeys [] [] = Unit {0}
-HaveSameKeys [] (new ∷ news) = ⊥
-HaveSameKeys (old ∷ olds) [] = ⊥
-HaveSameKeys (old ∷ olds) (new ∷ news) = (old.key ≡ new.key) × HaveSameKeys olds news
+-- under the key of one of them, that one
+put-found : (key : ℕ) (part : StoredPart) (news olds : List StoredPart) → IsRising news → part_at key news ≡ Some part → part_at key (all_changed (put_all news) olds) ≡ Some part
+put-found key part [] olds rising found = absurd (some_is_not_none part (sym found))
+put-found key part (new ∷ news) olds rising found = by (new.key == key) refl (put-found key part news (put_in new olds) rising.1)
+  where
+    by : (b : Bool) → (new.key == key) ≡ b → (part_at key news ≡ Some part → part_at key (all_changed (put_all news) (put_in new olds)) ≡ Some part)
+        → part_at key (all_changed (put_all news) (put_in new olds)) ≡ Some part
+    by true t rest =
+        let own : new.key ≡ key = eqb-true new.key key t in
+        let is : new ≡ part = same_Some new part (sym (at-own key new news t) ∙ found) in
+        put-missed key news (put_in new olds) (ap (λ (k : ℕ). part_at k news) (sym own) ∙ none-below new.key news rising.0)
+        ∙ ap (λ (k : ℕ). part_at k (put_in new olds)) (sym own) ∙ at-put_own new olds ∙ ap Some is
+    by false t rest = rest (sym (at-other key new news t) ∙ found)
 
--- where the keys are the same and rise, the new parts are all that is there
-pub all-renewed : (olds news : List StoredPart) → HaveSameKeys olds news → IsRising news → all_changed (put_all news) olds ≡ news
-all-renewed [] [] same rising = refl
-all-renewed [] (new ∷ news) same rising = absurd same
-all-renewed (old ∷ olds) [] same rising = absurd same
-all-renewed (old ∷ olds) (new ∷ news) same rising =
-    ap (all_changed (put_all news)) (put-head new old olds same.0) ∙ behind new news olds rising.0 ∙ ap (λ (parts : List StoredPart). new ∷ parts) (all-renewed olds news same.1 rising.1)
+-- ---- and once keys are taken out
 
--- parts of rows in two spellings that agree on the keys
-rows-keys : {R : Type 0} (old new : R → StoredPart) → ((row : R) → (old row).key ≡ (new row).key) → (rows : List R) → HaveSameKeys (map old rows) (map new rows)
-rows-keys old new same [] = tt
-rows-keys old new same (row ∷ rows) = (same row, rows-keys old new same rows)
+-- under none of them, what was there
+take-other : (key : ℕ) (keys : List ℕ) (parts : List StoredPart) → (IsAmong key keys → ⊥) → part_at key (all_changed (take_all keys) parts) ≡ part_at key parts
+take-other key [] parts other = refl
+take-other key (out ∷ keys) parts other =
+    take-other key keys (take_out out parts) (λ there. other (inr there))
+    ∙ find-filter (λ (part : StoredPart). part.key == key) (λ (part : StoredPart). not (part.key == out)) parts (λ part own. by part (part.key == out) refl own)
+  where
+    by : (part : StoredPart) (b : Bool) → (part.key == out) ≡ b → (part.key == key) ≡ true → not (part.key == out) ≡ true
+    by part true t own = absurd (other (inl (sym (eqb-true part.key key own) ∙ eqb-true part.key out t)))
+    by part false t own = ap not t
 
--- ---- a controller's
+-- where nothing was, nothing is
+take-none : (key : ℕ) (keys : List ℕ) (parts : List StoredPart) → part_at key parts ≡ None → part_at key (all_changed (take_all keys) parts) ≡ None
+take-none key [] parts none = none
+take-none key (out ∷ keys) parts none =
+    take-none key keys (take_out out parts) (find-none_in_filter (λ (part : StoredPart). part.key == key) (λ (part : StoredPart). not (part.key == out)) parts none)
 
--- keys of rows are above that of a head
-volumes-above : (version : Version) (rows : List VolumeRow) → AllByRecursion (IsVolumeRow version) rows → AreAbove 0 (map (volume_part present) rows)
-volumes-above version [] fit = tt
-volumes-above version (row ∷ rows) fit = (fit.0.id.from_one, volumes-above version rows fit.1)
+-- under one of them, nothing
+take-own : (key : ℕ) (keys : List ℕ) (parts : List StoredPart) → IsAmong key keys → part_at key (all_changed (take_all keys) parts) ≡ None
+take-own key [] parts among = absurd among
+take-own key (out ∷ keys) parts (inl own) =
+    take-none key keys (take_out out parts)
+    (find-filtered (λ (part : StoredPart). part.key == key) (λ (part : StoredPart). not (part.key == out)) parts (λ part stays. by part (part.key == key) refl stays))
+  where
+    by : (part : StoredPart) (b : Bool) → (part.key == key) ≡ b → not (part.key == out) ≡ true → (part.key == key) ≡ false
+    by part true t stays =
+        let same : (part.key == out) ≡ true = eq-eqb part.key out (eqb-true part.key key t ∙ own) in
+        absurd (true≢false (sym stays ∙ ap not same))
+    by part false t stays = t
+take-own key (out ∷ keys) parts (inr there) = take-own key keys (take_out out parts) there
 
-controller-rising : (parts : List StoredPart) → IsRecordOf (controller_layout present) parts → IsRising parts
-controller-rising parts is =
-    let rules = is.spelled.rules in
-    subst IsRising (sym is.spelled.are) (
-      volumes-above present is.rows is.spelled.rows_fit,
-      subst (λ (rows : List VolumeRow). IsRising (map (volume_part present) rows)) rules.1 (rising-shown rules.0 rules.2.rising),
-    )
+-- ---- which keys are left out
 
--- the parts of a controller's record, put in over those of the same record in any version, are all that is there
-pub controller-renewed : (version : Version) (next_id : ℕ) (rows : List VolumeRow) → IsRecordOf (controller_layout present) (controller_parts present next_id rows)
-    → all_changed (put_all (controller_parts present next_id rows)) (controller_parts version next_id rows) ≡ controller_parts present next_id rows
-controller-renewed version next_id rows is =
-    all-renewed (controller_parts version next_id rows) (controller_parts present next_id rows) (refl, rows-keys (volume_part version) (volume_part present) (λ row. refl) rows) (controller-rising (controller_parts present next_id rows) is)
+-- by what is found under a key
+has-found : (key : ℕ) (part : StoredPart) (parts : List StoredPart) → part_at key parts ≡ Some part → has_key key parts ≡ true
+has-found key part [] found = absurd (some_is_not_none part (sym found))
+has-found key part (other ∷ others) found = by (other.key == key) refl (has-found key part others)
+  where
+    by : (b : Bool) → (other.key == key) ≡ b → (part_at key others ≡ Some part → has_key key others ≡ true) → (b || has_key key others) ≡ true
+    by true t rest = refl
+    by false t rest = rest (sym (at-other key other others t) ∙ found)
 
--- ---- a node's
+has-missed : (key : ℕ) (parts : List StoredPart) → part_at key parts ≡ None → has_key key parts ≡ false
+has-missed key [] missed = refl
+has-missed key (other ∷ others) missed =
+    let first = find-missed (other.key == key) other (part_at key others) missed in
+    rw first.0 (has-missed key others first.1)
 
-answered-above : (low : ℕ) (rows : List RowShown) → ((place : ℕ) → place < length rows → low < id_at rows place) → AreAbove low (map (answered_part present) rows)
-answered-above low [] above = tt
-answered-above low (row ∷ rows) above = (above zero (omega arith), answered-above low rows (λ place within. above (suc place) (omega arith)))
+-- what the new parts have isn't left out, and what they lack is, where it was there
+not-left : (key : ℕ) (part : StoredPart) (olds news : List StoredPart) → part_at key news ≡ Some part → IsAmong key (left_out olds news) → ⊥
+not-left key part olds news found among =
+    let image = among-map (λ (p : StoredPart). p.key) _ key among in
+    let kept = among-kept (λ (p : StoredPart). not (has_key p.key news)) olds image.0 image.1 in
+    let there : has_key image.0.key news ≡ true = ap (λ (k : ℕ). has_key k news) (sym image.2) ∙ has-found key part news found in
+    true≢false (sym kept.1 ∙ ap not there)
 
-answered-rising : (rows : List RowShown) → IsRisingById rows → IsRising (map (answered_part present) rows)
-answered-rising [] rising = tt
-answered-rising (row ∷ rows) rising = (
-  answered-above row.id rows (λ place within. rising zero (suc place) (omega arith) (omega arith)),
-  answered-rising rows (λ i j less within. rising (suc i) (suc j) (omega arith) (omega arith)),
-)
+is-left : (key : ℕ) (old : StoredPart) (olds news : List StoredPart) → part_at key olds ≡ Some old → part_at key news ≡ None → IsAmong key (left_out olds news)
+is-left key old olds news found missed =
+    let own : old.key ≡ key = eqb-true old.key key (find-passes (λ (p : StoredPart). p.key == key) olds old found) in
+    let lacks : has_key old.key news ≡ false = ap (λ (k : ℕ). has_key k news) own ∙ has-missed key news missed in
+    rw (sym own) (in-map (λ (p : StoredPart). p.key) _ old
+    (in_filter (λ (p : StoredPart). not (has_key p.key news)) olds old (among-find (λ (p : StoredPart). p.key == key) olds old found) (ap not lacks)))
 
-rows-above : (version : Version) (rows : List RowShown) → AllByRecursion (IsAnsweredRow version) rows → AreAbove 0 (map (answered_part present) rows)
-rows-above version [] fit = tt
-rows-above version (row ∷ rows) fit = (fit.0.id.from_one, rows-above version rows fit.1)
+-- ---- all of them
 
-node-rising : (wanted : Option (List ℕ)) (parts : List StoredPart) → IsRecordOf (node_layout present wanted) parts → IsRising parts
-node-rising wanted parts is =
-    subst IsRising (sym is.spelled.are) (rows-above present is.rows is.spelled.rows_fit, answered-rising is.rows is.spelled.rules.rising)
+-- where keys rise, the new parts, put in, and then what they lack taken out, are all that is there
+pub all-renewed : (olds news : List StoredPart) → IsRising olds → IsRising news → all_changed (put_all news ++ take_all (left_out olds news)) olds ≡ news
+all-renewed olds news rising rising_too =
+    same-parts (all_changed (put_all news ++ take_all (left_out olds news)) olds) news (rising-all (put_all news ++ take_all (left_out olds news)) olds rising) rising_too
+    (λ key. ap (part_at key) (all-append (put_all news) (take_all (left_out olds news)) olds) ∙ by key (part_at key news) refl)
+  where
+    mid : List StoredPart
+    mid = all_changed (put_all news) olds
 
--- the parts of a node's record, put in over those of the same record in any version, are all that is there
-pub node-renewed : (wanted : Option (List ℕ)) (version : Version) (node : List ℕ) (rows : List RowShown) → IsRecordOf (node_layout present wanted) (node_parts present node rows)
-    → all_changed (put_all (node_parts present node rows)) (node_parts version node rows) ≡ node_parts present node rows
-node-renewed wanted version node rows is =
-    all-renewed (node_parts version node rows) (node_parts present node rows) (refl, rows-keys (answered_part version) (answered_part present) (λ row. refl) rows) (node-rising wanted (node_parts present node rows) is)
+    gone : (key : ℕ) → part_at key news ≡ None → (o : Option StoredPart) → part_at key olds ≡ o → part_at key (all_changed (take_all (left_out olds news)) mid) ≡ None
+    gone key missed None e = take-none key (left_out olds news) mid (put-missed key news olds missed ∙ e)
+    gone key missed (Some old) e = take-own key (left_out olds news) mid (is-left key old olds news e missed)
 
--- what stands behind the first two bytes of the first part
-abbrev behind_two : List ℕ → List ℕ
-behind_two [] = []
-behind_two (a ∷ []) = []
-behind_two (a ∷ b ∷ bytes) = bytes
-
-abbrev head_text : List StoredPart → List ℕ
-head_text [] = []
-head_text (part ∷ parts) = behind_two part.value
-
--- the node of a head is told by it
-same-node : (version : Version) (wanted : Option (List ℕ)) (node : List ℕ) (rows : List RowShown) → (is : IsRecordOf (node_layout version wanted) (node_parts version node rows)) → is.first ≡ node
-same-node version wanted node rows is = let heads : text is.first ≡ text node = sym (ap head_text is.spelled.are) in cc
-
--- a node's record in some version that is that of the node that is asked for
-pub of-node : (version : Version) (id node : List ℕ) (rows : List RowShown) → IsRecordOf (node_layout version (Some id)) (node_parts version node rows) → node ≡ id
-of-node version id node rows is = sym (same-node version (Some id) node rows is) ∙ is.spelled.head_fits.1
-
--- a node's record in the present version is the record of that node
-pub node-wanted : (node : List ℕ) (rows : List RowShown) → IsRecordOf (node_layout present None) (node_parts present node rows) → IsRecordOf (node_layout present (Some node)) (node_parts present node rows)
-node-wanted node rows is = record {
-  first = is.first;
-  rows = is.rows;
-  spelled = record {
-    head_fits = (is.spelled.head_fits.0, same-node present None node rows is);
-    rows_fit = is.spelled.rows_fit;
-    rules = is.spelled.rules;
-    are = is.spelled.are;
-  };
-}
+    by : (key : ℕ) (o : Option StoredPart) → part_at key news ≡ o → part_at key (all_changed (take_all (left_out olds news)) mid) ≡ part_at key news
+    by key (Some part) e = take-other key (left_out olds news) mid (not-left key part olds news e) ∙ put-found key part news olds rising_too e ∙ sym e
+    by key None e = gone key e (part_at key olds) refl ∙ sym e

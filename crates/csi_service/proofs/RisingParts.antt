@@ -1,11 +1,10 @@
--- Parts by rising key are told by the part under each key; so rows of which one is put in are parts of which one is.
-use Rattle.std.proofs.Common.{◌≡◌, ◌∙◌, sym, ap, subst, refl, ℕ, ◌<◌, Bool, true, false, List, [], ◌∷◌, map, arith}
-use Rattle.std.specs.Prelude.{Option, Some, None, find, option_map, nat_lt, ◌==◌}
+-- Parts by rising key are told by the part under each key.
+use Rattle.std.proofs.Common.{◌≡◌, ◌∙◌, sym, ap, subst, refl, ℕ, ◌<◌, Bool, true, false, List, [], ◌∷◌, arith}
+use Rattle.std.specs.Prelude.{Option, Some, None, find, nat_lt, ◌==◌}
 use Rattle.std.proofs.lemmas.Bool.{eqb-true}
 use Rattle.std.proofs.lemmas.Bool.Decides.{nat_tests}
 use Rattle.std.proofs.lemmas.Option.{same_Some}
 use Rattle.csi_lists.proofs.Options.{some_is_not_none}
-use Rattle.csi_lists.proofs.Searches.{find-of_map}
 use Rattle.csi_stores.specs.Part.{StoredPart}
 use Rattle.csi_stores.specs.Content.{put_in, IsRising}
 use Rattle.csi_stores.proofs.RisingChanges.{AreAbove, above-more, rising-put}
@@ -15,18 +14,18 @@ abbrev pub part_at : ℕ → List StoredPart → Option StoredPart
 part_at key parts = find (λ (part : StoredPart). part.key == key) parts
 
 -- ---- by whether the first part has the key
-at-own : (key : ℕ) (part : StoredPart) (parts : List StoredPart) → (part.key == key) ≡ true → part_at key (part ∷ parts) ≡ Some part
+pub at-own : (key : ℕ) (part : StoredPart) (parts : List StoredPart) → (part.key == key) ≡ true → part_at key (part ∷ parts) ≡ Some part
 at-own key part parts same = rw same refl
 
 -- under another key than the first part's, what is found is among the rest
-at-other : (key : ℕ) (part : StoredPart) (parts : List StoredPart) → (part.key == key) ≡ false → part_at key (part ∷ parts) ≡ part_at key parts
+pub at-other : (key : ℕ) (part : StoredPart) (parts : List StoredPart) → (part.key == key) ≡ false → part_at key (part ∷ parts) ≡ part_at key parts
 at-other key part parts differs = rw differs refl
 
 itself : (n : ℕ) → (n == n) ≡ true
 itself n = grind (arith, nat_tests)
 
 -- where all keys are above a key, nothing is found under it
-none-below : (key : ℕ) (parts : List StoredPart) → AreAbove key parts → part_at key parts ≡ None
+pub none-below : (key : ℕ) (parts : List StoredPart) → AreAbove key parts → part_at key parts ≡ None
 none-below key [] above = refl
 none-below key (part ∷ parts) above =
     let less : key < part.key = above.0 in
@@ -72,7 +71,7 @@ same-parts (x ∷ xs) (y ∷ ys) up up_too same = by (nat_lt x.key y.key) (nat_l
 -- ---- a part that is put in
 
 -- a part that was put in is found under its key
-at-put_own : (part : StoredPart) (parts : List StoredPart) → part_at part.key (put_in part parts) ≡ Some part
+pub at-put_own : (part : StoredPart) (parts : List StoredPart) → part_at part.key (put_in part parts) ≡ Some part
 at-put_own part [] = at-own part.key part [] (itself part.key)
 at-put_own part (other ∷ others) = by (nat_lt other.key part.key) (other.key == part.key) refl refl (at-put_own part others)
   where
@@ -84,7 +83,7 @@ at-put_own part (other ∷ others) = by (nat_lt other.key part.key) (other.key =
     by false false t u rest = rw (t, u) (at-own part.key part (other ∷ others) (itself part.key))
 
 -- a part that was put in leaves what is found under any other key
-at-put_other : (part : StoredPart) (parts : List StoredPart) (key : ℕ) → (part.key == key) ≡ false → part_at key (put_in part parts) ≡ part_at key parts
+pub at-put_other : (part : StoredPart) (parts : List StoredPart) (key : ℕ) → (part.key == key) ≡ false → part_at key (put_in part parts) ≡ part_at key parts
 at-put_other part [] key differs = at-other key part [] differs
 at-put_other part (other ∷ others) key differs = by (nat_lt other.key part.key) (other.key == part.key) refl refl (at-put_other part others key differs)
   where
@@ -109,16 +108,6 @@ put-there part old new up up_too own others = same-parts new (put_in part old) u
         let is : part.key ≡ key = eqb-true part.key key t in
         ap (λ (k : ℕ). part_at k new) (sym is) ∙ own ∙ sym (at-put_own part old) ∙ ap (λ (k : ℕ). part_at k (put_in part old)) is
     by key false t = others key t ∙ sym (at-put_other part old key t)
-
--- rows of which one is put in, by the key of each
-pub rows-put : {R : Type 0} (shown : R → StoredPart) (row : R) (old new : List R) → IsRising (map shown old) → IsRising (map shown new)
-    → find (λ (r : R). (shown r).key == (shown row).key) new ≡ Some row
-    → ((key : ℕ) → ((shown row).key == key) ≡ false → find (λ (r : R). (shown r).key == key) new ≡ find (λ (r : R). (shown r).key == key) old)
-    → map shown new ≡ put_in (shown row) (map shown old)
-rows-put shown row old new up up_too own others =
-    put-there (shown row) (map shown old) (map shown new) up up_too
-    (find-of_map (λ (part : StoredPart). part.key == (shown row).key) shown new ∙ ap (option_map shown) own)
-    (λ key differs. find-of_map (λ (part : StoredPart). part.key == key) shown new ∙ ap (option_map shown) (others key differs) ∙ sym (find-of_map (λ (part : StoredPart). part.key == key) shown old))
 
 -- ---- behind a head
 

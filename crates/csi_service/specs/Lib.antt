@@ -1,4 +1,6 @@
 pub mod Opening
+pub mod Calls
+pub mod Changed
 pub mod Services
 pub mod NodeServices
 pub mod WholeRecords

@@ -1,51 +1,56 @@
--- What opening a store finds and leaves: a record in the present version stays; no parts become the head of a new record, and a record
--- in an earlier version becomes the same record in the present one, in one commit. This profile's own.
-use Rattle.std.specs.Prelude.{◌≡◌, ◌≢◌, ◌⊎◌, ℕ, List, [], ◌∷◌, map, Some}
+-- What opening a store finds and leaves: a record in the present version stays; no parts become the head of a new record, and parts in
+-- an earlier version become the record that they are read as, in the present one, in one commit. This profile's own.
+use Rattle.std.specs.Prelude.{◌≡◌, ◌≢◌, ◌⊎◌, ℕ, ◌==◌, Bool, not, List, [], ◌∷◌, ◌++◌, map, filter, Some}
+use Rattle.std.specs.List.{list_any}
 use Rattle.csi_counted.specs.Counting.{HasRisen}
-use Rattle.csi_frames.specs.declared.version.Version.{Version}
+use Rattle.csi_records.specs.declared.version.RecordVersion.{RecordVersion}
 use Rattle.csi_controller.specs.Views.{RecordParts}
 use Rattle.csi_node.specs.OneRow.{shown}
 use Rattle.csi_node.specs.Record.{NodeParts}
 use Rattle.csi_stores.specs.declared.keep.KeepFault.{KeepFault}
 use Rattle.csi_stores.specs.declared.keep.KeepFault.TheVariants.{Device, NoMemory, BadRecord, Full}
-use Rattle.csi_stores.specs.Part.{StoredPart, Change, put_all}
+use Rattle.csi_stores.specs.Part.{StoredPart, Change, put_all, take_all}
 use Rattle.csi_stores.specs.Content.{all_changed}
 use Rattle.csi_stores.specs.Stores.{Store, IsOnly}
 use Rattle.csi_records.specs.declared.fault.RecordStop.{RecordStop}
 use Rattle.csi_records.specs.declared.fault.RecordStop.TheVariants as stops
 use Rattle.csi_records.specs.Spelling.{present, controller_parts, node_parts, volume_row}
-use Rattle.csi_records.specs.Records.{controller_layout, node_layout, IsRecordOf, IsInSome, IsRefusedAt}
+use Rattle.csi_records.specs.Records.{controller_layout, node_layout, IsRecordOf, IsControllerOf, IsNodeOf, IsInSome, IsRefusedAt}
 
--- the records of a plugin: which parts are one in a version, and what the parts of one are
+-- the records of a plugin: which parts are one in a version, and which record they are read as; and what the parts of a record are in the
+-- present version
 pub record Records (X : Type 0) : Type 1 where
-  pub are : Version → List StoredPart → Type 0
-  pub parts_of : Version → X → List StoredPart
+  pub are : RecordVersion → List StoredPart → Type 0
+  pub are_of : RecordVersion → List StoredPart → X → Type 0
+  pub parts_of : X → List StoredPart
 
 abbrev pub controller_records : Records RecordParts
 controller_records = record {
   are = λ version. IsRecordOf (controller_layout version);
-  parts_of = λ version kept. controller_parts version kept.next_id (map volume_row kept.rows);
+  are_of = IsControllerOf;
+  parts_of = λ kept. controller_parts present kept.next_id (Some kept.session) (map volume_row kept.rows);
 }
 
 -- those of the node of this id
 abbrev pub node_records : List ℕ → Records NodeParts
 node_records id = record {
   are = λ version. IsRecordOf (node_layout version (Some id));
-  parts_of = λ version kept. node_parts version kept.id (map shown kept.rows);
+  are_of = λ version. IsNodeOf version (Some id);
+  parts_of = λ kept. node_parts present kept.id (Some kept.session) (map shown kept.rows);
 }
 
 -- ---- what becomes of the parts
 
--- the old parts are a record in an earlier version, and the new ones the same record in the present one
+-- the old parts are a record in an earlier version, and the new ones those of the record that they are read as, in the present one
 pub record IsRenewed {X : Type 0} (records : Records X) (old new : List StoredPart) : Type 0 where
-  pub version : Version
+  pub version : RecordVersion
   pub earlier : version ≢ present
   pub stored : records.are version old
   pub kept : X
-  pub was : old ≡ records.parts_of version kept
-  pub is : new ≡ records.parts_of present kept
+  pub was : records.are_of version old kept
+  pub is : new ≡ records.parts_of kept
 
--- what the commit of opening makes: a head of no parts, and of a record in an earlier version the same in the present one
+-- what the commit of opening makes: a head of no parts, and of parts in an earlier version the record that they are read as
 abbrev pub Becomes : {X : Type 0} → Records X → StoredPart → List StoredPart → List StoredPart → Type 0
 Becomes records head old new = ((old ≡ []) × (new ≡ head ∷ [])) ⊎ IsRenewed records old new
 
@@ -86,10 +91,20 @@ pub record IsMade {X : Type 0} (records : Records X) (head : StoredPart) (found 
   pub is : records.are present now
   pub leads : ((changes ≡ []) × records.are present found × (now ≡ found)) ⊎ (Becomes records head found now × (all_changed changes found ≡ now))
 
--- what a record that was read in this version has to be committed: nothing where that is the present one, else all its parts in that
-abbrev pub IsRenewal : {X : Type 0} → (Version → List StoredPart → Type 0) → (Version → X → List StoredPart) → Version → X → List Change → Type 0
-IsRenewal Are parts_of version kept changes =
-    ((version ≡ present) × (changes ≡ [])) ⊎ ((version ≢ present) × (changes ≡ put_all (parts_of present kept)) × Are present (parts_of present kept))
+-- one of the parts has this key
+abbrev pub has_key : ℕ → List StoredPart → Bool
+has_key key parts = list_any (λ part. part.key == key) parts
+
+-- the keys of the first parts that the second ones lack
+abbrev pub left_out : List StoredPart → List StoredPart → List ℕ
+left_out olds news = map (λ part. part.key) (filter (λ part. not (has_key part.key news)) olds)
+
+-- what a record that was read of these parts in this version has to be committed: nothing where that is the present one, else all its
+-- parts, and what takes out those that it lacks
+abbrev pub IsRenewal : {X : Type 0} → (RecordVersion → List StoredPart → Type 0) → (X → List StoredPart) → RecordVersion → List StoredPart → X → List Change → Type 0
+IsRenewal Are parts_of version found kept changes =
+    ((version ≡ present) × (changes ≡ []))
+    ⊎ ((version ≢ present) × (changes ≡ put_all (parts_of kept) ++ take_all (left_out found (parts_of kept))) × Are present (parts_of kept))
 
 -- why nothing is made
 abbrev pub IsUnmade : {X : Type 0} → Records X → List StoredPart → RecordStop → Type 0

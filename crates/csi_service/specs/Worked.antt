@@ -4,6 +4,6 @@ use Rattle.csi_controller.specs.State.{empty_controller}
 use Rattle.csi_records.specs.Worked.{parts_of_state}
 use Rattle.csi_stores.specs.Content.{size_of}
 
--- the record of a controller that answered nothing takes 18 bytes of a store
+-- the record of a controller that answered nothing takes 26 bytes of a store
 abbrev pub EmptySize : Type 0
-EmptySize = size_of (parts_of_state empty_controller) ≡ 18
+EmptySize = size_of (parts_of_state empty_controller) ≡ 26

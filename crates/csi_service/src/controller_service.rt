@@ -1,8 +1,6 @@
 //! The controller plugin over a store.
-ghost use Rattle.std.specs.Prelude.{◌≡◌, ◌∷◌, ℕ, Some, [], map, option_map, IfOk, IfErr, OnErr, OnOk, Option};
-ghost use Rattle.std.specs.Option.{option_copied};
-ghost use Rattle.csi_types.specs.declared.call.Party.{Party as OneParty};
-ghost use Rattle.csi_types.specs.Frame.{IsAllowed};
+ghost use Rattle.std.specs.Prelude.{◌≡◌, ◌∷◌, ℕ, Some, None, [], map, IfOk, IfErr, OnErr, OnOk, Option};
+ghost use Rattle.csi_types.specs.Frame.{Frame as FrameParts, IsAllowed};
 ghost use Rattle.csi_types.specs.Lent.{lent_call, HasFitTexts};
 ghost use Rattle.csi_types.specs.Replies.{call_frame};
 ghost use Rattle.csi_frames.specs.Lent.{lent};
@@ -16,18 +14,25 @@ ghost use Rattle.csi_records.specs.Records.{controller_layout, AreParts};
 ghost use Rattle.csi_records.specs.Spelling.{present, controller_head, controller_parts, volume_row};
 ghost use Rattle.csi_stores.specs.Content.{all_changed};
 ghost use Rattle.csi_stores.specs.Keeping.{RefusesAt};
-ghost use Rattle.csi_serving.specs.Answering.{IsSpelledAs, Steps};
+ghost use Rattle.csi_serving.specs.Answering.{Steps};
+ghost use Rattle.csi_service.specs.Calls.{IsNoCallFor};
 ghost use Rattle.csi_service.specs.Opening.{controller_records, IsOpenFault, LeavesOpened, HasRecord};
-ghost use Rattle.csi_service.specs.Services.{controller_service_parts, controller_service_changes, ControllerAnswers, AllDiffer};
+ghost use Rattle.csi_service.specs.Services.{controller_service_parts, controller_service_changes, ControllerAnswers, ControllerDiffers};
 
-use crate::controller_changes::{Changed, NOTHING, answer, answer_call, push_row};
+use crate::calls::{call_for, texts_law};
+use crate::changed::{Changed, nothing};
+use crate::controller_changes::{answer_call, push_row};
 use crate::opening::{Opens, head_part, open, renewal};
+use crate::replies::{frame_of, spelled};
 use csi_controller::{Controller, ControllerRecord};
-use csi_frames::{FrameRef, encode_reply};
-use csi_records::{Record, RecordStop, Stored, controller_head_value};
+use csi_fence::Answer;
+use csi_frames::FrameRef;
+use csi_records::{Record, RecordStop, Stored, controller_head_value, push_removals};
 use csi_serving::Core;
 use csi_stores::{Keep, KeepFault, Part, push_value};
-use csi_types::{Body, CallRef, Config, Frame, Kind, NoMemory, Number, Party, Reply};
+use csi_types::{
+    Body, CallRef, CapabilityList, CapabilityRef, Config, Frame, NoMemory, Number, Party,
+};
 use std::alloc::Global;
 
 /// The controller plugin with its record, whose parts a store keeps. This profile's own.
@@ -41,14 +46,14 @@ pub struct ControllerService {
 
 // A controller that made no volume.
 fn begun(alloc: Global, config: Config) -> ControllerService
-    ensures parts { controller_service_parts result ≡ controller_head present 1 ∷ [] }
+    ensures parts { controller_service_parts result ≡ controller_head present 1 (Some 0) ∷ [] }
     ensures config { result.controller.config ≡ config }
     ensures changes { controller_service_changes result ≡ [] }
 {
     ControllerService {
         alloc,
         controller: Controller::new(alloc, config),
-        changed: NOTHING,
+        changed: nothing(alloc),
     }
 }
 
@@ -58,7 +63,7 @@ fn of_record(
     config: Config,
     kept: ControllerRecord,
 ) -> Result<ControllerService, NoMemory>
-    ensures parts { IfOk result (λ service. controller_service_parts service ≡ controller_parts present kept.next_id (map volume_row kept.rows)) }
+    ensures parts { IfOk result (λ service. controller_service_parts service ≡ controller_parts present kept.next_id (Some kept.session) (map volume_row kept.rows)) }
     ensures config { IfOk result (λ service. service.controller.config ≡ config) }
     ensures changes { IfOk result (λ service. controller_service_changes service ≡ []) }
 {
@@ -66,7 +71,7 @@ fn of_record(
         Ok(controller) => Ok(ControllerService {
             alloc,
             controller,
-            changed: NOTHING,
+            changed: nothing(alloc),
         }),
         Err(_) => Err(NoMemory),
     }
@@ -79,7 +84,7 @@ impl Opens for ControllerService {
 
     ghost records = { λ config. controller_records };
 
-    ghost head = { λ config. controller_head present 1 };
+    ghost head = { λ config. controller_head present 1 (Some 0) };
 
     ghost parts_of = { controller_service_parts };
 
@@ -91,12 +96,12 @@ impl Opens for ControllerService {
         parts: &[Part],
     ) -> Result<(ControllerService, Vec<Part>), RecordStop> {
         if parts.is_empty() {
-            let head = head_part(alloc, controller_head_value(alloc, 1)?)?;
+            let head = head_part(alloc, controller_head_value(alloc, 1, 0)?)?;
             return Ok((begun(alloc, config), head));
         }
         match ControllerRecord::of_parts(alloc, parts) {
             Ok(Stored { kept, version }) => {
-                let changed = renewal(alloc, version, &kept)?;
+                let changed = renewal(alloc, version, parts, &kept)?;
                 Ok((of_record(alloc, config, kept)?, changed))
             }
             Err(stop) => Err(stop),
@@ -107,7 +112,8 @@ impl Opens for ControllerService {
 impl ControllerService {
     /// The controller of the store's record, under this configuration, which need not be the one that the record was made under.
     /// A store without a part gets the head of an empty record first, and a record in an earlier version is put in whole in the
-    /// present one, in one commit, before the controller is given. Where the store's parts are no controller's record it answers
+    /// present one, in one commit, before the controller is given: under the greatest session of its last calls, and without the
+    /// volumes that a controller forgets where that session begins. Where the store's parts are no controller's record it answers
     /// `BadRecord` with the first that is refused, `Device` only where the device failed in this call, and `Full` only where
     /// what it would commit doesn't fit; what is left then is what was there, or what it would commit. This profile's own.
     pub fn open<K: Keep>(
@@ -115,62 +121,56 @@ impl ControllerService {
         config: Config,
         keep: &mut K,
     ) -> Result<ControllerService, KeepFault>
-        ensures opened { IfOk result (HasRecord controller_records controller_service_parts (K.store keep.old) (K.store keep.new) (controller_head present 1)) }
+        ensures opened { IfOk result (HasRecord controller_records controller_service_parts (K.store keep.old) (K.store keep.new) (controller_head present 1 (Some 0))) }
         ensures config { IfOk result (λ service. service.controller.config ≡ config) }
         ensures changes { IfOk result (λ service. controller_service_changes service ≡ []) }
-        ensures cause { IfErr result (IsOpenFault controller_records (K.store keep.old) (K.store keep.new) (controller_head present 1)) }
+        ensures cause { IfErr result (IsOpenFault controller_records (K.store keep.old) (K.store keep.new) (controller_head present 1 (Some 0))) }
         ensures honest { (K.store keep.new).honest → (K.store keep.old).honest }
         ensures foreign { (K.store keep.new).honest → (place : ℕ) → (K.store keep.old).foreign place → RefusesAt place result }
-        ensures left { LeavesOpened controller_records (K.store keep.old) (K.store keep.new) (controller_head present 1) }
+        ensures left { LeavesOpened controller_records (K.store keep.old) (K.store keep.new) (controller_head present 1 (Some 0)) }
     {
         open(alloc, config, keep)
     }
 }
 
-// The bytes of the frame of an answer, if there is one.
-fn spelled(
-    alloc: Global,
-    number: Number,
-    answer: Option<&(Kind, Reply)>,
-) -> Result<Option<Vec<u8>>, NoMemory>
-    ensures { IfOk result (IsSpelledAs (option_map (answer_frame number) (option_copied answer.entry))) }
-{
-    match answer {
-        Some((kind, reply)) => {
-            let mut bytes = Vec::new(alloc);
-            encode_reply(number, &Party::Controller, *kind, reply, &mut bytes)?;
-            Ok(Some(bytes))
-        }
-        None => Ok(None),
-    }
-}
-
 impl ControllerService {
-    // Answers a call, and gives the bytes of its reply, if it has one.
-    fn answer_lent(
-        &mut self,
-        number: Number,
-        call: &CallRef<'_>,
-    ) -> Result<Option<Vec<u8>>, NoMemory>
-        ensures answered { (party : OneParty) → IsAllowed party (Body.Call (lent_call call.now)) → HasFitTexts (lent_call call.now)
-            → IfOk result (Steps ControllerAnswers self.old (call_frame number party (lent_call call.now)) self.new) }
-        ensures parts { (party : OneParty) → IsAllowed party (Body.Call (lent_call call.now)) → HasFitTexts (lent_call call.now)
-            → OnOk result (controller_service_parts self.new ≡ all_changed (controller_service_changes self.new) (controller_service_parts self.old)) }
-        ensures nothing { (state : ControllerState) (party : OneParty) → Shows self.old.controller state → IsAllowed party (Body.Call (lent_call call.now)) → HasFitTexts (lent_call call.now)
-            → (fenced self.old.controller.config state (call_frame number party (lent_call call.now))).state ≡ state → OnOk result (controller_service_changes self.new ≡ []) }
+    // Answers a call of the controller, and notes what that changed.
+    fn answer_call(&mut self, number: Number, call: &CallRef<'_>) -> Result<Answer, NoMemory>
+        requires allowed { IsAllowed Party.Controller (Body.Call (lent_call call.now)) }
+        requires texts { HasFitTexts (lent_call call.now) }
+        ensures answered { IfOk result (λ answer. ControllerAnswers self.old (call_frame number Party.Controller (lent_call call.now)) (Some (answer_frame number answer)) self.new) }
+        ensures allowed { IfOk result (λ answer. IsAllowed Party.Controller (Body.Reply answer.kind answer.reply)) }
+        ensures parts { OnOk result (controller_service_parts self.new ≡ all_changed (controller_service_changes self.new) (controller_service_parts self.old)) }
+        ensures nothing { (state : ControllerState) → Shows self.old.controller state
+            → (fenced self.old.controller.config state (call_frame number Party.Controller (lent_call call.now))).state ≡ state → OnOk result (controller_service_changes self.new ≡ []) }
+        ensures config { self.new.controller.config ≡ self.old.controller.config }
+        ensures err { OnErr result (controller_service_parts self.new ≡ controller_service_parts self.old) }
+        ensures err_changes { OnErr result (controller_service_changes self.new ≡ controller_service_changes self.old) }
+        ensures differs { OnOk result (ControllerDiffers self.new.changed self.old.controller self.new.controller) }
     {
-        let (answer, told) = answer_call(self.alloc, &mut self.controller, number, call)?;
-        self.changed = told;
-        spelled(self.alloc, number, answer.as_ref())
+        let (answer, changed) = answer_call(self.alloc, &mut self.controller, number, call)?;
+        self.changed = changed;
+        Ok(answer)
+    }
+
+    // Notes that a frame that is no call for the controller changed nothing. It takes no memory.
+    fn pass(&mut self)
+        ensures answered { (frame : FrameParts) → IsNoCallFor Party.Controller frame → ControllerAnswers self.old frame None self.new }
+        ensures parts { controller_service_parts self.new ≡ all_changed (controller_service_changes self.new) (controller_service_parts self.old) }
+        ensures config { self.new.controller.config ≡ self.old.controller.config }
+        ensures changes { controller_service_changes self.new ≡ [] }
+        ensures differs { ControllerDiffers self.new.changed self.old.controller self.new.controller }
+    {
+        self.changed = nothing(self.alloc);
     }
 }
 
 impl Core for ControllerService {
     type Record = ControllerRecord;
 
-    ghost spells = { λ kept parts. AreParts (controller_layout present) kept.next_id (map volume_row kept.rows) parts };
+    ghost spells = { λ kept parts. AreParts (controller_layout present) (record { own = kept.next_id; session = Some kept.session }) (map volume_row kept.rows) parts };
 
-    ghost is_same = { λ one other. (one.next_id ≡ other.next_id) × (map volume_row one.rows ≡ map volume_row other.rows) };
+    ghost is_same = { λ one other. (one.next_id ≡ other.next_id) × (one.session ≡ other.session) × (map volume_row one.rows ≡ map volume_row other.rows) };
 
     ghost parts_of = { controller_service_parts };
 
@@ -184,14 +184,25 @@ impl Core for ControllerService {
         ensures answered { IfOk result (λ reply. ControllerAnswers self.old frame.now reply self.new) }
         ensures parts { OnOk result (controller_service_parts self.new ≡ all_changed (controller_service_changes self.new) (controller_service_parts self.old)) }
         ensures nothing { (state : ControllerState) → Shows self.old.controller state → (fenced self.old.controller.config state frame.now).state ≡ state → OnOk result (controller_service_changes self.new ≡ []) }
+        ensures config { self.new.controller.config ≡ self.old.controller.config }
         ensures err { OnErr result (controller_service_parts self.new ≡ controller_service_parts self.old) }
         ensures err_changes { OnErr result (controller_service_changes self.new ≡ controller_service_changes self.old) }
         // A part is told only where what it says is other than it was.
-        ensures differs { OnOk result (AllDiffer self.new.changed frame.now.body self.old.controller self.new.controller) }
+        ensures differs { OnOk result (ControllerDiffers self.new.changed self.old.controller self.new.controller) }
     {
-        let (reply, changed) = answer(&mut self.controller, frame)?;
-        self.changed = changed;
-        Ok(reply)
+        // the proof has to be told the types of a lent call's parts
+        let _parts: Option<(&CapabilityList, CapabilityRef<'_>)> = None;
+        match call_for(frame, &Party::Controller) {
+            Some(call) => {
+                texts_law(call);
+                let answer = self.answer_call(frame.number(), &call.lend())?;
+                Ok(Some(frame_of(frame.number(), Party::Controller, answer)))
+            }
+            None => {
+                self.pass();
+                Ok(None)
+            }
+        }
     }
 
     /// The call is answered with the texts that the frame lends, and the reply is spelled from its parts. A frame that leaves the
@@ -200,27 +211,45 @@ impl Core for ControllerService {
         ensures answered { IfOk result (Steps ControllerAnswers self.old (lent frame.now) self.new) }
         ensures parts { OnOk result (controller_service_parts self.new ≡ all_changed (controller_service_changes self.new) (controller_service_parts self.old)) }
         ensures nothing { (state : ControllerState) → Shows self.old.controller state → (fenced self.old.controller.config state (lent frame.now)).state ≡ state → OnOk result (controller_service_changes self.new ≡ []) }
+        ensures differs { OnOk result (ControllerDiffers self.new.changed self.old.controller self.new.controller) }
+        ensures config { self.new.controller.config ≡ self.old.controller.config }
     {
+        if !frame.is_for(&Party::Controller) {
+            self.pass();
+            return Ok(None);
+        }
         let capabilities = frame.capabilities(self.alloc)?;
         match frame.call(&capabilities) {
-            Some(call) => self.answer_lent(frame.number(), &call),
+            Some(call) => {
+                let number = frame.number();
+                let answer = self.answer_call(number, &call)?;
+                let bytes = spelled(self.alloc, number, &Party::Controller, answer)?;
+                Ok(Some(bytes))
+            }
             None => {
-                self.changed = NOTHING;
+                self.pass();
                 Ok(None)
             }
         }
     }
 
-    /// The head where a volume was made, and the row of the one volume that was touched. The row is found by its id.
+    /// The head where a volume was made or a session began, what takes out the rows that were forgotten, and the row of the one volume
+    /// that was changed or made. The row is found by its id.
     fn parts(&self) -> Result<Vec<Part>, NoMemory>
         ensures { IfOk result (λ parts. map change_of parts.items ≡ controller_service_changes self.now) }
     {
         let mut parts = Vec::new(self.alloc);
-        if self.changed.has_new_id {
-            let value = controller_head_value(self.alloc, self.controller.next_id())?;
+        if self.changed.new_head {
+            let controller = &self.controller;
+            let value = controller_head_value(
+                self.alloc,
+                controller.next_id(),
+                controller.session(),
+            )?;
             push_value(&mut parts, 0, value)?;
         }
-        if let Some(id) = self.changed.touched {
+        push_removals(&mut parts, &self.changed.forgotten)?;
+        if let Some(id) = self.changed.row {
             push_row(self.alloc, &mut parts, &self.controller, id)?;
         }
         Ok(parts)

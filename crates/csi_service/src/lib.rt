@@ -2,10 +2,14 @@
 //! serving is public here too.
 #![tactic(auto)]
 
+mod calls;
+mod changed;
 mod controller_changes;
 mod controller_service;
+mod node_changes;
 mod node_service;
 mod opening;
+mod replies;
 mod whole_records;
 mod worked;
 

@@ -1,12 +1,12 @@
 //! A store, opened: its parts are judged, and the plugin is made of them, before anything is committed.
-ghost use Rattle.std.specs.Prelude.{◌≡◌, ◌∷◌, [], ℕ, List, map, IfOk, IfErr};
-ghost use Rattle.csi_stores.specs.Part.{StoredPart, all_stored_in, change_of, put_all};
+ghost use Rattle.std.specs.Prelude.{◌≡◌, ◌∷◌, ◌++◌, ◌==◌, [], ℕ, List, map, if◌then◌else◌, IfOk, IfErr, OnOk};
+ghost use Rattle.std.specs.List.{list_any};
+ghost use Rattle.csi_stores.specs.Part.{StoredPart, all_stored_in, change_of, put_all, take_all};
 ghost use Rattle.csi_stores.specs.Keeping.{RefusesAt};
-ghost use Rattle.csi_service.specs.Opening.{Records, HasRecord, IsOpenFault, LeavesOpened, IsMade, IsUnmade, IsRenewal};
+ghost use Rattle.csi_service.specs.Opening.{Records, HasRecord, IsOpenFault, LeavesOpened, IsMade, IsUnmade, IsRenewal, left_out};
 
-use csi_frames::Version;
-use csi_records::{Record, RecordStop, is_present};
-use csi_stores::{Keep, KeepFault, Part, push_value};
+use csi_records::{Record, RecordStop, RecordVersion, is_present};
+use csi_stores::{Keep, KeepFault, Part, push_removal, push_value};
 use csi_types::NoMemory;
 use std::alloc::Global;
 
@@ -51,18 +51,62 @@ pub(crate) fn head_part(alloc: Global, value: Vec<u8>) -> Result<Vec<Part>, NoMe
     Ok(parts)
 }
 
-/// What a record that was read in this version has to be committed: nothing where that is the present one, else all its parts in that.
+// Whether one of these parts has the key.
+fn has_key(parts: &[Part], key: u64) -> bool
+    ensures { result ≡ list_any (λ part. part.key == key) parts.now }
+{
+    parts.iter().any(|part| part.key == key)
+}
+
+// Puts the key at the end, unless one of these parts has it.
+fn push_unless(keys: &mut Vec<u64>, parts: &[Part], key: u64) -> Result<(), NoMemory>
+    ensures { OnOk result (keys.new.items ≡ keys.old.items ++ (if list_any (λ part. part.key == key) parts.now then [] else key ∷ [])) }
+{
+    if has_key(parts, key) {
+        return Ok(());
+    }
+    keys.push(key)?;
+    Ok(())
+}
+
+// The keys of the parts that were found, but for those that the record has a part of.
+fn left_out(alloc: Global, found: &[Part], parts: &[Part]) -> Result<Vec<u64>, NoMemory>
+    ensures { IfOk result (λ keys. keys.items ≡ left_out (all_stored_in found.now) (all_stored_in parts.now)) }
+{
+    let mut keys = Vec::new(alloc);
+    for part in found {
+        push_unless(&mut keys, parts, part.key)?;
+    }
+    Ok(keys)
+}
+
+// Puts at the end that the parts of these keys are taken out.
+fn push_keys(parts: &mut Vec<Part>, keys: &[u64]) -> Result<(), NoMemory>
+    ensures { OnOk result (map change_of parts.new.items ≡ map change_of parts.old.items ++ take_all keys.now) }
+{
+    for key in keys {
+        push_removal(parts, *key)?;
+    }
+    Ok(())
+}
+
+/// What a record that was read of these parts in this version has to be committed: nothing where that is the present one, else all its
+/// parts in that, and what takes out the rows that it left out.
 pub(crate) fn renewal<T: Record>(
     alloc: Global,
-    version: Version,
+    version: RecordVersion,
+    found: &[Part],
     kept: &T,
 ) -> Result<Vec<Part>, NoMemory>
-    ensures { IfOk result (λ parts. IsRenewal T.is_record T.parts_of version kept.now (map change_of parts.items)) }
+    ensures { IfOk result (λ parts. IsRenewal T.is_record T.parts_of version (all_stored_in found.now) kept.now (map change_of parts.items)) }
 {
     if is_present(version) {
         return Ok(Vec::new(alloc));
     }
-    kept.to_parts(alloc)
+    let mut parts = kept.to_parts(alloc)?;
+    let keys = left_out(alloc, found, &parts)?;
+    push_keys(&mut parts, &keys)?;
+    Ok(parts)
 }
 
 /// The plugin of what the store has. What is to be committed is committed before it is given.

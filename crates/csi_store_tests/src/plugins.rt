@@ -150,10 +150,10 @@ fn a_node_goes_on_and_another_one_is_refused(rt: HostRuntime) {
 
 #[test]
 fn a_store_that_is_full_ends_in_device(rt: HostRuntime) {
-    let mut small = MemoryKeep::new(rt.alloc(), 17);
+    let mut small = MemoryKeep::new(rt.alloc(), 25);
     assert!(&rt; ends(&rt, &mut small, (Controller, CALLS), Ending::Device, &[]));
     // Room for the head, and none for a row.
-    let mut enough = MemoryKeep::new(rt.alloc(), 18);
+    let mut enough = MemoryKeep::new(rt.alloc(), 26);
     assert!(&rt; ends(&rt, &mut enough, (Controller, CALLS), Ending::Device, &[]));
 }
 

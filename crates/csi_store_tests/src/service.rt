@@ -1,4 +1,4 @@
-//! Records as bytes, and stores that plugins are opened from.
+//! Stores that plugins are opened from, and records as bytes.
 mod beginnings;
 mod damaged;
 mod failing;
@@ -10,61 +10,25 @@ mod older;
 mod pieces;
 mod playing;
 mod plugins;
+mod records;
 mod shown;
 mod stops;
 mod stores;
+mod turns;
 
-use csi_controller::{Controller, ControllerRecord};
-use csi_frames::decode;
 use csi_json::read_config;
-use csi_node::NodeRecord;
-use csi_service::{
-    ControllerService, Keep, KeepFault, MemoryKeep, NodeService, Part, read_record, write_record,
-};
+use csi_service::{ControllerService, Keep, KeepFault, MemoryKeep, NodeService, Part};
 use csi_sqlite::SqliteKeep;
 use csi_types::{Config, NodeId};
 use sqlite::Connection;
-use std::alloc::Global;
 use std::process::Abort;
 
-// Creates `v` with at least 10 bytes, for one writing node.
-const CREATE: &[u8] = &[
-    0, 0, 0, 40, 1, 1, 0, 0, 0, 0, 0, 0, 0, 1, 0, 0, 0, 0, 0, 0, 0, 1, 0, 1, 118, 0, 0, 0, 0, 0, 0,
-    0, 10, 0, 0, 0, 0, 0, 0, 0, 0, 1, 0, 1,
-];
+// The heads of a new controller and of a new node `n1`; and that of the node once a call of session 1 came.
+const CONTROLLER_HEAD: &[u8] = &[3, 0, 0, 0, 0, 0, 0, 0, 0, 1, 0, 0, 0, 0, 0, 0, 0, 0];
 
-// The record of a controller that carried it out.
-const RECORD: &[u8] = &[
-    2, 0, 0, 0, 2, 0, 0, 0, 0, 0, 0, 0, 0, 0, 0, 0, 10, 2, 0, 0, 0, 0, 0, 0, 0, 0, 2, 0, 0, 0, 0,
-    0, 0, 0, 1, 0, 0, 0, 43, 2, 1, 1, 118, 0, 0, 0, 0, 0, 0, 0, 10, 1, 0, 1, 0, 0, 0, 0, 0, 0, 0,
-    0, 1, 0, 0, 0, 0, 0, 0, 0, 1, 129, 0, 0, 0, 0, 0, 0, 0, 0, 1, 0,
-];
+const NEW_NODE_HEAD: &[u8] = &[3, 1, 2, 110, 49, 0, 0, 0, 0, 0, 0, 0, 0];
 
-// The same record in version 1.
-const OLD_RECORD: &[u8] = &[
-    1, 0, 0, 0, 2, 0, 0, 0, 0, 0, 0, 0, 0, 0, 0, 0, 10, 1, 0, 0, 0, 0, 0, 0, 0, 0, 2, 0, 0, 0, 0,
-    0, 0, 0, 1, 0, 0, 0, 43, 1, 1, 1, 118, 0, 0, 0, 0, 0, 0, 0, 10, 1, 0, 1, 0, 0, 0, 0, 0, 0, 0,
-    0, 1, 0, 0, 0, 0, 0, 0, 0, 1, 129, 0, 0, 0, 0, 0, 0, 0, 0, 1, 0,
-];
-
-// The heads of a new controller and of a new node `n1`.
-const CONTROLLER_HEAD: &[u8] = &[2, 0, 0, 0, 0, 0, 0, 0, 0, 1];
-
-const NODE_HEAD: &[u8] = &[2, 1, 2, 110, 49];
-
-// The record of a node `n1` that staged volume 1 and published it at `/a`.
-const NODE_RECORD: &[u8] = &[
-    2, 0, 0, 0, 2, 0, 0, 0, 0, 0, 0, 0, 0, 0, 0, 0, 5, 2, 1, 2, 110, 49, 0, 0, 0, 0, 0, 0, 0, 1, 0,
-    0, 0, 36, 2, 1, 0, 1, 1, 2, 47, 97, 0, 0, 0, 0, 0, 0, 0, 0, 1, 0, 0, 0, 0, 0, 0, 0, 2, 135, 0,
-    0, 0, 0, 0, 0, 0, 0, 0, 0,
-];
-
-// The same record in version 1.
-const OLD_NODE_RECORD: &[u8] = &[
-    1, 0, 0, 0, 2, 0, 0, 0, 0, 0, 0, 0, 0, 0, 0, 0, 5, 1, 1, 2, 110, 49, 0, 0, 0, 0, 0, 0, 0, 1, 0,
-    0, 0, 36, 1, 1, 0, 1, 1, 2, 47, 97, 0, 0, 0, 0, 0, 0, 0, 0, 1, 0, 0, 0, 0, 0, 0, 0, 2, 135, 0,
-    0, 0, 0, 0, 0, 0, 0, 0, 0,
-];
+const NODE_HEAD: &[u8] = &[3, 1, 2, 110, 49, 0, 0, 0, 0, 0, 0, 0, 1];
 
 // The configuration that this says. It is refused for want of memory alone, and then read the second time.
 fn config(rt: &(impl Abort + AllocGlobal), text: &str) -> Config {
@@ -90,177 +54,6 @@ fn copied(rt: &(impl Abort + AllocGlobal), bytes: &[u8]) -> Vec<u8> {
     let mut copy = room(rt, bytes.len());
     copy.extend_from_slice(bytes).expect(rt, "room");
     copy
-}
-
-// What a controller that made `v` has recorded.
-fn recorded(rt: &(impl Abort + AllocGlobal)) -> ControllerRecord {
-    let (frame, _) = decode(rt.alloc(), CREATE).expect(rt, "a frame");
-    let mut controller = Controller::new(rt.alloc(), config(rt, NO_NODES));
-    let reply = controller.step(&frame).expect(rt, "memory");
-    drop((frame, reply));
-    let record = controller.record().expect(rt, "memory");
-    drop(controller);
-    record
-}
-
-// The bytes of a record.
-fn written(rt: &(impl Abort + AllocGlobal), record: &ControllerRecord) -> Vec<u8> {
-    write_record(rt.alloc(), record).expect(rt, "memory")
-}
-
-// Where the bytes are refused as a controller's record, if they are.
-fn refused_at(alloc: Global, bytes: &[u8]) -> Option<u64> {
-    match read_record::<ControllerRecord>(alloc, bytes) {
-        Err(KeepFault::BadRecord(place)) => Some(place),
-        _ => None,
-    }
-}
-
-// Where the bytes are refused as a node's record, if they are.
-fn node_refused_at(alloc: Global, bytes: &[u8]) -> Option<u64> {
-    match read_record::<NodeRecord>(alloc, bytes) {
-        Err(KeepFault::BadRecord(place)) => Some(place),
-        _ => None,
-    }
-}
-
-#[test]
-fn write_record_succeeds_with_memory(rt: HostRuntime) {
-    let record = recorded(&rt);
-    let bytes = written(&rt, &record);
-    drop(record);
-    assert!(&rt; bytes.as_slice() == RECORD);
-    drop(bytes);
-}
-
-// Whether the bytes are read as a record that is written as these.
-fn is_written_as(rt: &(impl Abort + AllocGlobal), bytes: &[u8], wanted: &[u8]) -> bool {
-    let record: ControllerRecord = read_record(rt.alloc(), bytes).expect(rt, "a record");
-    let is_volume = record.next_id() == 2 && record.rows().len() == 1;
-    let bytes = written(rt, &record);
-    drop(record);
-    let is_written = bytes.as_slice() == wanted;
-    drop(bytes);
-    is_volume && is_written
-}
-
-#[test]
-fn a_record_is_read_as_it_was_written(rt: HostRuntime) {
-    assert!(&rt; is_written_as(&rt, RECORD, RECORD));
-    assert!(&rt; is_written_as(&rt, OLD_RECORD, RECORD));
-}
-
-// A record with one byte in place of another.
-fn changed(rt: &(impl Abort + AllocGlobal), record: &[u8], at: usize, byte: u8) -> Vec<u8> {
-    let mut bytes = Vec::from_slice(rt.alloc(), record).expect(rt, "memory");
-    if at < bytes.len() {
-        bytes[at] = byte;
-    }
-    bytes
-}
-
-// A byte that is changed, and the part that is refused for it.
-const CHANGES: &[(usize, u8, u64)] = &[
-    // the version of all and of the head, and the number of parts
-    (0, 1, 0),
-    (0, 3, 0),
-    (17, 1, 0),
-    (17, 3, 0),
-    (4, 3, 2),
-    // a node's head, and a next id that is given already
-    (18, 1, 0),
-    (26, 1, 1),
-    // a row of another version, neither live nor deleted, with capacity 0, in mode 8
-    (39, 1, 1),
-    (39, 3, 1),
-    (40, 3, 1),
-    (50, 0, 1),
-    (53, 8, 1),
-    // no name, one that is no UTF-8, no capability, 65 nodes, and a detail that isn't there
-    (41, 0, 1),
-    (42, 255, 1),
-    (51, 0, 1),
-    (54, 65, 1),
-    (81, 1, 1),
-    // a reply of a node's
-    (71, 0x85, 1),
-];
-
-// The same of a record of version 1: the versions, a volume in mode 6, and what is refused in both.
-const OLD_CHANGES: &[(usize, u8, u64)] = &[
-    (0, 2, 0),
-    (17, 2, 0),
-    (39, 2, 1),
-    (53, 6, 1),
-    (4, 3, 2),
-    (18, 1, 0),
-    (26, 1, 1),
-    (50, 0, 1),
-    (71, 0x85, 1),
-];
-
-// A record is refused for each of these changes.
-fn are_refused(rt: &(impl Abort + AllocGlobal), record: &[u8], changes: &[(usize, u8, u64)]) {
-    for (at, byte, place) in changes {
-        let bytes = changed(rt, record, *at, *byte);
-        let refused = refused_at(rt.alloc(), bytes.as_slice());
-        drop(bytes);
-        assert!(rt; refused == Some(*place), "{byte} at {at}");
-    }
-}
-
-#[test]
-fn a_record_is_refused_at_its_first_bad_part(rt: HostRuntime) {
-    are_refused(&rt, RECORD, CHANGES);
-    are_refused(&rt, OLD_RECORD, OLD_CHANGES);
-}
-
-// A byte of a node's record that is changed, and the part that is refused for it.
-const NODE_CHANGES: &[(usize, u8, u64)] = &[
-    // the version of all and of the head, and the number of parts
-    (0, 1, 0),
-    (17, 1, 0),
-    (4, 3, 2),
-    // a controller's head, an empty node id, and a key that is there already
-    (18, 0, 0),
-    (19, 0, 0),
-    (29, 0, 1),
-    // a row of another version, neither staged nor not, in mode 8, with no target of one, with a flag of 2
-    (34, 1, 1),
-    (35, 2, 1),
-    (37, 8, 1),
-    (38, 0, 1),
-    (42, 2, 1),
-    // a reply of the controller's, with a status above 16, and with an id
-    (59, 129, 1),
-    (60, 17, 1),
-    (68, 1, 1),
-    // an id that is no UTF-8, no target, one that is no UTF-8, and 17 of them
-    (20, 255, 0),
-    (39, 0, 1),
-    (41, 255, 1),
-    (38, 17, 1),
-];
-
-#[test]
-fn a_node_record_is_refused_at_its_first_bad_part(rt: HostRuntime) {
-    assert!(&rt; node_refused_at(rt.alloc(), NODE_RECORD).is_none());
-    assert!(&rt; node_refused_at(rt.alloc(), OLD_NODE_RECORD).is_none());
-    for (at, byte, place) in NODE_CHANGES {
-        let bytes = changed(&rt, NODE_RECORD, *at, *byte);
-        let refused = node_refused_at(rt.alloc(), bytes.as_slice());
-        drop(bytes);
-        assert!(&rt; refused == Some(*place));
-    }
-}
-
-#[test]
-fn bytes_behind_a_record_have_the_number_of_parts_as_place(rt: HostRuntime) {
-    let mut bytes = Vec::from_slice(rt.alloc(), RECORD).expect(&rt, "memory");
-    bytes.push(0).expect(&rt, "memory");
-    assert!(&rt; refused_at(rt.alloc(), bytes.as_slice()) == Some(2));
-    assert!(&rt; refused_at(rt.alloc(), &[]) == Some(0));
-    drop(bytes);
 }
 
 // Whether a part has this key and this value.
@@ -352,18 +145,18 @@ fn open_succeeds_with_memory(rt: HostRuntime) {
     drop(first);
     let mut second = MemoryKeep::new(rt.alloc(), 1000);
     assert!(&rt; node_fault(&rt, &mut second, "n1").is_none());
-    assert!(&rt; has_head(&mut second, NODE_HEAD));
+    assert!(&rt; has_head(&mut second, NEW_NODE_HEAD));
     drop(second);
 }
 
 const AT_HEAD: Option<KeepFault> = Some(KeepFault::BadRecord(0));
 
 #[test]
-fn a_head_fits_in_18_bytes(rt: HostRuntime) {
-    let mut small = MemoryKeep::new(rt.alloc(), 17);
+fn a_head_fits_in_26_bytes(rt: HostRuntime) {
+    let mut small = MemoryKeep::new(rt.alloc(), 25);
     assert!(&rt; controller_fault(&rt, &mut small) == Some(KeepFault::Full));
     assert!(&rt; is_empty(&mut small));
-    let mut enough = MemoryKeep::new(rt.alloc(), 18);
+    let mut enough = MemoryKeep::new(rt.alloc(), 26);
     assert!(&rt; controller_fault(&rt, &mut enough).is_none());
     assert!(&rt; small.faults() == 0 && enough.faults() == 0);
     drop((small, enough));
@@ -379,7 +172,7 @@ fn a_store_of_another_plugin_is_refused_at_its_head(rt: HostRuntime) {
     assert!(&rt; node_fault(&rt, &mut other, "n1").is_none());
     assert!(&rt; node_fault(&rt, &mut other, "n2") == AT_HEAD);
     assert!(&rt; controller_fault(&rt, &mut other) == AT_HEAD);
-    assert!(&rt; has_head(&mut other, NODE_HEAD));
+    assert!(&rt; has_head(&mut other, NEW_NODE_HEAD));
     drop(other);
 }
 

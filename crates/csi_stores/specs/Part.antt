@@ -17,6 +17,10 @@ pub record Change : Type 0 where
 abbrev pub put_all : List StoredPart → List Change
 put_all parts = map (λ part. record { key = part.key; value = Some part.value }) parts
 
+-- the changes that take out what is under these keys
+abbrev pub take_all : List ℕ → List Change
+take_all keys = map (λ key. record { key = key; value = None }) keys
+
 abbrev pub bytes_in : Vec ℕ → List ℕ
 bytes_in bytes = bytes.items
 

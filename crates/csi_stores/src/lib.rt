@@ -10,4 +10,4 @@ mod parts;
 pub use keep::{Keep, KeepFault};
 pub use memory_keep::MemoryKeep;
 pub use part::Part;
-pub use parts::push_value;
+pub use parts::{push_removal, push_value};

@@ -1,6 +1,6 @@
-//! Parts that are put into a store.
+//! Parts that are put into a store, and those that are taken out.
 ghost use Rattle.std.specs.Prelude.{◌≡◌, ◌++◌, ◌∷◌, [], map, OnOk, OnErr};
-ghost use Rattle.csi_stores.specs.Part.{change_of, put_all};
+ghost use Rattle.csi_stores.specs.Part.{change_of, put_all, take_all};
 
 use crate::part::Part;
 use csi_types::NoMemory;
@@ -14,5 +14,14 @@ pub fn push_value(parts: &mut Vec<Part>, key: u64, value: Vec<u8>) -> Result<(),
         key,
         value: Some(value),
     })?;
+    Ok(())
+}
+
+/// Puts at the end that the part of this key is taken out. An `Err` leaves the parts as they were. This profile's own.
+pub fn push_removal(parts: &mut Vec<Part>, key: u64) -> Result<(), NoMemory>
+    ensures ok { OnOk result (map change_of parts.new.items ≡ map change_of parts.old.items ++ take_all (key ∷ [])) }
+    ensures err { OnErr result (parts.new.items ≡ parts.old.items) }
+{
+    parts.push(Part { key, value: None })?;
     Ok(())
 }

@@ -7,14 +7,14 @@ use Rattle.std.proofs.lemmas.List.Concat.{flat_map-append}
 use Rattle.csi_types.specs.Config.{Config}
 use Rattle.csi_types.specs.declared.number.Number.{Number}
 use Rattle.csi_types.specs.declared.call.Party.{Party}
-use Rattle.csi_types.specs.declared.call.Party.TheVariants.{Controller, Node}
 use Rattle.csi_types.specs.declared.frame.Body.{Body}
 use Rattle.csi_types.specs.declared.frame.Body.TheVariants as bodies
 use Rattle.csi_types.specs.Frame.{Frame}
 use Rattle.csi_frames.specs.Lent.{call_in, call_of}
 use Rattle.csi_frames.specs.Spelling.{spelling}
 use Rattle.csi_controller.specs.State.{ControllerState, empty_controller}
-use Rattle.csi_controller.specs.Fenced.{Fenced, fenced, fenced_parts, after_frames}
+use Rattle.csi_fence.specs.Fenced.{Fenced, fenced_parts}
+use Rattle.csi_controller.specs.Fenced.{controller_with, fenced, after_frames}
 use Rattle.csi_controller.specs.Core.{Parts, Shows}
 use Rattle.csi_streams.specs.Answering.{HasAnswered}
 use Rattle.csi_streams.specs.Streaming.{AreReplies}
@@ -63,14 +63,13 @@ answered_more frames frame old new reply before after has replied shown same app
     }
 
 -- a frame without a call gets no answer, and changes nothing
-silent : (config : Config) (state : ControllerState) (number : Number) (party : Party) (body : Body) → None ≡ call_in body → fenced_parts config state number party body ≡ record { reply = None; state = state }
-silent config state number Controller (bodies.Call call) e = absurd cc
-silent config state number Controller (bodies.Reply kind reply) e = refl
-silent config state number (Node id) body e = refl
+silent : (config : Config) (state : ControllerState) (number : Number) (party : Party) (body : Body) → None ≡ call_in body → fenced_parts (controller_with config) state number party body ≡ record { reply = None; state = state }
+silent config state number party (bodies.Call call) e = absurd cc
+silent config state number party (bodies.Reply kind reply) e = refl
 
 -- a reply gets no answer, and changes nothing
 pub answered_none : (frames : List Frame) (frame : Frame) (parts : Parts) (bytes : List ℕ) → HasAnswered parts frames → None ≡ call_of frame → Handles HasAnswered AreReplies frames frame parts bytes bytes
 answered_none frames frame parts bytes has is =
     let state : ControllerState = after_frames replay_config empty_controller frames in
     let same = sym (silent parts.config state frame.number frame.party frame.body is) in
-    answered_more frames frame parts parts None bytes bytes has (ap (λ (f : Fenced). f.reply) same) (subst (λ (f : Fenced). Shows parts f.state) same has.shown) refl (sym (append-nil bytes))
+    answered_more frames frame parts parts None bytes bytes has (ap (λ (f : Fenced ControllerState). f.reply) same) (subst (λ (f : Fenced ControllerState). Shows parts f.state) same has.shown) refl (sym (append-nil bytes))

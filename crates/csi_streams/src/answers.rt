@@ -20,10 +20,11 @@ ghost use Rattle.csi_streams.specs.Handling.{Handles};
 use crate::handler::Handler;
 use crate::slices::handle_slice;
 use crate::streaming::{StreamFault, handle_stream};
-use csi_controller::{Controller, CoreFault};
+use csi_controller::Controller;
 use csi_counted::Counted;
+use csi_fence::{Answer, CoreFault};
 use csi_frames::{FaultKind, FrameRef, encode_reply};
-use csi_types::{Body, CallRef, Config, Kind, MAX_CAPACITY, NoMemory, Number, Party, Reply};
+use csi_types::{Body, CallRef, Config, MAX_CAPACITY, NoMemory, Number, Party};
 use std::alloc::{AllocError, Global};
 use std::io::{Read, Write};
 use thiserror::Error;
@@ -76,12 +77,12 @@ impl From<AllocError> for AnswerFault {
 }
 
 // Appends the frame of the controller's answer, if there is one. An `Err` appends nothing.
-fn append(number: Number, answer: Option<&(Kind, Reply)>, out: &mut Vec<u8>) -> Result<(), NoMemory>
+fn append(number: Number, answer: Option<&Answer>, out: &mut Vec<u8>) -> Result<(), NoMemory>
     ensures ok { OnOk result (out.new.items ≡ out.old.items ++ flat_map spelling (option_to_list (option_map (answer_frame number) (option_copied answer.entry)))) }
     ensures err { OnErr result (out.new.items ≡ out.old.items) }
 {
     match answer {
-        Some((kind, reply)) => encode_reply(number, &Party::Controller, *kind, reply, out),
+        Some(answer) => encode_reply(number, &Party::Controller, answer.kind, &answer.reply, out),
         None => Ok(()),
     }
 }

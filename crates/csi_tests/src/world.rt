@@ -2,6 +2,7 @@
 //! each event the audit finds nothing.
 mod checking;
 mod events;
+mod forgotten;
 mod given_up;
 mod modes;
 mod playing;
@@ -26,10 +27,12 @@ const ONE_WRITER: Mode = Mode::SingleNodeSingleWriter;
 
 const TWO_WRITERS: Mode = Mode::SingleNodeMultiWriter;
 
-// What happens to the volume `v`, of at least 10 bytes and for a block device; node and target are told where they matter.
+// What happens to the volume `v`, of at least 10 bytes and for a block device; node and target are told where they matter. Another volume,
+// `w`, is made in a mode for one node.
 #[derive(Clone, Copy)]
 enum Does {
     Create(Mode),
+    CreateOther,
     Use(&'static str, &'static str, Mode, bool),
     Stop(&'static str, &'static str),
     Delete,
@@ -62,6 +65,10 @@ enum Step {
     Has(usize, &'static str, usize, usize),
     // There is no node of this id.
     NoNode(&'static str),
+    // The greatest session that came to the controller, and how many rows it has.
+    Remembers(u64, usize),
+    // The same of this node.
+    RemembersAt(&'static str, u64, usize),
     // The orchestrator knows this of a thing.
     Knows(Fact, Known),
     // It knows the same of `v`'s use at this node, and of `/a` there.

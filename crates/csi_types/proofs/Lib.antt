@@ -1,4 +1,3 @@
 pub mod Equality
 pub mod Holdings
 pub mod Order
-pub mod Spent

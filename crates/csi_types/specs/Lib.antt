@@ -13,12 +13,9 @@ pub mod Same
 pub mod Sharing
 pub mod Number
 pub mod Holding
-pub mod Fence
 pub mod Config
 pub mod Worked
 pub mod Replies
 pub mod Key
-pub mod Delivery
-pub mod Lawful
 pub mod NodeUse
 pub mod Lent

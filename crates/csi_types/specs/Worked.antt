@@ -1,15 +1,13 @@
 -- Worked examples of the values' rules, which the checker computes, and what the tests of equality tell.
-use Rattle.std.specs.Prelude.{◌≡◌, ◌↔◌, ℕ, true, false, List, IsTrue, Some, None, Ok, Err}
+use Rattle.std.specs.Prelude.{◌≡◌, ◌↔◌, ℕ, true, false, List, IsTrue, Ok, Err}
 use Rattle.csi_types.specs.declared.number.Number.{Number}
 use Rattle.csi_types.specs.declared.capability.Capability.{Capability}
 use Rattle.csi_types.specs.declared.holding.Holding.{Holding}
 use Rattle.csi_types.specs.declared.call.Kind.{Kind}
 use Rattle.csi_types.specs.declared.call.Party.{Party}
 use Rattle.csi_types.specs.declared.status.Status.TheVariants.{InvalidArgument, OutOfRange}
-use Rattle.csi_types.specs.declared.fence.Verdict.TheVariants.{Stale, Repeated, Fresh}
 use Rattle.csi_types.specs.Capacity.{grant_of}
 use Rattle.csi_types.specs.Number.{is_before}
-use Rattle.csi_types.specs.Fence.{verdict_of}
 use Rattle.csi_types.specs.Same.{same_text, same_capability, same_number, same_kind, same_party}
 use Rattle.csi_types.specs.Holding.{same_holding}
 use Rattle.csi_types.specs.Key.{Key, same_key}
@@ -33,12 +31,6 @@ pub record NumberRows : Type 0 where
   pub session_first : is_before (number 1 18446744073709551615) (number 2 1) ≡ true
   pub then_call : is_before (number 2 1) (number 2 2) ≡ true
   pub not_itself : is_before (number 2 2) (number 2 2) ≡ false
-
-pub record VerdictRows : Type 0 where
-  pub no_row : verdict_of None (number 1 1) ≡ Fresh
-  pub later : verdict_of (Some (number 1 9)) (number 2 1) ≡ Fresh
-  pub same : verdict_of (Some (number 1 9)) (number 1 9) ≡ Repeated
-  pub earlier : verdict_of (Some (number 2 1)) (number 1 9) ≡ Stale
 
 -- the tests are true of equal values, and of no others
 pub record TestsTellEquality : Type 0 where

@@ -6,7 +6,6 @@ mod call;
 mod capability;
 mod capacity;
 mod config;
-mod fence;
 mod frame;
 mod holding;
 mod lent;
@@ -27,7 +26,6 @@ pub use capacity::{
     DEFAULT_CAPACITY, MAX_CAPACITY, grant, is_bad_range, is_empty_range, wanted_capacity,
 };
 pub use config::{Config, ConfigFault, NodeSlots};
-pub use fence::{Verdict, verdict_of};
 pub use frame::{Body, Frame};
 pub use holding::{Holding, can_hold_both};
 pub use lent::{AccessRef, CallRef, CapabilityRef};

@@ -1,5 +1,5 @@
 //! Worked examples and laws of the values' rules. Each function proves a statement, and does nothing.
-ghost use Rattle.csi_types.specs.Worked.{GrantRows, NumberRows, VerdictRows, TestsTellEquality};
+ghost use Rattle.csi_types.specs.Worked.{GrantRows, NumberRows, TestsTellEquality};
 
 fn grants()
     ensures { GrantRows }
@@ -7,10 +7,6 @@ fn grants()
 
 fn numbers()
     ensures { NumberRows }
-{}
-
-fn verdicts()
-    ensures { VerdictRows }
 {}
 
 fn equality()

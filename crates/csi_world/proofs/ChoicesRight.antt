@@ -13,7 +13,7 @@ use Rattle.csi_types.specs.Number.{is_before, IsBefore}
 use Rattle.csi_types.proofs.Order.{before-trans}
 use Rattle.csi_types.specs.declared.call.Party.{Party}
 use Rattle.csi_types.specs.declared.call.Party.TheVariants.{Controller, Node}
-use Rattle.csi_types.specs.Delivery.{IsEmpty}
+use Rattle.csi_fence.specs.Delivery.{IsEmpty}
 use Rattle.csi_types.specs.Key.{StagedAs, Staged}
 use Rattle.csi_node.specs.State.{NodeState, empty_node}
 use Rattle.csi_orchestrator.specs.Thing.{Issued}

@@ -10,8 +10,8 @@ use Rattle.csi_types.specs.declared.call.Kind.{Kind}
 use Rattle.csi_types.specs.declared.call.Party.{Party}
 use Rattle.csi_types.specs.declared.reply.Reply.{Reply}
 use Rattle.csi_types.specs.declared.status.Status.TheVariants.{Ok}
-use Rattle.csi_types.specs.Delivery.{View, Delivery, Acts, Rests, Misses, Becomes, kept_of}
-use Rattle.csi_types.specs.Fence.{Kept}
+use Rattle.csi_fence.specs.Delivery.{View, Delivery, Acts, Rests, Misses, Becomes, kept_of}
+use Rattle.csi_fence.specs.Fence.{Kept}
 use Rattle.csi_types.specs.Frame.{Frame}
 use Rattle.csi_types.specs.Key.{Key, Exists, Form, HasId}
 use Rattle.csi_lists.specs.Members.{IsAmong}

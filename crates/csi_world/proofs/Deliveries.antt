@@ -13,12 +13,13 @@ use Rattle.csi_types.specs.declared.frame.Body.{Body}
 use Rattle.csi_types.specs.declared.frame.Body.TheVariants as bodies
 use Rattle.csi_types.specs.declared.reply.Reply.{Reply}
 use Rattle.csi_types.specs.Config.{Config}
-use Rattle.csi_types.specs.Delivery.{Becomes, IsClosed, IsDelivered}
+use Rattle.csi_fence.specs.Delivery.{Becomes, IsClosed, IsDelivered}
 use Rattle.csi_types.specs.Frame.{Frame}
 use Rattle.csi_types.specs.Key.{Key, Exists, HasId, asked}
 use Rattle.csi_lists.specs.Members.{IsAmong}
 use Rattle.csi_types.specs.Replies.{call_frame}
 use Rattle.csi_controller.specs.State.{Volume, ControllerState, volume_with_id}
+use Rattle.csi_fence.specs.Fenced.{Fenced}
 use Rattle.csi_controller.specs.Fenced as controller
 use Rattle.csi_controller.specs.Safe.{ControllerSafetyLaw}
 use Rattle.csi_controller.specs.View as controllers
@@ -173,7 +174,7 @@ call-got : PluginLaws → (config : Config) (world : World) (name : List ℕ) (n
 call-got laws config world name number Controller c good among =
     let call : Issued = record { name = name; number = number; party = Controller; call = c } in
     let frame : Frame = call_frame number Controller c in
-    let after : controller.Fenced = controller.fenced config world.controller frame in
+    let after : Fenced ControllerState = controller.fenced config world.controller frame in
     let frames = good.reached.controller in
     let of_kind = (keyed good.given name Controller c (good.well.so_far.named.own call among)).of_kind in
     let delivered = subst (λ (s : ControllerState). controllers.IsDeliveredTo config s number c) (sym frames.1) (laws.controller.delivered config frames.0 number c of_kind) in
@@ -194,7 +195,7 @@ call-got laws config world name number (Node id) c good among = by (node_state i
     by None is = good
     by (Some state) is =
         let call : Issued = record { name = name; number = number; party = Node id; call = c } in
-        let after : node.Fenced = node.fenced id state (call_frame number (Node id) c) in
+        let after : Fenced NodeState = node.fenced id state (call_frame number (Node id) c) in
         let changed : World = with_node id after.state world in
         let frames = node-of-frames config world id state good.reached is in
         let of_kind = (keyed good.given name (Node id) c (good.well.so_far.named.own call among)).of_kind in

@@ -3,7 +3,7 @@ use Rattle.std.proofs.Common.{◌≡◌, ℕ, List, true, None, option_map, sym,
 use Rattle.std.specs.Prelude.{is_some}
 use Rattle.std.proofs.lemmas.Bool.{and_parts, and_left, eqb-true, false≢true, or_cases, or_left, or_right}
 use Rattle.csi_types.specs.declared.holding.Holding.{Holding}
-use Rattle.csi_types.specs.Delivery.{View, IsClosed}
+use Rattle.csi_fence.specs.Delivery.{View, IsClosed}
 use Rattle.csi_types.specs.Key.{Key, Exists, Attached, Staged, Published, HasId, AttachedAs}
 use Rattle.csi_types.specs.Same.{same_text}
 use Rattle.csi_types.proofs.Equality.{same_text-tells}

@@ -8,7 +8,7 @@ use Rattle.csi_types.specs.declared.call.Call.TheVariants as calls
 use Rattle.csi_types.specs.declared.call.Party.{Party}
 use Rattle.csi_types.specs.declared.call.Party.TheVariants.{Controller, Node}
 use Rattle.csi_types.specs.declared.reply.Reply.{Reply}
-use Rattle.csi_types.specs.Delivery.{View, IsClosed}
+use Rattle.csi_fence.specs.Delivery.{View, IsClosed}
 use Rattle.csi_types.specs.Frame.{Frame}
 use Rattle.csi_types.specs.Key.{Key, Attached, Staged, StagedAs, asked}
 use Rattle.csi_lists.proofs.Members.{among-find, none_passes}

@@ -10,7 +10,7 @@ use Rattle.csi_types.specs.declared.call.Party.{Party}
 use Rattle.csi_types.specs.declared.call.Party.TheVariants.{Controller, Node}
 use Rattle.csi_types.specs.declared.reply.Reply.{Reply}
 use Rattle.csi_types.specs.Call.{kind_of}
-use Rattle.csi_types.specs.Delivery.{View, IsClosed}
+use Rattle.csi_fence.specs.Delivery.{View, IsClosed}
 use Rattle.csi_types.specs.Frame.{Frame}
 use Rattle.csi_types.specs.Key.{Key, Exists, Form, HasId, asked}
 use Rattle.csi_types.specs.Reply.{has_id_by_rule}

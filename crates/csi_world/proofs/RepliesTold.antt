@@ -13,8 +13,8 @@ use Rattle.csi_types.specs.declared.frame.Body.TheVariants as bodies
 use Rattle.csi_types.specs.declared.reply.Reply.{Reply}
 use Rattle.csi_types.specs.declared.status.Status.TheVariants.{Ok}
 use Rattle.csi_types.specs.Call.{kind_of}
-use Rattle.csi_types.specs.Delivery.{View, Delivery, Acts, Rests, Misses, IsClosed}
-use Rattle.csi_types.specs.Fence.{Kept}
+use Rattle.csi_fence.specs.Delivery.{View, Delivery, Acts, Rests, Misses, IsClosed}
+use Rattle.csi_fence.specs.Fence.{Kept}
 use Rattle.csi_types.specs.Frame.{Frame}
 use Rattle.csi_types.specs.Key.{Key, HasId, same_key, asked}
 use Rattle.csi_lists.specs.Members.{IsAmong, EachTwo}

@@ -10,7 +10,7 @@ use Rattle.csi_types.specs.declared.call.Kind.{Kind}
 use Rattle.csi_types.specs.declared.call.Party.{Party}
 use Rattle.csi_types.specs.declared.call.Party.TheVariants.{Controller, Node}
 use Rattle.csi_types.specs.declared.reply.Reply.{Reply}
-use Rattle.csi_types.specs.Delivery.{View}
+use Rattle.csi_fence.specs.Delivery.{View}
 use Rattle.csi_types.specs.Key.{Key, Attached, Staged, StagedAs, asked}
 use Rattle.csi_lists.specs.Members.{IsAmong}
 use Rattle.csi_types.specs.Same.{same_text}

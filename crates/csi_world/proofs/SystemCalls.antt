@@ -11,7 +11,8 @@ use Rattle.csi_types.specs.Config.{has_node}
 use Rattle.csi_types.specs.Frame.{Frame}
 use Rattle.csi_types.proofs.Equality.{same_text-tells}
 use Rattle.csi_node.specs.Record.{NodeParts}
-use Rattle.csi_node.specs.Shown.{RowsShow as NodeShows}
+use Rattle.csi_node.specs.Record.{Shows as NodeShows}
+use Rattle.csi_fence.specs.Fenced.{Fenced}
 use Rattle.csi_node.specs.Fenced as node
 use Rattle.csi_world.specs.declared.event.Outcome.{Outcome}
 use Rattle.csi_world.specs.declared.event.Outcome.TheVariants as outcomes
@@ -52,11 +53,11 @@ node-becomes shown id place old new posted frame reply outcome world own shows p
     let found = state-shown id shown.nodes world.nodes place old shows.nodes first in
     let state : NodeState = found.0 in
     let own_id : old.id ≡ id = (same_text-tells old.id id).0 (FirstAt-passes (is_shown_node id) shown.nodes place old first) in
-    let fenced : node.Fenced = node.fenced id state frame in
+    let fenced : Fenced NodeState = node.fenced id state frame in
     let changed : World = with_node id fenced.state world in
     let after : World = record changed { frames = world.frames ++ option_to_list fenced.reply } in
     let replied : reply ≡ fenced.reply = subst (λ n. reply ≡ (node.fenced n state frame).reply) own_id (does.replies state found.2) in
-    let now : NodeShows new.rows fenced.state = subst (λ n. NodeShows new.rows (node.fenced n state frame).state) own_id (does.state state found.2) in
+    let now : NodeShows new fenced.state = subst (λ n. NodeShows new (node.fenced n state frame).state) own_id (does.state state found.2) in
     let frames : posted ≡ world.frames ++ option_to_list fenced.reply = sent.frames ∙ (λ i. shows.frames i ++ option_to_list (replied i)) in
     let ids : map (λ (m : NodeParts). m.id) shown.nodes ≡ map node_id (shown.config).nodes = own.ids in
     let there : has_node id (shown.config).nodes ≡ true = is-there shown id place old own first in

@@ -12,7 +12,7 @@ use Rattle.csi_types.specs.Config.{Config, is_bad_greatest, has_node, has_same_n
 use Rattle.csi_types.specs.Same.{same_text}
 use Rattle.csi_types.proofs.Equality.{same_text-tells}
 use Rattle.csi_node.specs.Record.{NodeParts}
-use Rattle.csi_node.specs.Shown.{RowsShow as NodeShows}
+use Rattle.csi_node.specs.Record.{Shows as NodeShows}
 use Rattle.csi_node.specs.State.{NodeState}
 use Rattle.csi_world.specs.World.{NodeAt, new_node, with_state}
 use Rattle.csi_world.specs.After.{node_id}
@@ -35,7 +35,7 @@ node-shown id (x ∷ xs) [] are = absurd are
 node-shown id (x ∷ xs) (n ∷ ns) are =
     by (same_text x.id id) (same_text n.id id) (ap (λ t. same_text t id) (are.0)) (are.1) (node-shown id xs ns (are.2))
   where
-    by : (a b : Bool) → a ≡ b → NodeShows x.rows n.state → ShowsNode (find (is_shown_node id) xs) (option_map (λ (m : NodeAt). m.state) (find (is_node id) ns))
+    by : (a b : Bool) → a ≡ b → NodeShows x n.state → ShowsNode (find (is_shown_node id) xs) (option_map (λ (m : NodeAt). m.state) (find (is_node id) ns))
         → ShowsNode (cond a (Some x) (find (is_shown_node id) xs)) (option_map (λ (m : NodeAt). m.state) (cond b (Some n) (find (is_node id) ns)))
     by true true e here rest = here
     by false false e here rest = rest
@@ -44,12 +44,12 @@ node-shown id (x ∷ xs) (n ∷ ns) are =
 
 -- where the first node of an id is shown, the world's node of the id is shown so
 pub state-shown : (id : List ℕ) (shown : List NodeParts) (nodes : List NodeAt) (i : ℕ) (one : NodeParts) → AreNodesShown shown nodes → FirstAt (is_shown_node id) shown i one
-    → (state : NodeState) × (option_map (λ (n : NodeAt). n.state) (find (is_node id) nodes) ≡ Some state) × NodeShows one.rows state
+    → (state : NodeState) × (option_map (λ (n : NodeAt). n.state) (find (is_node id) nodes) ≡ Some state) × NodeShows one state
 state-shown id shown nodes i one are first =
     let known : Option NodeState = option_map (λ (n : NodeAt). n.state) (find (is_node id) nodes) in
     by known (subst (λ (o : Option NodeParts). ShowsNode o known) (FirstAt-find (is_shown_node id) shown i one first) (node-shown id shown nodes are))
   where
-    by : (o : Option NodeState) → ShowsNode (Some one) o → (state : NodeState) × (o ≡ Some state) × NodeShows one.rows state
+    by : (o : Option NodeState) → ShowsNode (Some one) o → (state : NodeState) × (o ≡ Some state) × NodeShows one state
     by None shows = absurd shows
     by (Some state) shows = (state, refl, shows)
 
@@ -58,7 +58,7 @@ pub same-put : (p : NodeParts → Bool) (shown : List NodeParts) (nodes : List N
 same-put p [] nodes i old new are first same = absurd first
 same-put p (x ∷ xs) [] i old new are first same = absurd are
 same-put p (x ∷ xs) (n ∷ ns) zero old new are first same =
-    (same.id ∙ ap (λ (m : NodeParts). m.id) (sym (first.1)) ∙ are.0, same.shown n.state (subst (λ (m : NodeParts). NodeShows m.rows n.state) (first.1) (are.1)), are.2)
+    (same.id ∙ ap (λ (m : NodeParts). m.id) (sym (first.1)) ∙ are.0, same.shown n.state (subst (λ (m : NodeParts). NodeShows m n.state) (first.1) (are.1)), are.2)
 same-put p (x ∷ xs) (n ∷ ns) (suc i) old new are first same = (are.0, are.1, same-put p xs ns i old new (are.2) (first.1) same)
 
 -- the ids stay
@@ -108,7 +108,7 @@ none-changed id state (x ∷ xs) (n ∷ ns) are none =
 
 -- where a node is put that shows this state
 pub state-put : (id : List ℕ) (state : NodeState) (shown : List NodeParts) (nodes : List NodeAt) (i : ℕ) (old new : NodeParts) → AreNodesShown shown nodes → AreDistinct (map (λ (m : NodeParts). m.id) shown)
-    → FirstAt (is_shown_node id) shown i old → new.id ≡ old.id → NodeShows new.rows state → AreNodesShown (set shown i new) (map (with_state id state) nodes)
+    → FirstAt (is_shown_node id) shown i old → new.id ≡ old.id → NodeShows new state → AreNodesShown (set shown i new) (map (with_state id state) nodes)
 state-put id state [] nodes i old new are apart first same shows = absurd first
 state-put id state (x ∷ xs) [] i old new are apart first same shows = absurd are
 state-put id state (x ∷ xs) (n ∷ ns) zero old new are apart first same shows =
@@ -133,7 +133,7 @@ node-there id shown nodes ids =
 -- nodes that answered nothing
 pub new-shown : (nodes : List NodeSlots) → AreNodesShown (map new_node_parts nodes) (map new_node nodes)
 new-shown [] = tt
-new-shown (n ∷ ns) = (refl, record { count = refl; kept = λ id. refl; staged = λ id. refl; published = λ id. refl }, new-shown ns)
+new-shown (n ∷ ns) = (refl, record { shows = record { count = refl; kept = λ id. refl; staged = λ id. refl; published = λ id. refl }; session = refl }, new-shown ns)
 
 -- nodes that answered nothing have the ids of the configuration
 pub new-ids : (nodes : List NodeSlots) → map (λ (m : NodeParts). m.id) (map new_node_parts nodes) ≡ map node_id nodes

@@ -4,7 +4,7 @@ use Rattle.std.proofs.Common.{◌≡◌, ◌⊎◌, ℕ, List, Bool, true, false
 use Rattle.csi_types.specs.declared.number.Number.{Number}
 use Rattle.csi_types.specs.declared.call.Party.{Party}
 use Rattle.csi_types.specs.declared.call.Party.TheVariants.{Controller, Node}
-use Rattle.csi_types.specs.Delivery.{View, Delivery, Acts, Rests, Misses, IsSameView, IsClosed, kept_of}
+use Rattle.csi_fence.specs.Delivery.{View, Delivery, Acts, Rests, Misses, IsSameView, IsClosed, kept_of}
 use Rattle.csi_types.specs.Key.{Key, Exists, Attached, Staged, Published}
 use Rattle.csi_types.specs.Number.{IsBefore}
 use Rattle.csi_types.specs.Same.{same_party}

@@ -19,7 +19,7 @@ assembled config controller nodes orchestrator =
       config = config;
       frames = [];
       outcomes = [];
-      controller = record { config = config; next_id = controller.next_id; rows = controller.rows };
+      controller = record { config = config; next_id = controller.next_id; session = controller.session; rows = controller.rows };
       nodes = nodes;
       orchestrator = orchestrator;
     }

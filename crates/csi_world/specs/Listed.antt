@@ -15,7 +15,7 @@ use Rattle.csi_node.specs.declared.entries.Staged.{Staged}
 use Rattle.csi_node.specs.declared.entries.Published.{Published}
 use Rattle.csi_node.specs.Record.{NodeParts}
 use Rattle.csi_node.specs.Safe.{IsPublishedRight}
-use Rattle.csi_node.specs.Shown.{RowsShow as NodeShows}
+use Rattle.csi_node.specs.Record.{Shows as NodeShows}
 use Rattle.csi_node.specs.State.{NodeState, published_of}
 use Rattle.csi_node.specs.Views.{staged_shown, published_shown}
 use Rattle.csi_orchestrator.specs.Listing.{thing_order}
@@ -32,7 +32,7 @@ abbrev pub node_listed : NodeLists → NodeAt
 node_listed node =
     record {
       id = node.id;
-      state = record { rows = []; staged = map staged_shown node.staged.items; published = map published_shown node.published.items };
+      state = record { rows = []; session = 0; staged = map staged_shown node.staged.items; published = map published_shown node.published.items };
     }
 
 -- the same node, with the same staged and published of each volume; how those of different volumes are mixed may differ
@@ -73,7 +73,7 @@ pub record IsListed (lists : Lists) (world : World) : Type 0 where
 -- the list is of this node
 pub record IsListOf (parts : NodeParts) (listed : NodeAt) : Type 0 where
   pub id : listed.id ≡ parts.id
-  pub shows : (node : NodeAt) → NodeShows parts.rows node.state → parts.id ≡ node.id → IsNodeAlike listed node
+  pub shows : (node : NodeAt) → NodeShows parts node.state → parts.id ≡ node.id → IsNodeAlike listed node
 
 -- node by node
 abbrev pub AreListsOf : List NodeParts → List NodeAt → Type 0
@@ -84,7 +84,7 @@ AreListsOf (parts ∷ nodes) (listed ∷ others) = IsListOf parts listed × AreL
 
 -- in every state that the node shows, what is published is staged
 abbrev pub IsPublishing : NodeParts → Type 0
-IsPublishing parts = (state : NodeState) → NodeShows parts.rows state → IsPublishedRight state
+IsPublishing parts = (state : NodeState) → NodeShows parts state → IsPublishedRight state
 
 -- what the plugins' own contracts keep
 pub record ArePluginsSafe (world : World) : Type 0 where

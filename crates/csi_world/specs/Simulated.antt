@@ -5,7 +5,7 @@ use Rattle.csi_types.specs.Frame.{Frame}
 use Rattle.csi_controller.specs.Core.{Shows as ControllerShows}
 use Rattle.csi_controller.specs.Core.{Parts as ControllerParts}
 use Rattle.csi_node.specs.Record.{NodeParts}
-use Rattle.csi_node.specs.Shown.{RowsShow as NodeShows}
+use Rattle.csi_node.specs.Record.{Shows as NodeShows}
 use Rattle.csi_orchestrator.specs.WellFormed.{IsWellFormed}
 use Rattle.csi_orchestrator.specs.Shown.{Shows as OrchestratorShows}
 use Rattle.csi_orchestrator.specs.Shown.{Parts as OrchestratorParts}
@@ -27,7 +27,7 @@ abbrev pub AreNodesShown : List NodeParts → List NodeAt → Type 0
 AreNodesShown [] [] = Unit {0}
 AreNodesShown [] (node ∷ nodes) = ⊥
 AreNodesShown (shown ∷ others) [] = ⊥
-AreNodesShown (shown ∷ others) (node ∷ nodes) = (shown.id ≡ node.id) × NodeShows shown.rows node.state × AreNodesShown others nodes
+AreNodesShown (shown ∷ others) (node ∷ nodes) = (shown.id ≡ node.id) × NodeShows shown node.state × AreNodesShown others nodes
 
 -- it is this world: the same frames in the same order, the same states of the plugins, and an orchestrator that agrees
 -- with the history

@@ -5,7 +5,7 @@ use Rattle.csi_types.specs.declared.config.NodeSlots.{NodeSlots}
 use Rattle.csi_types.specs.Config.{Config, config_fault}
 use Rattle.csi_types.specs.Frame.{Frame}
 use Rattle.csi_node.specs.Record.{NodeParts}
-use Rattle.csi_node.specs.Shown.{RowsShow as NodeShows}
+use Rattle.csi_node.specs.Record.{Shows as NodeShows}
 use Rattle.csi_node.specs.State.{NodeState}
 use Rattle.csi_node.specs.Fenced as node
 use Rattle.csi_controller.specs.Core.{Shows as ControllerShows}
@@ -60,8 +60,8 @@ pub record ControllerDoes (old new : ControllerParts) (frame : Frame) (reply : O
 
 pub record NodeDoes (old new : NodeParts) (frame : Frame) (reply : Option Frame) : Type 0 where
   pub id : new.id ≡ old.id
-  pub replies : (state : NodeState) → NodeShows old.rows state → reply ≡ (node.fenced old.id state frame).reply
-  pub state : (state : NodeState) → NodeShows old.rows state → NodeShows new.rows (node.fenced old.id state frame).state
+  pub replies : (state : NodeState) → NodeShows old state → reply ≡ (node.fenced old.id state frame).reply
+  pub state : (state : NodeState) → NodeShows old state → NodeShows new (node.fenced old.id state frame).state
 
 -- a plugin is as it was to its callers
 pub record IsSameController (old new : ControllerParts) : Type 0 where
@@ -70,11 +70,11 @@ pub record IsSameController (old new : ControllerParts) : Type 0 where
 
 pub record IsSameNode (old new : NodeParts) : Type 0 where
   pub id : new.id ≡ old.id
-  pub shown : (state : NodeState) → NodeShows old.rows state → NodeShows new.rows state
+  pub shown : (state : NodeState) → NodeShows old state → NodeShows new state
 
 -- a node that answered nothing
 abbrev pub new_node_parts : NodeSlots → NodeParts
-new_node_parts slots = record { id = slots.id; rows = [] }
+new_node_parts slots = record { id = slots.id; session = 0; rows = [] }
 
 -- its nodes are the configuration's, which has no fault
 pub record IsSound (shown : WorldParts) : Type 0 where
@@ -111,4 +111,4 @@ abbrev pub ShowsNode : Option NodeParts → Option NodeState → Type 0
 ShowsNode None None = Unit {0}
 ShowsNode None (Some state) = ⊥
 ShowsNode (Some parts) None = ⊥
-ShowsNode (Some parts) (Some state) = NodeShows parts.rows state
+ShowsNode (Some parts) (Some state) = NodeShows parts state

@@ -10,6 +10,8 @@ use Rattle.csi_types.specs.Config.{Config}
 use Rattle.csi_types.specs.Frame.{Frame}
 use Rattle.csi_lists.specs.Members.{IsAmong}
 use Rattle.csi_types.specs.Replies.{call_frame, reply_frame}
+use Rattle.csi_fence.specs.Fenced.{Fenced}
+use Rattle.csi_controller.specs.State.{ControllerState}
 use Rattle.csi_controller.specs.Fenced as controller
 use Rattle.csi_node.specs.State.{NodeState}
 use Rattle.csi_node.specs.Fenced as node
@@ -57,13 +59,13 @@ MayChoose world (Answers frame) = IsAmong frame world.frames
 abbrev pub answered_by_node : List ℕ → World → Frame → Option NodeState → World
 answered_by_node id world frame None = world
 answered_by_node id world frame (Some state) =
-    let fenced : node.Fenced = node.fenced id state frame in
+    let fenced : Fenced NodeState = node.fenced id state frame in
     with_frame fenced.reply (with_node id fenced.state world)
 
 -- a plugin's reply to a frame, and what it knows then
 abbrev pub answered_by : Config → World → Frame → Party → World
 answered_by config world frame Controller =
-    let fenced : controller.Fenced = controller.fenced config world.controller frame in
+    let fenced : Fenced ControllerState = controller.fenced config world.controller frame in
     with_frame fenced.reply (record world { controller = fenced.state })
 answered_by config world frame (Node id) = answered_by_node id world frame (node_state id world)
 

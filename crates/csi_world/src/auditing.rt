@@ -60,7 +60,7 @@ pub(crate) fn audit_parts(
 {
     plugins_are_safe(controller, nodes);
     let lists = list_plugins(alloc, controller, nodes)?;
-    audit_lists(alloc, controller.rows(), &lists, orchestrator)
+    audit_lists(alloc, controller.all_rows(), &lists, orchestrator)
 }
 
 /// The first clause of safety that fails in this world, by what its plugins show and what its orchestrator knows, or `None`

@@ -1,15 +1,15 @@
 //! What a row answers to the calls of its volume, behind the fence, and what it keeps.
-ghost use Rattle.std.specs.Prelude.{◌≡◌, ◌≤◌, ℕ, [], Some, length, IsTrue, IsOk, IfOk, OnOk, OnErr};
+ghost use Rattle.std.specs.Prelude.{◌≡◌, ◌≤◌, ℕ, [], Some, None, length, IsTrue, IsOk, IfOk, OnOk, OnErr};
 ghost use Rattle.csi_types.specs.declared.call.Party.TheVariants.{Controller};
-ghost use Rattle.csi_types.specs.declared.fence.Verdict.TheVariants.{Fresh, Repeated};
+ghost use Rattle.csi_fence.specs.declared.fence.Verdict.TheVariants.{Fresh, Repeated};
 ghost use Rattle.csi_types.specs.declared.status.Status.TheVariants.{Ok as OkStatus};
 ghost use Rattle.csi_types.specs.Call.{kind_of, is_party_of};
-ghost use Rattle.csi_types.specs.Fence.{verdict_of as verdict_by};
+ghost use Rattle.csi_fence.specs.Fence.{verdict_of as verdict_by};
 ghost use Rattle.csi_types.specs.Frame.{IsAllowed};
 ghost use Rattle.csi_types.specs.Lent.{lent_call};
 ghost use Rattle.csi_types.specs.Replies.{ok_reply, stale_reply};
 ghost use Rattle.csi_controller.specs.Core.{IsSoundRow, IsUndoing};
-ghost use Rattle.csi_controller.specs.AtRow.{RowAnswers, IsLeft};
+ghost use Rattle.csi_controller.specs.AtRow.{RowAnswers, IsLeft, row_named};
 ghost use Rattle.csi_controller.specs.RowTable.{row_line};
 ghost use Rattle.csi_controller.specs.Step.{answer_frame};
 
@@ -18,20 +18,20 @@ use super::counts::{MAX_NODES, recount};
 use super::line::refused;
 use super::replies::{copied, done, reply_of};
 use super::row_table::line;
-use crate::fault::CoreFault;
 use crate::row::ControllerRow;
-use csi_types::{Body, CallRef, Kind, NodeSlots, Number, Reply, Status, Verdict, verdict_of};
+use csi_fence::{Answer, CoreFault, Verdict, verdict_of};
+use csi_types::{Body, CallRef, Kind, NodeSlots, Number, Reply, Status};
 use std::alloc::Global;
 
-// Keeps a reply in a row, and gives its kind and a copy of it. A refusal changes nothing. Without a detail it takes no memory.
+// Keeps a reply in a row, and answers with its kind and a copy of it. A refusal changes nothing. Without a detail it takes no memory.
 fn keep(
     row: &mut ControllerRow,
     alloc: Global,
     number: Number,
     kind: Kind,
     reply: Reply,
-) -> Result<(Kind, Reply), CoreFault>
-    ensures answer { IfOk result (λ answer. answer ≡ (kind, reply)) }
+) -> Result<Answer, CoreFault>
+    ensures answer { IfOk result (λ answer. answer ≡ record { kind = kind; reply = reply; row = Some row.old.id }) }
     ensures kept { OnOk result (row.new ≡ record row.old { last = number; kind = kind; reply = reply }) }
     ensures err { OnErr result (row.new ≡ row.old) }
     ensures succeeds { reply.detail ≡ [] → IsOk result }
@@ -41,21 +41,29 @@ fn keep(
             row.last = number;
             row.kind = kind;
             row.reply = reply;
-            Ok((kind, copy))
+            Ok(Answer {
+                kind,
+                reply: copy,
+                row: Some(row.id),
+            })
         }
         Err(fault) => Err(fault),
     }
 }
 
 // Keeps in a row that a call was carried out, and gives the answer that says so. It takes no memory.
-fn keep_done(row: &mut ControllerRow, alloc: Global, number: Number, kind: Kind) -> (Kind, Reply)
-    ensures answer { result ≡ (kind, ok_reply) }
+fn keep_done(row: &mut ControllerRow, alloc: Global, number: Number, kind: Kind) -> Answer
+    ensures answer { result ≡ record { kind = kind; reply = ok_reply; row = Some row.old.id } }
     ensures kept { row.new ≡ record row.old { last = number; kind = kind; reply = ok_reply } }
 {
     row.last = number;
     row.kind = kind;
     row.reply = done(alloc, None);
-    (kind, done(alloc, None))
+    Answer {
+        kind,
+        reply: done(alloc, None),
+        row: Some(row.id),
+    }
 }
 
 // Answers a call by the table, keeps its number and the reply in the row, and counts the volume at a node where that changed. An
@@ -67,11 +75,12 @@ fn carry_out(
     alloc: Global,
     number: Number,
     call: &CallRef<'_>,
-) -> Result<(Kind, Reply), CoreFault>
+) -> Result<Answer, CoreFault>
     requires party { IsTrue (is_party_of (kind_of (lent_call call.now)) Controller) }
     requires few { length nodes.now ≤ 64 }
     ensures ok { IfOk result (λ answer. RowAnswers nodes.now row.old row.new counts.old counts.new number (lent_call call.now) Fresh (answer_frame number answer)) }
-    ensures allowed { IfOk result (λ answer. IsAllowed Controller (Body.Reply answer.0 answer.1)) }
+    ensures row { IfOk result (λ answer. answer.row ≡ Some row.old.id) }
+    ensures allowed { IfOk result (λ answer. IsAllowed Controller (Body.Reply answer.kind answer.reply)) }
     ensures err { OnErr result (IsLeft row.old row.new counts.old counts.new) }
     ensures undone { IsUndoing (lent_call call.now) → (row_line nodes.now counts.old row.old (lent_call call.now)).reply.status ≡ OkStatus → IsOk result }
 {
@@ -90,29 +99,37 @@ fn carry_out(
     }
 }
 
-// The refusal of a call that came late.
-fn stale(alloc: Global, kind: Kind) -> Result<(Kind, Reply), CoreFault>
-    ensures { IfOk result (λ answer. answer ≡ (kind, stale_reply)) }
+/// The refusal of a call that came late.
+pub fn stale(alloc: Global, kind: Kind) -> Result<Answer, CoreFault>
+    ensures { IfOk result (λ answer. answer ≡ record { kind = kind; reply = stale_reply; row = None }) }
 {
     match reply_of(alloc, &refused(Status::Aborted, "stale")) {
-        Ok(reply) => Ok((kind, reply)),
+        Ok(reply) => Ok(Answer {
+            kind,
+            reply,
+            row: None,
+        }),
         Err(fault) => Err(fault),
     }
 }
 
 // The kept answer, once more. Without a detail it takes no memory.
-fn kept(alloc: Global, row: &ControllerRow) -> Result<(Kind, Reply), CoreFault>
-    ensures ok { IfOk result (λ answer. answer ≡ (row.now.kind, row.now.reply)) }
+fn kept(alloc: Global, row: &ControllerRow) -> Result<Answer, CoreFault>
+    ensures ok { IfOk result (λ answer. answer ≡ record { kind = row.now.kind; reply = row.now.reply; row = None }) }
     ensures succeeds { row.now.reply.detail ≡ [] → IsOk result }
 {
     match copied(alloc, &row.reply) {
-        Ok(reply) => Ok((row.kind, reply)),
+        Ok(reply) => Ok(Answer {
+            kind: row.kind,
+            reply,
+            row: None,
+        }),
         Err(fault) => Err(fault),
     }
 }
 
 /// Answers a call of the row's volume: a refusal where a later call was answered, the kept kind and reply where this one was, and
-/// else what the table answers. An `Err` changes nothing. A kept reply without a detail takes no memory, nor does a DeleteVolume or
+/// else what the table answers, and only then the answer names the row. An `Err` changes nothing. A kept reply without a detail takes no memory, nor does a DeleteVolume or
 /// a ControllerUnpublishVolume that the table answers 0.
 pub fn answer_at_row(
     row: &mut ControllerRow,
@@ -121,12 +138,13 @@ pub fn answer_at_row(
     alloc: Global,
     number: Number,
     call: &CallRef<'_>,
-) -> Result<(Kind, Reply), CoreFault>
+) -> Result<Answer, CoreFault>
     requires party { IsTrue (is_party_of (kind_of (lent_call call.now)) Controller) }
     requires few { length nodes.now ≤ 64 }
     requires sound { (next_id : ℕ) × IsSoundRow next_id row.old }
     ensures ok { IfOk result (λ answer. RowAnswers nodes.now row.old row.new counts.old counts.new number (lent_call call.now) (verdict_by (Some row.old.last) number) (answer_frame number answer)) }
-    ensures allowed { IfOk result (λ answer. IsAllowed Controller (Body.Reply answer.0 answer.1)) }
+    ensures row { IfOk result (λ answer. answer.row ≡ row_named (verdict_by (Some row.old.last) number) row.old.id) }
+    ensures allowed { IfOk result (λ answer. IsAllowed Controller (Body.Reply answer.kind answer.reply)) }
     ensures err { OnErr result (IsLeft row.old row.new counts.old counts.new) }
     ensures undone { IsUndoing (lent_call call.now) → verdict_by (Some row.old.last) number ≡ Fresh → (row_line nodes.now counts.old row.old (lent_call call.now)).reply.status ≡ OkStatus → IsOk result }
     ensures repeated { verdict_by (Some row.old.last) number ≡ Repeated → row.old.reply.detail ≡ [] → IsOk result }

@@ -4,8 +4,8 @@ ghost use Rattle.csi_controller.specs.Shown.{holdings_in_row};
 ghost use Rattle.csi_controller.specs.Views.{attached};
 ghost use Rattle.csi_controller.specs.Core.{held_by};
 
-use crate::fault::CoreFault;
 use crate::row::{ControllerRow, NodeHolding};
+use csi_fence::CoreFault;
 use csi_types::{Holding, VolumeId};
 use std::alloc::Global;
 

@@ -9,8 +9,8 @@ ghost use Rattle.csi_controller.specs.Counts.{count_change_told};
 ghost use Rattle.csi_controller.specs.Shown.{volume_of_row};
 
 use super::counts::CountChange;
-use crate::fault::CoreFault;
 use crate::row::{ControllerRow, NodeHolding};
+use csi_fence::CoreFault;
 use csi_types::{CallRef, NodeId, NodeUse};
 use std::alloc::Global;
 

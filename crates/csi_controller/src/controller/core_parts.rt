@@ -11,6 +11,8 @@ pub struct Core {
     pub config: Config,
     // 0 once all ids are given
     pub next_id: u64,
+    // the greatest session that came, 0 before any did
+    pub session: u64,
     pub catalog: Catalog,
     // how many volumes are held at each node of the configuration, in its order
     pub counts: [u64; MAX_NODES],

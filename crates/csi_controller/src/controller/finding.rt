@@ -1,17 +1,16 @@
-//! The row of a call, and the last call that was answered for it.
-ghost use Rattle.std.specs.Prelude.{◌≡◌, ◌<◌, position, option_map, IfSome};
-ghost use Rattle.std.specs.List.{find};
+//! The row of a call.
+ghost use Rattle.std.specs.Prelude.{◌≡◌, ◌<◌, position, IfSome};
 ghost use Rattle.csi_types.specs.Call.{kind_of, is_party_of};
 ghost use Rattle.csi_types.specs.Lent.{lent_call};
 ghost use Rattle.csi_types.specs.declared.call.Party.TheVariants.{Controller};
 ghost use Rattle.indexmap.specs.IndexMap.{index_map_len};
 ghost use Rattle.csi_controller.specs.Catalog.{rows_of};
-ghost use Rattle.csi_controller.specs.CoreParts.{parts_of, IsSoundCore};
+ghost use Rattle.csi_controller.specs.CoreParts.{IsSoundCore};
 ghost use Rattle.csi_controller.specs.Shown.{volume_of_row};
 ghost use Rattle.csi_controller.specs.State.{is_row_for};
 
 use super::core_parts::Core;
-use csi_types::{CallRef, Number, VolumeId};
+use csi_types::CallRef;
 
 /// Whether it is a call for the controller.
 pub fn is_own(call: &CallRef<'_>) -> bool
@@ -42,20 +41,6 @@ impl Core {
             CallRef::NodeUnstageVolume { id } => self.catalog.place_of_id(*id),
             CallRef::NodePublishVolume { id, .. } => self.catalog.place_of_id(*id),
             CallRef::NodeUnpublishVolume { id, .. } => self.catalog.place_of_id(*id),
-        }
-    }
-
-    /// The id of this call's row, and the number of the last call that was answered for it.
-    pub fn last_for(&self, call: &CallRef<'_>) -> Option<(VolumeId, Number)>
-        requires { IsSoundCore self.now }
-        ensures { result ≡ option_map (λ row. (row.id, row.last)) (find (λ row. is_row_for (lent_call call.now) (volume_of_row row)) (parts_of self.now).rows) }
-    {
-        match self.place_for(call) {
-            Some(place) => {
-                let row = &self.catalog.rows[place];
-                Some((row.id, row.last))
-            }
-            None => None,
         }
     }
 }

@@ -1,41 +1,70 @@
 //! A volume that is made.
-ghost use Rattle.std.specs.Prelude.{◌≡◌, ◌==◌, ◌<◌, ℕ, List, None, length, IfOk, OnErr, OnOk, IsTrue, IfErr, MatchResult};
+ghost use Rattle.std.specs.Prelude.{◌≡◌, ◌==◌, ◌<◌, ℕ, List, None, IfOk, OnErr, OnOk, IsTrue, IfErr, MatchResult};
 ghost use Rattle.std.specs.List.{find};
 ghost use Rattle.csi_types.specs.declared.capability.Capability.{Capability as OneCapability};
 ghost use Rattle.csi_types.specs.declared.call.Kind.TheVariants.{CreateVolume as CreateKind};
-ghost use Rattle.csi_types.specs.declared.call.Party.TheVariants.{Controller};
 ghost use Rattle.csi_types.specs.Reply.{has_id_by_rule};
-ghost use Rattle.csi_types.specs.Replies.{ok_reply_with, reply_frame};
+ghost use Rattle.csi_types.specs.Replies.{ok_reply_with};
 ghost use Rattle.csi_types.specs.Same.{same_text};
 ghost use Rattle.csi_controller.specs.Line.{line_told};
+ghost use Rattle.csi_controller.specs.Making.{made_answer};
 
 use super::core_parts::Core;
 use super::create_lines::argument_fault;
 use super::line::{Line, refused};
 use super::new_row::new_row;
 use super::replies::{done, reply_of};
-use crate::fault::CoreFault;
-use csi_types::{Call, CapabilityList, Number, Reply, Status, VolumeId, wanted_capacity};
+use csi_fence::{Answer, CoreFault};
+use csi_types::{Call, CapabilityList, Kind, Number, Status, VolumeId, wanted_capacity};
+use std::alloc::Global;
 
 /// The most rows that a controller has.
 const MAX_ROWS: usize = 4096;
 
+/// The answer that the volume of this id is there, by a row that was made.
+pub fn made(alloc: Global, id: VolumeId) -> Answer
+    ensures { result ≡ made_answer id }
+{
+    Answer {
+        kind: Kind::CreateVolume,
+        reply: done(alloc, Some(id)),
+        row: Some(id),
+    }
+}
+
+/// The answer that no volume is made, by a line of the table.
+pub fn not_made(alloc: Global, line: &Line) -> Result<Answer, CoreFault>
+    ensures { IfOk result (λ answer. answer ≡ record { kind = CreateKind; reply = line_told line.now; row = None }) }
+{
+    match reply_of(alloc, line) {
+        Ok(reply) => Ok(Answer {
+            kind: Kind::CreateVolume,
+            reply,
+            row: None,
+        }),
+        Err(fault) => Err(fault),
+    }
+}
+
 impl Core {
-    ghost use Rattle.csi_controller.specs.State.{ControllerState};
     ghost use Rattle.csi_controller.specs.Table.{Makes, Stays};
-    ghost use Rattle.csi_controller.specs.Fenced.{fenced_call, kept_for};
-    ghost use Rattle.csi_controller.specs.Core.{Shows, next_shown};
-    ghost use Rattle.csi_controller.specs.Step.{Answers};
+    ghost use Rattle.csi_controller.specs.Core.{next_shown};
+    ghost use Rattle.csi_controller.specs.CoreAnswers.{IsAnswered, IsLeftSo};
     ghost use Rattle.csi_controller.specs.Making.{new_line, IsMade};
     ghost use Rattle.csi_controller.specs.Catalog.{IsIndexed};
     ghost use Rattle.csi_controller.specs.CoreParts.{parts_of, IsSoundCore};
 
-    // The id and the capacity of the volume that is made for a new name, or the table's refusal.
-    fn room_for(&self, required: u64, limit: u64) -> Result<(VolumeId, u64), Line<'static>>
+    /// The id and the capacity of the volume that is made for a new name, where there are so many rows, or the table's refusal.
+    pub fn room_for(
+        &self,
+        count: usize,
+        required: u64,
+        limit: u64,
+    ) -> Result<(VolumeId, u64), Line<'static>>
         ensures line { (name : List ℕ) (wished : List OneCapability) → MatchResult result
-            (λ made. new_line self.now.config.greatest (length (parts_of self.now).rows) (next_shown self.now.next_id) name required limit wished
+            (λ made. new_line self.now.config.greatest count (next_shown self.now.next_id) name required limit wished
             ≡ record { reply = ok_reply_with made.0; change = Makes name made.1 wished })
-            (λ line. new_line self.now.config.greatest (length (parts_of self.now).rows) (next_shown self.now.next_id) name required limit wished
+            (λ line. new_line self.now.config.greatest count (next_shown self.now.next_id) name required limit wished
             ≡ record { reply = line_told line; change = Stays }) }
         ensures id { IfOk result (λ made. made.0 ≡ self.now.next_id) }
         ensures from { IfOk result (λ made. 0 < made.0) }
@@ -45,7 +74,7 @@ impl Core {
         if capacity > self.config.greatest() {
             return Err(refused(Status::OutOfRange, "range"));
         }
-        if self.catalog.len() >= MAX_ROWS {
+        if count >= MAX_ROWS {
             return Err(refused(Status::ResourceExhausted, "volumes"));
         }
         match VolumeId::try_new(self.next_id) {
@@ -62,11 +91,11 @@ impl Core {
         capacity: u64,
         name: &str,
         capabilities: &CapabilityList,
-    ) -> Result<Reply, CoreFault>
+    ) -> Result<Answer, CoreFault>
         requires kept { IsSoundCore self.old }
         requires new_id { find (λ row. row.id == id) (parts_of self.old).rows ≡ None }
         requires new_name { find (λ row. same_text row.name name.now) (parts_of self.old).rows ≡ None }
-        ensures reply { IfOk result (λ reply. reply ≡ ok_reply_with id) }
+        ensures answer { IfOk result (λ answer. answer ≡ made_answer id) }
         ensures made { OnOk result (IsMade self.old self.new number id name.now capacity capabilities.now) }
         ensures err { OnErr result (parts_of self.new ≡ parts_of self.old) }
         ensures indexed { IsIndexed self.new.catalog }
@@ -77,10 +106,10 @@ impl Core {
         let row = new_row(alloc, number, id, name, capacity, capabilities)?;
         self.catalog.add(alloc, row)?;
         self.next_id = self.next_id.wrapping_add(1);
-        Ok(done(alloc, Some(id)))
+        Ok(made(alloc, id))
     }
 
-    /// CreateVolume of a name that has no row. A refusal changes nothing.
+    /// CreateVolume, of the present session, of a name that has no row. A refusal changes nothing.
     pub fn create(
         &mut self,
         number: Number,
@@ -88,24 +117,21 @@ impl Core {
         required: u64,
         limit: u64,
         capabilities: &CapabilityList,
-    ) -> Result<Reply, CoreFault>
+    ) -> Result<Answer, CoreFault>
         requires kept { IsSoundCore self.old }
+        requires present { number.session ≡ self.old.session }
         requires new { find (λ row. same_text row.name name.now) (parts_of self.old).rows ≡ None }
-        ensures ok { (state : ControllerState) → Shows (parts_of self.old) state → IfOk result (λ reply. Answers (parts_of self.new) (reply_frame number Controller CreateKind reply)
-            (fenced_call self.old.config state number (Call.CreateVolume name.now required limit capabilities.now) (kept_for (Call.CreateVolume name.now required limit capabilities.now) state))) }
-        ensures id { IfOk result (λ reply. IsTrue (has_id_by_rule CreateKind reply)) }
-        ensures err { (state : ControllerState) → Shows (parts_of self.old) state → OnErr result (Shows (parts_of self.new) state) }
-        ensures kept { IsSoundCore self.new }
-        ensures config { self.new.config ≡ self.old.config }
+        ensures ok { IfOk result (λ answer. IsAnswered self.old self.new number (Call.CreateVolume name.now required limit capabilities.now) answer) }
+        ensures err { OnErr result (IsLeftSo self.old self.new) }
     {
         let alloc = self.alloc;
         let wished = capabilities.as_slice();
         if let Some(line) = argument_fault(required, limit, wished) {
-            return reply_of(alloc, &line);
+            return not_made(alloc, &line);
         }
-        match self.room_for(required, limit) {
+        match self.room_for(self.catalog.len(), required, limit) {
             Ok(made) => self.make(number, made.0, made.1, name, capabilities),
-            Err(line) => reply_of(alloc, &line),
+            Err(line) => not_made(alloc, &line),
         }
     }
 }

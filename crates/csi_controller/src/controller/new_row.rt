@@ -4,8 +4,8 @@ ghost use Rattle.csi_controller.specs.Shown.{volume_of_row};
 ghost use Rattle.csi_controller.specs.Making.{made_volume};
 
 use super::replies::done;
-use crate::fault::CoreFault;
 use crate::row::{ControllerRow, copied_capabilities};
+use csi_fence::CoreFault;
 use csi_types::{CapabilityList, Kind, Name, Number, VolumeId};
 use std::alloc::Global;
 

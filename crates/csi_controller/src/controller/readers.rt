@@ -5,8 +5,8 @@ ghost use Rattle.csi_controller.specs.Views.{row_if_live, IsCopyOf};
 
 use super::copies::copied_row;
 use super::core_parts::Core;
-use crate::fault::CoreFault;
 use crate::row::ControllerRow;
+use csi_fence::CoreFault;
 use csi_types::VolumeId;
 
 impl Core {
@@ -29,7 +29,7 @@ impl Core {
         }
     }
 
-    /// The id of the volume of this name, deleted or not.
+    /// The id of the volume of this name, deleted or not, unless it is forgotten.
     pub fn id_of(&self, name: &str) -> Option<VolumeId>
         requires { IsSoundCore self.now }
         ensures { result ≡ option_map (λ row. row.id) (find (λ row. same_text row.name name.now) (parts_of self.now).rows) }

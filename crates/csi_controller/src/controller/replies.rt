@@ -3,7 +3,7 @@ ghost use Rattle.std.specs.Prelude.{◌≡◌, [], IsOk, IfOk};
 ghost use Rattle.csi_controller.specs.Line.{line_told};
 
 use super::line::Line;
-use crate::fault::CoreFault;
+use csi_fence::CoreFault;
 use csi_types::{Detail, Reply, Status, VolumeId};
 use std::alloc::Global;
 

@@ -2,23 +2,20 @@
 ghost use Rattle.std.specs.Prelude.{◌≡◌, ◌<◌, None, Some, position, option_map, IfOk, IfSome, OnErr, OnOk, IsOk, IsTrue, not};
 ghost use Rattle.indexmap.specs.IndexMap.{index_map_len};
 ghost use Rattle.csi_types.specs.declared.call.Call.{Call as OneCall};
+ghost use Rattle.csi_types.specs.declared.number.Number.{Number as OneNumber};
 ghost use Rattle.csi_types.specs.declared.call.Party.{Party as OneParty};
 ghost use Rattle.csi_types.specs.declared.call.Party.TheVariants.{Controller};
 ghost use Rattle.csi_types.specs.Call.{kind_of, is_party_of};
 ghost use Rattle.csi_types.specs.Frame.{IsAllowed};
 ghost use Rattle.csi_types.specs.Lent.{lent_call};
-ghost use Rattle.csi_types.specs.Reply.{has_id_by_rule};
 ghost use Rattle.csi_types.specs.Replies.{call_frame, reply_frame};
 
-use super::at_row::answer_at_row;
+use super::at_row::{answer_at_row, stale};
 use super::core_parts::Core;
 use super::finding::is_own;
-use super::line::refused;
-use super::replies::{done, reply_of};
-use crate::fault::CoreFault;
-use csi_types::{
-    Body, CallRef, CapabilityList, CapabilityRef, Frame, Kind, Number, Party, Reply, Status,
-};
+use super::without_row::reply_without_row;
+use csi_fence::{Answer, CoreFault};
+use csi_types::{Body, CallRef, CapabilityList, CapabilityRef, Frame, Kind, Number, Party, Reply};
 
 // The frame of a reply. It takes no memory.
 fn frame_of(number: Number, kind: Kind, reply: Reply) -> Frame
@@ -30,32 +27,32 @@ fn frame_of(number: Number, kind: Kind, reply: Reply) -> Frame
 
 impl Core {
     ghost use Rattle.csi_controller.specs.State.{ControllerState, is_row_for};
-    ghost use Rattle.csi_controller.specs.Fenced.{fenced, fenced_call, kept_for};
+    ghost use Rattle.csi_controller.specs.Fenced.{fenced, kept_for};
     ghost use Rattle.csi_controller.specs.Shown.{volume_of_row};
     ghost use Rattle.csi_controller.specs.Catalog.{rows_of};
     ghost use Rattle.csi_controller.specs.Core.{Shows, IsAnsweredOk, IsUndoing};
-    ghost use Rattle.csi_controller.specs.Step.{Answers, answer_frame};
+    ghost use Rattle.csi_controller.specs.Step.{answer_frame};
     ghost use Rattle.csi_controller.specs.CoreParts.{parts_of, IsSoundCore};
+    ghost use Rattle.csi_controller.specs.CoreAnswers.{IsAnswered, IsLeftSo};
+    ghost use Rattle.csi_controller.specs.Nowhere.{IsCreate};
     ghost use Rattle.csi_controller.specs.Repeats.{IsPlainRepeat};
+    ghost use Rattle.csi_controller.specs.RowsLaw.{Changes};
 
-    // Answers a call whose row is at this place. An `Err` changes nothing.
+    // Answers a call of the present session whose row is at this place. An `Err` changes nothing.
     fn answer_with_row(
         &mut self,
         place: usize,
         number: Number,
         call: &CallRef<'_>,
-    ) -> Result<(Kind, Reply), CoreFault>
+    ) -> Result<Answer, CoreFault>
         requires party { IsTrue (is_party_of (kind_of (lent_call call.now)) Controller) }
         requires kept { IsSoundCore self.old }
+        requires present { number.session ≡ self.old.session }
         requires place { Some place ≡ position (λ row. is_row_for (lent_call call.now) (volume_of_row row)) (rows_of self.old.catalog) }
         requires within { place < index_map_len self.old.catalog.rows }
-        ensures ok { (state : ControllerState) → Shows (parts_of self.old) state → IfOk result (λ answer. Answers (parts_of self.new) (answer_frame number answer)
-            (fenced_call self.old.config state number (lent_call call.now) (kept_for (lent_call call.now) state))) }
-        ensures allowed { IfOk result (λ answer. IsAllowed Controller (Body.Reply answer.0 answer.1)) }
-        ensures err { (state : ControllerState) → Shows (parts_of self.old) state → OnErr result (Shows (parts_of self.new) state) }
-        ensures kept { IsSoundCore self.new }
-        ensures config { self.new.config ≡ self.old.config }
-        ensures repeated { (state : ControllerState) → Shows (parts_of self.old) state → IsPlainRepeat (kept_for (lent_call call.now) state) number → IsOk result }
+        ensures ok { IfOk result (λ answer. IsAnswered self.old self.new number (lent_call call.now) answer) }
+        ensures err { OnErr result (IsLeftSo self.old self.new) }
+        ensures repeated { (state : ControllerState) → Shows (parts_of self.old) state → IsPlainRepeat state.session (kept_for (lent_call call.now) state) number → IsOk result }
         ensures undone { (state : ControllerState) → Shows (parts_of self.old) state → IsUndoing (lent_call call.now) → IsAnsweredOk self.old.config state number (lent_call call.now) → IsOk result }
     {
         let alloc = self.alloc;
@@ -64,21 +61,38 @@ impl Core {
         answer_at_row(row, nodes, &mut self.counts, alloc, number, call)
     }
 
-    // Answers a call that has no row. An `Err` changes nothing.
-    fn answer_without_row(&mut self, number: Number, call: &CallRef<'_>) -> Result<Reply, CoreFault>
+    // Answers a call of the present session and of an id that no volume has.
+    fn answer_nowhere(&self, call: &CallRef<'_>) -> Result<Answer, CoreFault>
+        requires party { IsTrue (is_party_of (kind_of (lent_call call.now)) Controller) }
+        requires kept { IsSoundCore self.now }
+        requires none { None ≡ position (λ row. is_row_for (lent_call call.now) (volume_of_row row)) (rows_of self.now.catalog) }
+        requires other { IsCreate (lent_call call.now) → ⊥ }
+        ensures ok { (number : OneNumber) → number.session ≡ self.now.session → IfOk result (λ answer. IsAnswered self.now self.now number (lent_call call.now) answer) }
+        ensures undone { IsUndoing (lent_call call.now) → IsOk result }
+    {
+        let reply = reply_without_row(self.alloc, call)?;
+        Ok(Answer {
+            kind: call.kind(),
+            reply,
+            row: None,
+        })
+    }
+
+    // Answers a call of the present session that has no row. An `Err` changes nothing.
+    fn answer_without_row(
+        &mut self,
+        number: Number,
+        call: &CallRef<'_>,
+    ) -> Result<Answer, CoreFault>
         requires party { IsTrue (is_party_of (kind_of (lent_call call.now)) Controller) }
         requires kept { IsSoundCore self.old }
+        requires present { number.session ≡ self.old.session }
         requires none { None ≡ position (λ row. is_row_for (lent_call call.now) (volume_of_row row)) (rows_of self.old.catalog) }
-        ensures ok { (state : ControllerState) → Shows (parts_of self.old) state → IfOk result (λ reply. Answers (parts_of self.new) (reply_frame number Controller (kind_of (lent_call call.now)) reply)
-            (fenced_call self.old.config state number (lent_call call.now) (kept_for (lent_call call.now) state))) }
-        ensures id { IfOk result (λ reply. IsTrue (has_id_by_rule (kind_of (lent_call call.now)) reply)) }
-        ensures err { (state : ControllerState) → Shows (parts_of self.old) state → OnErr result (Shows (parts_of self.new) state) }
-        ensures kept { IsSoundCore self.new }
-        ensures config { self.new.config ≡ self.old.config }
-        ensures repeated { (state : ControllerState) → Shows (parts_of self.old) state → IsPlainRepeat (kept_for (lent_call call.now) state) number → IsOk result }
+        ensures ok { IfOk result (λ answer. IsAnswered self.old self.new number (lent_call call.now) answer) }
+        ensures err { OnErr result (IsLeftSo self.old self.new) }
+        ensures repeated { (state : ControllerState) → Shows (parts_of self.old) state → IsPlainRepeat state.session (kept_for (lent_call call.now) state) number → IsOk result }
         ensures undone { (state : ControllerState) → Shows (parts_of self.old) state → IsUndoing (lent_call call.now) → IsAnsweredOk self.old.config state number (lent_call call.now) → IsOk result }
     {
-        let alloc = self.alloc;
         match call {
             CallRef::CreateVolume {
                 name,
@@ -86,13 +100,28 @@ impl Core {
                 limit,
                 capabilities,
             } => self.create(number, name, *required, *limit, capabilities),
-            CallRef::DeleteVolume { .. } => Ok(done(alloc, None)),
-            CallRef::ControllerPublishVolume { .. } => {
-                let line = refused(Status::NotFound, "volume");
-                reply_of(alloc, &line)
-            }
-            CallRef::ControllerUnpublishVolume { .. } => Ok(done(alloc, None)),
-            _ => unreachable!(),
+            _ => self.answer_nowhere(call),
+        }
+    }
+
+    // Answers a call for the controller: by its session, and then by its row. An `Err` changes nothing.
+    fn answer_own(&mut self, number: Number, call: &CallRef<'_>) -> Result<Answer, CoreFault>
+        requires party { IsTrue (is_party_of (kind_of (lent_call call.now)) Controller) }
+        requires kept { IsSoundCore self.old }
+        ensures ok { IfOk result (λ answer. IsAnswered self.old self.new number (lent_call call.now) answer) }
+        ensures err { OnErr result (IsLeftSo self.old self.new) }
+        ensures repeated { (state : ControllerState) → Shows (parts_of self.old) state → IsPlainRepeat state.session (kept_for (lent_call call.now) state) number → IsOk result }
+        ensures undone { (state : ControllerState) → Shows (parts_of self.old) state → IsUndoing (lent_call call.now) → IsAnsweredOk self.old.config state number (lent_call call.now) → IsOk result }
+    {
+        if number.session < self.session {
+            return stale(self.alloc, call.kind());
+        }
+        if number.session > self.session {
+            return self.begin(number, call);
+        }
+        match self.place_for(call) {
+            Some(place) => self.answer_with_row(place, number, call),
+            None => self.answer_without_row(number, call),
         }
     }
 
@@ -101,30 +130,28 @@ impl Core {
         &mut self,
         number: Number,
         call: &CallRef<'_>,
-    ) -> Result<Option<(Kind, Reply)>, CoreFault>
+    ) -> Result<Option<Answer>, CoreFault>
         requires kept { IsSoundCore self.old }
         ensures reply { (state : ControllerState) (party : OneParty) → Shows (parts_of self.old) state → IsAllowed party (Body.Call (lent_call call.now))
             → IfOk result (λ answer. option_map (answer_frame number) answer ≡ (fenced self.old.config state (call_frame number party (lent_call call.now))).reply) }
         ensures state { (state : ControllerState) (party : OneParty) → Shows (parts_of self.old) state → IsAllowed party (Body.Call (lent_call call.now))
             → OnOk result (Shows (parts_of self.new) (fenced self.old.config state (call_frame number party (lent_call call.now))).state) }
-        ensures allowed { IfOk result (λ answer. IfSome answer (λ own. IsAllowed Controller (Body.Reply own.0 own.1))) }
+        ensures changes { IfOk result (λ answer. IfSome answer (λ own. Changes own.row number (parts_of self.old) (parts_of self.new))) }
+        ensures unanswered { result ≡ Ok None → parts_of self.new ≡ parts_of self.old }
+        ensures allowed { IfOk result (λ answer. IfSome answer (λ own. IsAllowed Controller (Body.Reply own.kind own.reply))) }
         ensures others { IsTrue (not (is_party_of (kind_of (lent_call call.now)) Controller)) → result ≡ Ok None }
         ensures err { (state : ControllerState) → Shows (parts_of self.old) state → OnErr result (Shows (parts_of self.new) state) }
         ensures kept { IsSoundCore self.new }
         ensures config { self.new.config ≡ self.old.config }
-        ensures repeated { (state : ControllerState) → Shows (parts_of self.old) state → IsPlainRepeat (kept_for (lent_call call.now) state) number → IsOk result }
+        ensures repeated { (state : ControllerState) → Shows (parts_of self.old) state → IsPlainRepeat state.session (kept_for (lent_call call.now) state) number → IsOk result }
         ensures undone { (state : ControllerState) → Shows (parts_of self.old) state → IsUndoing (lent_call call.now) → IsAnsweredOk self.old.config state number (lent_call call.now) → IsOk result }
     {
         if !is_own(call) {
             return Ok(None);
         }
-        // A pair is made where it is returned: what is handed on by value is copied at each step, with the gap between its parts.
-        if let Some(place) = self.place_for(call) {
-            let (kind, reply) = self.answer_with_row(place, number, call)?;
-            return Ok(Some((kind, reply)));
-        }
-        let reply = self.answer_without_row(number, call)?;
-        Ok(Some((call.kind(), reply)))
+        // What is handed on by value is copied at each step, with the gaps between its parts, unless it is made anew.
+        let Answer { kind, reply, row } = self.answer_own(number, call)?;
+        Ok(Some(Answer { kind, reply, row }))
     }
 
     /// Answers a frame, as `Controller::step` says.
@@ -139,7 +166,7 @@ impl Core {
         ensures undone { (state : ControllerState) (call : OneCall) → Shows (parts_of self.old) state → frame.now.body ≡ Body.Call call → IsUndoing call
             → IsAnsweredOk self.old.config state frame.now.number call → IsOk result }
         ensures repeated { (state : ControllerState) (call : OneCall) → Shows (parts_of self.old) state → frame.now.body ≡ Body.Call call
-            → IsPlainRepeat (kept_for call state) frame.now.number → IsOk result }
+            → IsPlainRepeat state.session (kept_for call state) frame.now.number → IsOk result }
     {
         let Body::Call(call) = frame.body() else {
             return Ok(None);
@@ -148,7 +175,7 @@ impl Core {
         let _parts: Option<(&CapabilityList, CapabilityRef<'_>)> = None;
         let number = frame.number();
         match self.answer(number, &call.lend()) {
-            Ok(Some(answer)) => Ok(Some(frame_of(number, answer.0, answer.1))),
+            Ok(Some(answer)) => Ok(Some(frame_of(number, answer.kind, answer.reply))),
             Ok(None) => Ok(None),
             Err(fault) => Err(fault),
         }

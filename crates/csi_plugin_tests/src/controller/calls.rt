@@ -1,5 +1,5 @@
 //! Calls that are drawn by a linear congruence, the same ones in every run.
-use super::plain::PlainRow;
+use super::plain::{Plain, PlainRow};
 use super::{Ask, B1, B3, B4, B6, B7};
 use csi_types::{Mode, Number};
 
@@ -49,9 +49,6 @@ const CAPACITIES: &[(u64, u64)] = &[
     (7, 9),
 ];
 
-// Some ids are of no volume.
-const IDS: u64 = 52;
-
 /// Where the congruence stands.
 #[derive(Drop)]
 pub(super) struct Draws {
@@ -82,8 +79,13 @@ impl Draws {
         texts.get(place).copied().unwrap_or("")
     }
 
-    fn id(&mut self) -> u64 {
-        self.below(IDS).saturating_add(1)
+    // The id of a row, or now and then any that was given or is given next.
+    fn id(&mut self, plain: &Plain) -> u64 {
+        let place = self.place(plain.rows.len().saturating_add(2));
+        match plain.rows.get(place) {
+            Some(row) => row.id,
+            None => self.below(plain.next_id).saturating_add(1),
+        }
     }
 
     // One time in 32 it isn't configured.
@@ -116,25 +118,25 @@ impl Draws {
         Ask::Create(name, required, limit, self.modes())
     }
 
-    fn publish(&mut self) -> Ask {
-        let id = self.id();
+    fn publish(&mut self, plain: &Plain) -> Ask {
+        let id = self.id(plain);
         let node = self.node();
         let mode = self.mode();
         Ask::Publish(id, node, mode, self.below(2) == 1)
     }
 
-    fn unpublish(&mut self) -> Ask {
-        let id = self.id();
+    fn unpublish(&mut self, plain: &Plain) -> Ask {
+        let id = self.id(plain);
         Ask::Unpublish(id, self.node())
     }
 
-    /// A call. Volumes are seldom deleted, so that most of them live to the end.
-    pub(super) fn ask(&mut self) -> Ask {
+    /// A call. Most volumes live long, and some 150 are deleted.
+    pub(super) fn ask(&mut self, plain: &Plain) -> Ask {
         match self.below(64) {
-            0 => Ask::Delete(self.id()),
-            1..=9 => self.create(),
-            10..=47 => self.publish(),
-            _ => self.unpublish(),
+            0..=3 => Ask::Delete(self.id(plain)),
+            4..=12 => self.create(),
+            13..=47 => self.publish(plain),
+            _ => self.unpublish(plain),
         }
     }
 
@@ -143,7 +145,7 @@ impl Draws {
         let way = self.below(16);
         match row {
             Some(row) => chosen(way, new, row.last),
-            None => new,
+            None => chosen(way, new, new),
         }
     }
 }

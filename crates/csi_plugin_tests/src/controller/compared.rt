@@ -1,11 +1,11 @@
 //! The controller beside the plain one. Both are given the same calls. The answers are the same, and after each call the whole
-//! records and the row of its volume.
+//! records, the row of its volume, the session and the empty rows.
 use super::calls::Draws;
-use super::plain::{Held, NODES, PlainRow, Rows, answer, next_id, row_of};
+use super::plain::{Answered, Held, NODES, Plain, PlainRow, answer, new_plain, row_of};
 use super::*;
-use crate::replies::{is_reply_to, tells};
+use crate::replies::{is_id, is_reply_to, tells};
 use csi_controller::{ControllerRow, NodeHolding};
-use csi_types::{Access, Capability, Number};
+use csi_types::{Access, Capability, Number, VolumeId};
 
 // The volume that a call names by its id.
 fn id_of(ask: Ask) -> Option<u64> {
@@ -74,17 +74,41 @@ fn are_rows(found: &[ControllerRow], rows: &[PlainRow]) -> bool {
     found.len() == rows.len()
 }
 
-// Whether the controller's record has these rows, in this order, and the next id.
-fn has_record(rt: &(impl Abort + AllocGlobal), controller: &Controller, rows: &[PlainRow]) -> bool {
+// Whether the controller's record has these rows, in this order, the next id and the session.
+fn has_record(rt: &(impl Abort + AllocGlobal), controller: &Controller, plain: &Plain) -> bool {
     let record = controller.record().expect(rt, "memory");
-    let is_same = record.next_id() == next_id(rows) && are_rows(record.rows(), rows);
+    let is_same = record.next_id() == plain.next_id && record.session() == plain.session;
+    let has_rows = are_rows(record.rows(), &plain.rows);
     drop(record);
-    is_same
+    is_same && has_rows
+}
+
+// Whether these are the ids of the rows that are not live.
+fn are_empty(found: &[VolumeId], rows: &[PlainRow]) -> bool {
+    let mut count = 0usize;
+    for row in rows {
+        if !row.live {
+            match found.get(count) {
+                Some(id) if id.number() == row.id => {}
+                _ => return false,
+            }
+            count = count.saturating_add(1);
+        }
+    }
+    found.len() == count
+}
+
+// Whether the controller tells the session, the number of rows, and which of them are empty.
+fn tells_rows(rt: &impl Abort, controller: &Controller, plain: &Plain) -> bool {
+    let empty = controller.empty().expect(rt, "memory");
+    let are_empty = are_empty(empty.as_slice(), &plain.rows);
+    drop(empty);
+    are_empty && controller.session() == plain.session && controller.rows() == plain.rows.len()
 }
 
 // Whether the row of the call's volume is the same, or there is none of this id, and the next id is the same.
-fn has_row(rt: &impl Abort, controller: &Controller, rows: &[PlainRow], ask: Ask) -> bool {
-    let is_same = match (row_of(rows, ask), id_of(ask)) {
+fn has_row(rt: &impl Abort, controller: &Controller, plain: &Plain, ask: Ask) -> bool {
+    let is_same = match (row_of(&plain.rows, ask), id_of(ask)) {
         (Some(row), _) => match controller.row_with_id(volume_id(rt, row.id)) {
             Some(found) => is_row(found, row),
             None => false,
@@ -92,7 +116,7 @@ fn has_row(rt: &impl Abort, controller: &Controller, rows: &[PlainRow], ask: Ask
         (None, Some(id)) => controller.row_with_id(volume_id(rt, id)).is_none(),
         (None, None) => true,
     };
-    is_same && controller.next_id() == next_id(rows)
+    is_same && controller.next_id() == plain.next_id
 }
 
 // Whether the controller answers the call so, which is lent.
@@ -101,13 +125,12 @@ fn answers_lent(
     controller: &mut Controller,
     number: Number,
     call: &Call,
-    kind: Kind,
-    told: Told,
+    (kind, told, row): Answered,
 ) -> bool {
     let answer = controller.answer(number, &call.lend());
-    let (of, reply) = answer.expect(rt, "memory").expect(rt, "a reply");
-    let is_told = of == kind && tells(&reply, told);
-    drop(reply);
+    let answer = answer.expect(rt, "memory").expect(rt, "a reply");
+    let is_told = answer.kind == kind && tells(&answer.reply, told) && is_id(answer.row, row);
+    drop(answer);
     is_told
 }
 
@@ -117,8 +140,7 @@ fn answers_framed(
     controller: &mut Controller,
     number: Number,
     call: Call,
-    kind: Kind,
-    told: Told,
+    (kind, told, _): Answered,
 ) -> bool {
     let frame = Frame::call(number, Party::Controller, call).expect(rt, "a call");
     let answer = controller.step(&frame).expect(rt, "memory");
@@ -133,43 +155,45 @@ fn answers_framed(
 fn answers_alike(
     rt: &(impl Abort + AllocGlobal),
     controller: &mut Controller,
-    rows: &mut Rows,
+    plain: &mut Plain,
     number: Number,
     ask: Ask,
 ) -> bool {
     let call = call_of(rt, ask);
-    let (kind, told) = answer(rt, rows, number, ask);
+    let answered = answer(rt, plain, number, ask);
     if number.call % 2 == 0 {
-        let is_told = answers_lent(rt, controller, number, &call, kind, told);
+        let is_told = answers_lent(rt, controller, number, &call, answered);
         drop(call);
         is_told
     } else {
-        answers_framed(rt, controller, number, call, kind, told)
+        answers_framed(rt, controller, number, call, answered)
     }
 }
 
-// The new number of this call: sessions of 2,500 calls.
+// The new number of this call: 40 sessions of 250 calls.
 fn new_number(call: u64) -> Number {
     Number {
-        session: (call / 2500).saturating_add(1),
-        call: (call % 2500).saturating_add(1),
+        session: (call / 250).saturating_add(1),
+        call: (call % 250).saturating_add(1),
     }
 }
 
 #[test]
 fn a_plain_controller_answers_the_same(rt: HostRuntime) {
     let mut controller = new_controller(&rt, NODES);
-    let mut rows = Vec::new(rt.alloc());
+    let mut plain = new_plain(&rt);
     let mut draws = Draws::new();
     for call in 0..10_000u64 {
-        let ask = draws.ask();
-        let number = draws.number(new_number(call), row_of(&rows, ask));
-        let is_alike = answers_alike(&rt, &mut controller, &mut rows, number, ask);
+        let ask = draws.ask(&plain);
+        let number = draws.number(new_number(call), row_of(&plain.rows, ask));
+        let is_alike = answers_alike(&rt, &mut controller, &mut plain, number, ask);
         assert!(rt; is_alike, "call {call}");
-        assert!(rt; has_row(&rt, &controller, &rows, ask), "after call {call}");
-        assert!(rt; has_record(&rt, &controller, &rows), "after call {call}");
+        assert!(rt; has_row(&rt, &controller, &plain, ask), "after call {call}");
+        assert!(rt; tells_rows(&rt, &controller, &plain), "after call {call}");
+        assert!(rt; has_record(&rt, &controller, &plain), "after call {call}");
     }
-    assert!(rt; rows.len() == 50);
-    drop(rows);
+    // of 50 names some were deleted, forgotten and used again
+    assert!(rt; plain.session == 40 && plain.next_id > 150 && plain.rows.len() <= 50);
+    drop(plain);
     drop(controller);
 }

@@ -3,9 +3,9 @@
 //! and the same call is then answered in full.
 use super::records::HELD;
 use super::*;
-use crate::values::{detail, number, room};
+use crate::values::{detail, room};
 use csi_controller::{ControllerRecord, ControllerRow, CoreFault, RecordFault};
-use csi_types::{Holding, Reply};
+use csi_types::{Holding, Reply, VolumeId};
 
 const NODES: &[(&str, u64)] = &[("n1", 4)];
 
@@ -18,11 +18,19 @@ fn record_of(rt: &(impl Abort + AllocGlobal), controller: &Controller) -> Contro
 }
 
 fn is_same_record(a: &ControllerRecord, b: &ControllerRecord) -> bool {
-    a.next_id() == b.next_id() && a.rows() == b.rows()
+    a.next_id() == b.next_id() && a.session() == b.session() && a.rows() == b.rows()
+}
+
+// The ids of its empty rows, asked for once more where memory was refused.
+pub(super) fn empty_of(rt: &impl Abort, controller: &Controller) -> Vec<VolumeId> {
+    match controller.empty() {
+        Ok(ids) => ids,
+        Err(CoreFault::NoMemory) => controller.empty().expect(rt, "memory"),
+    }
 }
 
 // The controller's answer. Where it wants memory it is as it was, and then answers.
-fn answer_in_the_end(
+pub(super) fn answer_in_the_end(
     rt: &(impl Abort + AllocGlobal),
     controller: &mut Controller,
     frame: &Frame,
@@ -43,12 +51,12 @@ fn answer_in_the_end(
 
 fn answers_in_the_end(rt: &(impl Abort + AllocGlobal), controller: &mut Controller, step: Step) {
     let (call, ask, told) = step;
-    let frame = frame_of(rt, call, call_of(rt, ask));
+    let frame = frame_of(rt, number(call), call_of(rt, ask));
     let answer = answer_in_the_end(rt, controller, &frame);
     drop(frame);
     let reply = answer.expect(rt, "a reply");
     assert!(rt;
-        is_reply(reply, None, call, kind_of(ask), told),
+        is_reply(reply, None, number(call), kind_of(ask), told),
         "call {call}"
     );
 }
@@ -100,7 +108,7 @@ fn is_held_record(record: &ControllerRecord) -> bool {
         [row] => is_held_row(row),
         _ => false,
     };
-    is_row && record.next_id() == 2
+    is_row && record.next_id() == 2 && record.session() == 1
 }
 
 #[test]
@@ -112,35 +120,46 @@ fn record_in_want_of_memory(rt: HostRuntime) {
     drop(record);
 }
 
-// The rows of a controller that made `v` by call 1.
-fn rows_of_one(rt: &(impl Abort + AllocGlobal)) -> Vec<ControllerRow> {
+// A row of a volume of 10 bytes that is held nowhere: its id and name, whether it lives, and the session of its last call.
+type Given = (u64, &'static str, bool, u64);
+
+fn row_of(rt: &(impl Abort + AllocGlobal), (id, text, live, session): Given) -> ControllerRow {
     let reply = Reply {
         status: Status::Ok,
-        id: Some(volume_id(rt, 1)),
+        id: Some(volume_id(rt, id)),
         detail: detail(rt, ""),
     };
-    let mut rows = room(rt, 1);
-    rows.push(ControllerRow {
-        id: volume_id(rt, 1),
-        live: true,
-        name: name(rt, "v"),
+    ControllerRow {
+        id: volume_id(rt, id),
+        live,
+        name: name(rt, text),
         capacity: 10,
         capabilities: blocks(rt, &[B1]),
         holdings: Vec::new(rt.alloc()),
-        last: number(1),
+        last: Number { session, call: 1 },
         kind: Kind::CreateVolume,
         reply,
-    })
-    .expect(rt, "room");
+    }
+}
+
+fn rows_of(rt: &(impl Abort + AllocGlobal), all: &[Given]) -> Vec<ControllerRow> {
+    let mut rows = room(rt, all.len());
+    for given in all {
+        rows.push(row_of(rt, *given)).expect(rt, "room");
+    }
     rows
 }
+
+const LIVES: Given = (1, "v", true, 1);
 
 const MADE: &[Step] = &[(1, MAKE, FIRST)];
 
 #[test]
 fn a_controller_record_is_made_in_want_of_memory(rt: HostRuntime) {
-    let made = match ControllerRecord::try_new(rt.alloc(), 2, rows_of_one(&rt)) {
-        Err(RecordFault::NoMemory) => ControllerRecord::try_new(rt.alloc(), 2, rows_of_one(&rt)),
+    let made = match ControllerRecord::try_new(rt.alloc(), 2, rows_of(&rt, &[LIVES]), 1) {
+        Err(RecordFault::NoMemory) => {
+            ControllerRecord::try_new(rt.alloc(), 2, rows_of(&rt, &[LIVES]), 1)
+        }
         first => first,
     };
     let record = made.expect(&rt, "a record");
@@ -149,6 +168,53 @@ fn a_controller_record_is_made_in_want_of_memory(rt: HostRuntime) {
     drop(controller);
     assert!(rt; is_same_record(&record, &kept));
     drop((record, kept));
+}
+
+const GONE: Given = (1, "v", false, 1);
+
+const LIVES_LATER: Given = (2, "w", true, 2);
+
+const GONE_LATER: Given = (2, "w", false, 2);
+
+const GONE_AT_LAST: Given = (4, "x", false, 1);
+
+// Rows that were kept without a session, the session, and the ids of those that stay: the session is the greatest of all rows, and what was
+// deleted before it is left out.
+const WITHOUT: &[(&[Given], u64, &[u64])] = &[
+    (&[], 0, &[]),
+    (&[LIVES], 1, &[1]),
+    (&[GONE], 1, &[1]),
+    (&[LIVES, LIVES_LATER], 2, &[1, 2]),
+    (&[GONE, LIVES_LATER], 2, &[2]),
+    (&[GONE, GONE_LATER], 2, &[2]),
+    (&[LIVES, GONE_LATER, GONE_AT_LAST], 2, &[1, 2]),
+    (&[(3, "u", false, 5), GONE_AT_LAST], 5, &[3]),
+];
+
+// Whether these are the ids of the rows.
+fn have_ids(rows: &[ControllerRow], ids: &[u64]) -> bool {
+    for (row, id) in rows.iter().zip(ids) {
+        if row.id.number() != *id {
+            return false;
+        }
+    }
+    rows.len() == ids.len()
+}
+
+#[test]
+fn rows_without_a_session_make_a_record_in_want_of_memory(rt: HostRuntime) {
+    for (all, session, ids) in WITHOUT {
+        let made = match ControllerRecord::without_session(rt.alloc(), 9, rows_of(&rt, all)) {
+            Err(RecordFault::NoMemory) => {
+                ControllerRecord::without_session(rt.alloc(), 9, rows_of(&rt, all))
+            }
+            first => first,
+        };
+        let record = made.expect(&rt, "a record");
+        assert!(rt; record.session() == *session && record.next_id() == 9);
+        assert!(rt; have_ids(record.rows(), ids));
+        drop(record);
+    }
 }
 
 // A record's copy takes memory, and its controller none.

@@ -1,23 +1,23 @@
 //! Calls that are lent, with texts that no call has.
 use super::*;
-use crate::values::number;
 use csi_types::{CallRef, CapabilityRef};
 
 // One byte more than a name has.
 const LONG: &str =
     "vvvvvvvvvvvvvvvvvvvvvvvvvvvvvvvvvvvvvvvvvvvvvvvvvvvvvvvvvvvvvvvvvvvvvvvvvvvvvvvvvvvvvvvvvvvvvvvvvvvvvvvvvvvvvvvvvvvvvvvvvvvvvvvvv";
 
-// Whether the call gets no answer.
+// Whether the call of session 2 gets no answer, and begins no session.
 fn is_unanswered(
     rt: &(impl Abort + AllocGlobal),
     controller: &mut Controller,
     call: u64,
     lent: &CallRef<'_>,
 ) -> bool {
-    let answer = controller.answer(number(call), lent).expect(rt, "memory");
+    let number = Number { session: 2, call };
+    let answer = controller.answer(number, lent).expect(rt, "memory");
     let is_none = answer.is_none();
     drop(answer);
-    is_none
+    is_none && controller.session() == 1
 }
 
 #[test]
@@ -27,6 +27,8 @@ fn a_lent_call_outside_its_limits_gets_no_answer(rt: HostRuntime) {
     // The proof has to be told the types of a lent call's parts.
     let _parts: Option<CapabilityRef<'_>> = None;
     let id = volume_id(&rt, 1);
+    let unstage = CallRef::NodeUnstageVolume { id };
+    assert!(rt; is_unanswered(&rt, &mut controller, 2, &unstage));
     let detach = CallRef::ControllerUnpublishVolume { id, node: "" };
     assert!(rt; is_unanswered(&rt, &mut controller, 2, &detach));
     assert!(rt; LONG.len() == 129);

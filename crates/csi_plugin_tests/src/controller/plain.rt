@@ -1,5 +1,5 @@
 //! A controller as plain as can be: rows in a vector, found by a walk, and the table of the lifecycle, written out line by
-//! line. Texts are literals, and a volume is used as a raw device.
+//! line, behind a fence by sessions and by numbers. Texts are literals, and a volume is used as a raw device.
 mod table;
 
 use super::{Ask, Told, kind_of};
@@ -45,12 +45,27 @@ pub(super) struct PlainRow {
     pub told: Told,
 }
 
-/// All of them, in the order in which they were made.
-pub(super) type Rows = Vec<PlainRow>;
+/// All of them.
+#[derive(Drop)]
+pub(super) struct Plain {
+    /// In the order in which they were made.
+    pub rows: Vec<PlainRow>,
+    /// The id that the next volume gets: ids are given in order, and none a second time.
+    pub next_id: u64,
+    /// The greatest session of which a call came, 0 before any did.
+    pub session: u64,
+}
 
-/// The id that the next volume gets: ids are given in order, and no row goes.
-pub(super) fn next_id(rows: &[PlainRow]) -> u64 {
-    (rows.len() as u64).saturating_add(1)
+/// The kind of a reply, what it tells, and the id of the volume whose row was changed or made.
+pub(super) type Answered = (Kind, Told, Option<u64>);
+
+/// A controller that made no volume.
+pub(super) fn new_plain(rt: &impl AllocGlobal) -> Plain {
+    Plain {
+        rows: Vec::new(rt.alloc()),
+        next_id: 1,
+        session: 0,
+    }
 }
 
 // ---- rows, by a walk
@@ -121,13 +136,21 @@ fn change(rt: &(impl Abort + AllocGlobal), row: &mut PlainRow, ask: Ask) {
 // ---- the fence
 
 // What is told of an older number, and of the last one.
-fn fenced(row: &PlainRow, number: Number, ask: Ask) -> Option<(Kind, Told)> {
+fn fenced(row: &PlainRow, number: Number, ask: Ask) -> Option<Answered> {
     if number < row.last {
-        Some((kind_of(ask), STALE))
+        Some((kind_of(ask), STALE, None))
     } else if number == row.last {
-        Some((row.kind, row.told))
+        Some((row.kind, row.told, None))
     } else {
         None
+    }
+}
+
+// Where this session is a later one it begins, and volumes that were deleted are forgotten.
+fn begin(plain: &mut Plain, session: u64) {
+    if session > plain.session {
+        plain.session = session;
+        plain.rows.retain(|row| row.live);
     }
 }
 
@@ -144,16 +167,17 @@ fn keep(rt: &(impl Abort + AllocGlobal), row: &mut PlainRow, number: Number, ask
 // Answers a call whose volume has this row, in this place.
 fn answer_at(
     rt: &(impl Abort + AllocGlobal),
-    rows: &mut Rows,
+    rows: &mut Vec<PlainRow>,
     place: usize,
     number: Number,
     ask: Ask,
-) -> (Kind, Told) {
+) -> Answered {
     let row = rows.get(place).expect(rt, "a row");
     if let Some(answer) = fenced(row, number, ask) {
         return answer;
     }
     let told = told_of(rows, row, ask);
+    let id = row.id;
     keep(
         rt,
         rows.get_mut(place).expect(rt, "a row"),
@@ -161,7 +185,7 @@ fn answer_at(
         ask,
         told,
     );
-    (kind_of(ask), told)
+    (kind_of(ask), told, Some(id))
 }
 
 // The row of a volume that was made.
@@ -188,30 +212,35 @@ fn new_row(
 // Answers a call whose volume has no row.
 fn answer_none(
     rt: &(impl Abort + AllocGlobal),
-    rows: &mut Rows,
+    plain: &mut Plain,
     number: Number,
     ask: Ask,
-) -> (Kind, Told) {
-    let told = told_of_none(rows, ask);
+) -> Answered {
+    let told = told_of_none(plain, ask);
     if let Ask::Create(name, required, limit, modes) = ask {
         if told.0 == Status::Ok {
             let made = (name, granted(required, limit));
             let row = new_row(rt, made, modes, number, told);
-            rows.push(row).expect(rt, "memory");
+            plain.rows.push(row).expect(rt, "memory");
+            plain.next_id = plain.next_id.saturating_add(1);
         }
     }
-    (kind_of(ask), told)
+    (kind_of(ask), told, told.1)
 }
 
-/// Answers the call under this number: the kind of the reply, and what it tells.
+/// Answers the call under this number. One of an earlier session than the greatest that came is stale, and changes nothing.
 pub(super) fn answer(
     rt: &(impl Abort + AllocGlobal),
-    rows: &mut Rows,
+    plain: &mut Plain,
     number: Number,
     ask: Ask,
-) -> (Kind, Told) {
-    match place_of(rows, ask) {
-        Some(place) => answer_at(rt, rows, place, number, ask),
-        None => answer_none(rt, rows, number, ask),
+) -> Answered {
+    if number.session < plain.session {
+        return (kind_of(ask), STALE, None);
+    }
+    begin(plain, number.session);
+    match place_of(&plain.rows, ask) {
+        Some(place) => answer_at(rt, &mut plain.rows, place, number, ask),
+        None => answer_none(rt, plain, number, ask),
     }
 }

@@ -1,7 +1,7 @@
 //! Frames written and read with memory to spare.
 use super::vectors::DELETE;
 use super::{read, written};
-use crate::values::{call_frame, mount, name, room, volume_id};
+use crate::values::{call_frame, mount, name, number, room, volume_id};
 use csi_frames::encode;
 use csi_types::{Call, CapabilityList, Frame, Mode, Number, Party};
 use std::alloc::Global;
@@ -9,7 +9,7 @@ use std::process::Abort;
 
 fn delete(rt: &(impl Abort + AllocGlobal)) -> Frame {
     let id = volume_id(rt, 1);
-    call_frame(rt, Party::Controller, 2, Call::DeleteVolume { id })
+    call_frame(rt, Party::Controller, number(2), Call::DeleteVolume { id })
 }
 
 // The bytes are read as this frame.

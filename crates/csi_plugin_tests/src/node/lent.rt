@@ -1,7 +1,6 @@
 //! Calls that are lent.
 use super::*;
-use crate::replies::tells;
-use crate::values::number;
+use crate::replies::{is_id, tells};
 use csi_types::{CallRef, CapabilityList, CapabilityRef};
 
 const LENT: &[Step] = &[
@@ -13,41 +12,48 @@ const LENT: &[Step] = &[
     (4, Ask::Unpublish(1, "/a"), Status::Ok, ""),
 ];
 
-// The kind of the answer to each: the third call is repeated by another.
-const KINDS: &[Kind] = &[
-    Kind::NodeStageVolume,
-    Kind::NodePublishVolume,
-    Kind::NodeUnstageVolume,
-    Kind::NodeUnstageVolume,
-    Kind::NodeUnpublishVolume,
-    Kind::NodeUnpublishVolume,
+// The kind of the answer to each, and the volume whose row it changed: the third call is repeated by another.
+const ANSWERS: &[(Kind, Option<u64>)] = &[
+    (Kind::NodeStageVolume, Some(1)),
+    (Kind::NodePublishVolume, Some(1)),
+    (Kind::NodeUnstageVolume, Some(1)),
+    (Kind::NodeUnstageVolume, None),
+    (Kind::NodeUnpublishVolume, None),
+    (Kind::NodeUnpublishVolume, Some(1)),
 ];
 
 // Whether the node answers the call so, which is lent.
-fn answers_lent(rt: &(impl Abort + AllocGlobal), node: &mut Node, step: Step, kind: Kind) -> bool {
+fn answers_lent(
+    rt: &(impl Abort + AllocGlobal),
+    node: &mut Node,
+    step: Step,
+    (kind, row): (Kind, Option<u64>),
+) -> bool {
     let (call, ask, status, detail) = step;
     let lent = call_of(rt, ask);
     let answer = node.answer(number(call), &lent.lend());
-    let (of, reply) = answer.expect(rt, "memory").expect(rt, "a reply");
+    let answer = answer.expect(rt, "memory").expect(rt, "a reply");
     drop(lent);
-    let is_told = of == kind && tells(&reply, (status, None, detail));
-    drop(reply);
-    is_told
+    let is_told = answer.kind == kind && tells(&answer.reply, (status, None, detail));
+    let is_row = is_id(answer.row, row);
+    drop(answer);
+    is_told && is_row
 }
 
-// Whether the call gets no answer.
+// Whether the call of session 2 gets no answer, and begins no session.
 fn is_unanswered(rt: &impl Abort, node: &mut Node, call: u64, lent: &CallRef<'_>) -> bool {
-    let answer = node.answer(number(call), lent).expect(rt, "memory");
+    let number = Number { session: 2, call };
+    let answer = node.answer(number, lent).expect(rt, "memory");
     let is_none = answer.is_none();
     drop(answer);
-    is_none
+    is_none && node.session() == 1
 }
 
 #[test]
 fn lent_calls_are_answered(rt: HostRuntime) {
     let mut node = new_node(&rt);
-    for (step, kind) in LENT.iter().zip(KINDS) {
-        assert!(rt; answers_lent(&rt, &mut node, *step, *kind));
+    for (step, answer) in LENT.iter().zip(ANSWERS) {
+        assert!(rt; answers_lent(&rt, &mut node, *step, *answer));
     }
     drop(node);
 }
@@ -58,6 +64,8 @@ fn a_lent_call_without_a_target_gets_no_answer(rt: HostRuntime) {
     // The proof has to be told the types of a lent call's parts.
     let _parts: Option<(&CapabilityList, CapabilityRef<'_>)> = None;
     let id = volume_id(&rt, 1);
+    let delete = CallRef::DeleteVolume { id };
+    assert!(rt; is_unanswered(&rt, &mut node, 2, &delete));
     let outside = CallRef::NodeUnpublishVolume { id, target: "" };
     assert!(rt; is_unanswered(&rt, &mut node, 2, &outside));
     answers_all(&rt, &mut node, &[(2, Ask::Unstage(1), Status::Ok, "")]);

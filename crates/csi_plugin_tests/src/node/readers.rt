@@ -1,6 +1,5 @@
 //! What a node's readers list, and its record.
 use super::*;
-use crate::values::number;
 use csi_node::{NodeRecord, NodeRow, NodeTarget, Published, Staged};
 use csi_types::Access;
 

@@ -102,10 +102,10 @@ const KEPT: &[Step] = &[
 #[test]
 fn refusal_is_kept(rt: HostRuntime) {
     let mut node = new_answers(&rt, KEPT);
-    let reply = reply_to(&rt, &mut node, 1, Ask::Stage(7, ONE));
+    let reply = reply_to(&rt, &mut node, number(1), Ask::Stage(7, ONE));
     let told = (REFUSED, None, "not staged");
     drop(node);
-    assert!(rt; is_reply(reply, Some("n1"), 1, Kind::NodePublishVolume, told));
+    assert!(rt; is_reply(reply, Some("n1"), number(1), Kind::NodePublishVolume, told));
 }
 
 // The calls that publish volume 1 at sixteen targets.
@@ -154,7 +154,7 @@ fn seventeenth_target_is_refused(rt: HostRuntime) {
 #[test]
 fn frame_for_another_node(rt: HostRuntime) {
     let mut node = new_node(&rt);
-    let frame = frame_for(&rt, "n2", 1, Ask::Stage(1, ONE));
+    let frame = frame_for(&rt, "n2", number(1), Ask::Stage(1, ONE));
     is_silent_at(&rt, &mut node, &frame);
     drop(frame);
     has_no_row(&rt, &node, 1);
@@ -165,7 +165,7 @@ fn frame_for_another_node(rt: HostRuntime) {
 #[test]
 fn reply_to_the_node(rt: HostRuntime) {
     let mut node = new_node(&rt);
-    let reply = reply_to(&rt, &mut node, 1, Ask::Stage(1, ONE));
+    let reply = reply_to(&rt, &mut node, number(1), Ask::Stage(1, ONE));
     is_silent_at(&rt, &mut node, &reply);
     drop(reply);
     drop(node);

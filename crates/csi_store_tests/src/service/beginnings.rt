@@ -1,19 +1,33 @@
 //! The record of a controller that made a volume, cut short at each of its bytes, longer by one, and with values that no record has:
-//! from its bytes, and from stores; in both versions.
-use super::{OLD_RECORD, RECORD, changed, controller_fault, part, refused_at};
+//! from its bytes, and from stores; in all versions.
+use super::records::{FIRST_RECORD, RECORD, SECOND_RECORD, changed, refused_at};
+use super::{controller_fault, part};
 use csi_service::{Keep, KeepFault, MemoryKeep};
 use csi_sqlite::SqliteKeep;
 use sqlite::Connection;
 use std::alloc::Global;
 use std::process::Abort;
 
-// The bytes before the row: the version, the number of parts, and the head.
-const BEFORE_ROW: usize = 27;
+// A record, how many bytes stand before the key of its row (the version, the number of parts, and the head), and bytes of it that are
+// changed, with the part that is refused for each.
+type Whole = (&'static [u8], usize, &'static [(usize, u8, u64)]);
+
+// The next id is 1, the session 0, the capacity 0, and the kept reply a node's.
+const WHOLE: Whole = (
+    RECORD,
+    35,
+    &[(26, 1, 1), (34, 0, 1), (58, 0, 1), (79, 0x85, 1)],
+);
+
+// The same in versions 2 and 1, which have no session.
+const SECOND: Whole = (SECOND_RECORD, 27, &[(26, 1, 1), (50, 0, 1), (71, 0x85, 1)]);
+
+const FIRST: Whole = (FIRST_RECORD, 27, &[(26, 1, 1), (50, 0, 1), (71, 0x85, 1)]);
 
 // Whether so many bytes of the record are refused, at the part that they end in.
-fn is_cut(alloc: Global, record: &[u8], count: usize) -> bool {
-    let place = if count < BEFORE_ROW { 0 } else { 1 };
-    match record.get(..count) {
+fn is_cut(alloc: Global, whole: Whole, count: usize) -> bool {
+    let place = if count < whole.1 { 0 } else { 1 };
+    match whole.0.get(..count) {
         Some(front) => refused_at(alloc, front) == Some(place),
         None => false,
     }
@@ -21,12 +35,12 @@ fn is_cut(alloc: Global, record: &[u8], count: usize) -> bool {
 
 #[test]
 fn each_beginning_of_a_record_is_refused(rt: HostRuntime) {
-    for record in [RECORD, OLD_RECORD] {
-        assert!(&rt; record.len() == 82);
-        for count in 0..82usize {
-            assert!(&rt; is_cut(rt.alloc(), record, count), "{count} bytes");
+    for (whole, size) in [(WHOLE, 90usize), (SECOND, 82), (FIRST, 82)] {
+        assert!(&rt; whole.0.len() == size);
+        for count in 0..size {
+            assert!(&rt; is_cut(rt.alloc(), whole, count), "{count} bytes");
         }
-        assert!(&rt; refused_at(rt.alloc(), record).is_none());
+        assert!(&rt; refused_at(rt.alloc(), whole.0).is_none());
     }
 }
 
@@ -38,6 +52,9 @@ const COUNTS: &[(&[u8], u64)] = &[
     (&[2, 255, 255, 255, 255], 0),
     (&[2, 0, 0, 0, 0], 0),
     (&[2, 0, 0, 0, 1], 0),
+    (&[3, 255, 255, 255, 255], 0),
+    (&[3, 0, 0, 0, 0], 0),
+    (&[3, 0, 0, 0, 1], 0),
 ];
 
 #[test]
@@ -47,17 +64,13 @@ fn a_record_without_its_parts_is_refused(rt: HostRuntime) {
     }
 }
 
-// A byte of the record that is changed, and the part that is refused for it: the next id is 1, the capacity 0, and the kept reply
-// a node's.
-const CHANGES: &[(usize, u8, u64)] = &[(26, 1, 1), (50, 0, 1), (71, 0x85, 1)];
-
-// The head and the row of these bytes, which are as many as the record's.
-fn head_of(bytes: &[u8]) -> &[u8] {
-    bytes.get(17..BEFORE_ROW).unwrap_or(&[])
+// The head and the row of these bytes, of which so many stand before the row's key.
+fn head_of(bytes: &[u8], before: usize) -> &[u8] {
+    bytes.get(17..before).unwrap_or(&[])
 }
 
-fn row_of(bytes: &[u8]) -> &[u8] {
-    bytes.get(39..).unwrap_or(&[])
+fn row_of(bytes: &[u8], before: usize) -> &[u8] {
+    bytes.get(before.saturating_add(12)..).unwrap_or(&[])
 }
 
 // Why no controller is opened of a store that has this head and this row, if none is. They are put in the place of what is there.
@@ -73,66 +86,86 @@ fn fault_of<K: Keep>(
     controller_fault(rt, keep)
 }
 
-// Whether a store of the record is refused at its head where that has so many bytes of its ten.
+// Whether a store of the record is refused at its head where that has so many bytes.
 fn is_head_cut<K: Keep>(
     rt: &(impl Abort + AllocGlobal),
     keep: &mut K,
-    record: &[u8],
+    whole: Whole,
     count: usize,
 ) -> bool {
-    let head = head_of(record).get(..count).unwrap_or(&[]);
-    fault_of(rt, keep, head, row_of(record)) == Some(KeepFault::BadRecord(0))
+    let head = head_of(whole.0, whole.1).get(..count).unwrap_or(&[]);
+    fault_of(rt, keep, head, row_of(whole.0, whole.1)) == Some(KeepFault::BadRecord(0))
 }
 
 // Whether it is refused at its row where that has so many bytes of its 43.
 fn is_row_cut<K: Keep>(
     rt: &(impl Abort + AllocGlobal),
     keep: &mut K,
-    record: &[u8],
+    whole: Whole,
     count: usize,
 ) -> bool {
-    let row = row_of(record).get(..count).unwrap_or(&[]);
-    fault_of(rt, keep, head_of(record), row) == Some(KeepFault::BadRecord(1))
+    let row = row_of(whole.0, whole.1).get(..count).unwrap_or(&[]);
+    fault_of(rt, keep, head_of(whole.0, whole.1), row) == Some(KeepFault::BadRecord(1))
 }
 
 // Whether a store of the record with one byte changed is refused at this part.
 fn is_changed<K: Keep>(
     rt: &(impl Abort + AllocGlobal),
     keep: &mut K,
-    record: &[u8],
+    whole: Whole,
     (at, byte, place): (usize, u8, u64),
 ) -> bool {
-    let bytes = changed(rt, record, at, byte);
-    let fault = fault_of(rt, keep, head_of(&bytes), row_of(&bytes));
+    let bytes = changed(rt, whole.0, at, byte);
+    let fault = fault_of(rt, keep, head_of(&bytes, whole.1), row_of(&bytes, whole.1));
     drop(bytes);
     fault == Some(KeepFault::BadRecord(place))
 }
 
 // A store of the record is refused at each beginning of its head and of its row, and for each of the values that no record has.
-fn refuses_all<K: Keep>(rt: &(impl Abort + AllocGlobal), keep: &mut K, record: &[u8]) {
-    for count in 0..10usize {
-        let is_cut = is_head_cut(rt, keep, record, count);
+fn refuses_all<K: Keep>(rt: &(impl Abort + AllocGlobal), keep: &mut K, whole: Whole) {
+    for count in 0..head_of(whole.0, whole.1).len() {
+        let is_cut = is_head_cut(rt, keep, whole, count);
         assert!(rt; is_cut, "a head of {count} bytes");
     }
     for count in 0..43usize {
-        let is_cut = is_row_cut(rt, keep, record, count);
+        let is_cut = is_row_cut(rt, keep, whole, count);
         assert!(rt; is_cut, "a row of {count} bytes");
     }
-    for change in CHANGES {
-        assert!(rt; is_changed(rt, keep, record, *change));
+    for change in whole.2 {
+        assert!(rt; is_changed(rt, keep, whole, *change));
     }
-    assert!(rt; fault_of(rt, keep, head_of(record), row_of(record)).is_none());
+    assert!(rt; is_opened(rt, keep, whole));
 }
 
-// Whether a store of the record is refused at a head, a row or a list of parts that is longer by one.
+// Whether a controller is opened of a store of the record.
+fn is_opened<K: Keep>(rt: &(impl Abort + AllocGlobal), keep: &mut K, whole: Whole) -> bool {
+    fault_of(
+        rt,
+        keep,
+        head_of(whole.0, whole.1),
+        row_of(whole.0, whole.1),
+    )
+    .is_none()
+}
+
+// Heads that are longer by one byte, and one of version 2 with a session.
+const LONGER: &[&[u8]] = &[
+    &[3, 0, 0, 0, 0, 0, 0, 0, 0, 2, 0, 0, 0, 0, 0, 0, 0, 1, 0],
+    &[2, 0, 0, 0, 0, 0, 0, 0, 0, 2, 0],
+    &[2, 0, 0, 0, 0, 0, 0, 0, 0, 2, 0, 0, 0, 0, 0, 0, 0, 1],
+];
+
+// Whether a store of the record is refused at such a head, and at a row or a list of parts that is longer by one.
 fn refuses_longer<K: Keep>(rt: &(impl Abort + AllocGlobal), keep: &mut K) {
-    let head = [2, 0, 0, 0, 0, 0, 0, 0, 0, 2, 0];
-    assert!(rt; fault_of(rt, keep, &head, row_of(RECORD)) == Some(KeepFault::BadRecord(0)));
-    let mut row = Vec::from_slice(rt.alloc(), row_of(RECORD)).expect(rt, "memory");
-    row.push(0).expect(rt, "memory");
-    assert!(rt; fault_of(rt, keep, head_of(RECORD), &row) == Some(KeepFault::BadRecord(1)));
-    drop(row);
-    assert!(rt; fault_of(rt, keep, head_of(RECORD), row_of(RECORD)).is_none());
+    let (head, row) = (head_of(RECORD, WHOLE.1), row_of(RECORD, WHOLE.1));
+    for longer in LONGER {
+        assert!(rt; fault_of(rt, keep, longer, row) == Some(KeepFault::BadRecord(0)));
+    }
+    let mut long = Vec::from_slice(rt.alloc(), row).expect(rt, "memory");
+    long.push(0).expect(rt, "memory");
+    assert!(rt; fault_of(rt, keep, head, &long) == Some(KeepFault::BadRecord(1)));
+    drop(long);
+    assert!(rt; fault_of(rt, keep, head, row).is_none());
     let more = [part(rt, 2, &[])];
     keep.commit(&more).expect(rt, "a commit");
     drop(more);
@@ -142,8 +175,9 @@ fn refuses_longer<K: Keep>(rt: &(impl Abort + AllocGlobal), keep: &mut K) {
 #[test]
 fn a_damaged_store_in_memory_is_refused(rt: HostRuntime) {
     let mut keep = MemoryKeep::new(rt.alloc(), 1000);
-    refuses_all(&rt, &mut keep, OLD_RECORD);
-    refuses_all(&rt, &mut keep, RECORD);
+    for whole in [FIRST, SECOND, WHOLE] {
+        refuses_all(&rt, &mut keep, whole);
+    }
     refuses_longer(&rt, &mut keep);
     assert!(&rt; keep.faults() == 0);
     drop(keep);
@@ -155,8 +189,9 @@ fn a_damaged_store_in_a_database_is_refused(rt: HostRuntime) {
     let Ok(mut keep) = SqliteKeep::new(rt.alloc(), connection) else {
         return assert!(&rt; false);
     };
-    refuses_all(&rt, &mut keep, OLD_RECORD);
-    refuses_all(&rt, &mut keep, RECORD);
+    for whole in [FIRST, SECOND, WHOLE] {
+        refuses_all(&rt, &mut keep, whole);
+    }
     refuses_longer(&rt, &mut keep);
     assert!(&rt; keep.faults() == 0);
     drop(keep);

@@ -1,6 +1,7 @@
 //! Stores of records with one byte in place of another, in each text, list and flag: no plugin is opened from them.
 use super::playing::{HELD, ONE_MADE, REFUSED};
-use super::{NODE_HEAD, NODE_RECORD, changed, controller_fault, node_fault, part};
+use super::records::{NODE_RECORD, changed};
+use super::{NODE_HEAD, controller_fault, node_fault, part};
 use csi_service::{Keep, KeepFault, MemoryKeep, Part};
 use std::process::Abort;
 
@@ -23,7 +24,7 @@ fn store(
 
 // The row of a volume with a mount.
 const MOUNTED: &[u8] = &[
-    2, 1, 1, 118, 0, 0, 0, 0, 0, 0, 0, 10, 1, 1, 4, 101, 120, 116, 52, 5, 0, 0, 0, 0, 0, 0, 0, 0,
+    3, 1, 1, 118, 0, 0, 0, 0, 0, 0, 0, 10, 1, 1, 4, 101, 120, 116, 52, 5, 0, 0, 0, 0, 0, 0, 0, 0,
     1, 0, 0, 0, 0, 0, 0, 0, 1, 129, 0, 0, 0, 0, 0, 0, 0, 0, 1, 0,
 ];
 
@@ -50,7 +51,7 @@ const IN_ROW: Option<KeepFault> = Some(KeepFault::BadRecord(1));
 #[test]
 fn no_controller_is_opened_of_a_damaged_row(rt: HostRuntime) {
     for row in [HELD, REFUSED, MOUNTED] {
-        let mut whole = store(&rt, ONE_MADE, (row, 0, 2));
+        let mut whole = store(&rt, ONE_MADE, (row, 0, 3));
         assert!(&rt; controller_fault(&rt, &mut whole).is_none());
         drop(whole);
     }
@@ -66,8 +67,8 @@ const NODE_ROWS: &[(usize, u8)] = &[(1, 2), (2, 2), (4, 17), (5, 0), (7, 255), (
 
 #[test]
 fn no_node_is_opened_of_a_damaged_row(rt: HostRuntime) {
-    let row = NODE_RECORD.get(34..).expect(&rt, "a row");
-    let mut whole = store(&rt, NODE_HEAD, (row, 0, 2));
+    let row = NODE_RECORD.get(42..).expect(&rt, "a row");
+    let mut whole = store(&rt, NODE_HEAD, (row, 0, 3));
     assert!(&rt; node_fault(&rt, &mut whole, "n1").is_none());
     drop(whole);
     for (at, byte) in NODE_ROWS {

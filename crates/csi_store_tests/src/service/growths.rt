@@ -1,15 +1,13 @@
 //! Refused growths of records, stores and services. With memory to spare each test compares the whole answers. Run with one
 //! allocation refused, each in turn (`tools/refusals`), the call that sees it wants memory, and is then
 //! answered in full, for `open` and `serve` after opening again.
-use super::older::{OLD, parts_of};
+use super::older::{FIRST, FORGETS, FORGOTTEN, parts_of};
 use super::playing::{
-    CREATED, Content, ENDS, End, FRAMES, NOTHING, REPLIES, SCRIPT, are_parts, has_parts, is_after,
-    is_replied, is_slice, may_have, played,
+    CREATED, Content, ENDS, End, FRAMES, NEXT, NEXT_REPLY, NOTHING, PLAYED, PLAYED_NEXT, REPLIES,
+    SCRIPT, are_parts, has_parts, is_after, is_replied, is_slice, may_have, played,
 };
-use super::{
-    CONTROLLER_HEAD, CREATE, NODE_HEAD, NODE_RECORD, OLD_RECORD, RECORD, controller,
-    controller_fault, is_part, node, part,
-};
+use super::records::{CREATE, FIRST_RECORD, NODE_RECORD, RECORD};
+use super::{CONTROLLER_HEAD, NEW_NODE_HEAD, NODE_HEAD, controller, is_part, node, part};
 use csi_controller::ControllerRecord;
 use csi_frames::decode;
 use csi_json::{ScheduleFault, read_config};
@@ -51,7 +49,7 @@ fn record_of<T: Record>(rt: &(impl Abort + AllocGlobal), bytes: &[u8]) -> T {
 fn records_in_want_of_memory(rt: HostRuntime) {
     let of_controller: ControllerRecord = record_of(&rt, RECORD);
     assert!(&rt; is_written(&rt, of_controller, RECORD));
-    let of_version_1: ControllerRecord = record_of(&rt, OLD_RECORD);
+    let of_version_1: ControllerRecord = record_of(&rt, FIRST_RECORD);
     assert!(&rt; is_written(&rt, of_version_1, RECORD));
     let of_node: NodeRecord = record_of(&rt, NODE_RECORD);
     assert!(&rt; is_written(&rt, of_node, NODE_RECORD));
@@ -66,12 +64,17 @@ fn frame_of(rt: &(impl Abort + AllocGlobal), bytes: &[u8]) -> Frame {
     decoded.0
 }
 
-// The controller of a store. Where it isn't opened, memory was refused, and the store has no part or its head.
-fn opened(rt: &(impl Abort + AllocGlobal), keep: &mut MemoryKeep) -> ControllerService {
+// The controller of a store. Where it isn't opened, memory was refused, and the store has what it had or is to have.
+fn opened(
+    rt: &(impl Abort + AllocGlobal),
+    keep: &mut MemoryKeep,
+    contents: (Content, Content),
+) -> ControllerService {
     match controller(rt, keep) {
         Ok(service) => service,
         Err(fault) => {
-            assert!(rt; fault == KeepFault::NoMemory && may_have(keep, End::Opening));
+            let is_left = has_parts(keep, contents.0) || has_parts(keep, contents.1);
+            assert!(rt; fault == KeepFault::NoMemory && is_left);
             controller(rt, keep).expect(rt, "memory")
         }
     }
@@ -128,7 +131,7 @@ const NEW: Content = (CONTROLLER_HEAD, &[], &[]);
 #[test]
 fn a_controller_steps_and_commits_in_want_of_memory(rt: HostRuntime) {
     let mut keep = MemoryKeep::new(rt.alloc(), 1000);
-    let mut service = opened(&rt, &mut keep);
+    let mut service = opened(&rt, &mut keep, (NOTHING, NEW));
     let parts = changes(&rt, &mut service, frame_of(&rt, CREATE));
     drop(service);
     assert!(&rt; are_parts(&parts, CREATED));
@@ -141,7 +144,7 @@ fn a_controller_steps_and_commits_in_want_of_memory(rt: HostRuntime) {
 #[test]
 fn a_head_that_did_not_change_is_not_put_in_again(rt: HostRuntime) {
     let mut keep = MemoryKeep::new(rt.alloc(), 1000);
-    let mut service = opened(&rt, &mut keep);
+    let mut service = opened(&rt, &mut keep, (NOTHING, NEW));
     drop(changes(&rt, &mut service, frame_of(&rt, CREATE)));
     let delete = SCRIPT.get(152..183).expect(&rt, "a frame");
     let parts = changes(&rt, &mut service, frame_of(&rt, delete));
@@ -159,20 +162,12 @@ const STAGE: &[u8] = &[
 
 // Its row then.
 const STAGED: &[u8] = &[
-    2, 1, 0, 1, 0, 0, 0, 0, 0, 0, 0, 0, 1, 0, 0, 0, 0, 0, 0, 0, 1, 133, 0, 0, 0, 0, 0, 0, 0, 0, 0,
+    3, 1, 0, 1, 0, 0, 0, 0, 0, 0, 0, 0, 1, 0, 0, 0, 0, 0, 0, 0, 1, 133, 0, 0, 0, 0, 0, 0, 0, 0, 0,
     0,
 ];
 
 // The stores of the node before and after.
-const NODE_CONTENTS: (Content, Content) = ((NODE_HEAD, &[], &[]), (NODE_HEAD, STAGED, &[]));
-
-// Whether the parts are one, with this value at key 1.
-fn is_one(parts: &[Part], value: &[u8]) -> bool {
-    match parts {
-        [one] => is_part(one, 1, value),
-        _ => false,
-    }
-}
+const NODE_CONTENTS: (Content, Content) = ((NEW_NODE_HEAD, &[], &[]), (NODE_HEAD, STAGED, &[]));
 
 #[test]
 fn a_node_steps_and_commits_in_want_of_memory(rt: HostRuntime) {
@@ -180,7 +175,7 @@ fn a_node_steps_and_commits_in_want_of_memory(rt: HostRuntime) {
     let mut service = opened_node(&rt, &mut keep);
     let parts = changes(&rt, &mut service, frame_of(&rt, STAGE));
     drop(service);
-    assert!(&rt; is_one(&parts, STAGED));
+    assert!(&rt; are_parts(&parts, NODE_CONTENTS.1));
     commits(&rt, &mut keep, &parts, NODE_CONTENTS);
     drop(parts);
     drop(keep);
@@ -193,7 +188,7 @@ fn services_are_opened_again_in_want_of_memory(rt: HostRuntime) {
     let head = [part(&rt, 0, CONTROLLER_HEAD)];
     commits(&rt, &mut keep, &head, (NOTHING, NEW));
     drop(head);
-    drop(opened(&rt, &mut keep));
+    drop(opened(&rt, &mut keep, (NEW, NEW)));
     drop(keep);
     let mut other = MemoryKeep::new(rt.alloc(), 1000);
     let parts = [part(&rt, 0, NODE_HEAD), part(&rt, 1, STAGED)];
@@ -203,23 +198,129 @@ fn services_are_opened_again_in_want_of_memory(rt: HostRuntime) {
     drop(other);
 }
 
-// Whether the controller of a store of version 1 isn't opened for want of memory alone, which leaves the store in one version or the other.
-fn is_wanting(rt: &(impl Abort + AllocGlobal), keep: &mut MemoryKeep) -> bool {
-    match controller_fault(rt, keep) {
-        Some(fault) => fault == KeepFault::NoMemory && (has_parts(keep, OLD) || is_after(keep, 6)),
-        None => true,
+// A store that has this.
+fn store_of(rt: &(impl Abort + AllocGlobal), content: Content) -> MemoryKeep {
+    let mut keep = MemoryKeep::new(rt.alloc(), 1000);
+    let parts = parts_of(rt, content);
+    commits(rt, &mut keep, &parts, (NOTHING, content));
+    drop(parts);
+    keep
+}
+
+// What a store has, and what it has once a controller is opened of it.
+const OLDER: &[(Content, Content)] = &[(FIRST, PLAYED), (FORGETS, FORGOTTEN)];
+
+// Where memory is refused the store is in one version or the other, and in the present one when it is opened again. Of the second store
+// a row is left out.
+#[test]
+fn a_store_of_an_earlier_version_is_rewritten_in_want_of_memory(rt: HostRuntime) {
+    for contents in OLDER {
+        let mut keep = store_of(&rt, contents.0);
+        drop(opened(&rt, &mut keep, *contents));
+        assert!(&rt; has_parts(&mut keep, contents.1));
+        drop(keep);
     }
 }
 
+// Whether these are a head, a row that goes, and a row that is put in.
+fn is_begun(parts: &[Part], head: &[u8], gone: u64, (key, row): (u64, &[u8])) -> bool {
+    match parts {
+        [first, second, third] => {
+            let is_gone = second.key == gone && second.value.is_none();
+            is_gone && is_part(first, 0, head) && is_part(third, key, row)
+        }
+        _ => false,
+    }
+}
+
+// `v` goes, and the row of `w` is put in.
 #[test]
-fn a_store_of_version_1_is_rewritten_in_want_of_memory(rt: HostRuntime) {
-    let mut keep = MemoryKeep::new(rt.alloc(), 1000);
-    let parts = parts_of(&rt, OLD);
-    commits(&rt, &mut keep, &parts, (NOTHING, OLD));
+fn a_controller_begins_a_session_in_want_of_memory(rt: HostRuntime) {
+    let mut keep = store_of(&rt, PLAYED);
+    let mut service = opened(&rt, &mut keep, (PLAYED, PLAYED));
+    let parts = changes(&rt, &mut service, frame_of(&rt, NEXT));
+    drop(service);
+    assert!(&rt; is_begun(&parts, PLAYED_NEXT.0, 1, (2, PLAYED_NEXT.2)));
+    commits(&rt, &mut keep, &parts, (PLAYED, PLAYED_NEXT));
     drop(parts);
-    assert!(&rt; is_wanting(&rt, &mut keep));
-    assert!(&rt; controller_fault(&rt, &mut keep).is_none() && is_after(&mut keep, 6));
     drop(keep);
+}
+
+// A volume that isn't staged, and was unstaged by call 5 of session 1.
+const UNSTAGED: &[u8] = &[
+    3, 0, 0, 0, 0, 0, 0, 0, 0, 0, 1, 0, 0, 0, 0, 0, 0, 0, 5, 134, 0, 0, 0, 0, 0, 0, 0, 0, 0, 0,
+];
+
+// Unstages it at `n1` by call 1 of session 2, and what that is replied.
+const UNSTAGE_LATER: &[u8] = &[
+    0, 0, 0, 30, 1, 6, 0, 0, 0, 0, 0, 0, 0, 2, 0, 0, 0, 0, 0, 0, 0, 1, 1, 2, 110, 49, 0, 0, 0, 0,
+    0, 0, 0, 1,
+];
+
+const UNSTAGED_REPLY: &[u8] = &[
+    0, 0, 0, 32, 1, 134, 0, 0, 0, 0, 0, 0, 0, 2, 0, 0, 0, 0, 0, 0, 0, 1, 1, 2, 110, 49, 0, 0, 0, 0,
+    0, 0, 0, 0, 0, 0,
+];
+
+// The node's stores before and after.
+const NODE_BEFORE: Content = (NODE_HEAD, UNSTAGED, &[]);
+
+const NODE_LATER: Content = (
+    &[3, 1, 2, 110, 49, 0, 0, 0, 0, 0, 0, 0, 2],
+    &[
+        3, 0, 0, 0, 0, 0, 0, 0, 0, 0, 2, 0, 0, 0, 0, 0, 0, 0, 1, 134, 0, 0, 0, 0, 0, 0, 0, 0, 0, 0,
+    ],
+    &[],
+);
+
+// The volume's row goes, and its new row is put in.
+#[test]
+fn a_node_begins_a_session_in_want_of_memory(rt: HostRuntime) {
+    let mut keep = store_of(&rt, NODE_BEFORE);
+    let mut service = opened_node(&rt, &mut keep);
+    let parts = changes(&rt, &mut service, frame_of(&rt, UNSTAGE_LATER));
+    drop(service);
+    assert!(&rt; is_begun(&parts, NODE_LATER.0, 1, (1, NODE_LATER.1)));
+    commits(&rt, &mut keep, &parts, (NODE_BEFORE, NODE_LATER));
+    drop(parts);
+    drop(keep);
+}
+
+// Whether the frame changes nothing, which takes no memory.
+fn is_passed_over<C: Core>(rt: &impl Abort, service: &mut C, frame: Frame) -> bool {
+    let reply = service.step(&frame).expect(rt, "it takes no memory");
+    drop((frame, reply));
+    let parts = service.parts().expect(rt, "it takes no memory");
+    let is_empty = parts.is_empty();
+    drop(parts);
+    is_empty
+}
+
+// A reply of session 2; a call that is stale by its number; and, where session 2 has begun, one that is over. Volumes that were deleted are
+// there each time.
+#[test]
+fn a_controller_passes_over_what_changes_nothing_without_memory(rt: HostRuntime) {
+    let mut keep = store_of(&rt, PLAYED);
+    let mut service = opened(&rt, &mut keep, (PLAYED, PLAYED));
+    drop(keep);
+    assert!(&rt; is_passed_over(&rt, &mut service, frame_of(&rt, NEXT_REPLY)));
+    assert!(&rt; is_passed_over(&rt, &mut service, frame_of(&rt, CREATE)));
+    drop(changes(&rt, &mut service, frame_of(&rt, NEXT)));
+    assert!(&rt; is_passed_over(&rt, &mut service, frame_of(&rt, CREATE)));
+    drop(service);
+}
+
+// The same of a node.
+#[test]
+fn a_node_passes_over_what_changes_nothing_without_memory(rt: HostRuntime) {
+    let mut keep = store_of(&rt, NODE_BEFORE);
+    let mut service = opened_node(&rt, &mut keep);
+    drop(keep);
+    assert!(&rt; is_passed_over(&rt, &mut service, frame_of(&rt, UNSTAGED_REPLY)));
+    assert!(&rt; is_passed_over(&rt, &mut service, frame_of(&rt, STAGE)));
+    drop(changes(&rt, &mut service, frame_of(&rt, UNSTAGE_LATER)));
+    assert!(&rt; is_passed_over(&rt, &mut service, frame_of(&rt, STAGE)));
+    drop(service);
 }
 
 // How many frames were served in a run of the script that ended so, by a store that doesn't fail.
@@ -250,6 +351,29 @@ fn serving_in_want_of_memory(rt: HostRuntime) {
     drop(written);
     let served = count_of(end).expect(&rt, "a run");
     assert!(&rt; goes_on(&rt, &mut keep, served));
+    drop(keep);
+}
+
+// Whether so many frames of session 2 were served, and the store has what they leave.
+fn is_left(keep: &mut MemoryKeep, end: End, written: &[u8]) -> bool {
+    match count_of(end) {
+        Some(0) => written.is_empty() && has_parts(keep, PLAYED),
+        Some(1) => written == NEXT_REPLY && has_parts(keep, PLAYED_NEXT),
+        _ => false,
+    }
+}
+
+// The call that begins a session, where it wants memory, and then, after opening again.
+#[test]
+fn a_session_is_served_in_want_of_memory(rt: HostRuntime) {
+    let mut keep = store_of(&rt, PLAYED);
+    let (end, written) = played(&rt, &mut keep, NEXT);
+    assert!(&rt; is_left(&mut keep, end, written.as_slice()));
+    drop(written);
+    let (again, written) = played(&rt, &mut keep, NEXT);
+    assert!(&rt; count_of(again) == Some(1));
+    assert!(&rt; is_left(&mut keep, again, written.as_slice()));
+    drop(written);
     drop(keep);
 }
 

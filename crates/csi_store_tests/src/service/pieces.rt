@@ -1,6 +1,6 @@
 //! Serving a controller whose input comes in pieces, over readers, writers and a store that fail.
 use super::{controller, is_part};
-use Content::{Gone, Live, Nothing};
+use Content::{Begun, Gone, Live, Nothing};
 use csi_failing::{FailingKeep, FailingReader, FailingWriter, Left};
 use csi_frames::FaultKind;
 use csi_service::{
@@ -48,18 +48,21 @@ const CUT: &[u8] = &[
     0, 10, 0, 0, 0, 0, 0, 0, 0, 0, 1, 0, 1, 0, 0, 0,
 ];
 
-// The heads before and after the creation, and the row after it and after the deletion.
-const FIRST_HEAD: &[u8] = &[2, 0, 0, 0, 0, 0, 0, 0, 0, 1];
+// The heads of a new controller, after a deletion of what it doesn't know, and after the creation; and the row after it and after
+// the deletion.
+const FIRST_HEAD: &[u8] = &[3, 0, 0, 0, 0, 0, 0, 0, 0, 1, 0, 0, 0, 0, 0, 0, 0, 0];
 
-const NEXT_HEAD: &[u8] = &[2, 0, 0, 0, 0, 0, 0, 0, 0, 2];
+const BEGUN_HEAD: &[u8] = &[3, 0, 0, 0, 0, 0, 0, 0, 0, 1, 0, 0, 0, 0, 0, 0, 0, 1];
+
+const NEXT_HEAD: &[u8] = &[3, 0, 0, 0, 0, 0, 0, 0, 0, 2, 0, 0, 0, 0, 0, 0, 0, 1];
 
 const LIVE_ROW: &[u8] = &[
-    2, 1, 1, 118, 0, 0, 0, 0, 0, 0, 0, 10, 1, 0, 1, 0, 0, 0, 0, 0, 0, 0, 0, 1, 0, 0, 0, 0, 0, 0, 0,
+    3, 1, 1, 118, 0, 0, 0, 0, 0, 0, 0, 10, 1, 0, 1, 0, 0, 0, 0, 0, 0, 0, 0, 1, 0, 0, 0, 0, 0, 0, 0,
     1, 129, 0, 0, 0, 0, 0, 0, 0, 0, 1, 0,
 ];
 
 const GONE_ROW: &[u8] = &[
-    2, 2, 1, 118, 0, 0, 0, 0, 0, 0, 0, 10, 1, 0, 1, 0, 0, 0, 0, 0, 0, 0, 0, 1, 0, 0, 0, 0, 0, 0, 0,
+    3, 2, 1, 118, 0, 0, 0, 0, 0, 0, 0, 10, 1, 0, 1, 0, 0, 0, 0, 0, 0, 0, 0, 1, 0, 0, 0, 0, 0, 0, 0,
     2, 130, 0, 0, 0, 0, 0, 0, 0, 0, 0, 0,
 ];
 
@@ -67,6 +70,7 @@ const GONE_ROW: &[u8] = &[
 #[derive(Clone, Copy)]
 enum Content {
     Nothing,
+    Begun,
     Live,
     Gone,
 }
@@ -78,9 +82,9 @@ fn has_row(parts: &[Part], row: &[u8]) -> bool {
     }
 }
 
-fn has_no_row(parts: &[Part]) -> bool {
+fn has_no_row(parts: &[Part], value: &[u8]) -> bool {
     match parts {
-        [head] => is_part(head, 0, FIRST_HEAD),
+        [head] => is_part(head, 0, value),
         _ => false,
     }
 }
@@ -88,7 +92,8 @@ fn has_no_row(parts: &[Part]) -> bool {
 fn has_content(keep: &mut FailingKeep<MemoryKeep>, content: Content) -> bool {
     match keep.load() {
         Ok(parts) => match content {
-            Nothing => has_no_row(&parts),
+            Nothing => has_no_row(&parts, FIRST_HEAD),
+            Begun => has_no_row(&parts, BEGUN_HEAD),
             Live => has_row(&parts, LIVE_ROW),
             Gone => has_row(&parts, GONE_ROW),
         },
@@ -247,7 +252,7 @@ const FAILING_WRITERS: &[(Given, Outcome)] = &[
     ((STREAM, ALL, (0, 0), NONE_FAILS), (1, OUTPUT, 0, Live, 1)),
     (
         (DELETES, (31, 0), (0, 0), NONE_FAILS),
-        (1, OUTPUT, 0, Nothing, 1),
+        (1, OUTPUT, 0, Begun, 1),
     ),
 ];
 

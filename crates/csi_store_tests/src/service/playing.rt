@@ -44,44 +44,65 @@ pub(super) const REPLIES: &[u8] = &[
 /// Where these end.
 pub(super) const ENDS: &[usize] = &[0, 33, 66, 101, 134, 167, 200];
 
-// The head of a controller that made no volume, one, and two.
-const NONE_MADE: &[u8] = &[2, 0, 0, 0, 0, 0, 0, 0, 0, 1];
+// The head of a controller of which no call came, and after the frames that made a volume and another one.
+const NONE_MADE: &[u8] = &[3, 0, 0, 0, 0, 0, 0, 0, 0, 1, 0, 0, 0, 0, 0, 0, 0, 0];
 
-pub(super) const ONE_MADE: &[u8] = &[2, 0, 0, 0, 0, 0, 0, 0, 0, 2];
+pub(super) const ONE_MADE: &[u8] = &[3, 0, 0, 0, 0, 0, 0, 0, 0, 2, 0, 0, 0, 0, 0, 0, 0, 1];
 
-const TWO_MADE: &[u8] = &[2, 0, 0, 0, 0, 0, 0, 0, 0, 3];
+const TWO_MADE: &[u8] = &[3, 0, 0, 0, 0, 0, 0, 0, 0, 3, 0, 0, 0, 0, 0, 0, 0, 1];
 
 /// The row of `v` after each frame that changes it.
 pub(super) const MADE: &[u8] = &[
-    2, 1, 1, 118, 0, 0, 0, 0, 0, 0, 0, 10, 1, 0, 1, 0, 0, 0, 0, 0, 0, 0, 0, 1, 0, 0, 0, 0, 0, 0, 0,
+    3, 1, 1, 118, 0, 0, 0, 0, 0, 0, 0, 10, 1, 0, 1, 0, 0, 0, 0, 0, 0, 0, 0, 1, 0, 0, 0, 0, 0, 0, 0,
     1, 129, 0, 0, 0, 0, 0, 0, 0, 0, 1, 0,
 ];
 
 pub(super) const HELD: &[u8] = &[
-    2, 1, 1, 118, 0, 0, 0, 0, 0, 0, 0, 10, 1, 0, 1, 1, 2, 110, 49, 0, 1, 0, 0, 0, 0, 0, 0, 0, 0, 1,
+    3, 1, 1, 118, 0, 0, 0, 0, 0, 0, 0, 10, 1, 0, 1, 1, 2, 110, 49, 0, 1, 0, 0, 0, 0, 0, 0, 0, 0, 1,
     0, 0, 0, 0, 0, 0, 0, 2, 131, 0, 0, 0, 0, 0, 0, 0, 0, 0, 0,
 ];
 
 pub(super) const REFUSED: &[u8] = &[
-    2, 1, 1, 118, 0, 0, 0, 0, 0, 0, 0, 10, 1, 0, 1, 1, 2, 110, 49, 0, 1, 0, 0, 0, 0, 0, 0, 0, 0, 1,
+    3, 1, 1, 118, 0, 0, 0, 0, 0, 0, 0, 10, 1, 0, 1, 1, 2, 110, 49, 0, 1, 0, 0, 0, 0, 0, 0, 0, 0, 1,
     0, 0, 0, 0, 0, 0, 0, 3, 131, 9, 0, 0, 0, 0, 0, 0, 0, 0, 2, 110, 49,
 ];
 
 const FREED: &[u8] = &[
-    2, 1, 1, 118, 0, 0, 0, 0, 0, 0, 0, 10, 1, 0, 1, 0, 0, 0, 0, 0, 0, 0, 0, 1, 0, 0, 0, 0, 0, 0, 0,
+    3, 1, 1, 118, 0, 0, 0, 0, 0, 0, 0, 10, 1, 0, 1, 0, 0, 0, 0, 0, 0, 0, 0, 1, 0, 0, 0, 0, 0, 0, 0,
     4, 132, 0, 0, 0, 0, 0, 0, 0, 0, 0, 0,
 ];
 
-const GONE: &[u8] = &[
-    2, 2, 1, 118, 0, 0, 0, 0, 0, 0, 0, 10, 1, 0, 1, 0, 0, 0, 0, 0, 0, 0, 0, 1, 0, 0, 0, 0, 0, 0, 0,
+pub(super) const GONE: &[u8] = &[
+    3, 2, 1, 118, 0, 0, 0, 0, 0, 0, 0, 10, 1, 0, 1, 0, 0, 0, 0, 0, 0, 0, 0, 1, 0, 0, 0, 0, 0, 0, 0,
     5, 130, 0, 0, 0, 0, 0, 0, 0, 0, 0, 0,
 ];
 
 // The row of `w`.
 const OTHER: &[u8] = &[
-    2, 1, 1, 119, 0, 0, 0, 0, 0, 0, 0, 10, 1, 0, 1, 0, 0, 0, 0, 0, 0, 0, 0, 1, 0, 0, 0, 0, 0, 0, 0,
+    3, 1, 1, 119, 0, 0, 0, 0, 0, 0, 0, 10, 1, 0, 1, 0, 0, 0, 0, 0, 0, 0, 0, 1, 0, 0, 0, 0, 0, 0, 0,
     6, 129, 0, 0, 0, 0, 0, 0, 0, 0, 2, 0,
 ];
+
+/// Deletes `w` by the first call of session 2, which follows the script. `v` is forgotten then.
+pub(super) const NEXT: &[u8] = &[
+    0, 0, 0, 27, 1, 2, 0, 0, 0, 0, 0, 0, 0, 2, 0, 0, 0, 0, 0, 0, 0, 1, 0, 0, 0, 0, 0, 0, 0, 0, 2,
+];
+
+/// What it is replied.
+pub(super) const NEXT_REPLY: &[u8] = &[
+    0, 0, 0, 29, 1, 130, 0, 0, 0, 0, 0, 0, 0, 2, 0, 0, 0, 0, 0, 0, 0, 1, 0, 0, 0, 0, 0, 0, 0, 0, 0,
+    0, 0,
+];
+
+/// What the store has then.
+pub(super) const PLAYED_NEXT: Content = (
+    &[3, 0, 0, 0, 0, 0, 0, 0, 0, 3, 0, 0, 0, 0, 0, 0, 0, 2],
+    &[],
+    &[
+        3, 2, 1, 119, 0, 0, 0, 0, 0, 0, 0, 10, 1, 0, 1, 0, 0, 0, 0, 0, 0, 0, 0, 2, 0, 0, 0, 0, 0,
+        0, 0, 1, 130, 0, 0, 0, 0, 0, 0, 0, 0, 0, 0,
+    ],
+);
 
 /// The values of the parts 0, 1 and 2, empty where there is no such part.
 pub(super) type Content = (&'static [u8], &'static [u8], &'static [u8]);
@@ -91,6 +112,9 @@ pub(super) const NOTHING: Content = (&[], &[], &[]);
 /// What the store has after the first frame.
 pub(super) const CREATED: Content = (ONE_MADE, MADE, &[]);
 
+/// What it has after the script.
+pub(super) const PLAYED: Content = (TWO_MADE, GONE, OTHER);
+
 // What it has after so many frames.
 const CONTENTS: &[Content] = &[
     (NONE_MADE, &[], &[]),
@@ -99,7 +123,7 @@ const CONTENTS: &[Content] = &[
     (ONE_MADE, REFUSED, &[]),
     (ONE_MADE, FREED, &[]),
     (ONE_MADE, GONE, &[]),
-    (TWO_MADE, GONE, OTHER),
+    PLAYED,
 ];
 
 // Whether the part of this key has this value, or there is none.
@@ -113,6 +137,9 @@ fn has(part: Option<&Part>, key: u64, value: &[u8]) -> bool {
 /// Whether these are its parts.
 pub(super) fn are_parts(parts: &[Part], content: Content) -> bool {
     let is_first = has(parts.first(), 0, content.0);
+    if content.1.is_empty() && !content.2.is_empty() {
+        return parts.len() == 2 && is_first && has(parts.get(1), 2, content.2);
+    }
     parts.len() <= 3
         && is_first
         && has(parts.get(1), 1, content.1)

@@ -1,13 +1,17 @@
 //! Both plugins over a store in SQLite: opened, served, opened again, and served on.
-use super::playing::{Content, REPLIES, SCRIPT, has_parts, is_after, is_end, played, served};
-use super::{NODE_HEAD, node};
+use super::playing::{
+    Content, NEXT, NEXT_REPLY, PLAYED_NEXT, REPLIES, SCRIPT, has_parts, is_after, is_end, played,
+    served,
+};
+use super::{NODE_HEAD, controller_fault, node};
 use csi_service::Keep;
 use csi_sqlite::SqliteKeep;
 use sqlite::{Connection, MemStore};
 use std::alloc::Global;
 use std::process::Abort;
 
-// Stages volume 1 at `n1`, publishes it at `/a`, unstages it, unpublishes it, and unstages it.
+// Stages volume 1 at `n1`, publishes it at `/a`, unstages it, unpublishes it, and unstages it. In session 2 it is unstaged again, and in
+// session 3 volume 2 is staged.
 const CALLS: &[u8] = &[
     0, 0, 0, 32, 1, 5, 0, 0, 0, 0, 0, 0, 0, 1, 0, 0, 0, 0, 0, 0, 0, 1, 1, 2, 110, 49, 0, 0, 0, 0,
     0, 0, 0, 1, 0, 1, //
@@ -18,7 +22,11 @@ const CALLS: &[u8] = &[
     0, 0, 0, 33, 1, 8, 0, 0, 0, 0, 0, 0, 0, 1, 0, 0, 0, 0, 0, 0, 0, 4, 1, 2, 110, 49, 0, 0, 0, 0,
     0, 0, 0, 1, 2, 47, 97, //
     0, 0, 0, 30, 1, 6, 0, 0, 0, 0, 0, 0, 0, 1, 0, 0, 0, 0, 0, 0, 0, 5, 1, 2, 110, 49, 0, 0, 0, 0,
-    0, 0, 0, 1,
+    0, 0, 0, 1, //
+    0, 0, 0, 30, 1, 6, 0, 0, 0, 0, 0, 0, 0, 2, 0, 0, 0, 0, 0, 0, 0, 1, 1, 2, 110, 49, 0, 0, 0, 0,
+    0, 0, 0, 1, //
+    0, 0, 0, 32, 1, 5, 0, 0, 0, 0, 0, 0, 0, 3, 0, 0, 0, 0, 0, 0, 0, 1, 1, 2, 110, 49, 0, 0, 0, 0,
+    0, 0, 0, 2, 0, 1,
 ];
 
 // What these are replied: the third that `/a` is published.
@@ -32,14 +40,18 @@ const ANSWERS: &[u8] = &[
     0, 0, 0, 32, 1, 136, 0, 0, 0, 0, 0, 0, 0, 1, 0, 0, 0, 0, 0, 0, 0, 4, 1, 2, 110, 49, 0, 0, 0, 0,
     0, 0, 0, 0, 0, 0, //
     0, 0, 0, 32, 1, 134, 0, 0, 0, 0, 0, 0, 0, 1, 0, 0, 0, 0, 0, 0, 0, 5, 1, 2, 110, 49, 0, 0, 0, 0,
+    0, 0, 0, 0, 0, 0, //
+    0, 0, 0, 32, 1, 134, 0, 0, 0, 0, 0, 0, 0, 2, 0, 0, 0, 0, 0, 0, 0, 1, 1, 2, 110, 49, 0, 0, 0, 0,
+    0, 0, 0, 0, 0, 0, //
+    0, 0, 0, 32, 1, 133, 0, 0, 0, 0, 0, 0, 0, 3, 0, 0, 0, 0, 0, 0, 0, 1, 1, 2, 110, 49, 0, 0, 0, 0,
     0, 0, 0, 0, 0, 0,
 ];
 
-// What the node's store has after two calls, and after all.
+// What the node's store has after two calls, after those of session 1, and after each of the others.
 const PUBLISHED: Content = (
     NODE_HEAD,
     &[
-        2, 1, 0, 1, 1, 2, 47, 97, 0, 0, 0, 0, 0, 0, 0, 0, 1, 0, 0, 0, 0, 0, 0, 0, 2, 135, 0, 0, 0,
+        3, 1, 0, 1, 1, 2, 47, 97, 0, 0, 0, 0, 0, 0, 0, 0, 1, 0, 0, 0, 0, 0, 0, 0, 2, 135, 0, 0, 0,
         0, 0, 0, 0, 0, 0, 0,
     ],
     &[],
@@ -48,9 +60,26 @@ const PUBLISHED: Content = (
 const UNSTAGED: Content = (
     NODE_HEAD,
     &[
-        2, 0, 0, 0, 0, 0, 0, 0, 0, 0, 1, 0, 0, 0, 0, 0, 0, 0, 5, 134, 0, 0, 0, 0, 0, 0, 0, 0, 0, 0,
+        3, 0, 0, 0, 0, 0, 0, 0, 0, 0, 1, 0, 0, 0, 0, 0, 0, 0, 5, 134, 0, 0, 0, 0, 0, 0, 0, 0, 0, 0,
     ],
     &[],
+);
+
+const UNSTAGED_LATER: Content = (
+    &[3, 1, 2, 110, 49, 0, 0, 0, 0, 0, 0, 0, 2],
+    &[
+        3, 0, 0, 0, 0, 0, 0, 0, 0, 0, 2, 0, 0, 0, 0, 0, 0, 0, 1, 134, 0, 0, 0, 0, 0, 0, 0, 0, 0, 0,
+    ],
+    &[],
+);
+
+const STAGED_LAST: Content = (
+    &[3, 1, 2, 110, 49, 0, 0, 0, 0, 0, 0, 0, 3],
+    &[],
+    &[
+        3, 1, 0, 1, 0, 0, 0, 0, 0, 0, 0, 0, 3, 0, 0, 0, 0, 0, 0, 0, 1, 133, 0, 0, 0, 0, 0, 0, 0, 0,
+        0, 0,
+    ],
 );
 
 type Store = SqliteKeep<MemStore>;
@@ -100,7 +129,7 @@ fn answers(rt: &(impl Abort + AllocGlobal), keep: &mut Store, piece: Piece) -> b
     is_end(end, piece.0) && is_answered
 }
 
-// The last frame comes again, and is replied as before.
+// The last frame comes again, and is replied as before. A call of session 2 has the first volume forgotten, and so does the store.
 #[test]
 fn a_controller_goes_on_where_it_was(rt: HostRuntime) {
     let mut first = new_store(&rt);
@@ -111,7 +140,13 @@ fn a_controller_goes_on_where_it_was(rt: HostRuntime) {
     let mut third = again(&rt, second);
     assert!(&rt; plays(&rt, &mut third, (1, (183, 227), (167, 200))));
     assert!(&rt; is_after(&mut third, 6));
-    drop(third);
+    let (end, written) = played(&rt, &mut third, NEXT);
+    assert!(&rt; is_end(end, 1) && written.as_slice() == NEXT_REPLY);
+    drop(written);
+    let mut fourth = again(&rt, third);
+    assert!(&rt; has_parts(&mut fourth, PLAYED_NEXT));
+    assert!(&rt; controller_fault(&rt, &mut fourth).is_none());
+    drop(fourth);
 }
 
 #[test]
@@ -124,5 +159,11 @@ fn a_node_goes_on_where_it_was(rt: HostRuntime) {
     let mut third = again(&rt, second);
     assert!(&rt; answers(&rt, &mut third, (1, (147, 181), (146, 182))));
     assert!(&rt; has_parts(&mut third, UNSTAGED));
-    drop(third);
+    assert!(&rt; answers(&rt, &mut third, (1, (181, 215), (182, 218))));
+    assert!(&rt; has_parts(&mut third, UNSTAGED_LATER));
+    assert!(&rt; answers(&rt, &mut third, (1, (215, 251), (218, 254))));
+    let mut fourth = again(&rt, third);
+    assert!(&rt; has_parts(&mut fourth, STAGED_LAST));
+    assert!(&rt; answers(&rt, &mut fourth, (0, (0, 0), (0, 0))));
+    drop(fourth);
 }

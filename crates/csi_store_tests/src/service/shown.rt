@@ -15,28 +15,34 @@ type Told = (&'static [&'static [u8]], &'static str, Ending);
 
 // A deleted volume with two capabilities, of which one is a mount.
 const GONE: &[u8] = &[
-    2, 2, 2, 60, 34, 0, 0, 0, 0, 0, 0, 0, 10, 2, 0, 1, 1, 4, 101, 120, 116, 52, 5, 0, 0, 0, 0, 0,
+    3, 2, 2, 60, 34, 0, 0, 0, 0, 0, 0, 0, 10, 2, 0, 1, 1, 4, 101, 120, 116, 52, 5, 0, 0, 0, 0, 0,
     0, 0, 0, 3, 0, 0, 0, 0, 0, 0, 0, 5, 130, 0, 0, 0, 0, 0, 0, 0, 0, 0, 0,
 ];
 
+// The head of its controller, whose last session is that of its last call.
+const IN_SESSION_3: &[u8] = &[3, 0, 0, 0, 0, 0, 0, 0, 0, 2, 0, 0, 0, 0, 0, 0, 0, 3];
+
+// The head of a node of which a call of session 2 came.
+const IN_SESSION_2: &[u8] = &[3, 1, 2, 110, 49, 0, 0, 0, 0, 0, 0, 0, 2];
+
 // A volume that is staged and published at two targets, the second readonly; and one that isn't staged.
 const AT_TWO: &[u8] = &[
-    2, 1, 0, 3, 2, 2, 47, 97, 0, 2, 47, 98, 1, 0, 0, 0, 0, 0, 0, 0, 1, 0, 0, 0, 0, 0, 0, 0, 3, 135,
+    3, 1, 0, 3, 2, 2, 47, 97, 0, 2, 47, 98, 1, 0, 0, 0, 0, 0, 0, 0, 1, 0, 0, 0, 0, 0, 0, 0, 3, 135,
     0, 0, 0, 0, 0, 0, 0, 0, 0, 0,
 ];
 
 const NOT_STAGED: &[u8] = &[
-    2, 0, 0, 0, 0, 0, 0, 0, 0, 0, 2, 0, 0, 0, 0, 0, 0, 0, 5, 134, 0, 0, 0, 0, 0, 0, 0, 0, 0, 0,
+    3, 0, 0, 0, 0, 0, 0, 0, 0, 0, 2, 0, 0, 0, 0, 0, 0, 0, 5, 134, 0, 0, 0, 0, 0, 0, 0, 0, 0, 0,
 ];
 
 // A volume that is staged in mode 7 and published at two targets for writing; and one likewise in mode 6, which has one.
 const TWO_WRITERS: &[u8] = &[
-    2, 1, 0, 7, 2, 2, 47, 97, 0, 2, 47, 98, 0, 0, 0, 0, 0, 0, 0, 0, 1, 0, 0, 0, 0, 0, 0, 0, 3, 135,
+    3, 1, 0, 7, 2, 2, 47, 97, 0, 2, 47, 98, 0, 0, 0, 0, 0, 0, 0, 0, 1, 0, 0, 0, 0, 0, 0, 0, 3, 135,
     0, 0, 0, 0, 0, 0, 0, 0, 0, 0,
 ];
 
 const ONE_WRITER: &[u8] = &[
-    2, 1, 0, 6, 2, 2, 47, 97, 0, 2, 47, 98, 0, 0, 0, 0, 0, 0, 0, 0, 1, 0, 0, 0, 0, 0, 0, 0, 3, 135,
+    3, 1, 0, 6, 2, 2, 47, 97, 0, 2, 47, 98, 0, 0, 0, 0, 0, 0, 0, 0, 1, 0, 0, 0, 0, 0, 0, 0, 3, 135,
     0, 0, 0, 0, 0, 0, 0, 0, 0, 0,
 ];
 
@@ -52,43 +58,45 @@ const TOLD: &[Told] = &[
     (&[], "", Ending::RecordFault(0)),
     (
         &[CONTROLLER_HEAD],
-        "{\"next_id\":1,\"plugin\":\"controller\",\"volumes\":[]}\n",
+        "{\"next_id\":1,\"plugin\":\"controller\",\"session\":0,\"volumes\":[]}\n",
         Ending::Done,
     ),
     (
         &[ONE_MADE, HELD],
-        "{\"next_id\":2,\"plugin\":\"controller\",\"volumes\":[{\"attached\":[{\"capability\":{\"access\":\"block\",\"mode\":1},\"node\":\"n1\",\"readonly\":false}],\"capabilities\":[{\"access\":\"block\",\"mode\":1}],\"capacity\":10,\"id\":1,\"last\":{\"call\":2,\"session\":1},\"live\":true,\"name\":\"v\"}]}\n",
+        "{\"next_id\":2,\"plugin\":\"controller\",\"session\":1,\"volumes\":[{\"attached\":[{\"capability\":{\"access\":\"block\",\"mode\":1},\"node\":\"n1\",\"readonly\":false}],\"capabilities\":[{\"access\":\"block\",\"mode\":1}],\"capacity\":10,\"id\":1,\"last\":{\"call\":2,\"session\":1},\"live\":true,\"name\":\"v\"}]}\n",
         Ending::Done,
     ),
     (
         &[OLD_HEAD, OLD_HELD],
-        "{\"next_id\":2,\"plugin\":\"controller\",\"volumes\":[{\"attached\":[{\"capability\":{\"access\":\"block\",\"mode\":1},\"node\":\"n1\",\"readonly\":false}],\"capabilities\":[{\"access\":\"block\",\"mode\":1}],\"capacity\":10,\"id\":1,\"last\":{\"call\":2,\"session\":1},\"live\":true,\"name\":\"v\"}]}\n",
+        "{\"next_id\":2,\"plugin\":\"controller\",\"session\":1,\"volumes\":[{\"attached\":[{\"capability\":{\"access\":\"block\",\"mode\":1},\"node\":\"n1\",\"readonly\":false}],\"capabilities\":[{\"access\":\"block\",\"mode\":1}],\"capacity\":10,\"id\":1,\"last\":{\"call\":2,\"session\":1},\"live\":true,\"name\":\"v\"}]}\n",
         Ending::Done,
     ),
     (
-        &[ONE_MADE, GONE],
-        "{\"next_id\":2,\"plugin\":\"controller\",\"volumes\":[{\"attached\":[],\"capabilities\":[{\"access\":\"block\",\"mode\":1},{\"access\":\"mount\",\"fs\":\"ext4\",\"mode\":5}],\"capacity\":10,\"id\":1,\"last\":{\"call\":5,\"session\":3},\"live\":false,\"name\":\"<\\\"\"}]}\n",
+        &[IN_SESSION_3, GONE],
+        "{\"next_id\":2,\"plugin\":\"controller\",\"session\":3,\"volumes\":[{\"attached\":[],\"capabilities\":[{\"access\":\"block\",\"mode\":1},{\"access\":\"mount\",\"fs\":\"ext4\",\"mode\":5}],\"capacity\":10,\"id\":1,\"last\":{\"call\":5,\"session\":3},\"live\":false,\"name\":\"<\\\"\"}]}\n",
         Ending::Done,
     ),
     (
         &[NODE_HEAD],
-        "{\"node\":\"n1\",\"plugin\":\"node\",\"volumes\":[]}\n",
+        "{\"node\":\"n1\",\"plugin\":\"node\",\"session\":1,\"volumes\":[]}\n",
         Ending::Done,
     ),
     (
-        &[NODE_HEAD, AT_TWO, NOT_STAGED],
-        "{\"node\":\"n1\",\"plugin\":\"node\",\"volumes\":[{\"id\":1,\"last\":{\"call\":3,\"session\":1},\"published\":[{\"readonly\":false,\"target\":\"/a\"},{\"readonly\":true,\"target\":\"/b\"}],\"staged\":{\"access\":\"block\",\"mode\":3}},{\"id\":2,\"last\":{\"call\":5,\"session\":2},\"published\":[],\"staged\":null}]}\n",
+        &[IN_SESSION_2, AT_TWO, NOT_STAGED],
+        "{\"node\":\"n1\",\"plugin\":\"node\",\"session\":2,\"volumes\":[{\"id\":1,\"last\":{\"call\":3,\"session\":1},\"published\":[{\"readonly\":false,\"target\":\"/a\"},{\"readonly\":true,\"target\":\"/b\"}],\"staged\":{\"access\":\"block\",\"mode\":3}},{\"id\":2,\"last\":{\"call\":5,\"session\":2},\"published\":[],\"staged\":null}]}\n",
         Ending::Done,
     ),
     (
         &[NODE_HEAD, TWO_WRITERS],
-        "{\"node\":\"n1\",\"plugin\":\"node\",\"volumes\":[{\"id\":1,\"last\":{\"call\":3,\"session\":1},\"published\":[{\"readonly\":false,\"target\":\"/a\"},{\"readonly\":false,\"target\":\"/b\"}],\"staged\":{\"access\":\"block\",\"mode\":7}}]}\n",
+        "{\"node\":\"n1\",\"plugin\":\"node\",\"session\":1,\"volumes\":[{\"id\":1,\"last\":{\"call\":3,\"session\":1},\"published\":[{\"readonly\":false,\"target\":\"/a\"},{\"readonly\":false,\"target\":\"/b\"}],\"staged\":{\"access\":\"block\",\"mode\":7}}]}\n",
         Ending::Done,
     ),
     (&[NODE_HEAD, ONE_WRITER], "", Ending::RecordFault(1)),
     (&[OLD_HEAD, HELD], "", Ending::RecordFault(1)),
     (&[ONE_MADE, OLD_HELD], "", Ending::RecordFault(1)),
-    (&[&[2]], "", Ending::RecordFault(0)),
+    (&[&[3]], "", Ending::RecordFault(0)),
+    (&[ONE_MADE, GONE], "", Ending::RecordFault(1)),
+    (&[NODE_HEAD, AT_TWO, NOT_STAGED], "", Ending::RecordFault(2)),
     (&[HELD], "", Ending::RecordFault(0)),
     (&[ONE_MADE, AT_TWO], "", Ending::RecordFault(1)),
     (&[ONE_MADE, HELD, HELD], "", Ending::RecordFault(2)),
@@ -145,7 +153,7 @@ const OTHER: &str = "csi_store_none/other.db";
 
 // What is there after the script.
 const LINE: &str =
-    "{\"next_id\":3,\"plugin\":\"controller\",\"volumes\":[{\"attached\":[],\"capabilities\":[{\"access\":\"block\",\"mode\":1}],\"capacity\":10,\"id\":1,\"last\":{\"call\":5,\"session\":1},\"live\":false,\"name\":\"v\"},{\"attached\":[],\"capabilities\":[{\"access\":\"block\",\"mode\":1}],\"capacity\":10,\"id\":2,\"last\":{\"call\":6,\"session\":1},\"live\":true,\"name\":\"w\"}]}\n";
+    "{\"next_id\":3,\"plugin\":\"controller\",\"session\":1,\"volumes\":[{\"attached\":[],\"capabilities\":[{\"access\":\"block\",\"mode\":1}],\"capacity\":10,\"id\":1,\"last\":{\"call\":5,\"session\":1},\"live\":false,\"name\":\"v\"},{\"attached\":[],\"capabilities\":[{\"access\":\"block\",\"mode\":1}],\"capacity\":10,\"id\":2,\"last\":{\"call\":6,\"session\":1},\"live\":true,\"name\":\"w\"}]}\n";
 
 // Whether the store in the file is told so, and the file and its log have the same bytes then.
 fn is_shown(rt: &(impl Abort + AllocGlobal + Files)) -> bool {

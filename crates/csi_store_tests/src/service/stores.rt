@@ -7,7 +7,7 @@ use std::process::Abort;
 
 // The table `parts`, with the head of a new controller.
 const WITH_HEAD: &str =
-    "CREATE TABLE parts (key BLOB NOT NULL PRIMARY KEY, value BLOB NOT NULL); INSERT INTO parts VALUES (x'0000000000000000', x'02000000000000000001');";
+    "CREATE TABLE parts (key BLOB NOT NULL PRIMARY KEY, value BLOB NOT NULL); INSERT INTO parts VALUES (x'0000000000000000', x'030000000000000000010000000000000000');";
 
 // A store in memory that this made of an empty database.
 fn store(rt: &(impl Abort + AllocGlobal), table: &str, rows: &str) -> SqliteKeep<MemStore> {

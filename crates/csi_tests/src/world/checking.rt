@@ -101,6 +101,26 @@ pub(super) fn has_node(rt: &(impl Abort + AllocGlobal), world: &World, at: &str)
     has_node
 }
 
+// Whether the controller's greatest session and the number of its rows are these.
+pub(super) fn remembers(world: &World, session: u64, rows: usize) -> bool {
+    let controller = world.controller();
+    controller.session() == session && controller.rows() == rows
+}
+
+// Whether this node's are.
+pub(super) fn node_remembers(
+    rt: &(impl Abort + AllocGlobal),
+    world: &World,
+    at: &str,
+    session: u64,
+    rows: usize,
+) -> bool {
+    let id = node_id(rt, at);
+    let node = world.node(&id).expect(rt, "a node");
+    drop(id);
+    node.session() == session && node.rows() == rows
+}
+
 // The orchestrator knows this of a thing.
 pub(super) fn knows(
     rt: &(impl Abort + AllocGlobal),

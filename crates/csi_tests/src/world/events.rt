@@ -1,14 +1,14 @@
 //! Events, as a table writes them.
-use super::Does;
+use super::{Does, ONE};
 use crate::values::{block, blocks, name, node_id, target};
 use csi_types::Mode;
 use csi_world::Event;
 use std::alloc::Global;
 use std::process::Abort;
 
-fn create(rt: &(impl Abort + AllocGlobal), mode: Mode) -> Event {
+fn create(rt: &(impl Abort + AllocGlobal), text: &str, mode: Mode) -> Event {
     Event::Create {
-        name: name(rt, "v"),
+        name: name(rt, text),
         required: 10,
         limit: 0,
         capabilities: blocks(rt, &[mode]),
@@ -41,7 +41,8 @@ fn stop(rt: &(impl Abort + AllocGlobal), at: &str, path: &str) -> Event {
 
 pub(super) fn event(rt: &(impl Abort + AllocGlobal), does: Does) -> Event {
     match does {
-        Does::Create(mode) => create(rt, mode),
+        Does::Create(mode) => create(rt, "v", mode),
+        Does::CreateOther => create(rt, "w", ONE),
         Does::Use(at, path, mode, readonly) => use_at(rt, at, path, mode, readonly),
         Does::Stop(at, path) => stop(rt, at, path),
         Does::Delete => Event::Delete(name(rt, "v")),

@@ -1,6 +1,6 @@
 //! How a table is played. The world is simulated anew after each event, and audited. Where memory is refused it is simulated,
 //! or audited, the second time, so that each test is one of refused growths too (by `tools/refusals`).
-use super::checking::{has, has_node, is_call, is_reply, knows};
+use super::checking::{has, has_node, is_call, is_reply, knows, node_remembers, remembers};
 use super::events::event;
 use super::{Does, Step};
 use crate::orchestrator::Fact;
@@ -132,6 +132,13 @@ fn shows(rt: &(impl Abort + AllocGlobal), world: &World, step: Step, index: usiz
             has(rt, world, at, (attached, staged, published), index)
         }
         Step::NoNode(at) => assert!(rt; !has_node(rt, world, at), "step {index}"),
+        Step::Remembers(session, rows) => {
+            assert!(rt; remembers(world, session, rows), "step {index}")
+        }
+        Step::RemembersAt(at, session, rows) => {
+            let is_so = node_remembers(rt, world, at, session, rows);
+            assert!(rt; is_so, "step {index}")
+        }
         Step::Knows(fact, known) => knows(rt, world, fact, known, index),
         Step::KnowsAt(at, known) => knows_at(rt, world, at, known, index),
         Step::KnowsOfEach(known) => {

@@ -1,6 +1,6 @@
 //! How an audit reads the plugins.
 ghost use Rattle.std.specs.Prelude.{◌≡◌, map, IfOk};
-ghost use Rattle.csi_node.specs.Shown.{RowsShow as NodeShows};
+ghost use Rattle.csi_node.specs.Record.{Shows as NodeShows};
 ghost use Rattle.csi_node.specs.State.{NodeState};
 ghost use Rattle.csi_node.specs.Views.{staged_shown, published_shown, ListsStaged, ListsPublished};
 ghost use Rattle.csi_world.specs.World.{World};
@@ -15,7 +15,7 @@ use std::alloc::Global;
 
 // What it has staged.
 fn staged_at(node: &Node) -> Result<Vec<Staged>, NoMemory>
-    ensures { (state : NodeState) → NodeShows node.now.rows state → IfOk result (λ list. ListsStaged (map staged_shown list.items) state) }
+    ensures { (state : NodeState) → NodeShows node.now state → IfOk result (λ list. ListsStaged (map staged_shown list.items) state) }
 {
     match node.staged() {
         Ok(list) => Ok(list),
@@ -25,7 +25,7 @@ fn staged_at(node: &Node) -> Result<Vec<Staged>, NoMemory>
 
 // What it has published.
 fn published_at(node: &Node) -> Result<Vec<Published>, NoMemory>
-    ensures { (state : NodeState) → NodeShows node.now.rows state → IfOk result (λ list. ListsPublished (map published_shown list.items) state) }
+    ensures { (state : NodeState) → NodeShows node.now state → IfOk result (λ list. ListsPublished (map published_shown list.items) state) }
 {
     match node.published() {
         Ok(list) => Ok(list),
@@ -68,7 +68,7 @@ pub(crate) fn list_plugins(
     requires { AreDistinct (map (λ node. node.id) nodes.now) }
     ensures { (world : World) → ArePlugins controller.now nodes.now world → IfOk result (λ lists. IsListed (record { rows = controller.now.rows; nodes = lists.items }) world) }
 {
-    let _rows = controller.rows();
+    let _rows = controller.all_rows();
     let lists = list_nodes(alloc, nodes)?;
     Ok(lists)
 }

@@ -2,7 +2,8 @@
 use Rattle.csi_controller.specs.State.{empty_controller}
 use Rattle.csi_controller.specs.Fenced.{after_frames}
 use Rattle.csi_controller.proofs.NamesLaw.{reached_named, keeps_names}
+use Rattle.csi_controller.proofs.OrderlyStates.{reached_orderly}
 use Rattle.csi_controller.proofs.laws.names_law.Goals as goal
 
 pub returns : goal.returns
-returns c = record { named = reached_named; keeps_names = λ config frames frame. keeps_names config (after_frames config empty_controller frames) frame }
+returns c = record { named = reached_named; keeps_names = λ config frames frame. keeps_names config (after_frames config empty_controller frames) frame (reached_orderly config frames) }

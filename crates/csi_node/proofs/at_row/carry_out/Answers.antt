@@ -8,10 +8,10 @@ pub returns-clause-row : goal.returns-clause-row
 returns-clause-row c =
     let old = shown c.args.row.now in
     let made = c.in_ok-change_where.ensures.ok ∙ ap (λ (b : Bool). cond b (row_changed old (lent_call c.args.call.now)) old) c.is_done-is_done.ensures in
-    rw (c.kind-row.ensures, c.in_ok-reply.ensures) (after-line old (shown c.change_where.new.row) c.args.number (lent_call c.args.call.now) c.line-line.result c.requires.volume c.requires.rules c.line-line.ensures.line c.line-line.ensures.ready made)
+    rw (c.kind-row.ensures, c.in_ok-kept.ensures) (after-line old (shown c.change_where.new.row) c.args.number (lent_call c.args.call.now) c.line-line.result c.requires.volume c.requires.rules c.line-line.ensures.line c.line-line.ensures.ready made)
 
 pub returns-clause-rules : goal.returns-clause-rules
 returns-clause-rules c =
     let old = shown c.args.row.now in
     let made = c.in_ok-change_where.ensures.ok ∙ ap (λ (b : Bool). cond b (row_changed old (lent_call c.args.call.now)) old) c.is_done-is_done.ensures in
-    rw (c.kind-row.ensures, c.in_ok-reply.ensures) (row-line old (shown c.change_where.new.row) c.args.number (lent_call c.args.call.now) c.line-line.result c.requires.kind c.requires.rules c.line-line.ensures.ready made)
+    rw (c.kind-row.ensures, c.in_ok-kept.ensures) (row-line old (shown c.change_where.new.row) c.args.number (lent_call c.args.call.now) c.line-line.result c.requires.kind c.requires.rules c.line-line.ensures.ready made)

@@ -4,4 +4,4 @@ use Rattle.csi_node.proofs.judging.first_refused.Given as goal
 
 -- the rows so far are a record's, and this is their last id
 abbrev pub invariant-loop-index : goal.invariant-loop-index
-invariant-loop-index l = SoFar l.rows l.index l.last
+invariant-loop-index l = SoFar l.session l.rows l.index l.last

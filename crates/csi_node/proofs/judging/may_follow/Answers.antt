@@ -1,5 +1,5 @@
 use Rattle.std.proofs.Common.{rules}
 use Rattle.csi_node.proofs.judging.may_follow.Goals as goal
 
-pub returns-then-last-number : goal.returns-then-last-number
-returns-then-last-number c = search rules
+pub returns-then-is_sound_row : goal.returns-then-is_sound_row
+returns-then-is_sound_row c = search rules

@@ -1,7 +1,8 @@
--- In every state, whether or not frames lead to it, by what the fence and then the table make of the call.
+-- In every state that frames lead to, by what the fence and then the table make of the call.
 use Rattle.csi_node.specs.State.{empty_node}
 use Rattle.csi_node.specs.Fenced.{after_frames}
 use Rattle.csi_node.proofs.DeliveryLaw.{empty, closed, delivered}
+use Rattle.csi_node.proofs.SessionsLaw.{all_current}
 use Rattle.csi_node.proofs.StagedOnce.{all_found}
 use Rattle.csi_node.proofs.laws.delivery_law.Goals as goal
 
@@ -9,6 +10,6 @@ pub returns : goal.returns
 returns c = record {
   empty = empty;
   closed = closed;
-  delivered = λ node frames number call party. delivered node (after_frames node empty_node frames) number call party;
+  delivered = λ node frames number call party. delivered node (after_frames node empty_node frames) number call (all_current node frames) party;
   found = all_found;
 }

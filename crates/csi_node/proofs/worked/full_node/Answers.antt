@@ -1,10 +1,8 @@
--- The call's node is this one, its volume has no row, and there is room for none.
-use Rattle.std.proofs.Common.{◌≡◌, true, refl}
-use Rattle.std.specs.Cmp.Lexicographic.{bytes_decides}
-use Rattle.csi_types.specs.Same.{same_text}
+-- The call is of the node's session, its volume has no row, and there is room for none.
+use Rattle.std.proofs.Common.{◌∙◌}
+use Rattle.csi_fence.proofs.LetThrough.{own_call}
+use Rattle.csi_node.specs.Fenced.{node_at}
 use Rattle.csi_node.proofs.worked.full_node.Goals as goal
 
 pub returns : goal.returns
-returns c node state number call full none =
-    let itself : same_text node node ≡ true = (bytes_decides node node).1 refl in
-    simp (itself, none, full)
+returns c node state number call same full none = own_call (node_at node) state number call same ∙ simp (none, full)

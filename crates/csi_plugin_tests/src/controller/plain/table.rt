@@ -1,5 +1,5 @@
 //! The lines of the table: what is told of a call. What is told as OK is carried out, and else nothing changes.
-use super::{Held, NODES, PlainRow, next_id};
+use super::{Held, NODES, Plain, PlainRow};
 use crate::controller::{Ask, Told};
 use csi_types::{Mode, Status};
 
@@ -110,16 +110,16 @@ fn found(row: &PlainRow, required: u64, limit: u64, modes: &[Mode]) -> Told {
 }
 
 // What is told where it has none.
-fn made(rows: &[PlainRow], required: u64, limit: u64, modes: &[Mode]) -> Told {
+fn made(plain: &Plain, required: u64, limit: u64, modes: &[Mode]) -> Told {
     match refusal(required, limit, modes) {
         Some(told) => told,
         None => {
             if granted(required, limit) > GREATEST {
                 RANGE
-            } else if rows.len() >= 4096 {
+            } else if plain.rows.len() >= 4096 {
                 (Status::ResourceExhausted, None, "volumes")
             } else {
-                (Status::Ok, Some(next_id(rows)), "")
+                (Status::Ok, Some(plain.next_id), "")
             }
         }
     }
@@ -233,9 +233,9 @@ pub(super) fn told_of(rows: &[PlainRow], row: &PlainRow, ask: Ask) -> Told {
 }
 
 /// What it tells where it has none.
-pub(super) fn told_of_none(rows: &[PlainRow], ask: Ask) -> Told {
+pub(super) fn told_of_none(plain: &Plain, ask: Ask) -> Told {
     match ask {
-        Ask::Create(_, required, limit, modes) => made(rows, required, limit, modes),
+        Ask::Create(_, required, limit, modes) => made(plain, required, limit, modes),
         Ask::Publish(..) => (Status::NotFound, None, "volume"),
         Ask::Delete(_) | Ask::Unpublish(..) => DONE,
     }

@@ -1,11 +1,11 @@
 -- By the plugin that was asked for.
-use Rattle.std.proofs.Common.{◌≡◌, ◌∙◌, ℕ, [], ◌∷◌, sym, ap}
+use Rattle.std.proofs.Common.{◌≡◌, ◌∙◌, ℕ, [], ◌∷◌, Some, sym, ap}
 use Rattle.std.specs.Prelude.{⊤, List}
 use Rattle.std.proofs.lemmas.Option.{same_Some}
-use Rattle.csi_frames.specs.declared.version.Version.{Version}
-use Rattle.csi_frames.specs.Version.{version_number, version_from_number}
 use Rattle.csi_stores.specs.Part.{StoredPart}
 use Rattle.csi_stores.specs.Stores.{Store, IsSettled}
+use Rattle.csi_records.specs.declared.version.RecordVersion.{RecordVersion}
+use Rattle.csi_records.specs.Version.{version_number, version_from_number}
 use Rattle.csi_records.specs.Spelling.{present, controller_head, node_head}
 use Rattle.csi_records.proofs.FieldReaders.{version-found}
 use Rattle.csi_service.specs.Opening.{controller_records, node_records}
@@ -32,19 +32,19 @@ lead [] = 0
 lead (part ∷ parts) = first_byte part.value
 
 -- it tells the version
-same-version : (version : Version) → version_number present ≡ version_number version → version ≡ present
+same-version : (version : RecordVersion) → version_number present ≡ version_number version → version ≡ present
 same-version version same = same_Some version present (sym (version-found version) ∙ ap version_from_number (sym same) ∙ version-found present)
 
 either : {K : Type 0} (seen : K → Store) (asked : Plugin) (before between after : K) (content : List StoredPart) (first second : Streams) → (seen after).honest → IsSettled (seen before) → (seen before).holds content
     → PluginRuns seen asked before between first Done → PluginRuns seen asked between after second Done → PluginJoins asked content (seen after) first second
 either seen (Controller config) =
-    one-run seen controller_records (λ (service : ControllerService). service.controller.config ≡ config) ControllerAnswers controller_service_parts (controller_head present 1)
+    one-run seen controller_records (λ (service : ControllerService). service.controller.config ≡ config) ControllerAnswers controller_service_parts (controller_head present 1 (Some 0))
     (λ old new frame reply answered asked. answered.config ∙ asked)
-    (opened-again controller_records (controller_head present 1) controller_service_parts (λ core version kept same. same-version version (ap lead same)) (λ core none. cc))
+    (opened-again controller_records (controller_head present 1 (Some 0)) controller_service_parts (λ core version is. same-version version (ap lead is.spelled.are)) (λ core none. cc))
 either seen (Node id) =
-    one-run seen (node_records id) (λ (service : NodeService). ⊤) NodeServiceAnswers node_service_parts (node_head present id)
+    one-run seen (node_records id) (λ (service : NodeService). ⊤) NodeServiceAnswers node_service_parts (node_head present id (Some 0))
     (λ old new frame reply answered asked. tt)
-    (opened-again (node_records id) (node_head present id) node_service_parts (λ core version kept same. same-version version (ap lead same)) (λ core none. cc))
+    (opened-again (node_records id) (node_head present id (Some 0)) node_service_parts (λ core version is. same-version version (ap lead is.spelled.are)) (λ core none. cc))
 
 pub returns : goal.returns
 returns g c = λ asked before between after content r r_read s s_read w w_written v v_written honest settled holds ran ran_too.

@@ -8,7 +8,7 @@ use Rattle.csi_plugins.proofs.recording.line_of.Goals as goal
 
 pub returns-in-Ok-clause-line : goal.returns-in-Ok-clause-line
 returns-in-Ok-clause-line c =
-    IfOk-weaker c.controller_text.result _ _ (λ text is. subst (IsLineOf (all_stored_in c.args.parts.now)) (sym is) (of_controller c.in-Ok.field-0.version c.in-Ok.field-0.kept c.in-Ok.ensures.0 c.in-Ok.ensures.1)) c.controller_text.ensures.line
+    IfOk-weaker c.controller_text.result _ _ (λ text is. subst (IsLineOf (all_stored_in c.args.parts.now)) (sym is) (of_controller c.in-Ok.field-0.version c.in-Ok.field-0.kept c.in-Ok.ensures.1)) c.controller_text.ensures.line
 
 pub returns-in-Ok-clause-refused : goal.returns-in-Ok-clause-refused
 returns-in-Ok-clause-refused c =

@@ -22,5 +22,5 @@ returns-in-Ok-2 g c =
 
 pub returns : goal.returns
 returns g c =
-    err-bytes g.T.Record.is_record g.T.Record.parts_of c.in-Ok.read.version c.args.bytes.now (all_stored_in c.in-Ok.read.parts.items) c.in-Ok.read.all c.in-Err.stop c.in-Ok.ensures.split
-    (subst (λ (ps : List Part). ReadsParts (g.T.Record.is_record c.in-Ok.read.version) (g.T.Record.parts_of c.in-Ok.read.version) (all_stored_in ps) (Err c.in-Err.stop)) c.deref.ensures.value c.in-Err.ensures)
+    err-bytes g.T.Record.is_record g.T.Record.is_of c.in-Ok.read.version c.args.bytes.now (all_stored_in c.in-Ok.read.parts.items) c.in-Ok.read.all c.in-Err.stop c.in-Ok.ensures.split
+    (subst (λ (ps : List Part). ReadsParts (g.T.Record.is_record c.in-Ok.read.version) (g.T.Record.is_of c.in-Ok.read.version) (all_stored_in ps) (Err c.in-Err.stop)) c.deref.ensures.value c.in-Err.ensures)

@@ -24,5 +24,5 @@ returns c =
     (with_value (codes "safe") (members_view c.put_array-3.new.map.entries) c.in_ok-put-3.ensures.ok (c.from-2.ensures ∙ ap boolean (sym (ap not c.is_none-safe.ensures ∙ not-not c.is_none-safe.result))))
     (with_value (codes "session") (members_view c.put-3.new.map.entries) c.in_ok-put-4.ensures.ok (c.from-3.ensures ∙ ap whole (c.session-session.ensures.value ∙ ap (λ parts. parts.last.session) c.orchestrator.ensures)))
     (with_value (codes "staged") (members_view c.put-4.new.map.entries) c.in_ok-put_array-4.ensures (ap (entries staged_entry) c.deref-4.ensures.value))
-    (with_value (codes "volumes") (members_view c.put_array-4.new.map.entries) c.in_ok-put-5.ensures.ok (c.in_ok-volumes.ensures ∙ ap (λ rows. entries volume_entry (live_rows rows)) (c.rows.ensures.value ∙ ap (λ parts. parts.rows) c.controller.ensures))) in
+    (with_value (codes "volumes") (members_view c.put_array-4.new.map.entries) c.in_ok-put-5.ensures.ok (c.in_ok-volumes.ensures ∙ ap (λ rows. entries volume_entry (live_rows rows)) (c.all_rows.ensures.value ∙ ap (λ parts. parts.rows) c.controller.ensures))) in
     view-Object c.put-5.new.map ∙ told

@@ -4,4 +4,4 @@ use Rattle.csi_world.specs.Listed.{AreRowsApart}
 use Rattle.csi_world.proofs.auditing.audit_parts.Goals as goal
 
 pub audit_lists-requires : goal.audit_lists-requires
-audit_lists-requires c = subst AreRowsApart (sym c.rows.ensures.value) (record { rising = c.rows.ensures.sound.rising; names = c.rows.ensures.sound.names })
+audit_lists-requires c = subst AreRowsApart (sym c.all_rows.ensures.value) (record { rising = c.all_rows.ensures.sound.rising; names = c.all_rows.ensures.sound.names })

@@ -1,5 +1,5 @@
 -- What is made of no parts, and of a record that was read.
-use Rattle.std.proofs.Common.{◌≡◌, ◌∙◌, List, [], ◌∷◌, ℕ, map, length, ap, arith}
+use Rattle.std.proofs.Common.{◌≡◌, ◌∙◌, List, [], ◌∷◌, ℕ, map, length, ap, Some, arith}
 use Rattle.std.proofs.lemmas.Bool.Decides.{nat_tests}
 use Rattle.std.proofs.lemmas.List.{nil_from_length}
 use Rattle.csi_stores.specs.Part.{all_stored_in, put_all, change_of}
@@ -12,7 +12,7 @@ use Rattle.csi_service.proofs.controller_service.ControllerServiceOpens.made.Goa
 pub returns-then-is_empty-clause-made : goal.returns-then-is_empty-clause-made
 returns-then-is_empty-clause-made c =
     let zero : length c.args.parts.now ≡ 0 = grind (arith, nat_tests) in
-    made-new controller_records (controller_head present 1) (all_stored_in c.args.parts.now) (controller_service_parts c.begun.result) (map change_of c.in_ok-head.head.items)
+    made-new controller_records (controller_head present 1 (Some 0)) (all_stored_in c.args.parts.now) (controller_service_parts c.begun.result) (map change_of c.in_ok-head.head.items)
     (ap all_stored_in (nil_from_length c.args.parts.now zero)) c.begun.ensures.parts
     (c.in_ok-head.ensures ∙ ap (λ (value : List ℕ). put_all (record { key = 0; value = value } ∷ [])) c.in_ok-controller_head_value.ensures) new-controller
 

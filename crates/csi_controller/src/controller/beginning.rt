@@ -1,0 +1,201 @@
+//! A call that begins a session: it is answered, and the volumes that were deleted before are forgotten. All that may fail comes before
+//! the first of them goes.
+ghost use Rattle.std.specs.Prelude.{◌≡◌, ◌==◌, ◌<◌, None, Some, filter, find, position, slice_get, IfOk, IfSome, IfNone, IsOk, IsTrue, OnErr, OnOk, true};
+ghost use Rattle.indexmap.specs.IndexMap.{index_map_len};
+ghost use Rattle.csi_types.specs.declared.call.Party.TheVariants.{Controller};
+ghost use Rattle.csi_types.specs.Call.{kind_of, is_party_of};
+ghost use Rattle.csi_types.specs.Lent.{lent_call};
+ghost use Rattle.csi_types.specs.Same.{same_text};
+ghost use Rattle.csi_controller.specs.declared.row.ControllerRow.{ControllerRow as OneRow};
+
+use super::at_row::answer_at_row;
+use super::core_parts::Core;
+use super::create_lines::argument_fault;
+use super::making::{made, not_made};
+use super::new_row::new_row;
+use super::without_row::reply_without_row;
+use csi_fence::{Answer, CoreFault};
+use csi_types::{Call, CallRef, CapabilityList, Number, VolumeId};
+
+impl Core {
+    ghost use Rattle.csi_controller.specs.State.{ControllerState, is_row_for};
+    ghost use Rattle.csi_controller.specs.Shown.{volume_of_row};
+    ghost use Rattle.csi_controller.specs.Catalog.{rows_of, IsIndexed, HasRoom};
+    ghost use Rattle.csi_controller.specs.Core.{Shows, IsRising, IsAnsweredOk, IsUndoing};
+    ghost use Rattle.csi_controller.specs.CoreParts.{parts_of, IsSoundCore};
+    ghost use Rattle.csi_controller.specs.CoreAnswers.{IsAnswered, IsLeftSo};
+    ghost use Rattle.csi_controller.specs.Beginning.{live_rows, HasForgotten, HasMade};
+    ghost use Rattle.csi_controller.specs.Making.{made_answer};
+    ghost use Rattle.csi_controller.specs.Nowhere.{IsCreate};
+
+    // Where the row of this call is, if its volume is live.
+    fn live_place_for(&self, call: &CallRef<'_>) -> Option<usize>
+        requires { IsSoundCore self.now }
+        ensures place { IfSome result (λ place. Some place ≡ position (λ row. is_row_for (lent_call call.now) (volume_of_row row)) (rows_of self.now.catalog)) }
+        ensures within { IfSome result (λ place. place < index_map_len self.now.catalog.rows) }
+        ensures live { IfSome result (λ place. (row : OneRow) → slice_get (rows_of self.now.catalog) place ≡ Some row → row.live ≡ true) }
+        ensures none { result ≡ None → find (λ row. is_row_for (lent_call call.now) (volume_of_row row)) (live_rows (rows_of self.now.catalog)) ≡ None }
+    {
+        match self.place_for(call) {
+            Some(place) => {
+                if self.catalog.rows[place].live {
+                    Some(place)
+                } else {
+                    None
+                }
+            }
+            None => None,
+        }
+    }
+
+    // The session begins, and the volumes that were deleted before are forgotten. It takes no memory.
+    fn forget(&mut self, session: u64)
+        requires indexed { IsIndexed self.old.catalog }
+        requires rising { IsRising (rows_of self.old.catalog) }
+        ensures { HasForgotten session self.old self.new }
+    {
+        self.session = session;
+        self.catalog.forget(session);
+    }
+
+    // Answers a call that begins a session, whose volume is live and has its row at this place. An `Err` changes nothing.
+    fn begin_with_row(
+        &mut self,
+        place: usize,
+        number: Number,
+        call: &CallRef<'_>,
+    ) -> Result<Answer, CoreFault>
+        requires party { IsTrue (is_party_of (kind_of (lent_call call.now)) Controller) }
+        requires kept { IsSoundCore self.old }
+        requires begins { self.old.session < number.session }
+        requires place { Some place ≡ position (λ row. is_row_for (lent_call call.now) (volume_of_row row)) (rows_of self.old.catalog) }
+        requires within { place < index_map_len self.old.catalog.rows }
+        requires live { (row : OneRow) → slice_get (rows_of self.old.catalog) place ≡ Some row → row.live ≡ true }
+        ensures ok { IfOk result (λ answer. IsAnswered self.old self.new number (lent_call call.now) answer) }
+        ensures err { OnErr result (IsLeftSo self.old self.new) }
+        ensures undone { (state : ControllerState) → Shows (parts_of self.old) state → IsUndoing (lent_call call.now) → IsAnsweredOk self.old.config state number (lent_call call.now) → IsOk result }
+    {
+        let alloc = self.alloc;
+        let nodes = self.config.nodes();
+        let row = &mut self.catalog.rows[place];
+        let answer = answer_at_row(row, nodes, &mut self.counts, alloc, number, call)?;
+        self.forget(number.session);
+        Ok(answer)
+    }
+
+    // Makes the volume that has the next id, once its session has begun. A refusal changes nothing.
+    fn make_first(
+        &mut self,
+        number: Number,
+        id: VolumeId,
+        capacity: u64,
+        name: &str,
+        capabilities: &CapabilityList,
+    ) -> Result<Answer, CoreFault>
+        requires kept { IsSoundCore self.old }
+        requires begins { self.old.session < number.session }
+        requires new_id { find (λ row. row.id == id) (rows_of self.old.catalog) ≡ None }
+        requires new_name { find (λ row. same_text row.name name.now) (live_rows (rows_of self.old.catalog)) ≡ None }
+        ensures answer { IfOk result (λ answer. answer ≡ made_answer id) }
+        ensures made { OnOk result (HasMade self.old self.new number id name.now capacity capabilities.now) }
+        ensures err { OnErr result (IsLeftSo self.old self.new) }
+    {
+        let alloc = self.alloc;
+        let row = new_row(alloc, number, id, name, capacity, capabilities)?;
+        let text = self.catalog.make_room(alloc, &row.name)?;
+        self.forget(number.session);
+        self.catalog.put(text, row);
+        self.next_id = self.next_id.wrapping_add(1);
+        Ok(made(alloc, id))
+    }
+
+    // CreateVolume, where it begins a session, of a name that no live volume has. A refusal changes nothing.
+    fn create_first(
+        &mut self,
+        number: Number,
+        name: &str,
+        required: u64,
+        limit: u64,
+        capabilities: &CapabilityList,
+    ) -> Result<Answer, CoreFault>
+        requires kept { IsSoundCore self.old }
+        requires begins { self.old.session < number.session }
+        requires new { find (λ row. same_text row.name name.now) (live_rows (rows_of self.old.catalog)) ≡ None }
+        ensures ok { IfOk result (λ answer. IsAnswered self.old self.new number (Call.CreateVolume name.now required limit capabilities.now) answer) }
+        ensures err { OnErr result (IsLeftSo self.old self.new) }
+    {
+        let alloc = self.alloc;
+        let wished = capabilities.as_slice();
+        if let Some(line) = argument_fault(required, limit, wished) {
+            let answer = not_made(alloc, &line)?;
+            self.forget(number.session);
+            return Ok(answer);
+        }
+        match self.room_for(self.catalog.live(), required, limit) {
+            Ok(made) => self.make_first(number, made.0, made.1, name, capabilities),
+            Err(line) => {
+                let answer = not_made(alloc, &line)?;
+                self.forget(number.session);
+                Ok(answer)
+            }
+        }
+    }
+
+    // Answers a call that begins a session, of an id that no live volume has. An `Err` changes nothing.
+    fn begin_nowhere(&mut self, number: Number, call: &CallRef<'_>) -> Result<Answer, CoreFault>
+        requires party { IsTrue (is_party_of (kind_of (lent_call call.now)) Controller) }
+        requires kept { IsSoundCore self.old }
+        requires begins { self.old.session < number.session }
+        requires none { find (λ row. is_row_for (lent_call call.now) (volume_of_row row)) (live_rows (rows_of self.old.catalog)) ≡ None }
+        requires other { IsCreate (lent_call call.now) → ⊥ }
+        ensures ok { IfOk result (λ answer. IsAnswered self.old self.new number (lent_call call.now) answer) }
+        ensures err { OnErr result (IsLeftSo self.old self.new) }
+        ensures undone { IsUndoing (lent_call call.now) → IsOk result }
+    {
+        let reply = reply_without_row(self.alloc, call)?;
+        self.forget(number.session);
+        Ok(Answer {
+            kind: call.kind(),
+            reply,
+            row: None,
+        })
+    }
+
+    // Answers a call that begins a session and has no live volume. An `Err` changes nothing.
+    fn begin_without_row(&mut self, number: Number, call: &CallRef<'_>) -> Result<Answer, CoreFault>
+        requires party { IsTrue (is_party_of (kind_of (lent_call call.now)) Controller) }
+        requires kept { IsSoundCore self.old }
+        requires begins { self.old.session < number.session }
+        requires none { find (λ row. is_row_for (lent_call call.now) (volume_of_row row)) (live_rows (rows_of self.old.catalog)) ≡ None }
+        ensures ok { IfOk result (λ answer. IsAnswered self.old self.new number (lent_call call.now) answer) }
+        ensures err { OnErr result (IsLeftSo self.old self.new) }
+        ensures undone { IsUndoing (lent_call call.now) → IsOk result }
+    {
+        match call {
+            CallRef::CreateVolume {
+                name,
+                required,
+                limit,
+                capabilities,
+            } => self.create_first(number, name, *required, *limit, capabilities),
+            _ => self.begin_nowhere(number, call),
+        }
+    }
+
+    /// Answers a call of a later session than any that came: the session begins, so that the volumes that were deleted before are
+    /// forgotten, and the call is answered in it. An `Err` changes nothing. A DeleteVolume and a ControllerUnpublishVolume that the
+    /// table answers with `Ok` take no memory.
+    pub fn begin(&mut self, number: Number, call: &CallRef<'_>) -> Result<Answer, CoreFault>
+        requires party { IsTrue (is_party_of (kind_of (lent_call call.now)) Controller) }
+        requires kept { IsSoundCore self.old }
+        requires begins { self.old.session < number.session }
+        ensures ok { IfOk result (λ answer. IsAnswered self.old self.new number (lent_call call.now) answer) }
+        ensures err { OnErr result (IsLeftSo self.old self.new) }
+        ensures undone { (state : ControllerState) → Shows (parts_of self.old) state → IsUndoing (lent_call call.now) → IsAnsweredOk self.old.config state number (lent_call call.now) → IsOk result }
+    {
+        match self.live_place_for(call) {
+            Some(place) => self.begin_with_row(place, number, call),
+            None => self.begin_without_row(number, call),
+        }
+    }
+}

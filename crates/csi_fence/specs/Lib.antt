@@ -1,0 +1,5 @@
+pub mod Fence
+pub mod Fenced
+pub mod Delivery
+pub mod Lawful
+pub mod Worked

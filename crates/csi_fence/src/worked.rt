@@ -1,0 +1,10 @@
+//! Worked examples of the fence. Each function proves a statement, and does nothing.
+ghost use Rattle.csi_fence.specs.Worked.{VerdictRows, SessionRows};
+
+fn verdicts()
+    ensures { VerdictRows }
+{}
+
+fn sessions()
+    ensures { SessionRows }
+{}

@@ -1,0 +1,59 @@
+-- What a node is once a later session has begun: all that is staged and published stays, and of each row either all stays or nothing.
+use Rattle.std.proofs.Common.{◌≡◌, ◌⊎◌, ℕ, List, Bool, true, false, refl, sym, ◌∙◌, ap, inl, inr}
+use Rattle.std.specs.Prelude.{Option, Some, None, option_map, is_some, ◌==◌}
+use Rattle.std.proofs.lemmas.Bool.{eqb-true, true≢false, false_from_ne_true}
+use Rattle.csi_lists.proofs.Searches.{find-filter, find-filtered}
+use Rattle.csi_types.specs.Key.{Key, Exists, Attached, Staged, Published}
+use Rattle.csi_node.specs.State.{NodeState, Answered, row_with_id, staged_of}
+use Rattle.csi_node.specs.Fenced.{begun}
+use Rattle.csi_node.specs.View.{held_on, kept_on}
+use Rattle.csi_node.proofs.ThingRows.{row_id, kept_at, kept_on-at}
+
+-- how each thing is stays
+pub begun-held : (node : List ℕ) (session : ℕ) (state : NodeState) (key : Key) → held_on node (begun session state) key ≡ held_on node state key
+begun-held node session state (Exists name) = refl
+begun-held node session state (Attached id there) = refl
+begun-held node session state (Staged id there) = refl
+begun-held node session state (Published id there target) = refl
+
+module _ (session id : ℕ) (state : NodeState) where
+  -- the row has this id
+  abbrev is_own : Answered → Bool
+  is_own row = row.id == id
+
+  -- the row's volume is staged
+  abbrev stays : Answered → Bool
+  stays row = is_some (staged_of row.id state)
+
+  -- the row of a volume that is staged stays
+  pub begun-staged : is_some (staged_of id state) ≡ true → row_with_id id (begun session state) ≡ row_with_id id state
+  begun-staged staged = find-filter is_own stays state.rows (λ row own. ap (λ (n : ℕ). is_some (staged_of n state)) (eqb-true row.id id own) ∙ staged)
+
+  -- the row of a volume that isn't staged is gone
+  pub begun-unstaged : is_some (staged_of id state) ≡ false → row_with_id id (begun session state) ≡ None
+  begun-unstaged unstaged =
+      find-filtered is_own stays state.rows (λ row kept. false_from_ne_true (row.id == id) (λ own.
+      true≢false (sym kept ∙ ap (λ (n : ℕ). is_some (staged_of n state)) (eqb-true row.id id own) ∙ unstaged)))
+
+  -- so each row stays, or is gone
+  pub begun-row : (row_with_id id (begun session state) ≡ row_with_id id state) ⊎ (row_with_id id (begun session state) ≡ None)
+  begun-row = by (is_some (staged_of id state)) refl
+    where
+      by : (b : Bool) → is_some (staged_of id state) ≡ b → (row_with_id id (begun session state) ≡ row_with_id id state) ⊎ (row_with_id id (begun session state) ≡ None)
+      by true staged = inl (begun-staged staged)
+      by false unstaged = inr (begun-unstaged unstaged)
+
+-- and what is kept for each thing
+pub begun-kept : (node : List ℕ) (session : ℕ) (state : NodeState) (key : Key) → (kept_on node (begun session state) key ≡ kept_on node state key) ⊎ (kept_on node (begun session state) key ≡ None)
+begun-kept node session state key = by (row_id node key) (kept_on-at node (begun session state) key) (kept_on-at node state key)
+  where
+    of_row : (id : ℕ) → (row_with_id id (begun session state) ≡ row_with_id id state) ⊎ (row_with_id id (begun session state) ≡ None)
+        → kept_on node (begun session state) key ≡ kept_at (Some id) (begun session state) → kept_on node state key ≡ kept_at (Some id) state
+        → (kept_on node (begun session state) key ≡ kept_on node state key) ⊎ (kept_on node (begun session state) key ≡ None)
+    of_row id (inl same) now before = inl (now ∙ ap (option_map (λ (row : Answered). row.kept)) same ∙ sym before)
+    of_row id (inr none) now before = inr (now ∙ ap (option_map (λ (row : Answered). row.kept)) none)
+
+    by : (o : Option ℕ) → kept_on node (begun session state) key ≡ kept_at o (begun session state) → kept_on node state key ≡ kept_at o state
+        → (kept_on node (begun session state) key ≡ kept_on node state key) ⊎ (kept_on node (begun session state) key ≡ None)
+    by None now before = inr now
+    by (Some id) now before = of_row id (begun-row session id state) now before

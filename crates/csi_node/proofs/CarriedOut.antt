@@ -1,0 +1,44 @@
+-- A call that a node carries out gets what the table says, or is refused where there is no room for a row. What is so of every
+-- call that is carried out is shown by cases of these.
+use Rattle.std.proofs.Common.{◌≡◌, ℕ, List, Bool, true, false, refl}
+use Rattle.std.specs.Prelude.{Some, codes}
+use Rattle.csi_types.specs.declared.number.Number.{Number}
+use Rattle.csi_types.specs.declared.call.Call.{Call}
+use Rattle.csi_types.specs.declared.call.Party.TheVariants.{Node}
+use Rattle.csi_types.specs.declared.status.Status.TheVariants.{ResourceExhausted}
+use Rattle.csi_types.specs.Call.{kind_of}
+use Rattle.csi_types.specs.Replies.{plain_reply, reply_frame}
+use Rattle.csi_fence.specs.Fence.{Kept}
+use Rattle.csi_fence.specs.Fenced.{Fenced}
+use Rattle.csi_node.specs.State.{NodeState, volume_of}
+use Rattle.csi_node.specs.Table.{lifecycle_row, node_row, has_no_room, changed}
+use Rattle.csi_node.specs.Fenced.{carried_out, keep}
+
+-- what is kept of a call that the table carries out, and what the node answers and is then
+abbrev pub kept_of : NodeState → Number → Call → Kept
+kept_of state number call = record { number = number; kind = kind_of call; reply = (lifecycle_row state call).reply }
+
+abbrev pub state_then : NodeState → Number → Call → NodeState
+state_then state number call = keep (volume_of call) (kept_of state number call) (changed state (lifecycle_row state call).change)
+
+abbrev pub done_then : List ℕ → NodeState → Number → Call → Fenced NodeState
+done_then node state number call =
+    record { reply = Some (reply_frame number (Node node) (kind_of call) (lifecycle_row state call).reply); state = state_then state number call }
+
+-- what it answers where there is no room for a row, and that it is as it was
+abbrev pub full_then : List ℕ → NodeState → Number → Call → Fenced NodeState
+full_then node state number call =
+    record { reply = Some (reply_frame number (Node node) (kind_of call) (plain_reply ResourceExhausted (codes "rows"))); state = state }
+
+-- by whether there is room for a row
+pub data Carried (node : List ℕ) (state : NodeState) (number : Number) (call : Call) : Fenced NodeState → Type 0 where
+  no_room : has_no_room state call ≡ true → Carried node state number call (full_then node state number call)
+  has_room : has_no_room state call ≡ false → Carried node state number call (done_then node state number call)
+
+-- each call that is carried out is one of these
+pub was_carried : (node : List ℕ) (state : NodeState) (number : Number) (call : Call) → Carried node state number call (carried_out node state number call (node_row state call))
+was_carried node state number call = by (has_no_room state call) refl
+  where
+    by : (b : Bool) → has_no_room state call ≡ b → Carried node state number call (carried_out node state number call (node_row state call))
+    by true full = rw full (no_room full)
+    by false room = rw room (has_room room)

@@ -1,0 +1,131 @@
+-- What a node remembers, whatever frames came: each row's last call is of no later session than the greatest that came; and of that
+-- one, where the volume isn't staged.
+use Rattle.std.proofs.Common.{◌≡◌, ◌⊎◌, ◌≤◌, ℕ, List, Bool, true, refl, sym, ◌∙◌, ap, subst, inl, inr, arith}
+use Rattle.std.specs.Prelude.{option_map, find, filter, is_some, IsSome, ◌==◌}
+use Rattle.std.proofs.lemmas.Bool.{eq-eqb, eqb-true, ltb-true}
+use Rattle.csi_lists.specs.Members.{IsAmong}
+use Rattle.csi_lists.proofs.Counts.{count-either}
+use Rattle.csi_lists.proofs.Members.{among-kept}
+use Rattle.csi_lists.proofs.Searches.{find-filter}
+use Rattle.csi_types.specs.declared.number.Number.{Number}
+use Rattle.csi_types.specs.declared.call.Call.{Call}
+use Rattle.csi_types.specs.Frame.{Frame}
+use Rattle.csi_fence.specs.Fence.{Kept}
+use Rattle.csi_fence.specs.Fenced.{Fenced}
+use Rattle.csi_fence.proofs.FramesKeep.{IsKept, frames_keep}
+use Rattle.csi_node.specs.State.{NodeState, Answered, StagedVolume, empty_node, staged_of, volume_of}
+use Rattle.csi_node.specs.Table.{lifecycle_row, node_row, changed}
+use Rattle.csi_node.specs.Fenced.{keep, begun, carried_out, node_at, after_frames}
+use Rattle.csi_node.specs.Laws.{is_another}
+use Rattle.csi_node.specs.Safe.{Remembers}
+use Rattle.csi_node.proofs.CarriedOut.{Carried, no_room, has_room, was_carried, kept_of}
+use Rattle.csi_node.proofs.LastCalls.{keep-each, keep-session, keep-staged, changed-rows, changed-session}
+use Rattle.csi_node.proofs.OutcomeFacts.{lifecycle_facts}
+
+-- the rows are of no later session, and those of volumes that aren't staged of this one
+pub record AreCurrent (state : NodeState) : Type 0 where
+  pub each : (row : Answered) → IsAmong row state.rows → IsSome (staged_of row.id state) ⊎ (row.kept.number.session ≡ state.session)
+  pub before : (row : Answered) → IsAmong row state.rows → row.kept.number.session ≤ state.session
+
+-- so there are at most as many as are of staged volumes and as are of this session
+pub remembers : (state : NodeState) → AreCurrent state → Remembers state
+remembers state current = record {
+  each = current.each;
+  before = current.before;
+  few = count-either (λ (row : Answered). is_some (staged_of row.id state)) (λ (row : Answered). row.kept.number.session == state.session) state.rows
+      (λ row among. by row (current.each row among));
+}
+  where
+    by : (row : Answered) → IsSome (staged_of row.id state) ⊎ (row.kept.number.session ≡ state.session)
+        → (is_some (staged_of row.id state) ≡ true) ⊎ ((row.kept.number.session == state.session) ≡ true)
+    by row (inl staged) = inl staged
+    by row (inr same) = inr (eq-eqb row.kept.number.session state.session same)
+
+-- where a later session begins they are so
+begun_current : (session : ℕ) (state : NodeState) → state.session ≤ session → AreCurrent state → AreCurrent (begun session state)
+begun_current session state later current = record {
+  each = λ row among. inl ((among-kept (λ (row : Answered). is_some (staged_of row.id state)) state.rows row among).1);
+  before = λ row among.
+      let earlier = current.before row ((among-kept (λ (row : Answered). is_some (staged_of row.id state)) state.rows row among).0) in
+      omega (arith, earlier, later);
+}
+
+-- a call leaves how other volumes are staged
+other-staged : (state : NodeState) (call : Call) (id : ℕ) → is_another (volume_of call) id ≡ true → staged_of id (changed state (lifecycle_row state call).change) ≡ staged_of id state
+other-staged state call id other =
+    ap (option_map (λ (s : StagedVolume). s.capability))
+    (sym (among_others (changed state (lifecycle_row state call).change).staged) ∙ ap (find is_of) (lifecycle_facts state call).others.staged ∙ among_others state.staged)
+  where
+    is_of : StagedVolume → Bool
+    is_of s = s.volume == id
+
+    among_others : (list : List StagedVolume) → find is_of (filter (λ (s : StagedVolume). is_another (volume_of call) s.volume) list) ≡ find is_of list
+    among_others list = find-filter is_of (λ (s : StagedVolume). is_another (volume_of call) s.volume) list (λ s own. ap (is_another (volume_of call)) (eqb-true s.volume id own) ∙ other)
+
+module _ (state : NodeState) (number : Number) (call : Call) (now : number.session ≡ state.session) (current : AreCurrent state) where
+  -- the call, as it is kept, and the state with its change
+  abbrev kept : Kept
+  kept = kept_of state number call
+
+  abbrev next : NodeState
+  next = changed state (lifecycle_row state call).change
+
+  abbrev after : NodeState
+  after = keep (volume_of call) kept next
+
+  -- the session stays
+  same_session : after.session ≡ state.session
+  same_session = keep-session (volume_of call) kept next ∙ changed-session state (lifecycle_row state call).change
+
+  -- and how another volume is staged
+  same_staged : (id : ℕ) → is_another (volume_of call) id ≡ true → staged_of id after ≡ staged_of id state
+  same_staged id other =
+      ap (λ (list : List StagedVolume). option_map (λ (s : StagedVolume). s.capability) (find (λ (s : StagedVolume). s.volume == id) list)) (keep-staged (volume_of call) kept next)
+      ∙ other-staged state call id other
+
+  -- a row from before was there
+  was_there : (row : Answered) → IsAmong row next.rows → IsAmong row state.rows
+  was_there row among = subst (IsAmong row) (changed-rows state (lifecycle_row state call).change) among
+
+  -- the row of the call is of this session
+  own_session : (row : Answered) → row.kept ≡ kept → row.kept.number.session ≡ after.session
+  own_session row is = ap (λ (k : Kept). k.number.session) is ∙ now ∙ sym same_session
+
+  -- once the call was carried out they are so
+  done_current : AreCurrent after
+  done_current = record {
+    each = λ row among. each row (keep-each (volume_of call) kept next row among);
+    before = λ row among. before row (keep-each (volume_of call) kept next row among);
+  }
+    where
+      was : (row : Answered) → is_another (volume_of call) row.id ≡ true → IsSome (staged_of row.id state) ⊎ (row.kept.number.session ≡ state.session)
+          → IsSome (staged_of row.id after) ⊎ (row.kept.number.session ≡ after.session)
+      was row other (inl staged) = inl (ap is_some (same_staged row.id other) ∙ staged)
+      was row other (inr same) = inr (same ∙ sym same_session)
+
+      each : (row : Answered) → (IsAmong row next.rows × (is_another (volume_of call) row.id ≡ true)) ⊎ (row.kept ≡ kept) → IsSome (staged_of row.id after) ⊎ (row.kept.number.session ≡ after.session)
+      each row (inl there) = was row there.1 (current.each row (was_there row there.0))
+      each row (inr is) = inr (own_session row is)
+
+      before : (row : Answered) → (IsAmong row next.rows × (is_another (volume_of call) row.id ≡ true)) ⊎ (row.kept ≡ kept) → row.kept.number.session ≤ after.session
+      before row (inl there) = let earlier = current.before row (was_there row there.0) in omega (arith, earlier, same_session)
+      before row (inr is) = omega (arith, own_session row is)
+
+-- each call that is carried out leaves them so
+carried_current : (node : List ℕ) (state : NodeState) (number : Number) (call : Call) (after : Fenced NodeState) → Carried node state number call after → number.session ≡ state.session
+    → AreCurrent state → AreCurrent after.state
+carried_current node state number call _ (no_room full) now current = current
+carried_current node state number call _ (has_room room) now current = done_current state number call now current
+
+-- and so does each frame
+is_kept : (node : List ℕ) → IsKept (node_at node) AreCurrent
+is_kept node = record {
+  sets_session = λ session state. refl;
+  begins = λ session state later current. begun_current session state (let less = ltb-true state.session session later in omega (arith, less)) current;
+  carries = λ state number call now current.
+      carried_current node state number call (carried_out node state number call (node_row state call)) (was_carried node state number call) now.session current;
+}
+
+-- after any frames to a new node
+pub all_current : (node : List ℕ) (frames : List Frame) → AreCurrent (after_frames node empty_node frames)
+all_current node frames = frames_keep (node_at node) AreCurrent (is_kept node) empty_node frames (record { each = λ row among. absurd among; before = λ row among. absurd among })

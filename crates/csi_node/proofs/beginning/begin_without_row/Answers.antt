@@ -1,0 +1,41 @@
+use Rattle.std.proofs.Common.{◌≡◌, ◌∙◌, true, false, ap, refl, sym, subst, List}
+use Rattle.std.specs.Prelude.{filter}
+use Rattle.std.proofs.lemmas.Result.{IfOk-weaker}
+use Rattle.csi_types.specs.Lent.{lent_call}
+use Rattle.csi_types.specs.Call.{kind_of}
+use Rattle.csi_fence.specs.Fence.{Kept}
+use Rattle.csi_node.specs.declared.row.NodeRow.{NodeRow}
+use Rattle.csi_node.specs.OneRow.{shown, row_anew}
+use Rattle.csi_node.specs.WithoutSession.{stays_in}
+use Rattle.csi_node.proofs.ChangedRows.{on_ok_holds}
+use Rattle.csi_node.proofs.AtBeginning.{is_full_of, begins-first, begins-full, first-put, rules-first_begun, current-begun, current-full}
+use Rattle.csi_node.proofs.beginning.begin_without_row.Goals as goal
+
+pub returns-then-is_full-clause-ok : goal.returns-then-is_full-clause-ok
+returns-then-is_full-clause-ok c = λ node session later.
+    IfOk-weaker c.refusal.result _ _
+    (λ answer is. begins-full node c.args.number (lent_call c.args.call.now) c.args.id c.requires.volume session later c.args.rows.now.items c.args.place answer c.requires.rules c.requires.place
+    (subst (λ (rows : List NodeRow). is_full_of rows ≡ true) c.deref.ensures.value (sym c.is_full.ensures ∙ c.if-is_full.true)) (rw (← c.kind.ensures) is))
+    c.refusal.ensures.answer
+
+pub returns-then-is_full-clause-current : goal.returns-then-is_full-clause-current
+returns-then-is_full-clause-current c =
+    on_ok_holds c.refusal.result (current-full c.args.number.session c.args.rows.now.items (subst (λ (rows : List NodeRow). is_full_of rows ≡ true) c.deref.ensures.value (sym c.is_full.ensures ∙ c.if-is_full.true)) c.requires.earlier)
+
+pub returns-clause-ok : goal.returns-clause-ok
+returns-clause-ok c = λ node session later.
+    begins-first node c.args.number (lent_call c.args.call.now) c.args.id c.requires.volume session later c.args.rows.now.items c.args.place c.in_ok-row.row c.forget.new.rows.items
+    c.requires.rules c.requires.earlier c.requires.place (subst (λ (rows : List NodeRow). is_full_of rows ≡ false) c.deref.ensures.value (sym c.is_full.ensures ∙ c.if-is_full.false)) c.in_ok-row.answer c.in_ok-row.ensures.answer c.in_ok-row.ensures.row
+    (c.forget.ensures ∙ ap (filter (stays_in c.args.number.session)) c.in_ok-insert.ensures.items)
+
+pub returns-clause-rules : goal.returns-clause-rules
+returns-clause-rules c =
+    rules-first_begun c.args.rows.now.items c.forget.new.rows.items (shown c.in_ok-row.row) c.requires.rules (subst (λ (rows : List NodeRow). is_full_of rows ≡ false) c.deref.ensures.value (sym c.is_full.ensures ∙ c.if-is_full.false)) c.in_ok-row.ensures.rules
+    (first-put c.args.number (lent_call c.args.call.now) c.args.id (row_anew c.args.id c.args.number (kind_of (lent_call c.args.call.now))) c.args.rows.now.items c.args.place c.in_ok-row.row c.forget.new.rows.items
+    c.requires.rules c.requires.earlier c.requires.place c.in_ok-row.ensures.row refl (c.forget.ensures ∙ ap (filter (stays_in c.args.number.session)) c.in_ok-insert.ensures.items))
+
+pub returns-clause-current : goal.returns-clause-current
+returns-clause-current c =
+    current-begun c.args.number c.args.rows.now.items c.forget.new.rows.items (shown c.in_ok-row.row) (ap (λ (k : Kept). k.number) c.in_ok-row.ensures.row.kept) c.requires.earlier
+    (first-put c.args.number (lent_call c.args.call.now) c.args.id (row_anew c.args.id c.args.number (kind_of (lent_call c.args.call.now))) c.args.rows.now.items c.args.place c.in_ok-row.row c.forget.new.rows.items
+    c.requires.rules c.requires.earlier c.requires.place c.in_ok-row.ensures.row refl (c.forget.ensures ∙ ap (filter (stays_in c.args.number.session)) c.in_ok-insert.ensures.items))

@@ -1,0 +1,113 @@
+//! How the rows of a node answer a call that begins a session: first it is answered, so that all that may be refused for want of
+//! memory comes before the first row goes; then rows are forgotten.
+ghost use Rattle.std.specs.Prelude.{◌≡◌, ◌<◌, ◌&&◌, ℕ, List, length, nat_le, All, true, Some, is_some, IfOk, OnOk, OnErr};
+ghost use Rattle.std.specs.List.{list_all};
+ghost use Rattle.csi_types.specs.Call.{kind_of, is_node_kind};
+ghost use Rattle.csi_types.specs.Lent.{lent_call};
+ghost use Rattle.csi_node.specs.OneRow.{IsNodeAnswer};
+ghost use Rattle.csi_node.specs.Record.{parts, parts_of, IsSound, IsCurrent, IsAt, IsGapFor};
+ghost use Rattle.csi_node.specs.State.{volume_of};
+ghost use Rattle.csi_node.specs.Step.{Answers, IsEarlierRow};
+
+use crate::at_row::{answer_with_new_row, carry_out, refusal};
+use crate::forgetting::forget;
+use crate::row::NodeRow;
+use crate::step::{MAX_ROWS, place_of};
+use csi_fence::{Answer, CoreFault};
+use csi_types::{CallRef, Number, Status, VolumeId};
+use std::alloc::Global;
+
+// Answers a call of a volume that has the row in this place: a row of a volume that isn't staged answers as a new one would. An
+// `Err` changes nothing.
+fn begin_with_row(
+    rows: &mut Vec<NodeRow>,
+    place: usize,
+    alloc: Global,
+    number: Number,
+    id: VolumeId,
+    call: &CallRef<'_>,
+) -> Result<Answer, CoreFault>
+    requires volume { volume_of (lent_call call.now) ≡ Some id }
+    requires kind { is_node_kind (kind_of (lent_call call.now)) ≡ true }
+    requires rules { IsSound (parts rows.old.items) }
+    requires earlier { All (IsEarlierRow number.session) (parts rows.old.items) }
+    requires place { IsAt (parts rows.old.items) id place }
+    ensures ok { (node : List ℕ) (session : ℕ) → session < number.session → IfOk result (Answers number (lent_call call.now) (parts_of node session rows.old.items) (parts_of node number.session rows.new.items)) }
+    ensures fits { IfOk result IsNodeAnswer }
+    ensures rules { IsSound (parts rows.new.items) }
+    ensures current { OnOk result (IsCurrent number.session (parts rows.new.items)) }
+    ensures err { OnErr result (parts rows.new.items ≡ parts rows.old.items) }
+{
+    let answer = carry_out(&mut rows[place], alloc, number, call)?;
+    forget(rows, number.session);
+    Ok(answer)
+}
+
+// Whether all are of staged volumes.
+fn are_staged(rows: &[NodeRow]) -> bool
+    ensures { result ≡ list_all (λ row. is_some row.staged) rows.now }
+{
+    rows.iter().all(|row| row.staged.is_some())
+}
+
+// Whether there is no room for a row, and no row would be forgotten.
+fn is_full(rows: &[NodeRow]) -> bool
+    ensures { result ≡ (nat_le 4096 (length rows.now) && list_all (λ row. is_some row.staged) rows.now) }
+{
+    rows.len() >= MAX_ROWS && are_staged(rows)
+}
+
+// Answers a call of a volume that has no row; its row would have this place. For a moment there may be one row more than a node has. An
+// `Err` changes nothing.
+fn begin_without_row(
+    rows: &mut Vec<NodeRow>,
+    place: usize,
+    alloc: Global,
+    number: Number,
+    id: VolumeId,
+    call: &CallRef<'_>,
+) -> Result<Answer, CoreFault>
+    requires volume { volume_of (lent_call call.now) ≡ Some id }
+    requires kind { is_node_kind (kind_of (lent_call call.now)) ≡ true }
+    requires rules { IsSound (parts rows.old.items) }
+    requires earlier { All (IsEarlierRow number.session) (parts rows.old.items) }
+    requires place { IsGapFor (parts rows.old.items) id place }
+    ensures ok { (node : List ℕ) (session : ℕ) → session < number.session → IfOk result (Answers number (lent_call call.now) (parts_of node session rows.old.items) (parts_of node number.session rows.new.items)) }
+    ensures fits { IfOk result IsNodeAnswer }
+    ensures rules { IsSound (parts rows.new.items) }
+    ensures current { OnOk result (IsCurrent number.session (parts rows.new.items)) }
+    ensures err { OnErr result (parts rows.new.items ≡ parts rows.old.items) }
+{
+    if is_full(rows) {
+        return refusal(alloc, call.kind(), Status::ResourceExhausted, "rows");
+    }
+    let (row, answer) = answer_with_new_row(alloc, id, number, call)?;
+    rows.insert(place, row)?;
+    forget(rows, number.session);
+    Ok(answer)
+}
+
+/// Answers a call of this volume, which begins its session, and forgets the rows of volumes that weren't staged before it. An `Err`
+/// changes nothing.
+pub(crate) fn begin(
+    rows: &mut Vec<NodeRow>,
+    alloc: Global,
+    number: Number,
+    id: VolumeId,
+    call: &CallRef<'_>,
+) -> Result<Answer, CoreFault>
+    requires volume { volume_of (lent_call call.now) ≡ Some id }
+    requires kind { is_node_kind (kind_of (lent_call call.now)) ≡ true }
+    requires rules { IsSound (parts rows.old.items) }
+    requires earlier { All (IsEarlierRow number.session) (parts rows.old.items) }
+    ensures ok { (node : List ℕ) (session : ℕ) → session < number.session → IfOk result (Answers number (lent_call call.now) (parts_of node session rows.old.items) (parts_of node number.session rows.new.items)) }
+    ensures fits { IfOk result IsNodeAnswer }
+    ensures rules { IsSound (parts rows.new.items) }
+    ensures current { OnOk result (IsCurrent number.session (parts rows.new.items)) }
+    ensures err { OnErr result (parts rows.new.items ≡ parts rows.old.items) }
+{
+    match place_of(rows, id) {
+        Ok(place) => begin_with_row(rows, place, alloc, number, id, call),
+        Err(place) => begin_without_row(rows, place, alloc, number, id, call),
+    }
+}

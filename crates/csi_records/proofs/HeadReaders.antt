@@ -1,0 +1,84 @@
+-- The readers of heads read what is spelled.
+use Rattle.std.proofs.Common.{ℕ, Bool, true, false, List, [], ◌∷◌, ◌++◌, Some, None, refl, sym, ap, subst, ◌∙◌}
+use Rattle.std.specs.Prelude.{Option}
+use Rattle.csi_types.specs.Text.{IsNodeId}
+use Rattle.csi_types.specs.Limits.{IsWord}
+use Rattle.csi_records.specs.declared.version.RecordVersion.{RecordVersion}
+use Rattle.csi_records.specs.Version.{has_session}
+use Rattle.csi_frames.specs.Spelling as spelling
+use Rattle.csi_records.specs.Reading.{Reader, go_on, ◌>>=◌, give, tag_in, session_in, controller_head_in, node_head_in}
+use Rattle.csi_records.specs.Spelling.{session_bytes}
+use Rattle.csi_records.specs.Records.{Head, IsSessionIf, IsHead}
+use Rattle.csi_records.proofs.Readers.{Reads, then, Given, gives, in_words, Either, either, Spelled, After, Made, after, makes}
+use Rattle.csi_records.proofs.FieldReaders.{word_reads, text_reads, tag_reads}
+
+-- a reader behind a given byte reads that byte and what it reads itself
+pub tagged : {A : Type 0} {read : Reader A} (n : ℕ) (Fits : A → Type 0) (spell : A → List ℕ) → Reads read (Spelled Fits spell) → Reads (λ bytes. go_on (tag_in n bytes) (λ _. read)) (Spelled Fits (λ value. n ∷ spell value))
+tagged {A} {read} n Fits spell one =
+    in_words (Spelled Fits (λ (value : A). n ∷ spell value))
+    (λ value bytes s. record { fits = s.second.fits; are = s.parts ∙ ap (λ (t : List ℕ). t ++ s.back) s.first.one ∙ ap (λ (t : List ℕ). n ∷ t) s.second.are })
+    (λ value bytes s. record { before = tt; front = n ∷ []; back = spell value; parts = s.are; first = record { one = refl }; second = record { fits = s.fits; are = refl } })
+    (then (tag_reads n) (λ _. one))
+
+-- the session is read, or none is asked for, by whether the version has it
+abbrev WasSession : Bool → Option ℕ → List ℕ → Type 0
+WasSession has = Either has (Made IsWord spelling.word (λ session. Some session)) (Given None)
+
+-- what was read of the session, or of none, is its spelling
+session-there : (has : Bool) (value : Option ℕ) (bytes : List ℕ) → WasSession has value bytes → Spelled (IsSessionIf has) session_bytes value bytes
+session-there true value bytes s = subst (λ (v : Option ℕ). Spelled (IsSessionIf true) session_bytes v bytes) (sym s.same) (record { fits = s.fits; are = s.are })
+session-there false value bytes s = subst (λ (v : Option ℕ). Spelled (IsSessionIf false) session_bytes v bytes) (sym s.same) (record { fits = tt; are = s.none })
+
+-- the spelling of the session, or of none, is what is read
+session-back : (has : Bool) (value : Option ℕ) (bytes : List ℕ) → Spelled (IsSessionIf has) session_bytes value bytes → WasSession has value bytes
+session-back true None bytes s = absurd s.fits
+session-back true (Some session) bytes s = record { before = session; fits = s.fits; same = refl; are = s.are }
+session-back false None bytes s = record { same = refl; none = s.are }
+session-back false (Some session) bytes s = absurd s.fits
+
+-- the reader of the session reads what spells it, where the version has it, and nothing else
+session_reads : (version : RecordVersion) → Reads (session_in version) (Spelled (IsSessionIf (has_session version)) session_bytes)
+unfolding session_in
+session_reads version =
+    in_words (Spelled (IsSessionIf (has_session version)) session_bytes) (session-there (has_session version)) (session-back (has_session version))
+    (either (has_session version) (makes (λ session. Some session) word_reads) (gives None))
+
+-- a head is equal to one of its fields
+abbrev make_head : {X : Type 0} → X → Option ℕ → Head X
+make_head own session = record { own = own; session = session }
+
+-- a head behind the version and the plugin's byte
+abbrev pub head_fields : {X : Type 0} → (X → List ℕ) → Head X → List ℕ
+head_fields spell head = spell head.own ++ session_bytes head.session
+
+-- the fields of a head, one after another
+abbrev SaysHead : {X : Type 0} → RecordVersion → (X → Type 0) → (X → List ℕ) → Head X → List ℕ → Type 0
+SaysHead version Fits spell = After Fits spell (λ own. Made (IsSessionIf (has_session version)) session_bytes (λ session. make_head own session))
+
+-- the fields of a head are its spelling
+head-there : {X : Type 0} (version : RecordVersion) (Fits : X → Type 0) (spell : X → List ℕ) (value : Head X) (bytes : List ℕ) → SaysHead version Fits spell value bytes → Spelled (IsHead Fits version) (head_fields spell) value bytes
+head-there {X} version Fits spell value bytes s =
+    subst (λ (v : Head X). Spelled (IsHead Fits version) (head_fields spell) v bytes) (sym s.second.same)
+    (record { fits = record { own = s.fits; session = s.second.fits }; are = s.parts ∙ ap (λ (t : List ℕ). spell s.before ++ t) s.second.are })
+
+-- the spelling of a head is its fields
+head-back : {X : Type 0} (version : RecordVersion) (Fits : X → Type 0) (spell : X → List ℕ) (value : Head X) (bytes : List ℕ) → Spelled (IsHead Fits version) (head_fields spell) value bytes → SaysHead version Fits spell value bytes
+head-back version Fits spell value bytes s =
+    record { before = value.own; fits = s.fits.own; back = session_bytes value.session; parts = s.are; second = record { before = value.session; fits = s.fits.session; same = refl; are = refl } }
+
+-- a reader of the plugin's own field, and of the session behind it, reads a head's fields
+fields_read : {X : Type 0} {read : Reader X} (version : RecordVersion) (Fits : X → Type 0) (spell : X → List ℕ) → Reads read (Spelled Fits spell)
+    → Reads (read >>= λ own. session_in version >>= λ session. give (make_head own session)) (Spelled (IsHead Fits version) (head_fields spell))
+fields_read version Fits spell one =
+    in_words (Spelled (IsHead Fits version) (head_fields spell)) (head-there version Fits spell) (head-back version Fits spell)
+    (after one (λ own. makes (λ session. make_head own session) (session_reads version)))
+
+-- the reader of a controller's head reads what spells one behind the version
+pub controller_head_reads : (version : RecordVersion) → Reads (controller_head_in version) (Spelled (IsHead IsWord version) (λ head. 0 ∷ head_fields spelling.word head))
+unfolding controller_head_in
+controller_head_reads version = tagged 0 (IsHead IsWord version) (head_fields spelling.word) (fields_read version IsWord spelling.word word_reads)
+
+-- the reader of a node's head reads what spells one behind the version
+pub node_head_reads : (version : RecordVersion) → Reads (node_head_in version) (Spelled (IsHead IsNodeId version) (λ head. 1 ∷ head_fields spelling.text head))
+unfolding node_head_in
+node_head_reads version = tagged 1 (IsHead IsNodeId version) (head_fields spelling.text) (fields_read version IsNodeId spelling.text (text_reads 1 255))
