@@ -7,13 +7,14 @@ use Rattle.csi_types.specs.Lent.{lent_call}
 use Rattle.csi_types.specs.Replies.{call_frame}
 use Rattle.csi_frames.specs.Lent.{lent}
 use Rattle.csi_controller.specs.Fenced.{fenced}
+use Rattle.std.proofs.lemmas.List.{append-nil}
 use Rattle.csi_service.proofs.AnsweredFrames.{is-call, is-for, not-for}
-use Rattle.csi_service.proofs.controller_service.ControllerServiceCore.answer.Goals as goal
+use Rattle.csi_service.proofs.controller_service.ControllerService.answer_into.Goals as goal
 
 pub returns-then-not-is_for-clause-answered : goal.returns-then-not-is_for-clause-answered
 returns-then-not-is_for-clause-answered c =
     let frame = lent c.args.frame.now in
-    record { reply = None; answered = c.pass.ensures.answered frame (inl (not-for c.is_for.result frame.party Controller c.is_for.ensures c.if-not-is_for.true)); spelled = refl }
+    record { reply = None; answered = c.pass.ensures.answered frame (inl (not-for c.is_for.result frame.party Controller c.is_for.ensures c.if-not-is_for.true)); appended = sym (append-nil _); told = refl }
 
 pub returns-in-Some-clause-nothing : goal.returns-in-Some-clause-nothing
 returns-in-Some-clause-nothing c = λ state shown same.
@@ -28,4 +29,4 @@ returns-in-Some-clause-nothing c = λ state shown same.
 pub returns-clause-answered : goal.returns-clause-answered
 returns-clause-answered c =
     let frame = lent c.args.frame.now in
-    record { reply = None; answered = c.pass-in-None.ensures.answered frame (inr (sym (c.in-None.ensures.value c.in_ok-capabilities.ensures.value))); spelled = refl }
+    record { reply = None; answered = c.pass-in-None.ensures.answered frame (inr (sym (c.in-None.ensures.value c.in_ok-capabilities.ensures.value))); appended = c.reserve.ensures.same ∙ sym (append-nil c.args.out.now.items); told = refl }
