@@ -27,7 +27,8 @@
  *   Memory. malloc, realloc and free are of one allocator, and align to 16 bytes. No call is made from a signal handler, or in the forked child of
  *     a process with threads.
  *
- * The library wants these three of the C library, memcpy, memmove and memset, and nothing else: no file, no clock, no thread, no output.
+ * The library and the kit's liblibc_c.a, which is linked with it, want these three of the C library, memcpy, memmove and memset, and nothing else: no
+ * file, no clock, no thread, no output.
  */
 #ifndef TUFAYON_H
 #define TUFAYON_H
