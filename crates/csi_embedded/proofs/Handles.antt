@@ -1,5 +1,5 @@
 -- What the calls of a handle give, from what is done with what it has.
-use Rattle.std.proofs.Common.{◌≡◌, ◌⊎◌, ℕ, ◌+◌, ◌-◌, ◌≤◌, List, [], length, drop, Option, Some, None, is_some, true, false, Result, Ok, Err, IfOk, IfErr, refl, sym, ap, ◌∙◌, subst, inl, inr, arith}
+use Rattle.std.proofs.Common.{◌≡◌, ℕ, ◌-◌, List, [], length, Option, Some, None, is_some, true, false, Result, Ok, Err, IfOk, IfErr, refl, sym, ap, ◌∙◌, subst, inl, inr, arith}
 use Rattle.std.proofs.lemmas.Bool.{true≢false}
 use Rattle.std.proofs.lemmas.List.{length-drop}
 use Rattle.csi_frames.specs.Spelling.{spelling, BeginsWith}
@@ -7,7 +7,6 @@ use Rattle.csi_stores.specs.Content.{all_changed}
 use Rattle.csi_embedded.specs.declared.ending.Ending.{Ending}
 use Rattle.csi_embedded.specs.declared.ending.Ending.TheVariants.{NoMemory, Empty, Full}
 use Rattle.csi_embedded.specs.declared.embedded.Embedded.{Embedded}
-use Rattle.csi_embedded.specs.Endings.{ending_number}
 use Rattle.csi_embedded.specs.Plugins.{plugin_parts}
 use Rattle.csi_embedded.specs.Calls.{front, told, Answered, AnswersFront, HasFailed, HasTold, HasRecord}
 use Rattle.csi_embedded.specs.Making.{Makes, Gives}

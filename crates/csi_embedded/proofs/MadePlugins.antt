@@ -1,5 +1,5 @@
 -- What the store has to be given of a plugin that was made.
-use Rattle.std.proofs.Common.{◌≡◌, ℕ, List, [], ◌∷◌, refl, sym, ap, ◌∙◌, subst}
+use Rattle.std.proofs.Common.{◌≡◌, ℕ, List, [], ◌∷◌, sym, ap, ◌∙◌, subst}
 use Rattle.csi_stores.specs.Part.{StoredPart, Change, put_all}
 use Rattle.csi_records.specs.declared.version.RecordVersion.{RecordVersion}
 use Rattle.csi_embedded.specs.declared.ending.Ending.{Ending}

@@ -1,5 +1,5 @@
 -- Plugins that are made: new ones, and those of a record's bytes; and what the store has to be given of them. This profile's own.
-use Rattle.std.specs.Prelude.{◌≡◌, ◌≢◌, ◌⊎◌, ℕ, List, [], ◌∷◌, map, Option, Some, None, Result, Ok, Err}
+use Rattle.std.specs.Prelude.{◌≡◌, ◌≢◌, ◌⊎◌, ℕ, List, [], ◌∷◌, Option, Some, None, Result, Ok, Err}
 use Rattle.std.specs.Str.{IsUtf8}
 use Rattle.csi_types.specs.Config.{Config}
 use Rattle.csi_types.specs.Text.{IsNodeId}

@@ -1,12 +1,11 @@
 -- How many bytes a reply has at most, and what is made of the bytes of one that was appended.
-use Rattle.std.proofs.Common.{◌≡◌, ℕ, ◌≤◌, List, [], ◌++◌, length, Option, Some, None, is_some, option_map, true, false, refl, sym, ap, arith}
+use Rattle.std.proofs.Common.{◌≡◌, ℕ, ◌≤◌, List, [], length, Option, Some, None, is_some, option_map, true, false, refl, sym, ap, arith}
 use Rattle.std.specs.Global.{Vec}
 use Rattle.std.proofs.lemmas.Bool.{true≢false}
 use Rattle.std.proofs.lemmas.List.{length-append}
 use Rattle.csi_types.specs.declared.number.Number.{Number}
 use Rattle.csi_types.specs.declared.call.Kind.{Kind}
 use Rattle.csi_types.specs.declared.call.Party.{Party}
-use Rattle.csi_types.specs.declared.call.Party.TheVariants.{Controller, Node}
 use Rattle.csi_types.specs.declared.reply.Reply.{Reply}
 use Rattle.csi_types.specs.Frame.{Frame}
 use Rattle.csi_types.specs.Replies.{reply_frame}

@@ -1,4 +1,3 @@
-use Rattle.std.proofs.Common.{◌≡◌, refl}
 use Rattle.csi_embedded.proofs.Handles.{empty-failed}
 use Rattle.csi_embedded.proofs.exports.tufayon_answer.Goals as goal
 

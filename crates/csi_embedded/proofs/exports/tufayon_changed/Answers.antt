@@ -1,4 +1,3 @@
-use Rattle.std.proofs.Common.{◌≡◌, refl}
 use Rattle.csi_embedded.proofs.Handles.{empty-told}
 use Rattle.csi_embedded.proofs.exports.tufayon_changed.Goals as goal
 

@@ -1,5 +1,5 @@
-use Rattle.std.proofs.Common.{◌≡◌, refl, sym, rules}
-use Rattle.csi_embedded.specs.Making.{IsNewController, IsNewNode, IsDone, IsNoConfig, IsNoId}
+use Rattle.std.proofs.Common.{rules}
+use Rattle.csi_embedded.specs.Making.{IsNewController, IsDone, IsNoConfig}
 use Rattle.csi_embedded.proofs.Handles.{full-made, put-made}
 use Rattle.csi_embedded.proofs.exports.tufayon_controller_new.Goals as goal
 

@@ -1,4 +1,3 @@
-use Rattle.std.proofs.Common.{◌≡◌, refl}
 use Rattle.csi_embedded.proofs.Handles.{empty-record}
 use Rattle.csi_embedded.proofs.exports.tufayon_record.Goals as goal
 

@@ -1,4 +1,4 @@
-use Rattle.std.proofs.Common.{◌≡◌, sym, arith, ℕ, ◌≤◌, length}
+use Rattle.std.proofs.Common.{sym, arith}
 use Rattle.std.proofs.lemmas.List.{length-take-le, take_all}
 use Rattle.csi_embedded.proofs.front.front.Goals as goal
 

@@ -1,4 +1,4 @@
-use Rattle.std.proofs.Common.{◌≡◌, ◌∙◌, ℕ, List, [], ◌∷◌, sym, ap, refl, Some}
+use Rattle.std.proofs.Common.{◌∙◌, ℕ, List, [], ◌∷◌, ap, refl, Some}
 use Rattle.csi_records.specs.Spelling.{present, node_head}
 use Rattle.csi_service.specs.Services.{node_service_parts}
 use Rattle.csi_embedded.proofs.MadePlugins.{told-head}

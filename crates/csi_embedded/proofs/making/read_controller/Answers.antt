@@ -1,4 +1,3 @@
-use Rattle.std.proofs.Common.{◌≡◌, refl}
 use Rattle.csi_embedded.proofs.MadePlugins.{told-renewal}
 use Rattle.csi_embedded.proofs.making.read_controller.Goals as goal
 

@@ -1,4 +1,4 @@
-use Rattle.std.proofs.Common.{◌≡◌, ◌∙◌, sym, ap, subst, refl, rules, Ok}
+use Rattle.std.proofs.Common.{◌≡◌, ◌∙◌, sym, ap, subst, rules}
 use Rattle.csi_node.specs.Record.{NodeParts}
 use Rattle.csi_records.specs.Records.{node_layout, IsRecordOf, IsNodeOf}
 use Rattle.csi_records.specs.Places.{AreBytesOf}

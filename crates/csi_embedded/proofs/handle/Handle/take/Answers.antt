@@ -1,4 +1,4 @@
-use Rattle.std.proofs.Common.{rules, ◌≡◌, Option, Some, None, is_some, true, false}
+use Rattle.std.proofs.Common.{rules}
 use Rattle.csi_embedded.proofs.Fullness.{has_one}
 use Rattle.csi_embedded.proofs.handle.Handle.take.Goals as goal
 

@@ -15,8 +15,8 @@ use types.Part.{sub, whole}
 use contract.Monad.{fact}
 use contract.Running.{tables}
 use denote.Exit.{no}
-use denote.RattleType.{RattleType, owns}
-use denote.Signature.{types_at, plain}
+use denote.RattleType.{RattleType}
+use denote.Signature.{plain}
 use denote.RawPtr.{block_ptr}
 use denote.Steps.{nothing, only, heard}
 use denote.Param.{param, bounded}
@@ -25,7 +25,6 @@ use denote.Triple.Call.{calls_at_last}
 use denote.Triple.Table.{framed}
 use denote.Triple.Walked.{Stays, stay_dropped, walk_of, says, ends_at}
 use Rattle.std.proofs.alloc.Calls.{Goes-blank}
-use Rattle.std_alloc.specs.Box.Ownership.{box_owns}
 use Rattle.std_alloc.proofs.BoxSteps.Form.{Bx, D, B, box_ty, word, box_typed}
 use Rattle.std_alloc.proofs.BoxSteps.Steps.{box_out, box_in}
 use Rattle.std.proofs.raw_atomic.Walks.{proved_at}
