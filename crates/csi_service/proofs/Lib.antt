@@ -11,3 +11,4 @@ pub mod RecordParts
 pub mod RenewedParts
 pub mod MadeCores
 pub mod AnsweredFrames
+pub mod ReplyLengths

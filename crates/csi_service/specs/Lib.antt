@@ -1,4 +1,5 @@
 pub mod Opening
+pub mod Appending
 pub mod Calls
 pub mod Changed
 pub mod Services

@@ -88,6 +88,7 @@ pub(crate) fn answer_call(
     ensures nothing { (state : ControllerState) → Shows controller.old state → (fenced controller.old.config state (call_frame number Party.Controller (lent_call call.now))).state ≡ state
         → IfOk result (λ made. changes_of made.1 controller.new ≡ []) }
     ensures differs { IfOk result (λ made. ControllerDiffers made.1 controller.old controller.new) }
+    ensures err_shows { (state : ControllerState) → Shows controller.old state → OnErr result (Shows controller.new state) }
     ensures err { OnErr result (parts_of_controller controller.new ≡ parts_of_controller controller.old) }
     ensures err_changes { (changed : WhatChanged) → OnErr result (changes_of changed controller.new ≡ changes_of changed controller.old) }
 {

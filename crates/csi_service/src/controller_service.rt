@@ -1,12 +1,12 @@
 //! The controller plugin over a store.
-ghost use Rattle.std.specs.Prelude.{◌≡◌, ◌∷◌, ℕ, Some, None, [], map, IfOk, IfErr, OnErr, OnOk, Option};
+ghost use Rattle.std.specs.Prelude.{◌≡◌, ◌≤◌, ◌+◌, ◌∷◌, ℕ, length, Some, None, [], map, IfOk, IfErr, OnErr, OnOk, Option};
 ghost use Rattle.csi_types.specs.Frame.{Frame as FrameParts, IsAllowed};
 ghost use Rattle.csi_types.specs.Lent.{lent_call, HasFitTexts};
 ghost use Rattle.csi_types.specs.Replies.{call_frame};
 ghost use Rattle.csi_frames.specs.Lent.{lent};
 ghost use Rattle.csi_controller.specs.Core.{Shows};
 ghost use Rattle.csi_controller.specs.Fenced.{fenced};
-ghost use Rattle.csi_controller.specs.State.{ControllerState};
+ghost use Rattle.csi_controller.specs.State.{ControllerState, empty_controller};
 ghost use Rattle.csi_controller.specs.Step.{answer_frame};
 ghost use Rattle.csi_stores.specs.Part.{change_of};
 ghost use Rattle.csi_controller.specs.Views.{RecordParts};
@@ -15,6 +15,7 @@ ghost use Rattle.csi_records.specs.Spelling.{present, controller_head, controlle
 ghost use Rattle.csi_stores.specs.Content.{all_changed};
 ghost use Rattle.csi_stores.specs.Keeping.{RefusesAt};
 ghost use Rattle.csi_serving.specs.Answering.{Steps};
+ghost use Rattle.csi_service.specs.Appending.{AppendsReply};
 ghost use Rattle.csi_service.specs.Calls.{IsNoCallFor};
 ghost use Rattle.csi_service.specs.Opening.{controller_records, IsOpenFault, LeavesOpened, HasRecord};
 ghost use Rattle.csi_service.specs.Services.{controller_service_parts, controller_service_changes, ControllerAnswers, ControllerDiffers};
@@ -23,7 +24,7 @@ use crate::calls::{call_for, texts_law};
 use crate::changed::{Changed, nothing};
 use crate::controller_changes::{answer_call, push_row};
 use crate::opening::{Opens, head_part, open, renewal};
-use crate::replies::{frame_of, spelled};
+use crate::replies::{append, frame_of, reserve};
 use csi_controller::{Controller, ControllerRecord};
 use csi_fence::Answer;
 use csi_frames::FrameRef;
@@ -46,6 +47,7 @@ pub struct ControllerService {
 
 // A controller that made no volume.
 fn begun(alloc: Global, config: Config) -> ControllerService
+    ensures shows { Shows result.controller empty_controller }
     ensures parts { controller_service_parts result ≡ controller_head present 1 (Some 0) ∷ [] }
     ensures config { result.controller.config ≡ config }
     ensures changes { controller_service_changes result ≡ [] }
@@ -63,6 +65,7 @@ fn of_record(
     config: Config,
     kept: ControllerRecord,
 ) -> Result<ControllerService, NoMemory>
+    ensures has { IfOk result (λ service. service.controller ≡ record { config = config; next_id = kept.next_id; session = kept.session; rows = kept.rows }) }
     ensures parts { IfOk result (λ service. controller_service_parts service ≡ controller_parts present kept.next_id (Some kept.session) (map volume_row kept.rows)) }
     ensures config { IfOk result (λ service. service.controller.config ≡ config) }
     ensures changes { IfOk result (λ service. controller_service_changes service ≡ []) }
@@ -110,6 +113,42 @@ impl Opens for ControllerService {
 }
 
 impl ControllerService {
+    /// A controller that answered nothing, which no store has yet. It takes no memory.
+    pub fn new(alloc: Global, config: Config) -> ControllerService
+        ensures shows { Shows result.controller empty_controller }
+        ensures parts { controller_service_parts result ≡ controller_head present 1 (Some 0) ∷ [] }
+        ensures config { result.controller.config ≡ config }
+        ensures changes { controller_service_changes result ≡ [] }
+    {
+        begun(alloc, config)
+    }
+
+    /// The controller of a record, under this configuration, which need not be the one that the record was made under. A refusal is one
+    /// of memory.
+    pub fn from_record(
+        alloc: Global,
+        config: Config,
+        kept: ControllerRecord,
+    ) -> Result<ControllerService, NoMemory>
+        ensures has { IfOk result (λ service. service.controller ≡ record { config = config; next_id = kept.next_id; session = kept.session; rows = kept.rows }) }
+        ensures parts { IfOk result (λ service. controller_service_parts service ≡ controller_parts present kept.next_id (Some kept.session) (map volume_row kept.rows)) }
+        ensures config { IfOk result (λ service. service.controller.config ≡ config) }
+        ensures changes { IfOk result (λ service. controller_service_changes service ≡ []) }
+    {
+        of_record(alloc, config, kept)
+    }
+
+    /// The controller's record as a value. A refusal is one of memory, and leaves the controller as it is.
+    pub fn record(&self) -> Result<ControllerRecord, NoMemory>
+        ensures { (state : ControllerState) → Shows self.now.controller state →
+            IfOk result (λ kept. Shows (record { config = self.now.controller.config; next_id = kept.next_id; session = kept.session; rows = kept.rows }) state) }
+    {
+        match self.controller.record() {
+            Ok(kept) => Ok(kept),
+            Err(_) => Err(NoMemory),
+        }
+    }
+
     /// The controller of the store's record, under this configuration, which need not be the one that the record was made under.
     /// A store without a part gets the head of an empty record first, and a record in an earlier version is put in whole in the
     /// present one, in one commit, before the controller is given: under the greatest session of its last calls, and without the
@@ -144,6 +183,7 @@ impl ControllerService {
         ensures nothing { (state : ControllerState) → Shows self.old.controller state
             → (fenced self.old.controller.config state (call_frame number Party.Controller (lent_call call.now))).state ≡ state → OnOk result (controller_service_changes self.new ≡ []) }
         ensures config { self.new.controller.config ≡ self.old.controller.config }
+        ensures err_shows { (state : ControllerState) → Shows self.old.controller state → OnErr result (Shows self.new.controller state) }
         ensures err { OnErr result (controller_service_parts self.new ≡ controller_service_parts self.old) }
         ensures err_changes { OnErr result (controller_service_changes self.new ≡ controller_service_changes self.old) }
         ensures differs { OnOk result (ControllerDiffers self.new.changed self.old.controller self.new.controller) }
@@ -162,6 +202,41 @@ impl ControllerService {
         ensures differs { ControllerDiffers self.new.changed self.old.controller self.new.controller }
     {
         self.changed = nothing(self.alloc);
+    }
+
+    /// Answers a frame that is lent, as `step` answers that frame, with the texts that the frame lends, and appends the bytes of its reply,
+    /// if it has one: at most 544. The answer is whether it has one. Room for a reply is asked for first, so that a refusal leaves
+    /// everything as it was.
+    pub fn answer_into(&mut self, frame: &FrameRef<'_>, out: &mut Vec<u8>) -> Result<bool, NoMemory>
+        ensures answered { IfOk result (AppendsReply ControllerAnswers self.old (lent frame.now) self.new out.old.items out.new.items) }
+        ensures few { OnOk result (length out.new.items ≤ length out.old.items + 544) }
+        ensures parts { OnOk result (controller_service_parts self.new ≡ all_changed (controller_service_changes self.new) (controller_service_parts self.old)) }
+        ensures nothing { (state : ControllerState) → Shows self.old.controller state → (fenced self.old.controller.config state (lent frame.now)).state ≡ state → OnOk result (controller_service_changes self.new ≡ []) }
+        ensures config { self.new.controller.config ≡ self.old.controller.config }
+        ensures differs { OnOk result (ControllerDiffers self.new.changed self.old.controller self.new.controller) }
+        ensures err_shows { (state : ControllerState) → Shows self.old.controller state → OnErr result (Shows self.new.controller state) }
+        ensures err { OnErr result (controller_service_parts self.new ≡ controller_service_parts self.old) }
+        ensures err_changes { OnErr result (controller_service_changes self.new ≡ controller_service_changes self.old) }
+        ensures err_bytes { OnErr result (out.new.items ≡ out.old.items) }
+    {
+        if !frame.is_for(&Party::Controller) {
+            self.pass();
+            return Ok(false);
+        }
+        let capabilities = frame.capabilities(self.alloc)?;
+        reserve(out)?;
+        match frame.call(&capabilities) {
+            Some(call) => {
+                let number = frame.number();
+                let answer = self.answer_call(number, &call)?;
+                append(number, &Party::Controller, answer, out);
+                Ok(true)
+            }
+            None => {
+                self.pass();
+                Ok(false)
+            }
+        }
     }
 }
 
@@ -214,22 +289,11 @@ impl Core for ControllerService {
         ensures differs { OnOk result (ControllerDiffers self.new.changed self.old.controller self.new.controller) }
         ensures config { self.new.controller.config ≡ self.old.controller.config }
     {
-        if !frame.is_for(&Party::Controller) {
-            self.pass();
-            return Ok(None);
-        }
-        let capabilities = frame.capabilities(self.alloc)?;
-        match frame.call(&capabilities) {
-            Some(call) => {
-                let number = frame.number();
-                let answer = self.answer_call(number, &call)?;
-                let bytes = spelled(self.alloc, number, &Party::Controller, answer)?;
-                Ok(Some(bytes))
-            }
-            None => {
-                self.pass();
-                Ok(None)
-            }
+        let mut bytes = Vec::new(self.alloc);
+        if self.answer_into(frame, &mut bytes)? {
+            Ok(Some(bytes))
+        } else {
+            Ok(None)
         }
     }
 

@@ -76,6 +76,7 @@ pub(crate) fn answer_call(
     ensures nothing { (state : NodeState) → Shows node.old state → (fenced node.old.id state (call_frame number (Party.Node node.old.id) (lent_call call.now))).state ≡ state
         → IfOk result (λ made. changes_of made.1 node.new ≡ []) }
     ensures differs { IfOk result (λ made. NodeDiffers made.1 node.old node.new) }
+    ensures err_shows { (state : NodeState) → Shows node.old state → OnErr result (Shows node.new state) }
     ensures err { OnErr result (parts_of_node node.new ≡ parts_of_node node.old) }
     ensures err_changes { (changed : WhatChanged) → OnErr result (changes_of changed node.new ≡ changes_of changed node.old) }
 {

@@ -6,7 +6,7 @@ use crate::calls::{call_for, texts_law};
 use crate::changed::{Changed, nothing};
 use crate::node_changes::{answer_call, push_row};
 use crate::opening::{Opens, head_part, open, renewal};
-use crate::replies::{frame_of, spelled};
+use crate::replies::{append, frame_of, reserve};
 use csi_fence::Answer;
 use csi_frames::FrameRef;
 use csi_node::{Node, NodeRecord};
@@ -70,7 +70,7 @@ impl Opens for NodeService {
 }
 
 impl NodeService {
-    ghost use Rattle.std.specs.Prelude.{◌≡◌, ◌∷◌, ℕ, Some, None, [], map, IfOk, IfErr, OnErr, OnOk};
+    ghost use Rattle.std.specs.Prelude.{◌≡◌, ◌≤◌, ◌+◌, ◌∷◌, ℕ, length, Some, None, [], map, IfOk, IfErr, OnErr, OnOk};
     ghost use Rattle.csi_types.specs.Frame.{Frame as FrameParts, IsAllowed};
     ghost use Rattle.csi_types.specs.Lent.{lent_call, HasFitTexts};
     ghost use Rattle.csi_types.specs.Replies.{call_frame};
@@ -81,6 +81,8 @@ impl NodeService {
     ghost use Rattle.csi_records.specs.Spelling.{present, node_head, node_parts};
     ghost use Rattle.csi_stores.specs.Content.{all_changed};
     ghost use Rattle.csi_stores.specs.Keeping.{RefusesAt};
+    ghost use Rattle.csi_frames.specs.Lent.{lent};
+    ghost use Rattle.csi_service.specs.Appending.{AppendsReply};
     ghost use Rattle.csi_service.specs.Calls.{IsNoCallFor};
     ghost use Rattle.csi_service.specs.NodeServices.{node_service_changes, NodeDiffers, NodeServiceAnswers};
     ghost use Rattle.csi_service.specs.Opening.{node_records, IsOpenFault, LeavesOpened, HasRecord};
@@ -88,6 +90,7 @@ impl NodeService {
 
     // A node that answered nothing.
     fn begun(alloc: Global, id: NodeId) -> Result<NodeService, NoMemory>
+        ensures node { IfOk result (λ service. service.node.id ≡ id) }
         ensures parts { IfOk result (λ service. node_service_parts service ≡ node_head present id (Some 0) ∷ []) }
         ensures changes { IfOk result (λ service. node_service_changes service ≡ []) }
     {
@@ -103,6 +106,7 @@ impl NodeService {
     // The node of its record.
     fn of_record(alloc: Global, id: NodeId, kept: NodeRecord) -> Result<NodeService, NoMemory>
         requires { kept.id ≡ id }
+        ensures has { IfOk result (λ service. service.node ≡ kept) }
         ensures parts { IfOk result (λ service. node_service_parts service ≡ node_parts present kept.id (Some kept.session) (map shown kept.rows)) }
         ensures changes { IfOk result (λ service. node_service_changes service ≡ []) }
     {
@@ -113,6 +117,35 @@ impl NodeService {
                 party: Party::Node(id),
                 changed: nothing(alloc),
             }),
+            Err(_) => Err(NoMemory),
+        }
+    }
+
+    /// A node that answered nothing, which no store has yet. A refusal is one of memory.
+    pub fn new(alloc: Global, id: NodeId) -> Result<NodeService, NoMemory>
+        ensures node { IfOk result (λ service. service.node.id ≡ id) }
+        ensures parts { IfOk result (λ service. node_service_parts service ≡ node_head present id (Some 0) ∷ []) }
+        ensures changes { IfOk result (λ service. node_service_changes service ≡ []) }
+    {
+        NodeService::begun(alloc, id)
+    }
+
+    /// The node of its record. A refusal is one of memory.
+    pub fn from_record(alloc: Global, kept: NodeRecord) -> Result<NodeService, NoMemory>
+        ensures has { IfOk result (λ service. service.node ≡ kept) }
+        ensures parts { IfOk result (λ service. node_service_parts service ≡ node_parts present kept.id (Some kept.session) (map shown kept.rows)) }
+        ensures changes { IfOk result (λ service. node_service_changes service ≡ []) }
+    {
+        let id = kept.id().clone()?;
+        NodeService::of_record(alloc, id, kept)
+    }
+
+    /// The node's record as a value. A refusal is one of memory, and leaves the node as it is.
+    pub fn record(&self) -> Result<NodeRecord, NoMemory>
+        ensures { IfOk result (λ kept. node_parts present kept.id (Some kept.session) (map shown kept.rows) ≡ node_service_parts self.now) }
+    {
+        match self.node.record() {
+            Ok(kept) => Ok(kept),
             Err(_) => Err(NoMemory),
         }
     }
@@ -144,6 +177,7 @@ impl NodeService {
         ensures parts { OnOk result (node_service_parts self.new ≡ all_changed (node_service_changes self.new) (node_service_parts self.old)) }
         ensures nothing { (state : NodeState) → Shows self.old.node state
             → (fenced self.old.node.id state (call_frame number self.old.party (lent_call call.now))).state ≡ state → OnOk result (node_service_changes self.new ≡ []) }
+        ensures err_shows { (state : NodeState) → Shows self.old.node state → OnErr result (Shows self.new.node state) }
         ensures err { OnErr result (node_service_parts self.new ≡ node_service_parts self.old) }
         ensures err_changes { OnErr result (node_service_changes self.new ≡ node_service_changes self.old) }
         ensures differs { OnOk result (NodeDiffers self.new.changed self.old.node self.new.node) }
@@ -161,6 +195,40 @@ impl NodeService {
         ensures differs { NodeDiffers self.new.changed self.old.node self.new.node }
     {
         self.changed = nothing(self.alloc);
+    }
+
+    /// Answers a frame that is lent, as `step` answers that frame, with the texts that the frame lends, and appends the bytes of its reply,
+    /// if it has one: at most 544. The answer is whether it has one. Room for a reply is asked for first, so that a refusal leaves
+    /// everything as it was.
+    pub fn answer_into(&mut self, frame: &FrameRef<'_>, out: &mut Vec<u8>) -> Result<bool, NoMemory>
+        ensures answered { IfOk result (AppendsReply NodeServiceAnswers self.old (lent frame.now) self.new out.old.items out.new.items) }
+        ensures few { OnOk result (length out.new.items ≤ length out.old.items + 544) }
+        ensures parts { OnOk result (node_service_parts self.new ≡ all_changed (node_service_changes self.new) (node_service_parts self.old)) }
+        ensures nothing { (state : NodeState) → Shows self.old.node state → (fenced self.old.node.id state (lent frame.now)).state ≡ state → OnOk result (node_service_changes self.new ≡ []) }
+        ensures differs { OnOk result (NodeDiffers self.new.changed self.old.node self.new.node) }
+        ensures err_shows { (state : NodeState) → Shows self.old.node state → OnErr result (Shows self.new.node state) }
+        ensures err { OnErr result (node_service_parts self.new ≡ node_service_parts self.old) }
+        ensures err_changes { OnErr result (node_service_changes self.new ≡ node_service_changes self.old) }
+        ensures err_bytes { OnErr result (out.new.items ≡ out.old.items) }
+    {
+        if !frame.is_for(&self.party) {
+            self.pass();
+            return Ok(false);
+        }
+        let capabilities = frame.capabilities(self.alloc)?;
+        reserve(out)?;
+        match frame.call(&capabilities) {
+            Some(call) => {
+                let number = frame.number();
+                let answer = self.answer_call(number, &call)?;
+                append(number, &self.party, answer, out);
+                Ok(true)
+            }
+            None => {
+                self.pass();
+                Ok(false)
+            }
+        }
     }
 }
 
@@ -226,22 +294,11 @@ impl Core for NodeService {
         ensures nothing { (state : NodeState) → Shows self.old.node state → (fenced self.old.node.id state (lent frame.now)).state ≡ state → OnOk result (node_service_changes self.new ≡ []) }
         ensures differs { OnOk result (NodeDiffers self.new.changed self.old.node self.new.node) }
     {
-        if !frame.is_for(&self.party) {
-            self.pass();
-            return Ok(None);
-        }
-        let capabilities = frame.capabilities(self.alloc)?;
-        match frame.call(&capabilities) {
-            Some(call) => {
-                let number = frame.number();
-                let answer = self.answer_call(number, &call)?;
-                let bytes = spelled(self.alloc, number, &self.party, answer)?;
-                Ok(Some(bytes))
-            }
-            None => {
-                self.pass();
-                Ok(None)
-            }
+        let mut bytes = Vec::new(self.alloc);
+        if self.answer_into(frame, &mut bytes)? {
+            Ok(Some(bytes))
+        } else {
+            Ok(None)
         }
     }
 

@@ -1,13 +1,12 @@
-//! The frame of an answer's reply, and its bytes.
-ghost use Rattle.std.specs.Prelude.{◌≡◌, ◌++◌, IfOk};
+//! The frame of an answer's reply, and its bytes, for which there is room before the call is answered.
+ghost use Rattle.std.specs.Prelude.{◌≡◌, ◌≤◌, ◌+◌, ◌++◌, length, OnOk, vec_len, vec_capacity};
 ghost use Rattle.csi_types.specs.Frame.{IsAllowed};
 ghost use Rattle.csi_types.specs.Replies.{reply_frame};
-ghost use Rattle.csi_frames.specs.Spelling.{spelling};
+ghost use Rattle.csi_frames.specs.Spelling.{spelling, party as spelled_party};
 
 use csi_fence::Answer;
 use csi_frames::encode_reply;
 use csi_types::{Body, Frame, NoMemory, Number, Party};
-use std::alloc::Global;
 
 /// The frame in which a plugin answers a call of this number.
 pub(crate) fn frame_of(number: Number, party: Party, answer: Answer) -> Frame
@@ -18,18 +17,42 @@ pub(crate) fn frame_of(number: Number, party: Party, answer: Answer) -> Frame
     Frame::reply(number, party, kind, reply).unwrap()
 }
 
-/// The bytes of that frame.
-pub(crate) fn spelled(
-    alloc: Global,
-    number: Number,
-    party: &Party,
-    answer: Answer,
-) -> Result<Vec<u8>, NoMemory>
-    ensures { IfOk result (λ bytes. bytes.items ≡ spelling (reply_frame number party.now answer.kind answer.reply)) }
+// The most bytes of a reply: 4 of a length, 18 of a version, a kind and a number, 257 of a party, and 265 of a status, an id and a detail.
+const MOST: usize = 544;
+
+// A law, and nothing that runs: how many bytes a party has at most.
+fn party_law(party: &Party)
+    ensures { length (spelled_party party.now) ≤ 257 }
 {
-    let mut bytes = Vec::new(alloc);
-    let written = encode_reply(number, party, answer.kind, &answer.reply, &mut bytes);
-    drop(answer);
-    written?;
-    Ok(bytes)
+    if let Party::Node(id) = party {
+        let _id = id.as_str();
+    }
+}
+
+// The same of a reply.
+#[tactic(auto, using(crate::proofs::ReplyLengths::length_reply))]
+fn most_law(number: Number, party: &Party, answer: &Answer)
+    ensures { length (spelling (reply_frame number party.now answer.now.kind answer.now.reply)) ≤ 544 }
+{
+    party_law(party);
+    let _detail = answer.reply.detail.as_str();
+}
+
+/// Asks for room for any reply behind these bytes, which stay as they are.
+pub(crate) fn reserve(out: &mut Vec<u8>) -> Result<(), NoMemory>
+    ensures room { OnOk result (vec_len out.new + 544 ≤ vec_capacity out.new) }
+    ensures same { out.new.items ≡ out.old.items }
+{
+    out.reserve(MOST)?;
+    Ok(())
+}
+
+/// Appends the bytes of that frame, for which there is room. There are at most 544.
+pub(crate) fn append(number: Number, party: &Party, answer: Answer, out: &mut Vec<u8>)
+    requires { vec_len out.old + 544 ≤ vec_capacity out.old }
+    ensures appends { out.new.items ≡ out.old.items ++ spelling (reply_frame number party.now answer.kind answer.reply) }
+    ensures few { length out.new.items ≤ length out.old.items + 544 }
+{
+    most_law(number, party, &answer);
+    encode_reply(number, party, answer.kind, &answer.reply, out).unwrap();
 }

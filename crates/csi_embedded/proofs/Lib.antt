@@ -1,0 +1,4 @@
+mod AsBox
+pub mod Fullness
+pub mod Handles
+pub mod MadePlugins

@@ -1,0 +1,134 @@
+-- What an embedded plugin does with bytes: it answers the frame that they begin with, or says why not. This profile's own.
+use Rattle.std.specs.Prelude.{◌≡◌, ◌≢◌, ◌⊎◌, ◌<◌, ℕ, Bool, List, [], map, length, take, drop, slice_get, Option, Some, None, Result, Ok, Err}
+use Rattle.std.specs.Global.{Vec}
+use Rattle.csi_types.specs.Frame.{Frame}
+use Rattle.csi_frames.specs.declared.fault.FaultKind.{FaultKind}
+use Rattle.csi_frames.specs.declared.fault.FaultKind.TheVariants as faults
+use Rattle.csi_frames.specs.Fault.{IsFaulty}
+use Rattle.csi_frames.specs.Spelling.{spelling, BeginsWith}
+use Rattle.csi_stores.specs.declared.part.Part.{Part}
+use Rattle.csi_stores.specs.Part.{Change, change_of}
+use Rattle.csi_stores.specs.Content.{all_changed}
+use Rattle.csi_service.specs.Appending.{AppendsReply}
+use Rattle.csi_embedded.specs.declared.ending.Ending.{Ending}
+use Rattle.csi_embedded.specs.declared.ending.Ending.TheVariants.{Done, NoMemory, Empty, Short, BadFrame, NoRoom, TakenOut, NoMore}
+use Rattle.csi_embedded.specs.declared.embedded.Embedded.{Embedded}
+use Rattle.csi_embedded.specs.declared.plugin.Plugin.{Plugin}
+use Rattle.csi_embedded.specs.Plugins.{plugin_parts, plugin_changes, Answers, IsAsItWas, IsRecordOf}
+use Rattle.csi_embedded.specs.Endings.{ending_number}
+
+-- so many bytes as a frame may take: a length of four, and a body of at most 1280
+abbrev pub front : List ℕ → List ℕ
+front bytes = take 1284 bytes
+
+-- ---- what the store has to be given
+
+abbrev pub told_or : List Change → Option (Vec Part) → List Change
+told_or changes None = changes
+told_or changes (Some parts) = map change_of parts.items
+
+-- the changes that were told last
+abbrev pub changes_in : Option (Vec Part) → List Part
+changes_in None = []
+changes_in (Some parts) = parts.items
+
+-- what was told once stays; else what the last frame that was answered changed
+abbrev pub told : Embedded → List Change
+told embedded = told_or (plugin_changes embedded.plugin) embedded.changed
+
+-- ---- a frame
+
+-- Why none was answered: the bytes wait for more of a frame, or are faulty in another way; or memory ran out.
+abbrev pub IsNoFrame : List ℕ → Ending → Type 0
+IsNoFrame bytes NoMemory = Unit {0}
+IsNoFrame bytes Short = IsFaulty bytes faults.Short (length bytes)
+IsNoFrame bytes BadFrame = (kind : FaultKind) × (place : ℕ) × (kind ≢ faults.Short) × IsFaulty bytes kind place
+IsNoFrame bytes _ = ⊥
+
+-- the frame that the bytes begin with was answered, with a reply of these bytes
+pub record AnswersFront (old : Plugin) (bytes : List ℕ) (new : Plugin) (rest : List ℕ) (before after : List ℕ) : Type 0 where
+  pub frame : Frame
+  pub begins : BeginsWith bytes frame (length (spelling frame))
+  pub left : rest ≡ drop (length (spelling frame)) bytes
+  pub replied : Bool
+  pub answers : AppendsReply Answers old frame new before after replied
+
+abbrev pub AnswersNext : Plugin → List ℕ → Plugin → List ℕ → List ℕ → List ℕ → Result (Unit {0}) Ending → Type 0
+AnswersNext old bytes new rest before after (Ok done) = AnswersFront old bytes new rest before after
+AnswersNext old bytes new rest before after (Err ending) = IsNoFrame bytes ending
+
+-- The frame that the bytes begin with was answered and took so many of them. The reply's bytes are these, none where there is no reply. What the
+-- store has to be given leads from the old record to the new one.
+pub record Answered (old : Embedded) (bytes : List ℕ) (used : ℕ) (new : Embedded) (reply : List ℕ) : Type 0 where
+  pub frame : Frame
+  pub begins : BeginsWith (front bytes) frame used
+  pub replied : Bool
+  pub answers : AppendsReply Answers old.plugin frame new.plugin [] reply replied
+  pub changed : plugin_parts new.plugin ≡ all_changed (told new) (plugin_parts old.plugin)
+
+-- the plugin is as it was, and what the store has to be given
+pub record Remains (old new : Embedded) : Type 0 where
+  pub plugin : IsAsItWas old.plugin new.plugin
+  pub told : told new ≡ told old
+
+-- ---- the same of handles
+
+abbrev pub HasRemained : Option Embedded → Option Embedded → Type 0
+HasRemained (Some old) (Some new) = Remains old new
+HasRemained None None = Unit {0}
+HasRemained (Some old) None = ⊥
+HasRemained None (Some new) = ⊥
+
+abbrev pub HasAnswered : Option Embedded → List ℕ → ℕ → Option Embedded → List ℕ → Type 0
+HasAnswered (Some old) bytes used (Some new) reply = Answered old bytes used new reply
+HasAnswered (Some old) bytes used None reply = ⊥
+HasAnswered None bytes used new reply = ⊥
+
+-- why none was answered: the handle is empty, or there is no room for any reply, or there is no frame
+abbrev pub IsUnanswered : Option Embedded → List ℕ → ℕ → Ending → Type 0
+IsUnanswered None bytes room ending = ending ≡ Empty
+IsUnanswered (Some old) bytes room ending = ((ending ≡ NoRoom) × (room < 544)) ⊎ IsNoFrame (front bytes) ending
+
+-- all is as it was, and the number is that of why
+pub record HasFailed (old : Option Embedded) (bytes : List ℕ) (room : ℕ) (new : Option Embedded) (number : ℕ) : Type 0 where
+  pub ending : Ending
+  pub is : number ≡ ending_number ending
+  pub why : IsUnanswered old bytes room ending
+  pub remains : HasRemained old new
+
+-- ---- the changes, one by one
+
+-- this change: its key, and its value where that is put in; where the value doesn't fit, the count of its bytes
+abbrev pub TellsChange : Change → ℕ → ℕ → ℕ → List ℕ → Ending → Type 0
+TellsChange change key room count bytes Done = (change ≡ record { key = key; value = Some bytes }) × (count ≡ length bytes)
+TellsChange change key room count bytes TakenOut = change ≡ record { key = key; value = None }
+TellsChange change key room count bytes NoRoom = (value : List ℕ) × (change ≡ record { key = key; value = Some value }) × (count ≡ length value) × (room < count)
+TellsChange change key room count bytes _ = ⊥
+
+-- the change at the place, or that there are not so many
+abbrev pub TellsOne : Option Change → ℕ → ℕ → ℕ → List ℕ → Ending → Type 0
+TellsOne None key room count bytes ending = ending ≡ NoMore
+TellsOne (Some change) key room count bytes ending = TellsChange change key room count bytes ending
+
+abbrev pub TellsAt : Option Embedded → ℕ → ℕ → ℕ → ℕ → List ℕ → Ending → Type 0
+TellsAt None place key room count bytes ending = ending ≡ Empty
+TellsAt (Some embedded) place key room count bytes ending = (ending ≡ NoMemory) ⊎ TellsOne (slice_get (told embedded) place) key room count bytes ending
+
+pub record HasTold (old : Option Embedded) (place key room count : ℕ) (bytes : List ℕ) (number : ℕ) : Type 0 where
+  pub ending : Ending
+  pub is : number ≡ ending_number ending
+  pub tells : TellsAt old place key room count bytes ending
+
+-- ---- the record
+
+abbrev pub TellsRecord : Option Embedded → ℕ → ℕ → List ℕ → Ending → Type 0
+TellsRecord (Some embedded) room count bytes Done = IsRecordOf embedded.plugin bytes × (count ≡ length bytes)
+TellsRecord (Some embedded) room count bytes NoRoom = (whole : List ℕ) × IsRecordOf embedded.plugin whole × (count ≡ length whole) × (room < count)
+TellsRecord (Some embedded) room count bytes NoMemory = Unit {0}
+TellsRecord (Some embedded) room count bytes _ = ⊥
+TellsRecord None room count bytes ending = ending ≡ Empty
+
+pub record HasRecord (old : Option Embedded) (room count : ℕ) (bytes : List ℕ) (number : ℕ) : Type 0 where
+  pub ending : Ending
+  pub is : number ≡ ending_number ending
+  pub tells : TellsRecord old room count bytes ending

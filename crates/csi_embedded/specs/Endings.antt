@@ -1,0 +1,18 @@
+-- The number of each ending, as a C program sees it. This profile's own.
+use Rattle.std.specs.Prelude.{ℕ}
+use Rattle.csi_embedded.specs.declared.ending.Ending.{Ending}
+use Rattle.csi_embedded.specs.declared.ending.Ending.TheVariants.{Done, NoMemory, Empty, Full, BadName, BadRecord, Short, BadFrame, NoRoom, Renewed, TakenOut, NoMore}
+
+abbrev pub ending_number : Ending → ℕ
+ending_number Done = 0
+ending_number NoMemory = 1
+ending_number Empty = 2
+ending_number Full = 3
+ending_number BadName = 4
+ending_number BadRecord = 5
+ending_number Short = 6
+ending_number BadFrame = 7
+ending_number NoRoom = 8
+ending_number Renewed = 9
+ending_number TakenOut = 10
+ending_number NoMore = 11

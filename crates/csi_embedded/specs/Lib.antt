@@ -1,0 +1,5 @@
+pub mod Endings
+pub mod Plugins
+pub mod Calls
+pub mod Making
+pub mod Holding

@@ -1,0 +1,90 @@
+//! What a handle leads to.
+ghost use Rattle.std.specs.Prelude.{◌≡◌, [], None};
+
+use crate::ending::Ending;
+use crate::front::front;
+use crate::plugin::Plugin;
+use crate::splitting::{answer_next, fed, used_again};
+use csi_frames::Splitter;
+use csi_service::Part;
+use csi_types::NoMemory;
+use std::alloc::Global;
+
+/// A plugin, the buffers that its calls use again and again, and what the store has to be given, once that was asked for.
+#[derive(Drop)]
+pub struct Embedded {
+    alloc: Global,
+    pub(crate) plugin: Plugin,
+    // Nothing is kept in it between calls.
+    splitter: Splitter,
+    pub(crate) reply: Vec<u8>,
+    changed: Option<Vec<Part>>,
+    ghost unused: { splitter.kept ≡ [] },
+    ghost clear: { splitter.fault ≡ None },
+}
+
+impl Embedded {
+    ghost use Rattle.std.specs.Prelude.{◌≡◌, ◌≤◌, [], None, map, length, IfOk, IfErr, OnOk, OnErr};
+    ghost use Rattle.csi_stores.specs.Part.{change_of};
+    ghost use Rattle.csi_embedded.specs.Calls.{changes_in, front, told, Answered, IsNoFrame, Remains};
+
+    /// A plugin that answered nothing yet, of which the store has to be given these parts. It takes no memory.
+    pub fn new(alloc: Global, plugin: Plugin, changed: Vec<Part>) -> Embedded
+        ensures plugin { result.plugin ≡ plugin }
+        ensures told { told result ≡ map change_of changed.items }
+    {
+        Embedded {
+            alloc,
+            plugin,
+            splitter: Splitter::new(alloc),
+            reply: Vec::new(alloc),
+            changed: Some(changed),
+        }
+    }
+
+    /// Answers the frame that these bytes begin with, says how many of them it took, and leaves the bytes of its reply in `reply`, none
+    /// where it has no reply. Any other ending leaves the plugin as it was, and what the store has to be given.
+    pub fn answer(&mut self, bytes: &[u8]) -> Result<usize, Ending>
+        ensures answered { IfOk result (λ used. Answered self.old bytes.now used self.new self.new.reply.items) }
+        ensures few { OnOk result (length self.new.reply.items ≤ 544) }
+        ensures why { IfErr result (IsNoFrame (front bytes.now)) }
+        ensures remains { OnErr result (Remains self.old self.new) }
+    {
+        let bytes = front(bytes);
+        let splitter = std::mem::replace(&mut self.splitter, Splitter::new(self.alloc));
+        let mut splitter = fed(splitter, bytes)?;
+        self.reply.clear();
+        match answer_next(&mut splitter, &mut self.plugin, &mut self.reply) {
+            Ok(()) => {
+                self.changed = None;
+                let left = splitter.kept();
+                self.splitter = used_again(self.alloc, splitter, left);
+                Ok(bytes.len() - left)
+            }
+            Err(ending) => Err(ending),
+        }
+    }
+
+    /// What the store has to be given before the reply is sent: the parts to be put in and taken out, in this order. A refusal leaves
+    /// everything as it was.
+    pub fn tell(&mut self) -> Result<(), NoMemory>
+        ensures told { OnOk result (map change_of (changes_in self.new.changed) ≡ told self.old) }
+        ensures same { told self.new ≡ told self.old }
+        ensures plugin { self.new.plugin ≡ self.old.plugin }
+    {
+        if self.changed.is_none() {
+            self.changed = Some(self.plugin.changed()?);
+        }
+        Ok(())
+    }
+
+    /// The changes that were told last. It takes no memory.
+    pub fn changes(&self) -> &[Part]
+        ensures { result.now ≡ changes_in self.now.changed }
+    {
+        match &self.changed {
+            Some(parts) => parts,
+            None => &[],
+        }
+    }
+}

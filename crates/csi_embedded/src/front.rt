@@ -1,0 +1,17 @@
+//! The bytes that a frame may take.
+ghost use Rattle.std.specs.Prelude.{◌≡◌};
+ghost use Rattle.csi_embedded.specs.Calls.{front};
+
+// The most bytes of a frame: a length of four, and a body.
+const MOST: usize = 1284;
+
+/// So many of these bytes as a frame may take. It takes no memory.
+pub(crate) fn front(bytes: &[u8]) -> &[u8]
+    ensures { result.now ≡ front bytes.now }
+{
+    if bytes.len() > MOST {
+        &bytes[..MOST]
+    } else {
+        bytes
+    }
+}

@@ -1,0 +1,159 @@
+//! Plugins that are made: new ones, and those of a record.
+ghost use Rattle.std.specs.Prelude.{◌≡◌, ◌∷◌, [], Ok, map, IfOk, IfErr};
+ghost use Rattle.csi_json.specs.Configs.{text_config};
+ghost use Rattle.csi_stores.specs.Part.{change_of, put_all};
+ghost use Rattle.csi_embedded.specs.Making.{IsNewController, IsNewNode, IsReadController, IsReadNode, IsDone, IsNoConfig, IsNoId, IsNoReadController, IsNoReadNode, IsEndingOf, Renews};
+
+use crate::embedded::Embedded;
+use crate::ending::Ending;
+use crate::plugin::Plugin;
+use csi_controller::ControllerRecord;
+use csi_json::{ScheduleFault, read_config};
+use csi_node::NodeRecord;
+use csi_records::{
+    Record, RecordStop, RecordVersion, Stored, controller_head_value, is_present, node_head_value,
+    read_record,
+};
+use csi_service::{ControllerService, NodeService, Part};
+use csi_types::{Config, NoMemory, NodeId, TextFault};
+use std::alloc::Global;
+
+// The configuration that these bytes say.
+fn config_of(alloc: Global, bytes: &[u8]) -> Result<Config, Ending>
+    ensures made { IfOk result (λ config. text_config bytes.now ≡ Ok config) }
+    ensures refused { IfErr result (IsNoConfig bytes.now) }
+{
+    let Ok(text) = str::from_utf8(bytes) else {
+        return Err(Ending::BadName);
+    };
+    match read_config(alloc, text) {
+        Ok(config) => Ok(config),
+        Err(ScheduleFault::NoMemory) => Err(Ending::NoMemory),
+        Err(_) => Err(Ending::BadName),
+    }
+}
+
+// The id of a node that these bytes are.
+fn id_of(alloc: Global, bytes: &[u8]) -> Result<NodeId, Ending>
+    ensures made { IfOk result (λ id. id ≡ bytes.now) }
+    ensures refused { IfErr result (IsNoId bytes.now) }
+{
+    let Ok(text) = str::from_utf8(bytes) else {
+        return Err(Ending::BadName);
+    };
+    match NodeId::try_new(alloc, text) {
+        Ok(id) => Ok(id),
+        Err(TextFault::NoMemory) => Err(Ending::NoMemory),
+        Err(_) => Err(Ending::BadName),
+    }
+}
+
+// The head of a record, to be put in.
+fn head_part(alloc: Global, value: Vec<u8>) -> Result<Vec<Part>, NoMemory>
+    ensures { IfOk result (λ parts. map change_of parts.items ≡ put_all (record { key = 0; value = value.items } ∷ [])) }
+{
+    let mut parts = Vec::new(alloc);
+    parts.push(Part {
+        key: 0,
+        value: Some(value),
+    })?;
+    Ok(parts)
+}
+
+// What a store has to be given of a record that was read in this version: nothing where that is the present one, else all its parts.
+fn renewal<T: Record>(
+    alloc: Global,
+    kept: &T,
+    version: RecordVersion,
+) -> Result<(Vec<Part>, Ending), NoMemory>
+    ensures { IfOk result (λ given. Renews version (T.parts_of kept.now) (map change_of given.0.items) given.1) }
+{
+    if is_present(version) {
+        Ok((Vec::new(alloc), Ending::Done))
+    } else {
+        Ok((kept.to_parts(alloc)?, Ending::Renewed))
+    }
+}
+
+// How a call ends for which no record was read.
+fn ending_of(stop: RecordStop) -> Ending
+    ensures { IsEndingOf stop result }
+{
+    match stop {
+        RecordStop::BadRecord(_) => Ending::BadRecord,
+        RecordStop::NoMemory => Ending::NoMemory,
+    }
+}
+
+/// The controller under the configuration that these bytes say, which has no volume. The store has to be given its record.
+pub(crate) fn new_controller(alloc: Global, config: &[u8]) -> Result<(Embedded, Ending), Ending>
+    ensures made { IfOk result (λ made. IsNewController config.now made.0 × IsDone made.1) }
+    ensures refused { IfErr result (IsNoConfig config.now) }
+{
+    let config = config_of(alloc, config)?;
+    let head = head_part(alloc, controller_head_value(alloc, 1, 0)?)?;
+    let service = ControllerService::new(alloc, config);
+    Ok((
+        Embedded::new(alloc, Plugin::Controller(service), head),
+        Ending::Done,
+    ))
+}
+
+/// The node of this id, which has no volume. The store has to be given its record.
+pub(crate) fn new_node(alloc: Global, id: &[u8]) -> Result<(Embedded, Ending), Ending>
+    ensures made { IfOk result (λ made. IsNewNode id.now made.0 × IsDone made.1) }
+    ensures refused { IfErr result (IsNoId id.now) }
+{
+    let id = id_of(alloc, id)?;
+    let head = head_part(alloc, node_head_value(alloc, &id, 0)?)?;
+    let service = NodeService::new(alloc, id)?;
+    Ok((
+        Embedded::new(alloc, Plugin::Node(service), head),
+        Ending::Done,
+    ))
+}
+
+/// The controller of a record's bytes, in any version, under the configuration that these bytes say; and how that ends: `Done`, or
+/// `Renewed` where the record was one of an earlier version, so that the store has to be given all its parts.
+pub(crate) fn read_controller(
+    alloc: Global,
+    config: &[u8],
+    bytes: &[u8],
+) -> Result<(Embedded, Ending), Ending>
+    ensures made { IfOk result (λ made. IsReadController config.now bytes.now made.0 made.1) }
+    ensures refused { IfErr result (IsNoReadController config.now bytes.now) }
+{
+    let config = config_of(alloc, config)?;
+    let Stored { kept, version } = match read_record::<ControllerRecord>(alloc, bytes) {
+        Ok(stored) => stored,
+        Err(stop) => return Err(ending_of(stop)),
+    };
+    let (changed, ending) = renewal(alloc, &kept, version)?;
+    let service = ControllerService::from_record(alloc, config, kept)?;
+    Ok((
+        Embedded::new(alloc, Plugin::Controller(service), changed),
+        ending,
+    ))
+}
+
+/// The node of this id, of a record's bytes, in any version; and how that ends, as `read_controller` says.
+pub(crate) fn read_node(
+    alloc: Global,
+    id: &[u8],
+    bytes: &[u8],
+) -> Result<(Embedded, Ending), Ending>
+    ensures made { IfOk result (λ made. IsReadNode id.now bytes.now made.0 made.1) }
+    ensures refused { IfErr result (IsNoReadNode id.now bytes.now) }
+{
+    let id = id_of(alloc, id)?;
+    let Stored { kept, version } = match read_record::<NodeRecord>(alloc, bytes) {
+        Ok(stored) => stored,
+        Err(stop) => return Err(ending_of(stop)),
+    };
+    if *kept.id() != id {
+        return Err(Ending::BadRecord);
+    }
+    let (changed, ending) = renewal(alloc, &kept, version)?;
+    let service = NodeService::from_record(alloc, kept)?;
+    Ok((Embedded::new(alloc, Plugin::Node(service), changed), ending))
+}

@@ -1,0 +1,61 @@
+//! The plugin of a handle: a controller or a node.
+ghost use Rattle.std.specs.Prelude.{◌≡◌, ◌≤◌, ◌+◌, map, length, IfOk, OnOk, OnErr};
+ghost use Rattle.csi_frames.specs.Lent.{lent};
+ghost use Rattle.csi_stores.specs.Part.{change_of};
+ghost use Rattle.csi_stores.specs.Content.{all_changed};
+ghost use Rattle.csi_service.specs.Appending.{AppendsReply};
+ghost use Rattle.csi_embedded.specs.Plugins.{plugin_parts, plugin_changes, Answers, IsAsItWas, IsRecordOf};
+
+use csi_frames::FrameRef;
+use csi_service::{ControllerService, Core, NodeService, Part, write_record};
+use csi_types::NoMemory;
+use std::alloc::Global;
+
+/// A controller or a node, with what its last call changed.
+#[derive(Drop)]
+pub enum Plugin {
+    Controller(ControllerService),
+    Node(NodeService),
+}
+
+impl Plugin {
+    /// Answers a frame that is lent, and appends the bytes of its reply, if it has one: whether it has. A refusal leaves the plugin as it
+    /// was.
+    pub fn answer_into(&mut self, frame: &FrameRef<'_>, out: &mut Vec<u8>) -> Result<bool, NoMemory>
+        ensures answered { IfOk result (AppendsReply Answers self.old (lent frame.now) self.new out.old.items out.new.items) }
+        ensures few { OnOk result (length out.new.items ≤ length out.old.items + 544) }
+        ensures parts { OnOk result (plugin_parts self.new ≡ all_changed (plugin_changes self.new) (plugin_parts self.old)) }
+        ensures err { OnErr result (IsAsItWas self.old self.new) }
+    {
+        match self {
+            Plugin::Controller(service) => service.answer_into(frame, out),
+            Plugin::Node(service) => service.answer_into(frame, out),
+        }
+    }
+
+    /// What the last frame that was answered changed: the parts to be put in or taken out.
+    pub fn changed(&self) -> Result<Vec<Part>, NoMemory>
+        ensures { IfOk result (λ parts. map change_of parts.items ≡ plugin_changes self.now) }
+    {
+        match self {
+            Plugin::Controller(service) => service.parts(),
+            Plugin::Node(service) => service.parts(),
+        }
+    }
+
+    /// The bytes of its whole record.
+    pub fn record(&self, alloc: Global) -> Result<Vec<u8>, NoMemory>
+        ensures { IfOk result (λ bytes. IsRecordOf self.now bytes.items) }
+    {
+        match self {
+            Plugin::Controller(service) => {
+                let kept = service.record()?;
+                write_record(alloc, &kept)
+            }
+            Plugin::Node(service) => {
+                let kept = service.record()?;
+                write_record(alloc, &kept)
+            }
+        }
+    }
+}
