@@ -286,7 +286,7 @@ fn a_node_begins_a_session_in_want_of_memory(rt: HostRuntime) {
     drop(keep);
 }
 
-// Whether the frame changes nothing, which takes no memory.
+// Whether the frame changes nothing. It takes no memory but for the id of a node, in the frame of its reply.
 fn is_passed_over<C: Core>(rt: &impl Abort, service: &mut C, frame: Frame) -> bool {
     let reply = service.step(&frame).expect(rt, "it takes no memory");
     drop((frame, reply));
@@ -312,7 +312,7 @@ fn a_controller_passes_over_what_changes_nothing_without_memory(rt: HostRuntime)
 
 // The same of a node.
 #[test]
-fn a_node_passes_over_what_changes_nothing_without_memory(rt: HostRuntime) {
+fn a_node_passes_over_what_changes_nothing(rt: HostRuntime) {
     let mut keep = store_of(&rt, NODE_BEFORE);
     let mut service = opened_node(&rt, &mut keep);
     drop(keep);
