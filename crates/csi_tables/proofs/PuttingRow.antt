@@ -54,6 +54,7 @@ cast_null : cast Integer Null ≡ Null
 unfolding unary
 cast_null = either _ Null
 
+-- an integer is itself as an integer
 cast_int : (n : ℤ) → cast Integer (Int n) ≡ Int n
 unfolding unary
 cast_int n = either _ (Int n)
