@@ -46,18 +46,23 @@ pub data Move (state : NodeState) : Call → Outcome → Type 0 where
 invalid : InvalidArgument ≡ Ok → ⊥
 invalid h = cc
 
+-- the status AlreadyExists isn't OK
 exists : AlreadyExists ≡ Ok → ⊥
 exists h = cc
 
+-- the status ResourceExhausted isn't OK
 exhausted : ResourceExhausted ≡ Ok → ⊥
 exhausted h = cc
 
+-- the status FailedPrecondition isn't OK
 failed : FailedPrecondition ≡ Ok → ⊥
 failed h = cc
 
+-- the status Unimplemented isn't OK
 unimplemented : Unimplemented ≡ Ok → ⊥
 unimplemented h = cc
 
+-- a test whose opposite fails holds
 not_false : (b : Bool) → not b ≡ false → b ≡ true
 not_false true h = refl
 not_false false h = cc

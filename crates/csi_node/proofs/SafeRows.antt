@@ -21,6 +21,7 @@ use Rattle.csi_node.proofs.OneRow.{staged_of-alone}
 use Rattle.csi_node.proofs.StateChanges.{part-staged}
 use Rattle.csi_node.proofs.ShownAfter.{ShowsAll, row_of, alone_in, part_of, all-from_shows}
 
+-- what is missing isn't there: anything follows
 none_some : {X : Type 0} {Y : Type 0} (x : X) → None ≡ Some x → Y
 none_some x h = cc
 
