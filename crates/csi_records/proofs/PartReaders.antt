@@ -247,9 +247,11 @@ row_read version IsRow id_of body reads ids = record {
   again = λ row fits. whole-again version (IsRowOf IsRow id_of (id_of row)) body (reads (id_of row) (ids row fits)) row (record { has_id = refl; fits = fits });
 }
 
+-- rows of volumes are read as what spells them
 pub volume_read : (version : RecordVersion) → IsReadWhole version (volume_in version) IsVolumeId (IsVolumeRow version) (volume_part version)
 volume_read version = row_read version (IsVolumeRow version) (λ row. row.volume.id) volume_body (volume_reads version) (λ row fits. fits.id)
 
+-- a node's rows are read as what spells them
 pub answered_read : (version : RecordVersion) → IsReadWhole version (answered_in version) IsVolumeId (IsAnsweredRow version) (answered_part version)
 answered_read version = row_read version (IsAnsweredRow version) (λ row. row.id) answered_body (answered_reads version) (λ row fits. fits.id)
 
@@ -268,9 +270,11 @@ head_read version Fits body reads = record {
   again = λ first fits. whole-again version Fits body reads first fits;
 }
 
+-- a controller's head is read as what spells it
 pub controller_head_read : (version : RecordVersion) → IsReadWhole version (λ key. controller_head_in version) IsHeadKey (IsHead IsWord version) (λ head. controller_head version head.own head.session)
 controller_head_read version = head_read version (IsHead IsWord version) (λ head. 0 ∷ head_fields spelling.word head) (controller_head_reads version)
 
+-- a node's head is read as what spells it
 pub node_head_read : (version : RecordVersion) → IsReadWhole version (λ key. node_head_in version) IsHeadKey (IsHead IsNodeId version) (λ head. node_head version head.own head.session)
 node_head_read version = head_read version (IsHead IsNodeId version) (λ head. 1 ∷ head_fields spelling.text head) (node_head_reads version)
 
