@@ -94,6 +94,7 @@ stays row = is_some row.staged
 abbrev gone_ids : List RowShown → List ℕ
 gone_ids rows = map (λ (row : RowShown). row.id) (filter (λ (row : RowShown). is_none row.staged) rows)
 
+-- these are the ids of the rows that don't stay
 each-gone : (rows : List RowShown) → gone_ids rows ≡ map (λ (row : RowShown). row.id) (filter (λ (row : RowShown). not (stays row)) rows)
 each-gone rows = λ i. map (λ (row : RowShown). row.id) (filter (λ (row : RowShown). by row.staged i) rows)
   where
@@ -199,6 +200,7 @@ module _ (old new : NodeParts) (row : Option ℕ) (number : Number) (rising : Is
 pub same-session : (x y new old : ℕ) → x ≡ new → y ≡ old → not (x == y) ≡ false → new ≡ old
 same-session x y new old is is_too same = let one : x ≡ y = grind (arith, nat_tests) in sym is ∙ one ∙ is_too
 
+-- sessions that the test tells apart aren't equal
 pub other-session : (x y new old : ℕ) → x ≡ new → y ≡ old → not (x == y) ≡ true → new ≡ old → ⊥
 other-session x y new old is is_too other same = let one : x ≡ y = is ∙ same ∙ sym is_too in grind (arith, nat_tests)
 

@@ -42,6 +42,7 @@ same_row one other volume held =
     let items = same_held one.id one.holdings.items other.holdings.items (held ∙ ap (λ (n : ℕ). map (held_by n) other.holdings.items) ids) in
     λ i. record { volume = volume i; holdings = items i }
 
+-- rows that may be there, with the same volume and the same holdings, are spelled the same
 row-told : (one other : Option ControllerRow) → option_map volume_of_row one ≡ option_map volume_of_row other → holdings_in one ≡ holdings_in other → option_map volume_row one ≡ option_map volume_row other
 row-told None None volume held = refl
 row-told None (Some other) volume held = absurd (some_is_not_none (volume_of_row other) (sym volume))
