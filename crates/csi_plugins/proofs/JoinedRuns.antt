@@ -53,6 +53,7 @@ served-ok (Err fault) e = absurd (no-fault fault.kind e)
 
 -- ---- frames of two inputs
 
+-- where all of two lists are frames, so are all of the two together
 each-frame : (fs gs : List Frame) → AllByRecursion IsFrame fs → AllByRecursion IsFrame gs → AllByRecursion IsFrame (fs ++ gs)
 each-frame [] gs one two = two
 each-frame (f ∷ fs) gs one two = (one.0, each-frame fs gs one.1 two)

@@ -31,11 +31,13 @@ inside f (Some a) b h = (a, refl, h)
 
 -- ---- a delivery
 
+-- an object whose one member `deliver` is a number is read as the delivery of the frame of that number
 delivered_of : (s : List ℕ) (n : ℕ) → number_in s ≡ Some (unsigned n)
     → option_and_then event_of (of_json (json.object (json.member (codes "deliver") (json.number s) json.no_members))) ≡ Some (Deliver n)
 unfolding event_of event_at deliver_of number_of
 delivered_of s n h = rw h refl
 
+-- a number of JSON that borrows its digits is seen as they are
 pub seen_number : (text : Bor (List ℕ)) → value_view {A = Global} (Number text) ≡ json.number text.now
 seen_number text = search (rules, the_lemmas)
 
@@ -86,6 +88,7 @@ all_events (x ∷ xs) (e ∷ es) place h =
 
 -- ---- a schedule
 
+-- an object with a configuration and an array that is read as events is read as their schedule, where these are at most 100000
 schedule_of_two : (c : json.Json) (js : json.Items) (d : Data) (ds : Items) (config : Config) (es : List Event) → of_json c ≡ Some d → config_of d ≡ Some config → of_items js ≡ Some ds
     → read_all event_of 1 (items_in ds) ≡ Ok es → length (items_in ds) ≤ 100000
     → schedule_read (of_json (json.object (json.member (codes "config") c (json.member (codes "events") (json.array js) json.no_members)))) ≡ Ok (record { config = config; events = es })
