@@ -41,6 +41,7 @@ pub use Rattle.csi_frames.proofs.Versions.{has_every_mode}
 abbrev version_byte : Version → List ℕ
 version_byte version = version_number version ∷ []
 
+-- the kind as a byte
 abbrev kind_byte : BodyKind → List ℕ
 kind_byte kind = body_kind_number kind ∷ []
 

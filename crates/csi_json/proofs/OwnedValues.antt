@@ -71,6 +71,7 @@ all_read xs i vs h was = was ∙ ap (λ ys. option_map (before vs) (of_items (it
 
 -- ---- members
 
+-- a member of an object: its name and its value
 abbrev pub Member : Type 0
 Member = Bor (List ℕ) × Borrowed Global
 
