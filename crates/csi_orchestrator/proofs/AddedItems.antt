@@ -107,6 +107,7 @@ pub record Adds (history : History) (input : Input) (moved : Moved) : Type 0 whe
   pub few : length moved.items ≤ 3
   pub frames : map frame_of (issued_in moved.items) ≡ frames_in moved.answer
 
+-- so it is of a result, where a refusal adds nothing
 abbrev pub AreAdded : History → Input → Result Moved OrchFault → Type 0
 AreAdded history input (Ok moved) = Adds history input moved
 AreAdded history input (Err fault) = Unit {0}

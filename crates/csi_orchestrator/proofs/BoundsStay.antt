@@ -251,6 +251,7 @@ step-within nodes last step row own all =
 
 -- ---- what becomes of all the rows
 
+-- the parts are within the bounds then, unless something was refused
 abbrev pub BoundedAfter : Result MovedRows OrchFault → Type 0
 BoundedAfter (Ok moved_rows) = IsWithin moved_rows.parts
 BoundedAfter (Err fault) = Unit {0}

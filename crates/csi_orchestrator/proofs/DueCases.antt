@@ -15,24 +15,31 @@ use Rattle.csi_orchestrator.specs.Shown.{RowShown, marks_for, due_by, due_in, us
 abbrev pub making : RowShown → Due
 making row = record { party = Controller; call = calls.CreateVolume row.name (row.arguments).required (row.arguments).limit (row.arguments).capabilities }
 
+-- DeleteVolume
 abbrev pub removing : ℕ → Due
 removing id = record { party = Controller; call = calls.DeleteVolume id }
 
+-- ControllerPublishVolume
 abbrev pub attaching : Usage → ℕ → Due
 attaching usage id = record { party = Controller; call = calls.ControllerPublishVolume id usage.node usage.capability usage.readonly }
 
+-- NodeStageVolume
 abbrev pub staging : Usage → ℕ → Due
 staging usage id = record { party = Node usage.node; call = calls.NodeStageVolume id usage.capability }
 
+-- NodePublishVolume
 abbrev pub publishing : Usage → ℕ → Due
 publishing usage id = record { party = Node usage.node; call = calls.NodePublishVolume id usage.target usage.capability usage.readonly }
 
+-- NodeUnpublishVolume
 abbrev pub unpublishing : List ℕ → List ℕ → ℕ → Due
 unpublishing node target id = record { party = Node node; call = calls.NodeUnpublishVolume id target }
 
+-- NodeUnstageVolume
 abbrev pub unstaging : List ℕ → ℕ → Due
 unstaging node id = record { party = Node node; call = calls.NodeUnstageVolume id }
 
+-- ControllerUnpublishVolume
 abbrev pub detaching : List ℕ → ℕ → Due
 detaching node id = record { party = Controller; call = calls.ControllerUnpublishVolume id node }
 

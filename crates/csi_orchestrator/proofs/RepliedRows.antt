@@ -28,6 +28,7 @@ use Rattle.csi_orchestrator.proofs.JoinedLists.{own-entry}
 abbrev is-call : Number → Party → Kind → Issued → Bool
 is-call number party kind issued = same_number issued.number number && same_party issued.party party && same_kind (kind_of issued.call) kind
 
+-- the same as a relation
 pub record IsCall (number : Number) (party : Party) (kind : Kind) (issued : Issued) : Type 0 where
   pub has_number : issued.number ≡ number
   pub has_party : issued.party ≡ party

@@ -41,9 +41,11 @@ pub record Here : Type 0 where
   pub arguments : Option Arguments
   pub counts : ℕ
 
+-- of a view
 abbrev pub here : View → List ℕ → Here
 here view name = record { there = view.rows name; ids = view.ids name; goals = view.goals name; arguments = view.arguments name; counts = view.counts name }
 
+-- of a row, if there is one
 abbrev here_by : Option RowShown → Here
 here_by o = record { there = is_some o; ids = option_and_then (λ row. row.id) o; goals = option_and_then goal_in o; arguments = option_map (λ row. row.arguments) o; counts = tries_in o }
 
@@ -174,6 +176,7 @@ told_by history =
       counts = tries history;
     }
 
+-- such a row
 abbrev pub IsRowOf : RowShown → History → List ℕ → Type 0
 IsRowOf row history name = Reads row (told_by history) name
 

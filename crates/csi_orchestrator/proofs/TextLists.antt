@@ -50,6 +50,7 @@ among-too text texts others same among =
 pub among-distinct : (texts : List (List ℕ)) (text : List ℕ) → IsAmong text texts → IsAmong text (distinct texts)
 among-distinct texts text = among-too text texts (distinct texts) (sym (any-distinct text texts))
 
+-- each text is there once
 abbrev pub AreOnce : List (List ℕ) → Type 0
 AreOnce texts = EachTwo (λ (a b : List ℕ). same_text a b ≡ false) texts
 

@@ -105,15 +105,19 @@ each text key own read f xs apart of all =
 
 -- ---- a node's targets, its entry, a row and all rows
 
+-- the thing is a publication at a target of the node's entry
 abbrev OfTargets : RowShown → NodeEntryShown → Thing → Type 0
 OfTargets row node_entry thing = (target_entry : TargetEntry) × IsAmong target_entry node_entry.target_entries × (thing ≡ Published row.name node_entry.node target_entry.target)
 
+-- the thing is the attachment, the staging or a publication at the entry's node
 abbrev OfNode : RowShown → NodeEntryShown → Thing → Type 0
 OfNode row node_entry thing = ((thing ≡ Attached row.name node_entry.node) ⊎ (thing ≡ Staged row.name node_entry.node)) ⊎ OfTargets row node_entry thing
 
+-- the thing is the existence of the row's volume, or is one of a node's entry of the row
 abbrev OfRow : RowShown → Thing → Type 0
 OfRow row thing = (thing ≡ Exists row.name) ⊎ ((node_entry : NodeEntryShown) × IsAmong node_entry row.node_entries × OfNode row node_entry thing)
 
+-- the thing is one of some row
 abbrev pub OfRows : List RowShown → Thing → Type 0
 OfRows rows thing = (row : RowShown) × IsAmong row rows × OfRow row thing
 
