@@ -52,6 +52,7 @@ is_at id target p h =
 abbrev staged_form : Option StagedVolume → Option Form
 staged_form found = option_map StagedAs (option_map (λ staged. staged.capability) found)
 
+-- how what is found published is held
 abbrev published_form : Option PublishedVolume → Option Form
 published_form found = option_map (λ published. PublishedAs published.capability published.readonly) found
 

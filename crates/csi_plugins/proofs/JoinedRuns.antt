@@ -107,6 +107,7 @@ module _ {X C : Type 0} (records : Records X) (head : StoredPart) (parts_of : C 
 
 -- ---- one run that ended well
 
+-- a plugin was opened and served all frames of its input
 record RanWell {X C : Type 0} (records : Records X) (IsAsked : C → Type 0) (answers : C → Frame → Option Frame → C → Type 0) (parts_of : C → List StoredPart) (head : StoredPart) (content : List StoredPart) (after : Store) (io : Streams) : Type 0 where
   core : C
   asked : IsAsked core

@@ -46,6 +46,7 @@ reads_of {read = read} one = record {
   again = λ value front rest s. ap taken (one.again value front rest s);
 }
 
+-- a byte, as it is spelled
 abbrev pub one_byte : ℕ → List ℕ
 one_byte b = b ∷ []
 
@@ -55,6 +56,7 @@ unfolding byte_in
 byte_reads =
     in_words (Spelled Always one_byte) (λ n bytes s. record { fits = tt; are = s.one }) (λ n bytes s. record { is_allowed = refl; one = s.are }) (reads_of (byte_agrees any LengthDiffers (λ _. End)))
 
+-- a count is at most so much
 pub record IsCount (most n : ℕ) : Type 0 where
   pub within : n ≤ most
 
@@ -107,6 +109,7 @@ capability_reads version =
     (λ c bytes s. record { fits = record { fits = s.fits.fits; in_mode = s.fits.in_mode }; are = s.are })
     (reads_of (capability_agrees (modes_of version) End))
 
+-- a call's number, as it is spelled
 abbrev pub number_bytes : Number → List ℕ
 number_bytes number = spelling.word number.session ++ spelling.word number.call
 

@@ -30,11 +30,13 @@ use Rattle.csi_records.proofs.ValueReaders.{AreFew, counted_reads, holding_reads
 
 -- ---- a volume's row, behind the version
 
+-- the value of a volume's row, behind its version
 abbrev volume_body : VolumeRow → List ℕ
 volume_body row =
     state_byte row.volume.is_live ∷ spelling.text row.volume.name ++ spelling.word row.volume.capacity ++ counted spelling.capability row.volume.capabilities
     ++ counted holding_bytes row.holdings ++ kept_bytes row.volume.kept
 
+-- a volume's row, from its fields
 abbrev make_volume : ℕ → Bool → List ℕ → ℕ → List Capability → List NodeHolding → Kept → VolumeRow
 make_volume id is_live name capacity capabilities holdings kept =
     record { volume = record { id = id; name = name; capacity = capacity; capabilities = capabilities; is_live = is_live; kept = kept }; holdings = holdings }
@@ -44,6 +46,7 @@ pub record IsRowOf {R : Type 0} (IsRow : R → Type 0) (id_of : R → ℕ) (id :
   pub has_id : id_of row ≡ id
   pub fits : IsRow row
 
+-- it is a row of the volume of this id
 abbrev IsVolumeOf : RecordVersion → ℕ → VolumeRow → Type 0
 IsVolumeOf version = IsRowOf (IsVolumeRow version) (λ row. row.volume.id)
 
@@ -145,12 +148,15 @@ volume_reads version id is_id =
 
 -- ---- a node's row, behind the version
 
+-- the value of a node's row, behind its version
 abbrev answered_body : RowShown → List ℕ
 answered_body row = staged_bytes row.staged ++ counted target_bytes row.targets ++ kept_bytes row.kept
 
+-- a node's row, from its fields
 abbrev make_answered : ℕ → Option Capability → List NodeTarget → Kept → RowShown
 make_answered id staged targets kept = record { id = id; staged = staged; targets = targets; kept = kept }
 
+-- it is a node's row of the volume of this id
 abbrev IsAnsweredOf : RecordVersion → ℕ → RowShown → Type 0
 IsAnsweredOf version = IsRowOf (IsAnsweredRow version) (λ row. row.id)
 

@@ -12,6 +12,7 @@ use Rattle.csi_stores.specs.declared.part.Part.{Part}
 use Rattle.csi_stores.specs.Part.{StoredPart, IsPart, Change, put_all, take_all, change_of, stored_in, all_stored_in}
 use Rattle.csi_records.specs.Spelling.{part_bytes}
 
+-- a part, from its key and its value
 abbrev make_part : ℕ → List ℕ → StoredPart
 make_part key value = record { key = key; value = value }
 

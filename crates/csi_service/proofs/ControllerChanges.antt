@@ -33,6 +33,7 @@ use Rattle.csi_service.proofs.StayingRows.{rising-staying, gone-taken, gone-ther
 abbrev pub shown_part : ControllerRow → StoredPart
 shown_part row = volume_part present (volume_row row)
 
+-- the parts of rows, in the present version
 abbrev pub shown_parts : List ControllerRow → List StoredPart
 shown_parts rows = map (volume_part present) (map volume_row rows)
 

@@ -94,6 +94,7 @@ behind_two [] = []
 behind_two (a ∷ []) = []
 behind_two (a ∷ b ∷ bytes) = bytes
 
+-- the bytes behind the first two of the first part
 abbrev head_fields : List StoredPart → List ℕ
 head_fields [] = []
 head_fields (part ∷ parts) = behind_two part.value

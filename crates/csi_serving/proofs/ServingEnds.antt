@@ -43,6 +43,7 @@ get-seam (d ∷ ds) frame later = get-seam ds frame later
 abbrev given : Frame → Result (Option Frame) FrameFault
 given frame = Ok (Some frame)
 
+-- the answer that gives none
 abbrev none_given : Result (Option Frame) FrameFault
 none_given = Ok None
 
