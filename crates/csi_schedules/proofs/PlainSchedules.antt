@@ -21,6 +21,7 @@ use Rattle.csi_schedules.specs.Events.{event_of, event_at, deliver_of}
 use Rattle.csi_schedules.specs.Plain.{event_in, config_in}
 use Rattle.csi_schedules.specs.Schedule.{Schedule, parts_of, events_of, schedule_read, text_schedule}
 
+-- a member of an object: its name and its value
 abbrev pub Member : Type 0
 Member = Bor (List ℕ) × Value Global
 
