@@ -32,6 +32,7 @@ grows-none bytes = record { more = []; appended = sym (append-nil bytes) }
 
 -- what is said of the frames of some bytes is said of them whoever reads them
 module _ (bytes rest : List ℕ) (frames : List Frame) (of : FramesOf bytes frames rest) where
+  -- what is so of one splitting of the bytes is so of every one
   for_all : (P : List Frame → List ℕ → Type 0) → P frames rest → (fs : List Frame) (more : List ℕ) → FramesOf bytes fs more → P fs more
   for_all P here fs more of' =
       let same = one_stream bytes frames fs rest more of of' in

@@ -22,6 +22,7 @@ pub record IsPart (id : ℕ) (part state : NodeState) : Type 0 where
   pub published : part.published ≡ published_of id state
 
 module _ (id : ℕ) (part state : NodeState) (is : IsPart id part state) where
+  -- the part and the state have the volume staged alike
   pub part-staged : staged_of id part ≡ staged_of id state
   part-staged =
       find-first (λ (s : StagedVolume). s.volume == id) (λ (s : StagedVolume). s.capability) part.staged
@@ -29,11 +30,13 @@ module _ (id : ℕ) (part state : NodeState) (is : IsPart id part state) where
       ∙ ap first_of_list is.staged
       ∙ sym (find-first (λ (s : StagedVolume). s.volume == id) (λ (s : StagedVolume). s.capability) state.staged)
 
+  -- they have it published alike
   part-published : published_of id part ≡ published_of id state
   part-published =
       ap (filter (λ (p : PublishedVolume). p.volume == id)) is.published
       ∙ filter-filter (λ (p : PublishedVolume). p.volume == id) (λ (p : PublishedVolume). p.volume == id) state.published (λ x h. h)
 
+  -- and at each target alike
   part-published_at : (target : List ℕ) → published_at id target part ≡ published_at id target state
   part-published_at target =
       ap (find (is_published_at id target)) is.published

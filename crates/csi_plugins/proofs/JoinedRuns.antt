@@ -99,6 +99,7 @@ module _ {C : Type 0} (IsAsked : C → Type 0) (answers : C → Frame → Option
 
 -- a core's parts are a record in the present version, and opening leaves them
 module _ {X C : Type 0} (records : Records X) (head : StoredPart) (parts_of : C → List StoredPart) where
+  -- what a core left is opened with its parts, where these are of the present version and never none
   pub opened-again : ((core : C) (version : RecordVersion) → records.are version (parts_of core) → version ≡ present) → ((core : C) → parts_of core ≡ [] → ⊥)
       → (core other : C) → OpensTo records head (parts_of core) (parts_of other) → parts_of other ≡ parts_of core
   opened-again told some core other (inl same) = same.1
@@ -132,9 +133,11 @@ module _ {X C K : Type 0} (seen : K → Store) (records : Records X) (IsAsked : 
   opened-well before after io (inl refused) = absurd (no-refusal refused.fault refused.ends)
   opened-well before after io (inr opened) = opened
 
+  -- a store that is honest after a run was so before it
   was-honest : (before after : K) (io : Streams) → IsOpened seen records IsAsked answers parts_of before after head io Done → (seen after).honest → (seen before).honest
   was-honest before after io o honest = o.honest (o.served.honest honest)
 
+  -- a run that is done, over a store that has one content alone, ran well
   ran-well : (before after : K) (content : List StoredPart) (io : Streams) → (seen after).honest → IsOnly (seen before) content → IsOpened seen records IsAsked answers parts_of before after head io Done
       → RanWell records IsAsked answers parts_of head content (seen after) io
   ran-well before after content io honest only o =

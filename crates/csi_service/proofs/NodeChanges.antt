@@ -118,9 +118,11 @@ stay-nowhere false id rows rising among = absurd among
 -- ---- a call
 
 module _ (old new : NodeParts) (row : Option ℕ) (number : Number) (rising : IsRisingById (parts old.rows)) (changes : Changes row number old new) where
+  -- the call begins a session
   abbrev begun : Bool
   begun = begins old.session number
 
+  -- the old parts rise by key
   rising_parts : IsRising (shown_parts (parts old.rows))
   rising_parts = answered-rising present (parts old.rows) rising
 
